@@ -1,0 +1,5 @@
+//! What a filter says of a feature.
+#![tactic(auto)]
+
+pub mod feature;
+pub mod filter;
