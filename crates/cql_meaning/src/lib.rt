@@ -3,3 +3,4 @@
 
 pub mod feature;
 pub mod filter;
+pub mod schema;
