@@ -1,0 +1,4 @@
+pub mod Runs
+pub mod Symbols
+pub mod Longest
+pub mod Spellings

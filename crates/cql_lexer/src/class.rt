@@ -1,0 +1,42 @@
+// Runs of bytes of one class.
+
+ghost use Rattle.std.specs.Prelude.{◌≡◌, length, take_while};
+ghost use Rattle.cql_lexer.specs.Scan.{IsPast, is_in};
+ghost use Rattle.cql_lexer.specs.Spelling.{Run};
+
+/// The bytes of which runs are read.
+#[derive(Clone, Copy, PartialEq, Eq, Debug)]
+pub(crate) enum ByteClass {
+    Blank,
+    NamePart,
+    Digit,
+}
+
+impl ByteClass {
+    fn has(self, byte: u8) -> bool
+        ensures { result ≡ is_in self byte }
+    {
+        match self {
+            ByteClass::Blank => matches!(byte, b' ' | b'\t' | b'\r' | b'\n'),
+            ByteClass::NamePart => {
+                byte.is_ascii_alphanumeric() || byte == b'_' || byte == b'.' || byte == b':'
+            }
+            ByteClass::Digit => byte.is_ascii_digit(),
+        }
+    }
+
+    // How many bytes of the class stand at the front.
+    fn run_length(self, bytes: &[u8]) -> usize
+        ensures { result ≡ length (take_while (is_in self) bytes.now) }
+    {
+        bytes.iter().take_while(|byte| self.has(**byte)).count()
+    }
+
+    /// The bytes of the class at the front, and those behind them.
+    pub(crate) fn split_run(self, bytes: &[u8]) -> (&[u8], &[u8])
+        ensures run { Run (is_in self) bytes.now result.0.now result.1.now }
+        ensures longest { IsPast (is_in self) result.1.now }
+    {
+        bytes.split_at(self.run_length(bytes))
+    }
+}
