@@ -1,2 +1,9 @@
 pub mod Syntax
 pub mod Views
+pub mod Grammar
+pub mod Faults
+pub mod Answer
+pub mod Laws
+pub mod Machine
+pub mod Descent
+pub mod Starts

@@ -1,0 +1,6 @@
+pub mod Residual
+pub mod Runs
+pub mod Nodes
+pub mod Turns
+pub mod Verdict
+pub mod Depth

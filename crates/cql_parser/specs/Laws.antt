@@ -1,0 +1,14 @@
+-- What holds of every list of tokens.
+use Rattle.std.specs.Prelude.{◌≡◌, ◌↔◌, List, None}
+use Rattle.cql_lexer.specs.Mark.{Mark}
+use Rattle.cql_parser.specs.Syntax.{Syntax}
+use Rattle.cql_parser.specs.Grammar.{Reads}
+use Rattle.cql_parser.specs.Faults.{deep_at, IsShallow}
+
+-- tokens have one tree
+abbrev pub HasOneTree : Type 0
+HasOneTree = (tokens : List Mark) (a b : Syntax) → Reads tokens a → Reads tokens b → a ≡ b
+
+-- the count of open parentheses stays within 64 where no tokens in a row open over 64 more than they close
+abbrev pub CountsOpen : Type 0
+CountsOpen = (tokens : List Mark) → ((deep_at 0 tokens ≡ None) ↔ IsShallow tokens)

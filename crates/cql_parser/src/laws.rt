@@ -1,0 +1,14 @@
+//! What holds of every list of tokens.
+
+ghost use Rattle.cql_parser.specs.Laws.{CountsOpen, HasOneTree};
+
+/// Tokens have one tree.
+pub fn tokens_have_one_tree()
+    ensures { HasOneTree }
+{}
+
+/// More than 64 parentheses are open at one time exactly where some tokens in a row open over 64
+/// more than they close.
+pub fn open_parentheses_are_counted()
+    ensures { CountsOpen }
+{}
