@@ -1,2 +1,11 @@
 pub mod Schema
 pub mod Features
+pub mod Values
+pub mod Sides
+pub mod Said
+pub mod Finds
+pub mod Kinds
+pub mod Answer
+pub mod Accepted
+pub mod Nodes
+pub mod Laws

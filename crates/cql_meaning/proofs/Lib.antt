@@ -1,0 +1,9 @@
+pub mod Trees
+pub mod Typing
+pub mod Exclusion
+pub mod Names
+pub mod Meanings
+pub mod Orders
+pub mod Parts
+pub mod Fits
+pub mod Checking
