@@ -16,7 +16,7 @@ use crate::tree::Tree;
 use cql_lexer::{Comparison, Token};
 use std::alloc::Global;
 
-// filter = or, and nothing after it
+/// Reads a whole filter: `or`, and nothing after it.
 pub fn parse_filter<'a>(alloc: Global, tokens: &'a [Token]) -> Result<Tree, Stop<'a>>
     ensures { ParsesAll (marks tokens.now) result }
 {

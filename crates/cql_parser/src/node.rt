@@ -8,6 +8,7 @@ use crate::tree::Tree;
 use cql_lexer::Comparison;
 use std::alloc::{AllocError, Global};
 
+/// The parts joined by OR; one part alone is that part.
 pub fn or_tree(alloc: Global, first: Tree, others: Vec<Tree>) -> Result<Tree, AllocError>
     ensures { IfOk result (λ t. syntax_of t ≡ or_of (syntax_of first) (syntaxes_of others.items)) }
 {
@@ -17,6 +18,7 @@ pub fn or_tree(alloc: Global, first: Tree, others: Vec<Tree>) -> Result<Tree, Al
     Ok(Tree::Or(Box::new(alloc, first)?, others))
 }
 
+/// The parts joined by AND; one part alone is that part.
 pub fn and_tree(alloc: Global, first: Tree, others: Vec<Tree>) -> Result<Tree, AllocError>
     ensures { IfOk result (λ t. syntax_of t ≡ and_of (syntax_of first) (syntaxes_of others.items)) }
 {
@@ -26,6 +28,7 @@ pub fn and_tree(alloc: Global, first: Tree, others: Vec<Tree>) -> Result<Tree, A
     Ok(Tree::And(Box::new(alloc, first)?, others))
 }
 
+/// A tree with NOT before it.
 #[tactic(auto, unfolding(crate::specs::Views::syntax_of))]
 pub fn not_tree(alloc: Global, place: usize, negated: Tree) -> Result<Tree, AllocError>
     ensures { IfOk result (λ t. syntax_of t ≡ not_node place (syntax_of negated)) }
@@ -33,6 +36,7 @@ pub fn not_tree(alloc: Global, place: usize, negated: Tree) -> Result<Tree, Allo
     Ok(Tree::Not(place, Box::new(alloc, negated)?))
 }
 
+/// Two trees compared.
 #[tactic(auto, unfolding(crate::specs::Views::syntax_of))]
 pub fn compare_tree(
     alloc: Global,
@@ -46,6 +50,7 @@ pub fn compare_tree(
     Ok(Tree::Compare(by, left, Box::new(alloc, right)?))
 }
 
+/// A name.
 #[tactic(auto, unfolding(crate::specs::Views::syntax_of))]
 pub fn name_tree(place: usize, name: &String) -> Result<Tree, AllocError>
     ensures { IfOk result (λ t. syntax_of t ≡ name_node place (string_bytes name.now)) }
@@ -53,6 +58,7 @@ pub fn name_tree(place: usize, name: &String) -> Result<Tree, AllocError>
     Ok(Tree::Name(place, name.clone()?))
 }
 
+/// A number's digits, and whether a minus stands before them.
 #[tactic(auto, unfolding(crate::specs::Views::syntax_of))]
 pub fn number_tree(place: usize, negative: bool, digits: &String) -> Result<Tree, AllocError>
     ensures { IfOk result (λ t. syntax_of t ≡ number_node place negative (string_bytes digits.now)) }

@@ -12,7 +12,7 @@ use crate::tree::Tree;
 use cql_lexer::{Kind, Token, Tokens};
 use std::alloc::Global;
 
-// how many parentheses may be open at one time
+// How many parentheses may be open at one time
 const MOST_OPEN: usize = 64;
 
 /// The tree that the tokens spell.

@@ -17,6 +17,7 @@ pub enum OperandStart<'a> {
     NoOperand,
 }
 
+/// What the first token begins.
 pub fn operand_start(tokens: &[Token]) -> OperandStart<'_>
     ensures starts { StartsOperand result (marks tokens.now) }
     ensures shorter { IsShorter (length tokens.now) result }
