@@ -1,0 +1,42 @@
+-- What is found at the front of a connection's bytes (RFC 9112, section 2.2: message parsing).
+use Rattle.std.specs.Prelude.{ℕ, List, take, drop, ⊤}
+use Rattle.httparse.specs.Grammar.{RequestHead, MayBecomeRequest}
+use Rattle.httparse.specs.Spans.{IsRequestAt, IsRequestWithin}
+use Rattle.httparse.specs.declared.spans.HeaderSpan.{HeaderSpan}
+use Rattle.httparse.specs.declared.spans.RequestSpans.{RequestSpans}
+use Rattle.cad_head.specs.Heads.{front_len, Fits, HasNone, IsHopeless, MayWait}
+use Rattle.cad_head.specs.declared.parsing.Front.{Front}
+use Rattle.cad_head.specs.declared.parsing.Front.TheVariants.{Head, Waiting, Bad}
+
+-- the bytes that a head may take (own profile)
+abbrev pub front_bytes : List ℕ → List ℕ
+front_bytes bytes = take front_len bytes
+
+-- the spans are the places of this head, which keeps to the limits
+pub record IsHeadAt (bytes : List ℕ) (headers : List HeaderSpan) (spans : RequestSpans) (head : RequestHead) : Type 0 where
+  pub at : IsRequestAt (front_bytes bytes) headers spans head
+  pub fits : Fits bytes head (drop spans.len bytes)
+
+-- what stands at the front of the bytes
+abbrev pub IsFrontOf : List ℕ → List HeaderSpan → Front → Type 0
+IsFrontOf bytes headers (Head spans) = (head : RequestHead) × IsHeadAt bytes headers spans head
+IsFrontOf bytes headers Waiting = HasNone bytes × MayWait bytes
+IsFrontOf bytes headers Bad = IsHopeless bytes
+
+-- the places lie in the bytes
+abbrev pub IsFrontWithin : List ℕ → List HeaderSpan → Front → Type 0
+IsFrontWithin bytes headers (Head spans) = IsRequestWithin (front_bytes bytes) headers spans
+IsFrontWithin bytes headers Waiting = ⊤
+IsFrontWithin bytes headers Bad = ⊤
+
+-- what waits may still become a head of the grammar
+abbrev pub IsFrontUnfinished : List ℕ → Front → Type 0
+IsFrontUnfinished bytes (Head spans) = ⊤
+IsFrontUnfinished bytes Waiting = MayBecomeRequest bytes
+IsFrontUnfinished bytes Bad = ⊤
+
+-- where a head is found, one is there, and the bytes are not hopeless
+abbrev pub HeadsExcludeAll : Type 0
+HeadsExcludeAll =
+    (bytes : List ℕ) (headers : List HeaderSpan) (spans : RequestSpans)
+    → IsFrontOf bytes headers (Head spans) → ¬ (HasNone bytes) × ¬ (IsHopeless bytes)

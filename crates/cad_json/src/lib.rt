@@ -1,0 +1,20 @@
+//! The JSON bodies of replies: lists of features, and faults.
+//!
+//! Each body is compact text, with the members of each object in byte order of their names. What
+//! a body holds is said as a tree of JSON; its text is the one that `serde_json` writes for it.
+//!
+//! - `shapes`: points and regions, in whole millimetres
+//! - `values`: a feature's values, as its geometry and as its properties
+//! - `bodies`: features, lists of them, and faults
+//! - `laws`: what the trees hold, in terms of the features
+#![tactic(auto)]
+
+mod bodies;
+pub mod laws;
+mod shapes;
+mod values;
+
+pub use bodies::{fault_body, items_body};
+
+#[cfg(test)]
+mod tests;
