@@ -1,0 +1,4 @@
+pub mod FilterLemmas
+pub mod ReplyLemmas
+pub mod ServeLemmas
+pub mod LawLemmas

@@ -1,0 +1,29 @@
+-- What holds of all replies.
+use Rattle.std.specs.Prelude.{◌≡◌, ℕ, ◌++◌, List, Bool, Option, take}
+use Rattle.cql_meaning.specs.declared.feature.Feature.{Feature}
+use Rattle.cql_meaning.specs.declared.filter.Filter.{Filter}
+use Rattle.cql_meaning.specs.declared.schema.Collection.TheVariants.{Parcels}
+use Rattle.cql_meaning.specs.Features.{AreFeatures}
+use Rattle.cql_meaning.specs.Answer.{answer}
+use Rattle.cad_request.specs.Request.{Request}
+use Rattle.cad_http.specs.Answers.{page_size, IsReply}
+use Rattle.cad_http.specs.FirstReplies.{IsFirstReply}
+
+-- a request has one reply
+abbrev pub RequestHasOneReply : Type 0
+RequestHasOneReply = (features : List Feature) (r : Request) (out other : List ℕ) → IsReply features r out → IsReply features r other → out ≡ other
+
+-- the bytes of a connection have one first reply
+abbrev pub BytesHaveOneReply : Type 0
+BytesHaveOneReply = (features : List Feature) (bytes out other : List ℕ) (used taken : ℕ) (ends over : Bool)
+    → IsFirstReply features bytes out used ends → IsFirstReply features bytes other taken over → (out ≡ other) × (used ≡ taken) × (ends ≡ over)
+
+-- however the bytes were cut: what follows a request does not change the reply to it
+abbrev pub RepliesStay : Type 0
+RepliesStay = (features : List Feature) (bytes more out : List ℕ) (used : ℕ) (ends : Bool)
+    → IsFirstReply features bytes out used ends → IsFirstReply features (bytes ++ more) out used ends
+
+-- what a reply lists are features of parcels, each identifier once and in their order
+abbrev pub ListsFeaturesInOrder : Type 0
+ListsFeaturesInOrder = (filter : Option Filter) (features : List Feature)
+    → AreFeatures Parcels features → AreFeatures Parcels (take page_size (answer filter features))

@@ -1,0 +1,46 @@
+-- The bytes of a reply (RFC 9112, section 4: status line; section 5: field syntax).
+use Rattle.std.specs.Prelude.{ℕ, List, [], ◌∷◌, ◌++◌, length, codes, decimal, Bool, if◌then◌else◌}
+use Rattle.cad_http.specs.declared.reply.Status.{Status}
+use Rattle.cad_http.specs.declared.reply.Status.TheVariants.{Good, BadRequest, NotFound, MethodNotAllowed}
+
+-- a line and its end
+abbrev pub line : List ℕ → List ℕ
+line text = text ++ 13 ∷ 10 ∷ []
+
+-- the status code and its reason phrase (RFC 9110, section 15)
+abbrev pub status_text : Status → List ℕ
+status_text Good = codes "200 OK"
+status_text BadRequest = codes "400 Bad Request"
+status_text NotFound = codes "404 Not Found"
+status_text MethodNotAllowed = codes "405 Method Not Allowed"
+
+-- the line of the methods that a resource has, which one status needs (RFC 9110, section 15.5.6)
+abbrev pub allow_line : Status → List ℕ
+allow_line Good = []
+allow_line BadRequest = []
+allow_line NotFound = []
+allow_line MethodNotAllowed = line (codes "Allow: GET")
+
+-- the line where the connection ends after the reply (RFC 9112, section 9.6: tear-down)
+abbrev pub close_line : Bool → List ℕ
+close_line ends = if ends then line (codes "Connection: close") else []
+
+-- the lines before a body of this length
+abbrev pub head_lines : Status → Bool → ℕ → List ℕ
+head_lines status ends length =
+    line (codes "HTTP/1.1 " ++ status_text status)
+    ++ line (codes "Content-Type: application/json")
+    ++ line (codes "Content-Length: " ++ decimal length)
+    ++ allow_line status
+    ++ close_line ends
+    ++ line []
+
+-- a whole reply
+abbrev pub reply_text : Status → Bool → List ℕ → List ℕ
+reply_text status ends body = head_lines status ends (length body) ++ body
+
+-- the reply for which no memory is needed
+abbrev pub no_memory_reply : List ℕ
+no_memory_reply =
+    line (codes "HTTP/1.1 503 Service Unavailable") ++ line (codes "Content-Length: 0")
+    ++ line (codes "Connection: close") ++ line []

@@ -1,0 +1,40 @@
+//! Why the server gives no reply.
+
+use std::alloc::AllocError;
+use thiserror::Error;
+
+/// Why the server gives no reply to a request.
+#[derive(Clone, Copy, Debug, PartialEq, Eq, Error)]
+pub enum DeskFault {
+    #[error("out of memory")]
+    Memory,
+}
+
+impl DeskFault {
+    ghost use Rattle.std.specs.Prelude.{◌≡◌};
+    ghost use Rattle.cad_http.specs.Faults.{desk_fault_number, desk_fault_name};
+
+    /// The number that programs print.
+    pub fn number(&self) -> u8
+        ensures { result ≡ desk_fault_number self.now }
+    {
+        match self {
+            DeskFault::Memory => 4,
+        }
+    }
+
+    /// The name that programs print.
+    pub fn name(&self) -> &'static str
+        ensures { result.now ≡ desk_fault_name self.now }
+    {
+        match self {
+            DeskFault::Memory => "Memory",
+        }
+    }
+}
+
+impl From<AllocError> for DeskFault {
+    fn from(_: AllocError) -> DeskFault {
+        DeskFault::Memory
+    }
+}

@@ -1,0 +1,3 @@
+pub mod MemberLemmas
+pub mod RouteLemmas
+pub mod DecisionLemmas
