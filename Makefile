@@ -1,7 +1,7 @@
 # The toolchain's command; `rt doc` prints the page to read first.
 RT ?= rt
 
-.PHONY: sample test check clean
+.PHONY: sample test check bench register-file clean
 
 # Proves and builds the program, and answers the request in crates/cadastre/stdin.
 sample:
@@ -14,6 +14,15 @@ test:
 # Every crate, over what earlier checks kept.
 check:
 	$(RT) all check
+
+# How many commands a second the office enters, in memory and in a file.
+bench:
+	cd crates/cad_bench && $(RT) run -- 100
+	scripts/bench
+
+# Has the real sqlite3 look at a file that the program wrote.
+register-file: sample
+	scripts/check_register_file
 
 clean:
 	rm -rf crates/*/out

@@ -1,21 +1,36 @@
 -- How runs end (exit statuses: own profile).
-use Rattle.std.specs.Prelude.{ℕ, Result, Ok, Err}
+use Rattle.std.specs.Prelude.{ℕ, Bool, true, false, Result, Ok, Err}
 use Rattle.cad_http.specs.declared.connection.Ending.{Ending}
 use Rattle.cad_http.specs.declared.connection.Ending.TheVariants.{PeerEnded, WeEnded, Refused}
 use Rattle.cad_http.specs.declared.serve_fault.ServeFault.{ServeFault}
+use Rattle.cad_office.specs.declared.fault.OfficeFault.{OfficeFault}
+use Rattle.cad_office.specs.declared.fault.OfficeFault.TheVariants as office
+use Rattle.cad_versions.specs.declared.fault.RegisterFault.TheVariants as register
 use Rattle.cadastre.specs.declared.outcome.Outcome.{Outcome}
-use Rattle.cadastre.specs.declared.outcome.Outcome.TheVariants.{Good, Serve, Desk, Usage}
+use Rattle.cadastre.specs.declared.outcome.Outcome.TheVariants as outcome
 
 -- the status of the process
 abbrev pub status_of : Outcome → ℕ
-status_of Good = 0
-status_of (Serve fault) = 1
-status_of (Desk fault) = 1
-status_of Usage = 2
+status_of outcome.Good = 0
+status_of outcome.Refused = 1
+status_of (outcome.Serve fault) = 1
+status_of (outcome.Office fault) = 1
+status_of (outcome.Desk fault) = 1
+status_of outcome.Usage = 2
+status_of (outcome.Register fault) = 3
 
 -- how serving one request ends a run
 abbrev pub outcome_of : Result Ending ServeFault → Outcome
-outcome_of (Ok PeerEnded) = Good
-outcome_of (Ok WeEnded) = Good
-outcome_of (Ok (Refused fault)) = Desk fault
-outcome_of (Err fault) = Serve fault
+outcome_of (Ok PeerEnded) = outcome.Good
+outcome_of (Ok WeEnded) = outcome.Good
+outcome_of (Ok (Refused fault)) = outcome.Desk fault
+outcome_of (Err fault) = outcome.Serve fault
+
+-- how the office ends a run
+abbrev pub office_outcome_of : Result Bool OfficeFault → Outcome
+office_outcome_of (Ok true) = outcome.Good
+office_outcome_of (Ok false) = outcome.Refused
+office_outcome_of (Err office.Read) = outcome.Office office.Read
+office_outcome_of (Err office.Write) = outcome.Office office.Write
+office_outcome_of (Err office.TurnsSpent) = outcome.Office office.TurnsSpent
+office_outcome_of (Err office.Register) = outcome.Register register.Store

@@ -8,28 +8,30 @@ use std::rt::Env;
 
 /// What the program is to do.
 #[derive(Clone, Copy, Debug, PartialEq, Eq)]
-pub enum Command {
+pub enum Command<'a> {
     /// Serve one request from standard input over the sample register.
     Sample,
+    /// Enter the commands of standard input into the register of the file at this path.
+    Office(&'a str),
 }
 
-impl Command {
-    ghost use Rattle.std.specs.Prelude.{◌≡◌, if◌then◌else◌, codes};
-    ghost use Rattle.std.specs.Str.{bytes_eq};
+impl<'a> Command<'a> {
+    ghost use Rattle.std.specs.Prelude.{◌≡◌, map, string_bytes};
+    ghost use Rattle.cadastre.specs.Commands.{IsCommandOf};
 
-    /// The command of this name.
-    pub fn named(name: &str) -> Option<Command>
-        ensures { result ≡ (if bytes_eq name.now (codes "sample") then Some Command.Sample else None) }
+    /// The command of a command line, which begins with the program's name.
+    pub fn of_words(words: &'a [String]) -> Option<Command<'a>>
+        ensures { IsCommandOf (map (λ word. string_bytes word) words.now) result }
     {
-        if name == "sample" {
-            Some(Command::Sample)
-        } else {
-            None
+        match words {
+            [_, name] if name.as_str() == "sample" => Some(Command::Sample),
+            [_, name, file] if name.as_str() == "office" => Some(Command::Office(file.as_str())),
+            _ => None,
         }
     }
 }
 
-/// How a run ends whose arguments cannot be had.
+/// How a run ends whose command line cannot be had.
 fn without_arguments(error: Error) -> Outcome {
     if error.kind() == ErrorKind::OutOfMemory {
         Outcome::Desk(DeskFault::Memory)
@@ -38,15 +40,13 @@ fn without_arguments(error: Error) -> Outcome {
     }
 }
 
-/// The command of the arguments behind the program's name, or how the run ends without one.
-pub fn read_command<R: Env + AllocGlobal>(rt: &R) -> Result<Command, Outcome> {
-    let mut words = args(rt).map_err(without_arguments)?;
-    let _program = words.next();
-    let Some(name) = words.next() else {
-        return Err(Outcome::Usage);
-    };
-    if words.next().is_some() {
-        return Err(Outcome::Usage);
+/// The words of the command line, the program's name first, or how the run ends without them.
+pub fn read_words<R: Env + AllocGlobal>(rt: &R) -> Result<Vec<String>, Outcome> {
+    let mut words = Vec::new(rt.alloc());
+    for word in args(rt).map_err(without_arguments)? {
+        if words.push(word).is_err() {
+            return Err(Outcome::Desk(DeskFault::Memory));
+        }
     }
-    Command::named(name.as_str()).ok_or(Outcome::Usage)
+    Ok(words)
 }

@@ -1,22 +1,30 @@
 //! How a run ended: its status, and the line that tells it.
 
 use cad_http::{DeskFault, Ending, ServeFault};
+use cad_office::OfficeFault;
+use cad_register::RegisterFault;
 
 /// How a run ended.
 #[derive(Clone, Copy, Debug, PartialEq, Eq)]
 pub enum Outcome {
     Good,
+    /// A line of the office was refused.
+    Refused,
     /// Reading or writing failed.
     Serve(ServeFault),
+    /// Reading or writing failed in the office, or there were too many reads.
+    Office(OfficeFault),
     /// The request was not answered.
     Desk(DeskFault),
+    /// The register could not be opened, or its database refused a command.
+    Register(RegisterFault),
     /// The arguments are wrong.
     Usage,
 }
 
 impl Outcome {
     ghost use Rattle.std.specs.Prelude.{◌≡◌};
-    ghost use Rattle.cadastre.specs.Outcomes.{outcome_of, status_of};
+    ghost use Rattle.cadastre.specs.Outcomes.{office_outcome_of, outcome_of, status_of};
 
     /// How serving one request ends a run.
     pub fn of_serving(served: Result<Ending, ServeFault>) -> Outcome
@@ -29,14 +37,27 @@ impl Outcome {
         }
     }
 
+    /// How the office ends a run. It answers whether no line was refused.
+    pub fn of_office(kept: Result<bool, OfficeFault>) -> Outcome
+        ensures { result ≡ office_outcome_of kept }
+    {
+        match kept {
+            Ok(true) => Outcome::Good,
+            Ok(false) => Outcome::Refused,
+            Err(OfficeFault::Register) => Outcome::Register(RegisterFault::Store),
+            Err(fault) => Outcome::Office(fault),
+        }
+    }
+
     /// The status of the process.
     pub fn status(self) -> u8
         ensures { result ≡ status_of self }
     {
         match self {
             Outcome::Good => 0,
-            Outcome::Serve(_) | Outcome::Desk(_) => 1,
+            Outcome::Refused | Outcome::Serve(_) | Outcome::Office(_) | Outcome::Desk(_) => 1,
             Outcome::Usage => 2,
+            Outcome::Register(_) => 3,
         }
     }
 }
@@ -44,9 +65,12 @@ impl Outcome {
 /// Tells a bad outcome on standard error. Where that cannot be written, the status alone tells it.
 pub fn tell(rt: &impl Eprint, outcome: Outcome) {
     let _ = match outcome {
-        Outcome::Good => Ok(()),
+        // Refused lines were told on standard output.
+        Outcome::Good | Outcome::Refused => Ok(()),
         Outcome::Serve(fault) => eprintln!(rt; "serve: {} {}", fault.number(), fault.name()),
+        Outcome::Office(fault) => eprintln!(rt; "serve: {} {}", fault.number(), fault.name()),
         Outcome::Desk(fault) => eprintln!(rt; "desk: {} {}", fault.number(), fault.name()),
-        Outcome::Usage => eprintln!(rt; "usage: cadastre sample"),
+        Outcome::Register(fault) => eprintln!(rt; "register: {} {}", fault.number(), fault.name()),
+        Outcome::Usage => eprintln!(rt; "usage: cadastre sample | office FILE"),
     };
 }

@@ -1,0 +1,3 @@
+pub mod CivilLemmas
+pub mod DayTextLemmas
+pub mod NamingLemmas

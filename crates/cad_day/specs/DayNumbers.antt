@@ -1,0 +1,6 @@
+-- The days that the register knows, as numbers.
+use Rattle.std.specs.Prelude.{ℤ, pos, neg_ℤ, ◌≤ℤ◌}
+
+-- the days of the years 0000 to 9999 of ISO 8601: 0 is 1970-01-01, the first is 0000-01-01 and the last 9999-12-31
+abbrev pub IsDayNumber : ℤ → Type 0
+IsDayNumber n = (neg_ℤ (pos 719528) ≤ℤ n) × (n ≤ℤ pos 2932896)

@@ -1,0 +1,4 @@
+pub mod DayNumbers
+pub mod Days
+pub mod DayTexts
+pub mod Calendar

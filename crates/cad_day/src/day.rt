@@ -1,0 +1,33 @@
+//! One day of the calendar.
+
+ghost use Rattle.cad_day.specs.DayNumbers.{IsDayNumber};
+
+/// A day of the proleptic Gregorian calendar, from 0000-01-01 to 9999-12-31.
+#[derive(Clone, Copy, Debug, PartialEq, Eq, PartialOrd, Ord)]
+pub struct Day {
+    number: i32,
+    pub ghost in_range: { IsDayNumber number },
+}
+
+impl Day {
+    ghost use Rattle.std.specs.Prelude.{◌≡◌, MatchOption};
+    ghost use Rattle.cad_day.specs.Days.{number_of};
+
+    /// The day with that number: days from 1970-01-01, negative before it.
+    pub fn new(number: i32) -> Option<Day>
+        ensures { MatchOption result (¬ IsDayNumber number) (λ day. number_of day ≡ number) }
+    {
+        if number < -719_528 || number > 2_932_896 {
+            return None;
+        }
+        Some(Day { number })
+    }
+
+    /// The day's number: days from 1970-01-01, negative before it.
+    pub fn number(self) -> i32
+        ensures value { result ≡ number_of self }
+        ensures in_range { IsDayNumber result }
+    {
+        self.number
+    }
+}

@@ -1,0 +1,4 @@
+pub mod WriteLemmas
+pub mod PrintLemmas
+pub mod KeepingLemmas
+pub mod FillingLemmas

@@ -1,0 +1,7 @@
+pub mod Answers
+pub mod Filling
+pub mod Keeping
+pub mod Lines
+pub mod OfficeFaults
+pub mod Values
+pub mod Registers

@@ -1,0 +1,81 @@
+//! One line, byte by byte.
+
+use std::alloc::Global;
+
+// Longer lines are no commands.
+const LONGEST: usize = 65_536;
+
+/// How a line can be read.
+#[derive(Clone, Copy, Debug, PartialEq, Eq)]
+pub enum Fate {
+    /// All its bytes are held.
+    Held,
+    /// It has more than 65,536 bytes.
+    TooLong,
+    /// A growth was refused, and the rest of the line is skipped.
+    NoMemory,
+}
+
+/// The line that is being read.
+#[derive(Drop)]
+pub struct Line {
+    bytes: Vec<u8>,
+    fate: Fate,
+}
+
+impl Line {
+    ghost use Rattle.std.specs.Prelude.{◌≡◌, ℕ, List, [], ◌∷◌, ◌++◌, not, true, false};
+    ghost use Rattle.cad_office.specs.Lines.{is_begun, StandsFor};
+
+    pub fn new(alloc: Global) -> Line
+        ensures begun { is_begun result ≡ false }
+        ensures stands { StandsFor [] result }
+    {
+        Line {
+            bytes: Vec::new(alloc),
+            fate: Fate::Held,
+        }
+    }
+
+    /// One byte more, which is no LF.
+    pub fn add(&mut self, byte: u8)
+        ensures begun { is_begun self.new ≡ true }
+        ensures stands { (text : List ℕ) → StandsFor text self.old → StandsFor (text ++ byte ∷ []) self.new }
+    {
+        if self.fate != Fate::Held {
+            return;
+        }
+        if self.bytes.len() == LONGEST {
+            self.fate = Fate::TooLong;
+        } else if self.bytes.push(byte).is_err() {
+            self.fate = Fate::NoMemory;
+        }
+    }
+
+    pub fn is_empty(&self) -> bool
+        ensures { result ≡ not (is_begun self.now) }
+    {
+        self.bytes.is_empty() && self.fate == Fate::Held
+    }
+
+    pub fn fate(&self) -> Fate
+        ensures { result ≡ self.now.fate }
+    {
+        self.fate
+    }
+
+    pub fn bytes(&self) -> &[u8]
+        ensures { result.now ≡ self.now.bytes.items }
+    {
+        &self.bytes
+    }
+
+    /// The next line begins.
+    pub fn clear(&mut self)
+        ensures begun { is_begun self.new ≡ false }
+        ensures stands { StandsFor [] self.new }
+    {
+        self.bytes.clear();
+        self.fate = Fate::Held;
+    }
+}

@@ -1,0 +1,80 @@
+//! What is printed for a line.
+
+ghost use Rattle.std.specs.Prelude.{◌≡◌, ℕ, ◌≤◌, length, take, drop, map, OnOk, OnErr, Err};
+ghost use Rattle.std.specs.Io.KnownBytes.{Appends};
+ghost use Rattle.cad_office.specs.Answers.{joined, printed};
+
+use crate::fault::OfficeFault;
+use crate::write::{write_pieces, write_whole};
+use cad_versions::RegisterFault;
+use itoa::Buffer;
+use std::io::Write;
+
+/// What came of a line.
+#[derive(Clone, Copy, Debug, PartialEq, Eq)]
+pub enum Answer {
+    /// The command was accepted, and this is the revision since.
+    Entered(u64),
+    /// The register refused the command.
+    Refused(RegisterFault),
+    /// The line is no command.
+    NotACommand,
+}
+
+/// Prints the answer as one line, or a front of it where a write fails.
+pub fn print<W: Write>(writer: &mut W, answer: Answer) -> Result<(), OfficeFault>
+    ensures whole { OnOk result (Appends (W.contents writer.old) (W.contents writer.new) (printed answer)) }
+    ensures front { (n : ℕ) × Appends (W.contents writer.old) (W.contents writer.new) (take n (printed answer)) }
+    ensures fault { OnErr result (result ≡ Err OfficeFault.Write) }
+{
+    match answer {
+        Answer::Entered(revision) => print_revision(writer, revision),
+        Answer::Refused(fault) => print_refusal(writer, fault),
+        Answer::NotACommand => write_whole(writer, b"refused 0 NotACommand\n"),
+    }
+}
+
+fn print_revision<W: Write>(writer: &mut W, revision: u64) -> Result<(), OfficeFault>
+    ensures whole { OnOk result (Appends (W.contents writer.old) (W.contents writer.new) (printed (Answer.Entered revision))) }
+    ensures front { (n : ℕ) × Appends (W.contents writer.old) (W.contents writer.new) (take n (printed (Answer.Entered revision))) }
+    ensures fault { OnErr result (result ≡ Err OfficeFault.Write) }
+{
+    let mut number = Buffer::new();
+    let pieces = [
+        b"revision ".as_slice(),
+        number.format(revision).as_bytes(),
+        b"\n".as_slice(),
+    ];
+    write_pieces(writer, &pieces)
+}
+
+fn print_refusal<W: Write>(writer: &mut W, fault: RegisterFault) -> Result<(), OfficeFault>
+    ensures whole { OnOk result (Appends (W.contents writer.old) (W.contents writer.new) (printed (Answer.Refused fault))) }
+    ensures front { (n : ℕ) × Appends (W.contents writer.old) (W.contents writer.new) (take n (printed (Answer.Refused fault))) }
+    ensures fault { OnErr result (result ≡ Err OfficeFault.Write) }
+{
+    let mut number = Buffer::new();
+    let number = number.format(fault.number()).as_bytes();
+    let name = fault.name().as_bytes();
+    let refused = b"refused ".as_slice();
+    let blank = b" ".as_slice();
+    let end = b"\n".as_slice();
+    match fault {
+        RegisterFault::DayNotAfter(day) => {
+            let day = day.bytes();
+            write_pieces(writer, &[refused, number, blank, name, blank, &day, end])
+        }
+        RegisterFault::Damaged(object, version) => {
+            let mut left = Buffer::new();
+            let mut right = Buffer::new();
+            let object = left.format(object).as_bytes();
+            let version = right.format(version).as_bytes();
+            let point = b".".as_slice();
+            let pieces = [
+                refused, number, blank, name, blank, object, point, version, end,
+            ];
+            write_pieces(writer, &pieces)
+        }
+        _ => write_pieces(writer, &[refused, number, blank, name, end]),
+    }
+}

@@ -1,0 +1,16 @@
+//! A land register as the book that the office keeps.
+
+ghost use Rattle.cad_office.specs.Registers.{Applied};
+
+use crate::turns::Book;
+use cad_register::Register;
+use cad_versions::{Command, RegisterFault};
+use sqlite::Alter;
+
+impl<S: Alter> Book for Register<S> {
+    ghost applies = { Applied S.Store };
+
+    fn apply(&mut self, command: Command) -> Result<u64, RegisterFault> {
+        Register::apply(self, command)
+    }
+}

@@ -1,0 +1,189 @@
+//! The sample register.
+
+ghost use Rattle.std.specs.Prelude.{◌≡◌, ◌≤◌, length, is_some, IsTrue, IfOk, vec_len};
+ghost use Rattle.cad_day.specs.DayTexts.{day_named};
+ghost use Rattle.cad_versions.specs.Objects.{IsObjectNumber};
+ghost use Rattle.cad_versions.specs.Texts.{AreWords};
+ghost use Rattle.cad_office.specs.Filling.{Enters};
+
+use crate::turns::Book;
+use cad_day::Day;
+use cad_shape::{Point, Ring};
+use cad_versions::{Body, Command, ObjectId, RegisterFault, Share, Words};
+use std::alloc::{AllocError, Global};
+
+/// Applies the ten commands of the sample register, in their order, and answers the last revision.
+///
+/// It stops at the first refusal, and the commands before it stay.
+pub fn fill<B: Book>(alloc: Global, book: &mut B) -> Result<u64, RegisterFault>
+    ensures { Enters B.applies 10 book.old result book.new }
+{
+    match sample(alloc) {
+        Ok(commands) => enter_all(book, commands),
+        Err(_) => Err(RegisterFault::Memory),
+    }
+}
+
+fn enter_all<B: Book>(book: &mut B, commands: Vec<Command>) -> Result<u64, RegisterFault>
+    ensures { Enters B.applies (vec_len commands) book.old result book.new }
+{
+    let mut revision = 0;
+    for command in commands {
+        match book.apply(command) {
+            Ok(next) => revision = next,
+            Err(fault) => return Err(fault),
+        }
+    }
+    Ok(revision)
+}
+
+fn sample(alloc: Global) -> Result<Vec<Command>, AllocError>
+    ensures { IfOk result (λ commands. vec_len commands ≡ 10) }
+{
+    let mut commands = Vec::new(alloc);
+    let mill = Some(words(alloc, "Mill")?);
+    commands.push(enter(10, "2000-01-01", Body::Unit { name: mill }))?;
+    commands.push(enter(11, "2000-01-01", Body::Unit { name: None }))?;
+    commands.push(enter(20, "2000-01-01", party(alloc)?))?;
+    commands.push(enter(1, "2001-01-01", first_parcel(alloc, 400)?))?;
+    commands.push(amend(1, "2010-01-01", first_parcel(alloc, 380)?))?;
+    commands.push(enter(2, "2005-06-01", second_parcel(alloc)?))?;
+    commands.push(enter(3, "2003-01-01", third_parcel(alloc)?))?;
+    commands.push(enter(4, "2003-01-01", fourth_parcel(alloc)?))?;
+    commands.push(enter(30, "2005-01-01", right(alloc)?))?;
+    commands.push(enter(31, "2006-01-01", restriction(alloc)?))?;
+    Ok(commands)
+}
+
+fn party(alloc: Global) -> Result<Body, AllocError> {
+    Ok(Body::Party {
+        name: Some(words(alloc, "Ana Straße")?),
+        code: words(alloc, "naturalPerson")?,
+    })
+}
+
+fn first_parcel(alloc: Global, area: u32) -> Result<Body, AllocError> {
+    let corners = [(0, 0), (20_000, 0), (20_000, 20_000), (0, 20_000)];
+    let shape = Some(ring(alloc, &corners)?);
+    parcel(alloc, 10, "A-1", Some(area), shape)
+}
+
+fn second_parcel(alloc: Global) -> Result<Body, AllocError> {
+    let corners = [(20_000, 0), (40_000, 0), (40_000, 20_000), (20_000, 20_000)];
+    let shape = Some(ring(alloc, &corners)?);
+    parcel(alloc, 10, "A-2", None, shape)
+}
+
+fn third_parcel(alloc: Global) -> Result<Body, AllocError> {
+    let corners = [(0, 30_000), (30_000, 30_000), (0, 60_000)];
+    let shape = Some(ring(alloc, &corners)?);
+    parcel(alloc, 11, "b-7", Some(900), shape)
+}
+
+fn fourth_parcel(alloc: Global) -> Result<Body, AllocError> {
+    parcel(alloc, 11, "C%1", Some(0), None)
+}
+
+fn right(alloc: Global) -> Result<Body, AllocError> {
+    Ok(Body::Right {
+        unit: object_id(10),
+        party: Some(object_id(20)),
+        code: words(alloc, "ownership")?,
+        share: Share::new(1, 2),
+    })
+}
+
+fn restriction(alloc: Global) -> Result<Body, AllocError> {
+    Ok(Body::Restriction {
+        unit: object_id(11),
+        party: None,
+        code: words(alloc, "noBuilding")?,
+        share: None,
+        required: Some(false),
+    })
+}
+
+fn enter(object: u32, first: &str, body: Body) -> Command
+    requires object { IsObjectNumber object }
+    requires first { IsTrue (is_some (day_named first.now)) }
+{
+    Command::Enter {
+        object: object_id(object),
+        first: day(first),
+        body,
+    }
+}
+
+fn amend(object: u32, first: &str, body: Body) -> Command
+    requires object { IsObjectNumber object }
+    requires first { IsTrue (is_some (day_named first.now)) }
+{
+    Command::Amend {
+        object: object_id(object),
+        first: day(first),
+        body,
+    }
+}
+
+fn parcel(
+    alloc: Global,
+    unit: u32,
+    label: &str,
+    area: Option<u32>,
+    shape: Option<Ring>,
+) -> Result<Body, AllocError>
+    requires unit { IsObjectNumber unit }
+    requires label { AreWords label.now }
+{
+    Ok(Body::Parcel {
+        unit: object_id(unit),
+        label: words(alloc, label)?,
+        area,
+        shape,
+        spot: None,
+    })
+}
+
+fn object_id(number: u32) -> ObjectId
+    requires { IsObjectNumber number }
+{
+    ObjectId::new(number).unwrap()
+}
+
+fn day(text: &str) -> Day
+    requires { IsTrue (is_some (day_named text.now)) }
+{
+    Day::read(text).unwrap()
+}
+
+fn words(alloc: Global, text: &str) -> Result<Words, AllocError>
+    requires { AreWords text.now }
+{
+    match Words::new(String::from_str(alloc, text)?) {
+        Ok(words) => Ok(words),
+        Err(_) => unreachable!(),
+    }
+}
+
+fn ring(alloc: Global, corners: &[(i32, i32)]) -> Result<Ring, AllocError>
+    requires enough { 3 ≤ length corners.now }
+    requires not_too_many { length corners.now ≤ 1000 }
+{
+    match Ring::new(points(alloc, corners)?) {
+        Ok(ring) => Ok(ring),
+        Err(_) => unreachable!(),
+    }
+}
+
+fn points(alloc: Global, corners: &[(i32, i32)]) -> Result<Vec<Point>, AllocError>
+    ensures { IfOk result (λ points. vec_len points ≡ length corners.now) }
+{
+    let mut points = Vec::new(alloc);
+    for (x, y) in corners {
+        points.push(Point {
+            x: i64::from(*x),
+            y: i64::from(*y),
+        })?;
+    }
+    Ok(points)
+}

@@ -1,0 +1,409 @@
+use crate::command::read_command;
+use crate::members::Unread;
+use crate::{Book, OfficeFault, fill, office};
+use cad_day::Day;
+use cad_shape::Ring;
+use cad_versions::{Body, Command, RegisterFault};
+use std::io;
+use std::io::{Cursor, Read, Write};
+use std::process::Abort;
+use std::test::Fail;
+
+/// Accepts every command, up to a number of them, and refuses the next ones for the same fault.
+#[derive(Drop)]
+struct Shelf {
+    revision: u64,
+    room: u64,
+    fault: RegisterFault,
+}
+
+impl Book for Shelf {
+    ghost applies = { λ _ _ _ _. Unit {0} };
+
+    fn apply(&mut self, _command: Command) -> Result<u64, RegisterFault> {
+        if self.revision >= self.room {
+            return Err(self.fault);
+        }
+        self.revision += 1;
+        Ok(self.revision)
+    }
+}
+
+fn empty_shelf(room: u64, fault: RegisterFault) -> Shelf {
+    Shelf {
+        revision: 0,
+        room,
+        fault,
+    }
+}
+
+/// Gives one byte a read, and fails after some reads.
+#[derive(Drop)]
+struct Halting<'a> {
+    bytes: &'a [u8],
+    reads: usize,
+}
+
+impl Read for Halting<'_> {
+    fn read(&mut self, buf: &mut [u8]) -> io::Result<usize> {
+        if self.reads == 0 {
+            return Err(io::ErrorKind::Other.into());
+        }
+        self.reads -= 1;
+        match (self.bytes.split_first(), buf.is_empty()) {
+            (Some((first, rest)), false) => {
+                buf[0] = *first;
+                self.bytes = rest;
+                Ok(1)
+            }
+            _ => Ok(0),
+        }
+    }
+}
+
+/// Gives LFs without end.
+#[derive(Drop)]
+struct Endless;
+
+impl Read for Endless {
+    fn read(&mut self, buf: &mut [u8]) -> io::Result<usize> {
+        if buf.is_empty() {
+            return Ok(0);
+        }
+        buf[0] = b'\n';
+        Ok(1)
+    }
+}
+
+/// Takes one byte a write, and fails after some writes.
+#[derive(Drop)]
+struct Narrow {
+    bytes: Vec<u8>,
+    writes: usize,
+}
+
+impl Write for Narrow {
+    fn write(&mut self, buf: &[u8]) -> io::Result<usize> {
+        if self.writes == 0 {
+            return Err(io::ErrorKind::Other.into());
+        }
+        self.writes -= 1;
+        match buf.first() {
+            Some(byte) => {
+                self.bytes.push(*byte)?;
+                Ok(1)
+            }
+            None => Ok(0),
+        }
+    }
+
+    fn flush(&mut self) -> io::Result<()> {
+        Ok(())
+    }
+}
+
+const ENTER: &str = r#"{"do":"enter","object":11,"first":"2000-01-01","unit":{}}"#;
+
+#[test]
+fn reads_commands(rt: HostRuntime) {
+    for line in [
+        ENTER,
+        r#"{"do":"enter","object":10,"first":"2000-01-01","unit":{"name":"Mill"}}"#,
+        r#"{"do":"enter","object":20,"first":"2000-01-01","party":{"name":"Ana Straße","code":"naturalPerson"}}"#,
+        r#"{"do":"enter","object":1,"first":"2001-01-01","parcel":{"unit":10,"label":"A-1","area":400,"shape":[[0,0],[20000,0],[20000,20000],[0,20000]]}}"#,
+        r#"{"do":"enter","object":3,"first":"2003-01-01","parcel":{"unit":11,"label":"b-7","area":900,"shape":[[0,30000],[30000,30000],[0,60000]],"spot":null}}"#,
+        r#"{"do":"enter","object":4,"first":"2003-01-01","parcel":{"unit":11,"label":"C%1","area":0,"spot":[-5,7]}}"#,
+        r#"{"do":"enter","object":30,"first":"2005-01-01","right":{"unit":10,"party":20,"code":"ownership","share":[1,2]}}"#,
+        r#"{"do":"enter","object":31,"first":"2006-01-01","restriction":{"unit":11,"party":null,"code":"noBuilding","required":false}}"#,
+        r#"{"unit":{"name":"New Mill"},"first":"2008-01-01","object":10,"do":"amend"}"#,
+        r#" {"do":"retire", "object":3, "last":"2020-12-31"} "#,
+        "{\"do\":\"retire\",\"object\":3,\"last\":\"2020-12-31\"}\r",
+        r#"{"do":"amend","do":"retire","object":3,"last":"2020-12-31"}"#,
+        r#"{"do":"retire","object":2147483647,"last":"2020-12-31"}"#,
+    ] {
+        assert!(rt; read_command(rt.alloc(), line.as_bytes()).is_ok(), "{line}");
+    }
+}
+
+#[test]
+fn reads_no_other_lines(rt: HostRuntime) {
+    for line in [
+        " ",
+        "\r",
+        "enter",
+        "[]",
+        "{}",
+        r#"{"do":"enter","object":0,"first":"2001-01-01","unit":{}}"#,
+        r#"{"do":"enter","object":2147483648,"first":"2001-01-01","unit":{}}"#,
+        r#"{"do":"enter","object":11.0,"first":"2001-01-01","unit":{}}"#,
+        r#"{"do":"enter","object":1e1,"first":"2001-01-01","unit":{}}"#,
+        r#"{"do":"enter","object":"11","first":"2001-01-01","unit":{}}"#,
+        r#"{"do":"enter","object":11,"first":"2001-1-01","unit":{}}"#,
+        r#"{"do":"enter","object":11,"first":"2001-02-29","unit":{}}"#,
+        r#"{"do":"enter","object":11,"first":"2001-01-01"}"#,
+        r#"{"do":"enter","object":11,"unit":{}}"#,
+        r#"{"object":11,"first":"2001-01-01","unit":{}}"#,
+        r#"{"do":"open","object":11,"first":"2001-01-01","unit":{}}"#,
+        r#"{"do":"enter","object":11,"first":"2001-01-01","unit":{},"last":null}"#,
+        r#"{"do":"enter","object":11,"first":"2001-01-01","unit":{},"party":{"code":"x"}}"#,
+        r#"{"do":"enter","object":11,"first":"2001-01-01","unit":{"code":"x"}}"#,
+        r#"{"do":"enter","object":11,"first":"2001-01-01","unit":{"name":""}}"#,
+        r#"{"do":"enter","object":11,"first":"2001-01-01","unit":{"name":"\u0000"}}"#,
+        r#"{"do":"enter","object":11,"first":"2001-01-01","unit":null}"#,
+        r#"{"do":"enter","object":11,"first":"2001-01-01","party":{"name":"Ana"}}"#,
+        r#"{"do":"enter","object":1,"first":"2001-01-01","parcel":{"unit":10,"label":"A","area":-1}}"#,
+        r#"{"do":"enter","object":1,"first":"2001-01-01","parcel":{"unit":10,"label":"A","area":4294967296}}"#,
+        r#"{"do":"enter","object":1,"first":"2001-01-01","parcel":{"unit":10,"label":"A","shape":[[0,0],[1,0]]}}"#,
+        r#"{"do":"enter","object":1,"first":"2001-01-01","parcel":{"unit":10,"label":"A","spot":[0,0,0]}}"#,
+        r#"{"do":"enter","object":1,"first":"2001-01-01","parcel":{"unit":10,"label":"A","spot":[0,100000000001]}}"#,
+        r#"{"do":"enter","object":1,"first":"2001-01-01","parcel":{"unit":10,"label":"A","spot":[-0,0]}}"#,
+        r#"{"do":"enter","object":1,"first":"2001-01-01","parcel":{"label":"A"}}"#,
+        r#"{"do":"enter","object":30,"first":"2001-01-01","right":{"unit":10,"code":"x","share":[2,1]}}"#,
+        r#"{"do":"enter","object":30,"first":"2001-01-01","right":{"unit":10,"code":"x","required":true}}"#,
+        r#"{"do":"enter","object":31,"first":"2001-01-01","restriction":{"unit":10,"code":"x","required":0}}"#,
+        r#"{"do":"retire","object":3,"first":"2020-12-31"}"#,
+        r#"{"do":"retire","object":3,"last":"2020-12-31","unit":{}}"#,
+        r#"{"do":"retire","object":3,"last":"2020-12-31"}{}"#,
+    ] {
+        let read = read_command(rt.alloc(), line.as_bytes()).err();
+        assert_eq!(rt; read, Some(Unread::NotACommand), "{line}");
+    }
+    let no_text = read_command(rt.alloc(), b"\xFF").err();
+    assert_eq!(rt; no_text, Some(Unread::NotACommand));
+}
+
+#[test]
+fn keeps_what_a_line_says(rt: HostRuntime) {
+    let line =
+        r#"{"do":"amend","object":4,"first":"2000-02-29","parcel":{"unit":11,"label":"C%1","area":0,"shape":[[0,1],[2,3],[4,5]],"spot":[-5,7]}}"#;
+    match read_command(rt.alloc(), line.as_bytes()) {
+        Ok(
+            Command::Amend {
+                object,
+                first,
+                body,
+            },
+        ) => {
+            assert_eq!(rt; object.number(), 4);
+            assert_eq!(rt; first.number(), 11_016);
+            assert_parcel(&rt, &body);
+        }
+        _ => assert!(rt; false, "no amendment"),
+    }
+}
+
+fn assert_parcel(rt: &impl Abort, body: &Body) {
+    match body {
+        Body::Parcel {
+            unit,
+            label,
+            area,
+            shape,
+            spot,
+        } => {
+            assert_eq!(rt; unit.number(), 11);
+            assert_eq!(rt; label.as_str(), "C%1");
+            assert_eq!(rt; *area, Some(0));
+            assert_eq!(rt; spot.map(|p| (p.x, p.y)), Some((-5, 7)));
+            assert_ring(rt, shape);
+        }
+        _ => assert!(rt; false, "no parcel"),
+    }
+}
+
+fn assert_ring(rt: &impl Abort, shape: &Option<Ring>) {
+    match shape {
+        Some(ring) => {
+            let last = ring.corners().last().copied();
+            assert_eq!(rt; ring.corners().len(), 3);
+            assert_eq!(rt; last.map(|p| (p.x, p.y)), Some((4, 5)));
+        }
+        None => assert!(rt; false, "no ring"),
+    }
+}
+
+#[test]
+fn prints_an_answer_a_line(rt: HostRuntime) -> Result<(), Fail> {
+    let alloc = rt.alloc();
+    let lines = format!(in alloc; "\n{ENTER}\n\nhello\n{ENTER}\n{ENTER}\n\n\r\n{ENTER}")?;
+    let day = Day::read("2003-01-01").ok_or("day")?;
+    for (fault, printed) in [
+        (RegisterFault::KnownObject, "refused 1 KnownObject\n"),
+        (
+            RegisterFault::DayNotAfter(day),
+            "refused 4 DayNotAfter 2003-01-01\n",
+        ),
+        (RegisterFault::Damaged(3, -1), "refused 8 Damaged 3.-1\n"),
+        (RegisterFault::Memory, "refused 11 Memory\n"),
+    ] {
+        let mut out = Vec::new(alloc);
+        let mut reader = Cursor::new(lines.as_bytes());
+        let end = office(alloc, &mut reader, &mut out, &mut empty_shelf(2, fault));
+        assert_eq!(rt; end, Ok(false));
+        let refused = "refused 0 NotACommand\n";
+        let want = format!(in alloc;
+            "revision 1\n{refused}revision 2\n{printed}{refused}{printed}"
+        )?;
+        assert_eq!(rt; out.as_slice(), want.as_bytes());
+    }
+    Ok(())
+}
+
+#[test]
+fn tells_whether_all_was_accepted(rt: HostRuntime) -> Result<(), Fail> {
+    let alloc = rt.alloc();
+    for (lines, accepted) in [
+        ("", true),
+        ("\n\n", true),
+        ("\n\r", false),
+        ("x\n\n", false),
+    ] {
+        let mut out = Vec::new(alloc);
+        let mut reader = Cursor::new(lines.as_bytes());
+        let mut book = empty_shelf(9, RegisterFault::Full);
+        assert_eq!(rt;
+            office(alloc, &mut reader, &mut out, &mut book),
+            Ok(accepted),
+            "{lines:?}"
+        );
+    }
+    Ok(())
+}
+
+#[test]
+fn refuses_long_lines(rt: HostRuntime) -> Result<(), Fail> {
+    let alloc = rt.alloc();
+    for (blanks, printed) in [
+        (65_536 - ENTER.len(), "revision 1\nrevision 2\n"),
+        (65_537 - ENTER.len(), "refused 0 NotACommand\nrevision 1\n"),
+        (200_000, "refused 0 NotACommand\nrevision 1\n"),
+    ] {
+        let mut lines = Vec::from_slice(alloc, ENTER.as_bytes())?;
+        for _ in 0..blanks {
+            lines.push(b' ')?;
+        }
+        lines.push(b'\n')?;
+        lines.extend_from_slice(ENTER.as_bytes())?;
+        let mut out = Vec::new(alloc);
+        let mut reader = Cursor::new(lines.as_slice());
+        let mut book = empty_shelf(9, RegisterFault::Full);
+        let end = office(alloc, &mut reader, &mut out, &mut book);
+        assert_eq!(rt; end, Ok(printed.starts_with("revision 1")));
+        assert_eq!(rt; out.as_slice(), printed.as_bytes());
+    }
+    Ok(())
+}
+
+#[test]
+fn stops_where_the_database_refuses(rt: HostRuntime) -> Result<(), Fail> {
+    let alloc = rt.alloc();
+    let lines = format!(in alloc; "{ENTER}\n{ENTER}\n{ENTER}\n")?;
+    let mut out = Vec::new(alloc);
+    let mut reader = Cursor::new(lines.as_bytes());
+    let mut book = empty_shelf(1, RegisterFault::Store);
+    let end = office(alloc, &mut reader, &mut out, &mut book);
+    assert_eq!(rt; end, Err(OfficeFault::Register));
+    assert_eq!(rt;
+        out.as_slice(),
+        b"revision 1\nrefused 10 Store\n".as_slice()
+    );
+    Ok(())
+}
+
+#[test]
+fn stops_where_a_read_fails(rt: HostRuntime) -> Result<(), Fail> {
+    let alloc = rt.alloc();
+    let line = format!(in alloc; "{ENTER}\n")?;
+    for reads in 0..line.len() + 2 {
+        let mut out = Vec::new(alloc);
+        let mut reader = Halting {
+            bytes: line.as_bytes(),
+            reads,
+        };
+        let end = office(
+            alloc,
+            &mut reader,
+            &mut out,
+            &mut empty_shelf(9, RegisterFault::Full),
+        );
+        let printed: &[u8] = if reads < line.len() {
+            b""
+        } else {
+            b"revision 1\n"
+        };
+        assert_eq!(rt; out.as_slice(), printed, "{reads}");
+        if reads <= line.len() {
+            assert_eq!(rt; end, Err(OfficeFault::Read), "{reads}");
+        } else {
+            assert_eq!(rt; end, Ok(true));
+        }
+    }
+    Ok(())
+}
+
+#[test]
+fn stops_where_a_write_fails(rt: HostRuntime) -> Result<(), Fail> {
+    let alloc = rt.alloc();
+    let lines = format!(in alloc; "{ENTER}\nx")?;
+    let printed = b"revision 1\nrefused 0 NotACommand\n".as_slice();
+    for writes in 0..printed.len() + 1 {
+        let mut out = Narrow {
+            bytes: Vec::new(alloc),
+            writes,
+        };
+        let mut reader = Cursor::new(lines.as_bytes());
+        let end = office(
+            alloc,
+            &mut reader,
+            &mut out,
+            &mut empty_shelf(9, RegisterFault::Full),
+        );
+        assert!(rt; printed.starts_with(out.bytes.as_slice()), "{writes}");
+        assert_eq!(rt; out.bytes.len(), writes);
+        if writes < printed.len() {
+            assert_eq!(rt; end, Err(OfficeFault::Write), "{writes}");
+        } else {
+            assert_eq!(rt; end, Ok(false));
+        }
+    }
+    Ok(())
+}
+
+#[test]
+fn stops_after_a_million_reads(rt: HostRuntime) {
+    let mut out = Vec::new(rt.alloc());
+    let end = office(
+        rt.alloc(),
+        &mut Endless,
+        &mut out,
+        &mut empty_shelf(9, RegisterFault::Full),
+    );
+    assert_eq!(rt; end, Err(OfficeFault::TurnsSpent));
+    assert!(rt; out.is_empty());
+}
+
+#[test]
+fn numbers_and_names_faults(rt: HostRuntime) {
+    for (fault, number, name) in [
+        (OfficeFault::Read, 1, "Read"),
+        (OfficeFault::Write, 2, "Write"),
+        (OfficeFault::TurnsSpent, 3, "TurnsSpent"),
+        (OfficeFault::Register, 4, "Register"),
+    ] {
+        assert_eq!(rt; fault.number(), number);
+        assert_eq!(rt; fault.name(), name);
+    }
+}
+
+#[test]
+fn fills_the_sample_register(rt: HostRuntime) {
+    for (room, end) in [
+        (10, Ok(10)),
+        (9, Err(RegisterFault::Full)),
+        (0, Err(RegisterFault::Full)),
+    ] {
+        let mut book = empty_shelf(room, RegisterFault::Full);
+        assert_eq!(rt; fill(rt.alloc(), &mut book), end);
+        assert_eq!(rt; book.revision, room);
+    }
+}

@@ -1,0 +1,155 @@
+//! The office: reads lines, applies commands, prints answers.
+
+ghost use Rattle.std.specs.Prelude.{◌≡◌, ◌∷◌, [], IsOk, IsTrue};
+ghost use Rattle.std.specs.Io.KnownBytes.{IsAtEnd};
+ghost use Rattle.cad_office.specs.Keeping.{IsKept, IsPiece, Works, Comes, Writes, ReadsAndWrites};
+ghost use Rattle.cad_office.specs.Lines.{is_begun};
+
+use crate::command::read_command;
+use crate::fault::OfficeFault;
+use crate::line::{Fate, Line};
+use crate::members::Unread;
+use crate::print::{Answer, print};
+use cad_versions::{Command, RegisterFault};
+use std::alloc::Global;
+use std::io::{Read, Write};
+
+const TURNS: u32 = 1_000_000;
+
+/// What commands are entered into.
+pub trait Book {
+    ghost use Rattle.std.specs.Prelude.{ℕ, Result};
+    ghost use Rattle.cad_versions.specs.declared.command.Command.{Command};
+    ghost use Rattle.cad_versions.specs.declared.fault.RegisterFault.{RegisterFault};
+
+    // What one command does and answers.
+    ghost applies: { Self → Command → Result ℕ RegisterFault → Self → Type 0 };
+
+    /// Applies the command, and answers the revision since, or refuses it and stays as it was.
+    fn apply(&mut self, command: Command) -> Result<u64, RegisterFault>
+        ensures { applies self.old command result self.new };
+}
+
+/// Reads lines to their end, applies each command and prints an answer for each line, and says whether no line was refused.
+///
+/// Each read is of at most 4,096 bytes. It stops where a read or a write fails, after 1,000,000 reads, and where the database refuses a command for another cause than memory. The commands accepted so far stay.
+pub fn office<R: Read, W: Write, B: Book>(
+    alloc: Global,
+    reader: &mut R,
+    writer: &mut W,
+    book: &mut B,
+) -> Result<bool, OfficeFault>
+    ensures kept { ReadsAndWrites (R.remaining reader.old) (R.remaining reader.new)
+        (W.contents writer.old) (W.contents writer.new) (IsKept (Works B.applies book.old book.new) result) }
+    ensures all { IsOk result → IsAtEnd (R.remaining reader.new) }
+{
+    let mut line = Line::new(alloc);
+    let mut accepted = true;
+    for _ in 0..TURNS {
+        let mut buffer = [0; 4096];
+        let count = match reader.read(&mut buffer) {
+            Ok(count) => count,
+            Err(_) => return Err(OfficeFault::Read),
+        };
+        if count == 0 {
+            let last = end_line(alloc, &mut line, writer, book)?;
+            return Ok(accepted & last);
+        }
+        let more = take_piece(alloc, &buffer[..count], &mut line, writer, book)?;
+        accepted = accepted & more;
+    }
+    Err(OfficeFault::TurnsSpent)
+}
+
+/// Whether no line that ends in the piece was refused.
+fn take_piece<W: Write, B: Book>(
+    alloc: Global,
+    piece: &[u8],
+    line: &mut Line,
+    writer: &mut W,
+    book: &mut B,
+) -> Result<bool, OfficeFault>
+    ensures { Writes (W.contents writer.old) (W.contents writer.new)
+        (IsPiece (Works B.applies book.old book.new) (is_begun line.old) result (is_begun line.new) piece.now) }
+{
+    let mut accepted = true;
+    for byte in piece {
+        let more = take_byte(alloc, *byte, line, writer, book)?;
+        accepted = accepted & more;
+    }
+    Ok(accepted)
+}
+
+fn take_byte<W: Write, B: Book>(
+    alloc: Global,
+    byte: u8,
+    line: &mut Line,
+    writer: &mut W,
+    book: &mut B,
+) -> Result<bool, OfficeFault>
+    ensures { Writes (W.contents writer.old) (W.contents writer.new)
+        (IsPiece (Works B.applies book.old book.new) (is_begun line.old) result (is_begun line.new) (byte ∷ [])) }
+{
+    if byte == b'\n' {
+        let accepted = end_line(alloc, line, writer, book)?;
+        return Ok(accepted);
+    }
+    line.add(byte);
+    Ok(true)
+}
+
+/// Whether the line was not refused. An empty line asks for nothing.
+fn end_line<W: Write, B: Book>(
+    alloc: Global,
+    line: &mut Line,
+    writer: &mut W,
+    book: &mut B,
+) -> Result<bool, OfficeFault>
+    ensures { Writes (W.contents writer.old) (W.contents writer.new)
+        (IsPiece (Works B.applies book.old book.new) (is_begun line.old) result (is_begun line.new) (10 ∷ [])) }
+{
+    if line.is_empty() {
+        return Ok(true);
+    }
+    let answer = answer_line(alloc, line, book);
+    line.clear();
+    print(writer, answer)?;
+    match answer {
+        Answer::Entered(_) => Ok(true),
+        Answer::Refused(fault) => if is_store(fault) {
+            Err(OfficeFault::Register)
+        } else {
+            Ok(false)
+        },
+        Answer::NotACommand => Ok(false),
+    }
+}
+
+fn is_store(fault: RegisterFault) -> bool
+    ensures { IsTrue result → fault ≡ RegisterFault.Store }
+{
+    matches!(fault, RegisterFault::Store)
+}
+
+fn answer_line<B: Book>(alloc: Global, line: &Line, book: &mut B) -> Answer
+    ensures { Comes B.applies book.old result book.new }
+{
+    match line.fate() {
+        Fate::TooLong => Answer::NotACommand,
+        Fate::NoMemory => Answer::Refused(RegisterFault::Memory),
+        Fate::Held => match read_command(alloc, line.bytes()) {
+            Ok(command) => apply(book, command),
+            Err(Unread::NotACommand) => Answer::NotACommand,
+            Err(Unread::Memory) => Answer::Refused(RegisterFault::Memory),
+        },
+    }
+}
+
+fn apply<B: Book>(book: &mut B, command: Command) -> Answer
+    ensures { Comes B.applies book.old result book.new }
+{
+    match book.apply(command) {
+        Ok(revision) => Answer::Entered(revision),
+        Err(fault) => Answer::Refused(fault),
+    }
+}

@@ -1,0 +1,44 @@
+//! Writing whole texts by a writer that may take less.
+
+ghost use Rattle.std.specs.Prelude.{◌≡◌, ℕ, ◌≤◌, length, take, drop, map, OnOk, OnErr, Err};
+ghost use Rattle.std.specs.Io.KnownBytes.{Appends};
+ghost use Rattle.cad_office.specs.Answers.{joined};
+
+use crate::fault::OfficeFault;
+use std::io::Write;
+
+/// Writes the pieces one after the other, or a front of them where a write fails or takes nothing.
+pub fn write_pieces<W: Write>(writer: &mut W, pieces: &[&[u8]]) -> Result<(), OfficeFault>
+    ensures whole { OnOk result (Appends (W.contents writer.old) (W.contents writer.new) (joined (map (λ p. p.now) pieces.now))) }
+    ensures front { (n : ℕ) × Appends (W.contents writer.old) (W.contents writer.new) (take n (joined (map (λ p. p.now) pieces.now))) }
+    ensures fault { OnErr result (result ≡ Err OfficeFault.Write) }
+{
+    for piece in pieces {
+        write_whole(writer, piece)?;
+    }
+    Ok(())
+}
+
+/// Writes all of it, or a front of it where a write fails or takes nothing.
+pub fn write_whole<W: Write>(writer: &mut W, bytes: &[u8]) -> Result<(), OfficeFault>
+    ensures whole { OnOk result (Appends (W.contents writer.old) (W.contents writer.new) bytes.now) }
+    ensures front { (n : ℕ) × Appends (W.contents writer.old) (W.contents writer.new) (take n bytes.now) }
+    ensures fault { OnErr result (result ≡ Err OfficeFault.Write) }
+{
+    let mut done = 0;
+    while done < bytes.len() {
+        match writer.write(tail(bytes, done)) {
+            Ok(0) => return Err(OfficeFault::Write),
+            Ok(count) => done += count,
+            Err(_) => return Err(OfficeFault::Write),
+        }
+    }
+    Ok(())
+}
+
+fn tail(bytes: &[u8], at: usize) -> &[u8]
+    requires { at ≤ length bytes.now }
+    ensures { result.now ≡ drop at bytes.now }
+{
+    &bytes[at..]
+}

@@ -1,0 +1,49 @@
+-- Each version came with a command.
+use Rattle.std.proofs.Common.{◌≡◌, ℕ, ◌+◌, ◌≤◌, ◌<◌, true, false, cond, List, [], ◌∷◌, length, map, fold, take, refl, ap, ◌∙◌, arith, is_gt, Ordering, length-append}
+use Rattle.std.proofs.lemmas.List.{length-map}
+use Rattle.std.proofs.lemmas.Bool.Decides.{nat_tests}
+use Rattle.sqlite_keyed.specs.Lists.{sort_by, insert_sorted}
+use Rattle.cad_versions.specs.declared.object_id.ObjectId.{ObjectId}
+use Rattle.cad_versions.specs.declared.command.Command.{Command}
+use Rattle.cad_versions.specs.declared.command.Command.TheVariants.{Enter, Amend, Retire}
+use Rattle.cad_versions.specs.VersionedObject.{VersionedObject}
+use Rattle.cad_versions.specs.DayBefore.{day_before}
+use Rattle.cad_versions.specs.Versions.{is_of, history, closed_if_open, begun, next_number, after, versions}
+use Rattle.cad_versions.specs.Refusals.{is_full}
+use Rattle.cad_versions.specs.AsOf.{by_identifier, as_of}
+
+one_more : (vs : List VersionedObject) (c : Command) → length (after vs c) ≤ length vs + 1
+one_more vs (Enter object first body) = omega (arith, length-append vs (begun object 1 first body ∷ []))
+one_more vs (Amend object first body) =
+    omega (arith, length-append (map (closed_if_open object (day_before first)) vs) (begun object (next_number object vs) first body ∷ []), length-map vs (closed_if_open object (day_before first)))
+one_more vs (Retire object last) = omega (arith, length-map vs (closed_if_open object last))
+
+few_from : (vs : List VersionedObject) (cs : List Command) → length (fold after vs cs) ≤ length vs + length cs
+few_from vs [] = omega arith
+few_from vs (c ∷ cs) = omega (arith, few_from (after vs c) cs, one_more vs c)
+
+pub versions_few : (cs : List Command) → length (versions cs) ≤ length cs
+versions_few cs = omega (arith, few_from [] cs)
+
+pub not_full : (cs : List Command) (revision : ℕ) → revision ≡ length cs → revision < 2147483647 → is_full (versions cs) ≡ false
+not_full cs revision e h = let few : length (versions cs) < 2147483647 = omega (arith, versions_few cs) in grind (arith, nat_tests)
+
+length-insert_sorted : {A : Type 0} (cmp : A → A → Ordering) (x : A) (xs : List A) → length (insert_sorted cmp x xs) ≡ length xs + 1
+length-insert_sorted cmp x [] = refl
+length-insert_sorted cmp x (y ∷ ys) = elim (is_gt (cmp x y)) as (λ b. length (cond b (y ∷ insert_sorted cmp x ys) (x ∷ (y ∷ ys))) ≡ length (y ∷ ys) + 1) [ true ↦ omega (arith, length-insert_sorted cmp x ys) | false ↦ omega arith ]
+
+length-sort_by : {A : Type 0} (cmp : A → A → Ordering) (xs : List A) → length (sort_by cmp xs) ≡ length xs
+length-sort_by cmp [] = refl
+length-sort_by cmp (x ∷ xs) = omega (arith, length-insert_sorted cmp x (sort_by cmp xs), length-sort_by cmp xs)
+
+take_all : {A : Type 0} (xs : List A) → take (length xs) xs ≡ xs
+take_all [] = refl
+take_all (x ∷ xs) = ap (λ l. x ∷ l) (take_all xs)
+
+-- the newest revision lists as many versions as there are
+pub counted : (cs : List Command) → length (as_of (length cs) cs) ≡ length (versions cs)
+counted cs = length-sort_by by_identifier (versions (take (length cs) cs)) ∙ ap (λ l. length (versions l)) (take_all cs)
+
+pub history_few : (object : ObjectId) (vs : List VersionedObject) → length (history object vs) ≤ length vs
+history_few object [] = omega arith
+history_few object (v ∷ vs) = elim (is_of object v) as (λ b. length (cond b (v ∷ history object vs) (history object vs)) ≤ length (v ∷ vs)) [ true ↦ omega (arith, history_few object vs) | false ↦ omega (arith, history_few object vs) ]

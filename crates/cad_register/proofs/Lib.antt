@@ -1,0 +1,10 @@
+pub mod ReadLemmas
+pub mod FieldLemmas
+pub mod KeptLemmas
+pub mod DamageLemmas
+pub mod OrderLemmas
+pub mod StandingLemmas
+pub mod StandLemmas
+pub mod CountLemmas
+pub mod DecisionLemmas
+pub mod WriteLemmas

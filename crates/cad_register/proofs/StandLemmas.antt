@@ -1,0 +1,85 @@
+-- The tables go on standing for the commands.
+use Rattle.std.proofs.Common.{◌≡◌, ◌≤◌, ℕ, Vec, Global, Result, Ok, Err, MatchResult, IfOk, IfErr, List, length, map, subst, sym, ◌∙◌, IsTrue, Option, Some, None, Bool, true, false, inl, inr}
+use Rattle.sqlite_value.specs.Order.{Row}
+use Rattle.sqlite_keyed.specs.Lists.{sort_by}
+use Rattle.sqlite.specs.State.{State, IsUnchanged}
+use Rattle.cad_tables.specs.Holding.{Holds}
+use Rattle.cad_tables.specs.Steps.{KeepsAll}
+use Rattle.cad_tables.specs.Line.{cells_of}
+use Rattle.cad_versions.specs.declared.fault.RegisterFault.{RegisterFault}
+use Rattle.cad_versions.specs.declared.fault.RegisterFault.TheVariants as fault
+use Rattle.cad_day.specs.declared.day.Day.{Day}
+use Rattle.cad_versions.specs.declared.body.Body.{Body}
+use Rattle.cad_versions.specs.declared.body.Class.{Class}
+use Rattle.cad_versions.specs.declared.command.Command.TheVariants.{Enter, Amend, Retire}
+use Rattle.cad_versions.specs.Command.{object_named, body_added}
+use Rattle.cad_versions.specs.Versions.{versions}
+use Rattle.cad_versions.specs.Refusals.{class_at, open_since, refuse_if, or_else, refuses_closing, refuses_object, refuses_body, refusal}
+use Rattle.cad_versions.specs.VersionedObject.{VersionedObject}
+use Rattle.cad_versions.specs.AsOf.{as_of}
+use Rattle.cad_versions.proofs.EntryLemmas.{entry_order, listing_is}
+use Rattle.cad_versions.specs.declared.command.Command.{Command}
+use Rattle.cad_versions.specs.Entries.{Entry, entries_of, entries_at, seen_at}
+use Rattle.cad_register.specs.Rows.{line_of}
+use Rattle.cad_register.specs.Damage.{IsCauseIn}
+use Rattle.cad_register.specs.Stands.{StandsFor, IsListingFault, IsRefusal, rows_at}
+use Rattle.cad_register.specs.Registers.{IsRefused}
+
+pub stands_kept : (old new : State) (cs : List Command) → KeepsAll old new → IsTrue new.is_open → StandsFor old cs → StandsFor new cs
+stands_kept old new cs keeps still stands = record {
+  accepted = stands.accepted;
+  holds = subst (Holds (length cs) (map line_of (entries_of cs))) (sym keeps.0) stands.holds;
+  settled = keeps.1 ∙ stands.settled ∙ sym keeps.0;
+  live = still;
+}
+
+pub stands_same : (old new : State) (cs : List Command) → IsUnchanged old new → StandsFor old cs → StandsFor new cs
+stands_same old new cs same stands = stands_kept old new cs (same.0.now_is, same.0.committed_is) same.0.is_open stands
+
+listing_cause : (revision : ℕ) (cs : List Command) (f : RegisterFault) → IsCauseIn (rows_at revision cs) f → IsListingFault revision cs f
+listing_cause revision cs fault.Store h = tt
+listing_cause revision cs f h = h
+
+-- what the rows of a revision show is the register at the revision
+pub listing_told : (revision : ℕ) (cs : List Command) (rows : List Row) (new : State) (r : Result (Vec VersionedObject Global) RegisterFault) → rows ≡ rows_at revision cs → StandsFor new cs
+    → IfOk r (λ vs. (entries : List Entry) → rows ≡ map (λ entry. cells_of (line_of entry)) entries → vs.items ≡ map (seen_at revision) entries) → IfErr r (IsCauseIn rows)
+    → MatchResult r (λ vs. (revision ≤ length cs → vs.items ≡ as_of revision cs) × StandsFor new cs) (λ f. IsListingFault revision cs f × (IsTrue new.is_open → StandsFor new cs))
+listing_told revision cs rows new (Ok vs) is stands seen cause = (λ h. seen (sort_by entry_order (entries_at revision (entries_of cs))) is ∙ listing_is revision cs h, stands)
+listing_told revision cs rows new (Err f) is stands seen cause = (listing_cause revision cs f (subst (λ l. IsCauseIn l f) is cause), λ _. stands)
+
+closing_foreign : (is_late : Day → Bool) (o : Option Day) → ¬ (refuses_closing is_late o ≡ Some fault.NotARegister)
+closing_foreign is_late None h = cc
+closing_foreign is_late (Some day) h = go (is_late day) h
+  where
+    go : (t : Bool) → refuse_if t (fault.DayNotAfter day) ≡ Some fault.NotARegister → ⊥
+    go true h = cc
+    go false h = cc
+
+when_foreign : (t : Bool) (f : RegisterFault) → ¬ (f ≡ fault.NotARegister) → ¬ (refuse_if t f ≡ Some fault.NotARegister)
+when_foreign true f other h = other cc
+when_foreign false f other h = cc
+
+else_foreign : (a b : Option RegisterFault) → ¬ (a ≡ Some fault.NotARegister) → ¬ (b ≡ Some fault.NotARegister) → ¬ (or_else a b ≡ Some fault.NotARegister)
+else_foreign None b one other h = other h
+else_foreign (Some f) b one other h = one h
+
+object_foreign : (class : Option Class) (begun : Option Day) (c : Command) → ¬ (refuses_object class begun c ≡ Some fault.NotARegister)
+object_foreign None begun (Enter object first body) h = cc
+object_foreign (Some class) begun (Enter object first body) h = cc
+object_foreign None begun (Amend object first body) h = cc
+object_foreign (Some class) begun (Amend object first body) h = else_foreign _ _ (when_foreign _ fault.OtherClass (λ e. cc)) (closing_foreign _ begun) h
+object_foreign None begun (Retire object last) h = cc
+object_foreign (Some class) begun (Retire object last) h = closing_foreign _ begun h
+
+body_foreign : (vs : List VersionedObject) (o : Option Body) → ¬ (refuses_body vs o ≡ Some fault.NotARegister)
+body_foreign vs None h = cc
+body_foreign vs (Some body) h = else_foreign _ _ (when_foreign _ fault.UnknownReference (λ e. cc)) (when_foreign _ fault.Full (λ e. cc)) h
+
+never_foreign : (vs : List VersionedObject) (c : Command) → ¬ (refusal vs c ≡ Some fault.NotARegister)
+never_foreign vs c h = else_foreign _ _ (object_foreign (class_at vs (object_named c)) (open_since vs (object_named c)) c) (body_foreign vs (body_added c)) h
+
+-- what decides never answers that there is no register
+pub refused_as : (cs : List Command) (c : Command) (f : RegisterFault) → IsRefusal (refusal (versions cs) c) cs f → IsRefused cs c f
+refused_as cs c fault.NotARegister (inl h) = absurd (never_foreign (versions cs) c h)
+refused_as cs c fault.NotARegister (inr h) = absurd h
+refused_as cs c f h = h

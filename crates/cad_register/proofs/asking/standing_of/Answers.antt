@@ -1,0 +1,35 @@
+use Rattle.std.proofs.Common.{◌≡◌, ◌∙◌, length, map, subst, sym, ap}
+use Rattle.sqlite.specs.Held.{state}
+use Rattle.cad_tables.specs.Listing.{HaveNoTies, number_order, lines_of_object, history as known, outline_of}
+use Rattle.cad_versions.specs.Objects.{object_number}
+use Rattle.cad_versions.specs.Versions.{history, versions}
+use Rattle.cad_versions.specs.Entries.{entries_of}
+use Rattle.cad_versions.proofs.HistoryLemmas.{histories}
+use Rattle.cad_register.specs.Rows.{line_of}
+use Rattle.cad_register.proofs.OrderLemmas.{history_untied, history_rows}
+use Rattle.cad_register.proofs.StandingLemmas.{class_stands, opened_stands}
+use Rattle.cad_register.proofs.StandLemmas.{stands_same}
+use Rattle.cad_register.proofs.asking.standing_of.Goals as goal
+
+pub returns-in-Ok-read-clause-told : goal.returns-in-Ok-read-clause-told
+returns-in-Ok-read-clause-told g c clean cs stands =
+    let object = c.args.object in
+    let all = histories cs stands.accepted in
+    let lines = map line_of (entries_of cs) in
+    let n : c.number.result ≡ object_number object = c.number.ensures.value in
+    let untied = subst (λ n. HaveNoTies number_order (lines_of_object n lines)) (sym n) (history_untied object cs all) in
+    let rows = c.in-Ok.ensures.rows clean (length cs) lines stands.holds untied ∙ ap (λ n. map outline_of (known n lines)) n ∙ history_rows object cs all in
+    let told = c.in-Ok-read.ensures.known (history object (versions cs)) (c.deref.ensures.value ∙ rows) in (
+      record { class = told.0 ∙ class_stands (versions cs) object; open_since = told.1 ∙ opened_stands (versions cs) object (all object); count = told.2 },
+      stands_same (state g.S.Store c.args.connection.now) (state g.S.Store c.history.new.conn) cs (c.in-Ok.ensures.same clean (length cs) lines stands.holds) stands,
+    )
+
+pub returns-clause-told : goal.returns-clause-told
+returns-clause-told g c clean cs stands =
+    let object = c.args.object in
+    let all = histories cs stands.accepted in
+    let lines = map line_of (entries_of cs) in
+    let n : c.number.result ≡ object_number object = c.number.ensures.value in
+    let untied = subst (λ n. HaveNoTies number_order (lines_of_object n lines)) (sym n) (history_untied object cs all) in
+    let rows = c.in-Ok.ensures.rows clean (length cs) lines stands.holds untied ∙ ap (λ n. map outline_of (known n lines)) n ∙ history_rows object cs all in
+    absurd (c.in-Err-Damaged.ensures.damaged c.in-Err-Damaged.field-0-is (history object (versions cs)) (c.deref.ensures.value ∙ rows))

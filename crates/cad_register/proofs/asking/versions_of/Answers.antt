@@ -1,0 +1,18 @@
+use Rattle.std.proofs.Common.{◌∙◌, length, map}
+use Rattle.sqlite.specs.Held.{state}
+use Rattle.cad_versions.specs.Entries.{entries_of}
+use Rattle.cad_versions.proofs.HistoryLemmas.{histories}
+use Rattle.cad_register.specs.Rows.{line_of}
+use Rattle.cad_register.proofs.OrderLemmas.{listing_untied, listing_rows}
+use Rattle.cad_register.proofs.StandLemmas.{stands_same, listing_told}
+use Rattle.cad_register.proofs.asking.versions_of.Goals as goal
+
+pub returns-in-Ok-clause-told : goal.returns-in-Ok-clause-told
+returns-in-Ok-clause-told g c clean cs stands =
+    let all = histories cs stands.accepted in
+    let lines = map line_of (entries_of cs) in
+    let revision = c.args.revision in
+    let rows = c.in-Ok.ensures.rows clean (length cs) lines stands.holds (listing_untied revision cs all) ∙ listing_rows revision cs in
+    let new = state g.S.Store c.listing.new.conn in
+    listing_told revision cs c.deref.result.now new c.versions_at.result (c.deref.ensures.value ∙ rows)
+    (stands_same (state g.S.Store c.args.connection.now) new cs (c.in-Ok.ensures.same clean (length cs) lines stands.holds) stands) c.versions_at.ensures.seen c.versions_at.ensures.cause

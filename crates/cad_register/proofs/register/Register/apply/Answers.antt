@@ -1,0 +1,24 @@
+use Rattle.std.proofs.Common.{◌≡◌, ◌∙◌, ◌+◌, length, length-append, ap, sym, ◌∷◌, []}
+use Rattle.std.proofs.lemmas.Result.{err_from_is_err_and}
+use Rattle.cad_register.proofs.WriteLemmas.{numbered}
+use Rattle.cad_register.proofs.StandLemmas.{refused_as}
+use Rattle.cad_register.proofs.register.Register.apply.Goals as goal
+
+pub returns-in_err-count-clause-refused : goal.returns-in_err-count-clause-refused
+returns-in_err-count-clause-refused g c clean =
+    let p = err_from_is_err_and c.from_residual.result c.from_residual.ensures.1 in
+    rw (p.1, p.2) (λ cs register. refused_as cs c.args.command c.in_err-count.field-0.0 ((c.in_err-count.ensures.told clean cs register.stands).0 register.counted))
+
+pub returns-clause-accepted : goal.returns-clause-accepted
+returns-clause-accepted g c clean cs register =
+    let told = c.in_ok-count.ensures.told (c.in_ok-enact.ensures.clean clean) cs register.stands in
+    let decided = told.0 register.counted in
+    let next : c.args.self.now.revision + 1 ≡ length cs + 1 = ap (λ n. n + 1) register.counted in
+    let fits = numbered cs c.args.command c.in_ok-count.count c.next_number.result decided.0 decided.1 c.next_number.ensures.next in (
+      decided.0,
+      c.from.ensures ∙ next,
+      record {
+        stands = c.in_ok-enact.ensures.enacted clean cs told.1 decided.0 fits next;
+        counted = next ∙ sym (length-append cs (c.args.command ∷ []));
+      },
+    )

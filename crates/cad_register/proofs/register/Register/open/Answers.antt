@@ -1,0 +1,29 @@
+use Rattle.std.proofs.Common.{◌≡◌, length, map}
+use Rattle.sqlite.specs.Held.{state}
+use Rattle.cad_versions.specs.Entries.{entries_of}
+use Rattle.cad_register.specs.Rows.{line_of}
+use Rattle.cad_register.proofs.StandLemmas.{stands_kept}
+use Rattle.cad_register.proofs.register.Register.open.Goals as goal
+
+pub returns-in-Ok-Some-clause-found : goal.returns-in-Ok-Some-clause-found
+returns-in-Ok-Some-clause-found g c clean cs stands low =
+    let lines = map line_of (entries_of cs) in
+    let told = rw c.in-Ok-Some.field-0-is at (c.in-Ok-Some.ensures.stands clean (length cs) lines stands.holds low) in
+    let live = c.in-Ok-Some.ensures.live clean (length cs) lines stands.holds in
+    let kept = c.in-Ok-Some.ensures.kept clean live (length cs) lines stands.holds stands.settled in
+    let same : c.in-Ok-Some.revision ≡ length cs = cc told in
+    record { stands = stands_kept (state g.S.Store c.args.connection) (state g.S.Store c.open.new.conn) cs kept live stands; counted = same }
+
+pub returns-in-Ok-None-clause-known : goal.returns-in-Ok-None-clause-known
+returns-in-Ok-None-clause-known g c clean cs stands low e =
+    let lines = map line_of (entries_of cs) in
+    let told = rw c.in-Ok-None.field-0-is at (c.in-Ok-None.ensures.stands clean (length cs) lines stands.holds low) in
+    absurd (cc told)
+
+pub returns-in-Ok-None-clause-unchanged : goal.returns-in-Ok-None-clause-unchanged
+returns-in-Ok-None-clause-unchanged g c clean live cs stands =
+    stands_kept (state g.S.Store c.args.connection) (state g.S.Store c.open.new.conn) cs (c.in-Ok-None.ensures.kept clean live (length cs) (map line_of (entries_of cs)) stands.holds stands.settled) live stands
+
+pub returns-in-Err-clause-unchanged : goal.returns-in-Err-clause-unchanged
+returns-in-Err-clause-unchanged g c clean live cs stands =
+    stands_kept (state g.S.Store c.args.connection) (state g.S.Store c.open.new.conn) cs (c.in-Err.ensures.kept clean live (length cs) (map line_of (entries_of cs)) stands.holds stands.settled) live stands

@@ -1,0 +1,22 @@
+-- What a command changes in the tables.
+use Rattle.std.specs.Prelude.{◌≡◌, ℕ, pos, ◌-ℤ◌}
+use Rattle.cad_day.specs.Days.{number_of}
+use Rattle.cad_tables.specs.declared.changes.Change.{Change}
+use Rattle.cad_tables.specs.declared.changes.Change.TheVariants as change
+use Rattle.cad_versions.specs.declared.command.Command.{Command}
+use Rattle.cad_versions.specs.declared.command.Command.TheVariants.{Enter, Amend, Retire}
+use Rattle.cad_versions.specs.Objects.{object_number}
+use Rattle.cad_versions.specs.VersionedObject.{VersionedObject}
+use Rattle.cad_versions.specs.Versions.{begun}
+use Rattle.cad_register.specs.declared.writing.NewEntry.{NewEntry}
+
+abbrev pub IsNew : VersionedObject → ℕ → NewEntry → Type 0
+IsNew v revision entry = (entry.version ≡ v) × (entry.entered ≡ revision)
+
+-- the change writes what the command makes at this revision, where the new version of an object that stands has this number
+abbrev pub IsChangeOf : Command → ℕ → ℕ → Change NewEntry → Type 0
+IsChangeOf (Enter object first body) number revision (change.Enter entry) = IsNew (begun object 1 first body) revision entry
+IsChangeOf (Amend object first body) number revision (change.Amend closing entry) =
+    (closing.object ≡ object_number object) × (closing.last ≡ number_of first -ℤ pos 1) × IsNew (begun object number first body) revision entry
+IsChangeOf (Retire object last) number revision (change.Retire closing) = (closing.object ≡ object_number object) × (closing.last ≡ number_of last)
+IsChangeOf command number revision other = ⊥

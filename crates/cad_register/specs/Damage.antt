@@ -1,0 +1,51 @@
+-- Which rows make a register (own profile).
+use Rattle.std.specs.Prelude.{◌≡◌, ℕ, ◌+◌, ◌<◌, ℤ, pos, int_lt, ◌||◌, ◌&&◌, Bool, true, List, [], ◌∷◌, Option, Some, None, ◌⊎◌}
+use Rattle.std.specs.Ordering.{int_eq}
+use Rattle.sqlite_value.specs.declared.value.Value.{Value}
+use Rattle.sqlite_value.specs.declared.value.Value.TheVariants.{Int}
+use Rattle.sqlite_value.specs.Order.{Row, column}
+use Rattle.cad_versions.specs.declared.fault.RegisterFault.{RegisterFault}
+use Rattle.cad_versions.specs.declared.fault.RegisterFault.TheVariants as fault
+use Rattle.cad_register.specs.declared.kept.KeptVersion.{KeptVersion}
+use Rattle.cad_register.specs.Kept.{IsRowOf, entry_of}
+
+abbrev pub number_in : Value → ℤ
+number_in (Int n) = n
+number_in other = pos 0
+
+-- the object and the number of a row, as they are stored
+abbrev pub identifier_in : Row → ℤ × ℤ
+identifier_in row = (number_in (column row 0), number_in (column row 1))
+
+-- by object, and then by number
+abbrev pub comes_before : ℤ × ℤ → ℤ × ℤ → Bool
+comes_before a b = int_lt a.0 b.0 || (int_eq a.0 b.0 && int_lt a.1 b.1)
+
+abbrev pub comes_after : Option (ℤ × ℤ) → ℤ × ℤ → Bool
+comes_after None id = true
+comes_after (Some before) id = comes_before before id
+
+-- a version can be made of the row, it comes after the row before it, and there are not too many before it
+pub record IsNext (before : Option (ℤ × ℤ)) (count : ℕ) (row : Row) : Type 0 where
+  pub shows : (kept : KeptVersion) × IsRowOf row (entry_of kept)
+  pub later : comes_after before (identifier_in row) ≡ true
+  pub room : count < 2147483647
+
+abbrev pub AreSound : Option (ℤ × ℤ) → ℕ → List Row → Type 0
+AreSound before count [] = Unit {0}
+AreSound before count (row ∷ rows) = IsNext before count row × AreSound (Some (identifier_in row)) (count + 1) rows
+
+-- this is the identifier of the first row that breaks a rule
+abbrev pub IsFirstDamaged : ℤ × ℤ → Option (ℤ × ℤ) → ℕ → List Row → Type 0
+IsFirstDamaged id before count [] = ⊥
+IsFirstDamaged id before count (row ∷ rows) =
+    ((identifier_in row ≡ id) × (IsNext before count row → ⊥)) ⊎ (IsNext before count row × IsFirstDamaged id (Some (identifier_in row)) (count + 1) rows)
+
+-- why the rows are not read: no memory, or the first of them that breaks a rule
+abbrev pub IsCauseIn : List Row → RegisterFault → Type 0
+IsCauseIn rows (fault.Damaged object number) = IsFirstDamaged (object, number) None 0 rows
+IsCauseIn rows fault.Memory = Unit {0}
+IsCauseIn rows other = ⊥
+
+abbrev pub damage_of : Row → RegisterFault
+damage_of row = fault.Damaged (number_in (column row 0)) (number_in (column row 1))

@@ -1,0 +1,9 @@
+pub mod Rows
+pub mod Reading
+pub mod Fields
+pub mod Kept
+pub mod Damage
+pub mod Stands
+pub mod Outlines
+pub mod Changing
+pub mod Registers

@@ -1,0 +1,33 @@
+-- What clauses see of a register.
+use Rattle.std.specs.Prelude.{◌≡◌, ◌≤◌, ℕ, List, length, None}
+use Rattle.sqlite_trees.specs.declared.store.Store.{Ghosts}
+use Rattle.sqlite.specs.State.{State}
+use Rattle.sqlite.specs.Held.{Held, state}
+use Rattle.cad_versions.specs.declared.command.Command.{Command}
+use Rattle.cad_versions.specs.declared.fault.RegisterFault.{RegisterFault}
+use Rattle.cad_versions.specs.declared.fault.RegisterFault.TheVariants as fault
+use Rattle.cad_versions.specs.Versions.{versions}
+use Rattle.cad_versions.specs.Refusals.{refusal}
+use Rattle.cad_register.specs.declared.register.Register.{Register}
+use Rattle.cad_register.specs.Stands.{StandsFor, IsRefusal}
+
+-- the connection that the register holds
+abbrev pub connection_of : {S : Type 0} → Register S → Held S
+connection_of register = register.connection
+
+-- what that connection shows
+abbrev pub state_of : {S : Type 0} → Ghosts S → Register S → State
+state_of g register = state g register.connection
+
+abbrev pub revision_of : {S : Type 0} → Register S → ℕ
+revision_of register = register.revision
+
+-- the register is that of the commands: its tables stand for them, and its revision counts them
+pub record IsRegisterOf {S : Type 0} (g : Ghosts S) (register : Register S) (commands : List Command) : Type 0 where
+  pub stands : StandsFor (state_of g register) commands
+  pub counted : revision_of register ≡ length commands
+
+-- why apply refuses a command: the cause of the fold, what a listing may fail for, or a revision beyond which none is stored, where the fold has no cause
+abbrev pub IsRefused : List Command → Command → RegisterFault → Type 0
+IsRefused commands command fault.NotARegister = (refusal (versions commands) command ≡ None) × (4294967294 ≤ length commands)
+IsRefused commands command other = IsRefusal (refusal (versions commands) command) commands other

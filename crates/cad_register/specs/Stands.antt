@@ -1,0 +1,58 @@
+-- The tables of a register.
+use Rattle.std.specs.Prelude.{◌≡◌, ℕ, List, length, map, [], IsTrue, Result, MatchResult, ◌⊎◌, ◌+◌, ◌++◌, ◌∷◌, Option, Some, None}
+use Rattle.sqlite_value.specs.Order.{Row}
+use Rattle.sqlite_keyed.specs.Lists.{sort_by}
+use Rattle.cad_tables.specs.Line.{cells_of}
+use Rattle.cad_versions.specs.declared.fault.RegisterFault.{RegisterFault}
+use Rattle.cad_versions.specs.declared.fault.RegisterFault.TheVariants as fault
+use Rattle.cad_versions.specs.AsOf.{by_identifier}
+use Rattle.cad_register.specs.Damage.{IsCauseIn}
+use Rattle.sqlite.specs.State.{State}
+use Rattle.cad_tables.specs.Holding.{Holds}
+use Rattle.cad_versions.specs.declared.command.Command.{Command}
+use Rattle.cad_versions.specs.declared.command.Command.TheVariants.{Amend}
+use Rattle.cad_versions.specs.Versions.{history, versions}
+use Rattle.cad_versions.specs.Refusals.{refusal, AreAccepted}
+use Rattle.cad_versions.specs.Entries.{Entry, version_in, entries_of, entries_at}
+use Rattle.cad_register.specs.Rows.{line_of}
+
+-- the tables stand for the commands: these were accepted one after the other, and their entries are stored and committed (own profile)
+pub record StandsFor (s : State) (commands : List Command) : Type 0 where
+  pub accepted : AreAccepted [] commands
+  pub holds : Holds (length commands) (map line_of (entries_of commands)) s.now
+  pub settled : s.committed ≡ s.now
+  pub live : IsTrue s.is_open
+
+-- a call on the tables of a register tells something, or why not; in both cases the tables stand for the same commands, as long as the connection is open
+abbrev pub Tells : {X : Type 0} → State → State → Result X RegisterFault → (List Command → X → Type 0) → (List Command → RegisterFault → Type 0) → Type 0
+Tells old new result Told Refused =
+    (commands : List Command) → StandsFor old commands → MatchResult result (λ x. Told commands x × StandsFor new commands) (λ fault. Refused commands fault × (IsTrue new.is_open → StandsFor new commands))
+
+-- the database refused for another cause than memory, or for want of it
+abbrev pub IsStoreFault : RegisterFault → Type 0
+IsStoreFault fault.Store = Unit {0}
+IsStoreFault fault.Memory = Unit {0}
+IsStoreFault other = ⊥
+
+-- the rows that a revision lists
+abbrev pub rows_at : ℕ → List Command → List Row
+rows_at revision commands = map (λ entry. cells_of (line_of entry)) (sort_by (λ (a b : Entry). by_identifier (version_in a) (version_in b)) (entries_at revision (entries_of commands)))
+
+-- the database refused, or the first row that breaks a rule is named
+abbrev pub IsListingFault : ℕ → List Command → RegisterFault → Type 0
+IsListingFault revision commands fault.Store = Unit {0}
+IsListingFault revision commands other = IsCauseIn (rows_at revision commands) other
+
+-- why a command is refused: the cause of the fold, or what a listing may fail for
+abbrev pub IsRefusal : Option RegisterFault → List Command → RegisterFault → Type 0
+IsRefusal cause commands fault = (cause ≡ Some fault) ⊎ IsListingFault (length commands) commands fault
+
+-- the next number of an object, for an amendment
+abbrev pub IsNumbered : List Command → Command → ℕ → Type 0
+IsNumbered commands (Amend object first body) number = number ≡ length (history object (versions commands)) + 1
+IsNumbered commands command number = Unit {0}
+
+-- tables that stood for the commands before stand for them with the new one, where it is accepted, its number is the next and the revision counts it
+abbrev pub Enacts : State → State → Command → ℕ → ℕ → Type 0
+Enacts old new command number revision =
+    (commands : List Command) → StandsFor old commands → refusal (versions commands) command ≡ None → IsNumbered commands command number → revision ≡ length commands + 1 → StandsFor new (commands ++ command ∷ [])

@@ -1,0 +1,69 @@
+//! What the tables tell of a register.
+
+ghost use Rattle.std.specs.Prelude.{◌≡◌, ◌≢◌, ◌≤◌, ◌∷◌, [], List, length, pos, IfErr};
+ghost use Rattle.sqlite.specs.State.{HasCleanDisk, FailsToQuery};
+ghost use Rattle.sqlite.specs.declared.error.Error.{Error};
+ghost use Rattle.sqlite_value.specs.declared.value.Value.TheVariants.{Int};
+ghost use Rattle.cad_tables.specs.Texts.{listing_text};
+ghost use Rattle.sqlite.specs.Held.{state};
+ghost use Rattle.cad_versions.specs.declared.command.Command.{Command};
+ghost use Rattle.cad_versions.specs.Versions.{versions};
+ghost use Rattle.cad_versions.specs.AsOf.{as_of};
+ghost use Rattle.cad_register.specs.Outlines.{IsStanding};
+ghost use Rattle.cad_register.specs.Stands.{Tells, IsStoreFault, IsListingFault};
+
+use crate::columns::ReadFault;
+use crate::listing::versions_at;
+use crate::standing::{Standing, damaged_number};
+use cad_tables::TableFault;
+use cad_versions::{ObjectId, RegisterFault, Version};
+use sqlite::{Alter, Connection};
+use std::alloc::Global;
+
+pub(crate) fn store_fault(fault: TableFault) -> RegisterFault
+    ensures { IsStoreFault result }
+{
+    match fault {
+        TableFault::Memory => RegisterFault::Memory,
+        TableFault::Store(_) => RegisterFault::Store,
+    }
+}
+
+/// What stands of an object, by its rows alone.
+pub(crate) fn standing_of<S: Alter>(
+    connection: &mut Connection<S>,
+    object: ObjectId,
+) -> Result<Standing, RegisterFault>
+    ensures told { HasCleanDisk (state S.Store connection.new) → Tells (state S.Store connection.old) (state S.Store connection.new) result (λ commands standing. IsStanding (versions commands) object standing) (λ commands fault. IsStoreFault fault) }
+    ensures clean { HasCleanDisk (state S.Store connection.new) → HasCleanDisk (state S.Store connection.old) }
+{
+    let rows = match cad_tables::history(connection, object.number()) {
+        Ok(rows) => rows,
+        Err(fault) => return Err(store_fault(fault)),
+    };
+    match Standing::read(&rows) {
+        Ok(standing) => Ok(standing),
+        Err(ReadFault::Memory) => Err(RegisterFault::Memory),
+        Err(ReadFault::Damaged) => Err(RegisterFault::Damaged(
+            i64::from(object.number()),
+            damaged_number(&rows),
+        )),
+    }
+}
+
+/// The versions at a revision, in the order of identifiers.
+pub(crate) fn versions_of<S: Alter>(
+    alloc: Global,
+    connection: &mut Connection<S>,
+    revision: u32,
+) -> Result<Vec<Version>, RegisterFault>
+    ensures told { HasCleanDisk (state S.Store connection.new) → Tells (state S.Store connection.old) (state S.Store connection.new) result (λ commands found. revision ≤ length commands → found.items ≡ as_of revision commands) (λ commands fault. IsListingFault revision commands fault) }
+    ensures known { IfErr result (λ fault. fault ≢ RegisterFault.UnknownRevision) }
+    ensures store { HasCleanDisk (state S.Store connection.new) → result ≡ Err RegisterFault.Store → (e : Error) × FailsToQuery listing_text (Int (pos revision) ∷ []) (state S.Store connection.old) (state S.Store connection.new) e }
+    ensures clean { HasCleanDisk (state S.Store connection.new) → HasCleanDisk (state S.Store connection.old) }
+{
+    match cad_tables::listing(connection, revision) {
+        Ok(rows) => versions_at(alloc, &rows, revision),
+        Err(fault) => Err(store_fault(fault)),
+    }
+}

@@ -1,0 +1,106 @@
+//! Whether a command is accepted, by the rows of the objects that it names.
+
+ghost use Rattle.std.specs.Prelude.{◌≡◌, ◌≤◌, ◌<◌, ◌+◌, List, length, Some, None};
+ghost use Rattle.sqlite.specs.State.{HasCleanDisk};
+ghost use Rattle.sqlite.specs.Held.{state};
+ghost use Rattle.cad_versions.specs.declared.command.Command.{Command as CommandOf};
+ghost use Rattle.cad_versions.specs.Command.{object_named};
+ghost use Rattle.cad_versions.specs.Versions.{history, versions};
+ghost use Rattle.cad_versions.specs.Refusals.{is_entered as entered, are_entered as all_entered, is_full as filled, refuses_body, refusal};
+ghost use Rattle.cad_register.specs.Stands.{Tells, IsStoreFault, IsListingFault, IsRefusal};
+
+use crate::asking::{standing_of, versions_of};
+use cad_versions::{Body, Class, Command, ObjectId, RegisterFault};
+use sqlite::{Alter, Connection};
+use std::alloc::Global;
+
+const MOST_VERSIONS: u32 = 2_147_483_647;
+
+/// Whether what is named, if anything is, was entered with this class.
+fn is_entered<S: Alter>(
+    connection: &mut Connection<S>,
+    class: Class,
+    object: Option<ObjectId>,
+) -> Result<bool, RegisterFault>
+    ensures told { HasCleanDisk (state S.Store connection.new) → Tells (state S.Store connection.old) (state S.Store connection.new) result (λ commands known. known ≡ entered (versions commands) class object) (λ commands fault. IsStoreFault fault) }
+    ensures clean { HasCleanDisk (state S.Store connection.new) → HasCleanDisk (state S.Store connection.old) }
+{
+    match object {
+        None => Ok(true),
+        Some(object) => {
+            let standing = standing_of(connection, object)?;
+            match standing.class {
+                Some(found) => Ok(class == found),
+                None => Ok(false),
+            }
+        }
+    }
+}
+
+/// Whether all that the body names was entered.
+fn are_entered<S: Alter>(connection: &mut Connection<S>, body: &Body) -> Result<bool, RegisterFault>
+    ensures told { HasCleanDisk (state S.Store connection.new) → Tells (state S.Store connection.old) (state S.Store connection.new) result (λ commands known. known ≡ all_entered (versions commands) body.now) (λ commands fault. IsStoreFault fault) }
+    ensures clean { HasCleanDisk (state S.Store connection.new) → HasCleanDisk (state S.Store connection.old) }
+{
+    if is_entered(connection, Class::Unit, body.unit())? {
+        let known = is_entered(connection, Class::Party, body.party())?;
+        Ok(known)
+    } else {
+        Ok(false)
+    }
+}
+
+/// Whether there is no room for one version more. Each version came with a command, so rows are counted only past as many commands.
+fn is_full<S: Alter>(
+    alloc: Global,
+    connection: &mut Connection<S>,
+    revision: u32,
+) -> Result<bool, RegisterFault>
+    ensures told { HasCleanDisk (state S.Store connection.new) → Tells (state S.Store connection.old) (state S.Store connection.new) result (λ commands full. revision ≡ length commands → full ≡ filled (versions commands)) (λ commands fault. revision ≡ length commands → IsListingFault (length commands) commands fault) }
+    ensures clean { HasCleanDisk (state S.Store connection.new) → HasCleanDisk (state S.Store connection.old) }
+{
+    if revision < MOST_VERSIONS {
+        return Ok(false);
+    }
+    let standing = versions_of(alloc, connection, revision)?;
+    Ok(MOST_VERSIONS as usize <= standing.as_slice().len())
+}
+
+/// Looks for what forbids to add a version with this body.
+fn check_addition<S: Alter>(
+    alloc: Global,
+    connection: &mut Connection<S>,
+    revision: u32,
+    body: &Body,
+) -> Result<(), RegisterFault>
+    ensures told { HasCleanDisk (state S.Store connection.new) → Tells (state S.Store connection.old) (state S.Store connection.new) result (λ commands _. revision ≡ length commands → refuses_body (versions commands) (Some body.now) ≡ None) (λ commands fault. revision ≡ length commands → IsRefusal (refuses_body (versions commands) (Some body.now)) commands fault) }
+    ensures clean { HasCleanDisk (state S.Store connection.new) → HasCleanDisk (state S.Store connection.old) }
+{
+    if !are_entered(connection, body)? {
+        return Err(RegisterFault::UnknownReference);
+    }
+    if is_full(alloc, connection, revision)? {
+        return Err(RegisterFault::Full);
+    }
+    Ok(())
+}
+
+/// Looks for what refuses the command, and tells how many versions its object has.
+pub(crate) fn decide<S: Alter>(
+    alloc: Global,
+    connection: &mut Connection<S>,
+    revision: u32,
+    command: &Command,
+) -> Result<usize, RegisterFault>
+    ensures told { HasCleanDisk (state S.Store connection.new) → Tells (state S.Store connection.old) (state S.Store connection.new) result (λ commands count. revision ≡ length commands → (refusal (versions commands) command.now ≡ None) × (count ≡ length (history (object_named command.now) (versions commands)))) (λ commands fault. revision ≡ length commands → IsRefusal (refusal (versions commands) command.now) commands fault) }
+    ensures clean { HasCleanDisk (state S.Store connection.new) → HasCleanDisk (state S.Store connection.old) }
+{
+    let standing = standing_of(connection, command.object())?;
+    if let Some(fault) = command.refused_by_object(standing.class, standing.open_since) {
+        return Err(fault);
+    }
+    if let Some(body) = command.body() {
+        check_addition(alloc, connection, revision, body)?;
+    }
+    Ok(standing.count)
+}

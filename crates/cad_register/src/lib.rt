@@ -1,0 +1,25 @@
+//! The land register: versions in SQLite, and the register at any revision.
+//!
+//! - `Register`: made by `create` or `open` over a connection, changed by `apply`, read by `as_of`.
+//! - The types of versions, commands and faults are those of `cad_versions`.
+#![tactic(auto)]
+
+mod asking;
+mod cells;
+mod changing;
+mod columns;
+mod decision;
+mod fields;
+mod kept;
+mod listing;
+mod register;
+mod standing;
+mod writing;
+
+pub use cad_versions::{
+    Body, Class, Command, ObjectId, RegisterFault, Share, Version, Words, laws,
+};
+pub use register::{Register, Revision};
+
+#[cfg(test)]
+mod tests;

@@ -1,0 +1,82 @@
+//! The rows of a revision as versions.
+
+ghost use Rattle.std.specs.Prelude.{◌≡◌, ◌<◌, ◌↔◌, List, IsTrue, IfOk, IfErr, true, map};
+ghost use Rattle.cad_tables.specs.Line.{cells_of};
+ghost use Rattle.cad_versions.specs.Entries.{Entry, seen_at};
+ghost use Rattle.cad_register.specs.Kept.{entry_of, IsRowOf};
+ghost use Rattle.cad_register.specs.Rows.{line_of};
+ghost use Rattle.cad_register.specs.Reading.{Reads};
+ghost use Rattle.cad_register.specs.Damage.{identifier_in, damage_of, comes_after as is_after, IsNext, AreSound, IsCauseIn};
+
+use crate::columns::{ReadFault, number_or_zero};
+use crate::kept::KeptVersion;
+use cad_versions::{RegisterFault, Version};
+use sqlite::Row;
+use std::alloc::Global;
+
+const MOST_VERSIONS: usize = 2_147_483_647;
+
+/// The object and the number of a row, as they are stored.
+fn identifier(row: &Row) -> (i64, i64)
+    ensures { result ≡ identifier_in row.now }
+{
+    (number_or_zero(row, 0), number_or_zero(row, 1))
+}
+
+/// The fault that names a row.
+fn damage(row: &Row) -> RegisterFault
+    ensures { result ≡ damage_of row.now }
+{
+    let (object, number) = identifier(row);
+    RegisterFault::Damaged(object, number)
+}
+
+fn comes_after(before: Option<(i64, i64)>, here: (i64, i64)) -> bool
+    ensures { result ≡ is_after before here }
+{
+    match before {
+        None => true,
+        Some(before) => before.0 < here.0 || (before.0 == here.0 && before.1 < here.1),
+    }
+}
+
+/// The version of a row that may stand behind so many others, the last of which has the identifier `before`.
+fn next_version(
+    alloc: Global,
+    row: &Row,
+    before: Option<(i64, i64)>,
+    count: usize,
+) -> Result<KeptVersion, ReadFault>
+    ensures { Reads result (λ kept. IsRowOf row.now (entry_of kept) × (is_after before (identifier_in row.now) ≡ true) × (count < 2147483647)) }
+{
+    let kept = KeptVersion::read(alloc, row)?;
+    if count < MOST_VERSIONS && comes_after(before, identifier(row)) {
+        Ok(kept)
+    } else {
+        Err(ReadFault::Damaged)
+    }
+}
+
+/// The versions that the rows show at a revision.
+pub(crate) fn versions_at(
+    alloc: Global,
+    rows: &[Row],
+    revision: u32,
+) -> Result<Vec<Version>, RegisterFault>
+    ensures sound { IfOk result (λ _. AreSound None 0 rows.now) }
+    ensures seen { IfOk result (λ versions. (entries : List Entry) → rows.now ≡ map (λ entry. cells_of (line_of entry)) entries → versions.items ≡ map (seen_at revision) entries) }
+    ensures cause { IfErr result (IsCauseIn rows.now) }
+{
+    let mut versions = Vec::new(alloc);
+    let mut before = None;
+    for row in rows {
+        let kept = match next_version(alloc, row, before, versions.len()) {
+            Ok(kept) => kept,
+            Err(ReadFault::Memory) => return Err(RegisterFault::Memory),
+            Err(ReadFault::Damaged) => return Err(damage(row)),
+        };
+        versions.push(kept.seen_at(revision))?;
+        before = Some(identifier(row));
+    }
+    Ok(versions)
+}

@@ -1,0 +1,7 @@
+-- Boxes with sides along the axes.
+use Rattle.std.specs.Prelude.{ℤ, ◌≤ℤ◌}
+use Rattle.cad_shape.specs.Coordinates.{IsCoordinate}
+
+-- the lower and the upper edge of a box, which may be one (OGC 17-069r4, 7.15.3, `bbox`)
+abbrev pub IsExtent : ℤ → ℤ → Type 0
+IsExtent low high = IsCoordinate low × IsCoordinate high × (low ≤ℤ high)

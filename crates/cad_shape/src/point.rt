@@ -1,0 +1,35 @@
+//! Points of the plane.
+
+ghost use Rattle.std.specs.Prelude.{◌≡◌, ◌↔◌, IsTrue, MatchOption};
+ghost use Rattle.cad_shape.specs.Coordinates.{IsCoordinate};
+
+/// A point, in millimetres east and north of the origin.
+#[derive(Clone, Copy, Debug, PartialEq, Eq)]
+pub struct Point {
+    pub x: i64,
+    pub y: i64,
+    pub ghost x_in_range: { IsCoordinate x },
+    pub ghost y_in_range: { IsCoordinate y },
+}
+
+// At most 100,000 kilometres: products of two differences fit 128 bits with room to spare.
+const FARTHEST: i64 = 100_000_000_000;
+
+pub(crate) fn is_coordinate(n: i64) -> bool
+    ensures { IsTrue result ↔ IsCoordinate n }
+{
+    -FARTHEST <= n && n <= FARTHEST
+}
+
+impl Point {
+    /// The point there, if both coordinates lie within 100,000 kilometres of the origin.
+    pub fn new(x: i64, y: i64) -> Option<Point>
+        ensures { MatchOption result (¬ (IsCoordinate x × IsCoordinate y)) (λ point. (point.x ≡ x) × (point.y ≡ y)) }
+    {
+        if is_coordinate(x) && is_coordinate(y) {
+            Some(Point { x, y })
+        } else {
+            None
+        }
+    }
+}

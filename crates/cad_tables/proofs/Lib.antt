@@ -1,0 +1,16 @@
+pub mod Queries
+pub mod Parse
+pub mod Places
+pub mod Finding
+pub mod CellLemmas
+pub mod Writes
+pub mod Statements
+pub mod Quiet
+pub mod LineLemmas
+pub mod StepLemmas
+pub mod TransactionLemmas
+pub mod RefusalLemmas
+pub mod OpeningLemmas
+pub mod NameLemmas
+pub mod StandingLemmas
+pub mod LawLemmas

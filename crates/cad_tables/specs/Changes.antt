@@ -1,0 +1,54 @@
+-- What a command's change makes of the lines.
+use Rattle.std.specs.Prelude.{◌≡◌, ℕ, pos, ◌&&◌, Bool, if◌then◌else◌, List, [], ◌∷◌, ◌++◌, map, filter, Some, is_none}
+use Rattle.std.specs.Ordering.{int_eq}
+use Rattle.cad_tables.specs.Line.{Line}
+use Rattle.cad_tables.specs.declared.changes.Closing.{Closing}
+use Rattle.cad_tables.specs.declared.changes.Change.{Change}
+use Rattle.cad_tables.specs.declared.changes.Change.TheVariants.{Enter, Amend, Retire}
+
+-- own profile: the line is of the object, and has no last day yet
+abbrev pub is_open_of : ℕ → Line → Bool
+is_open_of object line = int_eq (pos line.object) (pos object) && is_none line.last
+
+-- own profile: the line, closed by a revision
+abbrev pub closed_line : Closing → ℕ → Line → Line
+closed_line c revision line = record {
+  object = line.object;
+  number = line.number;
+  class = line.class;
+  first = line.first;
+  last = Some c.last;
+  entered = line.entered;
+  closed = Some revision;
+  name = line.name;
+  code = line.code;
+  label = line.label;
+  area = line.area;
+  unit = line.unit;
+  party = line.party;
+  share_num = line.share_num;
+  share_den = line.share_den;
+  required = line.required;
+  spot_x = line.spot_x;
+  spot_y = line.spot_y;
+  shape = line.shape;
+}
+
+abbrev pub closed_if : Closing → ℕ → Line → Line
+closed_if c revision line = if is_open_of c.object line then closed_line c revision line else line
+
+-- own profile: a change adds a line at the end, closes the open line of an object, or both
+abbrev pub changed : {L : Type 0} → (L → Line) → Change L → ℕ → List Line → List Line
+changed line_of (Enter line) revision lines = lines ++ line_of line ∷ []
+changed line_of (Amend c line) revision lines = map (closed_if c revision) lines ++ line_of line ∷ []
+changed line_of (Retire c) revision lines = map (closed_if c revision) lines
+
+-- own profile: the object has one open line
+abbrev pub NamesOne : Closing → List Line → Type 0
+NamesOne c lines = (line : Line) × (filter (is_open_of c.object) lines ≡ line ∷ [])
+
+-- own profile: what a change closes is open
+abbrev pub Fits : {L : Type 0} → Change L → List Line → Type 0
+Fits (Enter line) lines = Unit {0}
+Fits (Amend c line) lines = NamesOne c lines
+Fits (Retire c) lines = NamesOne c lines

@@ -1,0 +1,11 @@
+pub mod Line
+pub mod Tables
+pub mod Texts
+pub mod Faults
+pub mod Holding
+pub mod Refusals
+pub mod Changes
+pub mod Laws
+pub mod Steps
+pub mod Listing
+pub mod Opening

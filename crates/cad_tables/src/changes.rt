@@ -1,0 +1,16 @@
+//! What a command changes.
+
+/// The object whose open version is closed, and its last day, counted from 1970-01-01.
+#[derive(Clone, Copy, Debug, PartialEq, Eq)]
+pub struct Closing {
+    pub object: u32,
+    pub last: i32,
+}
+
+/// The change of one command: a version is added, an open one is closed, or both.
+#[derive(Debug, Drop)]
+pub enum Change<L> {
+    Enter(L),
+    Amend(Closing, L),
+    Retire(Closing),
+}

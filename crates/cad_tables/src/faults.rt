@@ -1,0 +1,28 @@
+//! Why a call on the tables fails.
+
+use sqlite::{Error, ErrorCode};
+use sqlite_resolve::CompileError;
+
+/// Why a call fails.
+#[derive(Clone, Copy, Debug, PartialEq, Eq)]
+pub enum TableFault {
+    /// There was no memory.
+    Memory,
+    /// The database refused, for this cause, which is never want of memory.
+    Store(Error),
+}
+
+impl From<Error> for TableFault {
+    ghost use Rattle.std.specs.Prelude.{◌≡◌};
+    ghost use Rattle.cad_tables.specs.Faults.{fault_of};
+
+    ghost from_gives = { λ e f. f ≡ fault_of e };
+
+    fn from(error: Error) -> TableFault {
+        match error {
+            Error::SqliteFailure(ErrorCode::OutOfMemory)
+            | Error::SqlInputError(CompileError::OutOfMemory) => TableFault::Memory,
+            error => TableFault::Store(error),
+        }
+    }
+}

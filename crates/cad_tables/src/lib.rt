@@ -1,0 +1,29 @@
+//! The two tables in which a register of versions is kept, and all that SQL does to them.
+//!
+//! `state` has one row, with the format and the revision; `version` has a row for each version of an object,
+//! with the revision that entered it and the one that closed it. `create` makes both, `open` looks whether they
+//! are there, `write` makes the one change of a command, and `history` and `listing` read rows back.
+//! What a row means is left to the caller's type, by the trait `Stored`.
+#![tactic(auto)]
+
+mod cells;
+mod changes;
+mod faults;
+mod laws;
+mod making;
+mod opening;
+mod reading;
+mod taken;
+mod writing;
+
+pub use cells::Stored;
+pub use changes::{Change, Closing};
+pub use faults::TableFault;
+pub use laws::a_change_keeps_lines;
+pub use making::{Creation, create};
+pub use opening::{MOST_REVISION, open, revision};
+pub use reading::{history, listing};
+pub use writing::write;
+
+#[cfg(test)]
+mod tests;

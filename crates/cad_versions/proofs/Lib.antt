@@ -1,0 +1,4 @@
+pub mod HistoryLemmas
+pub mod EntryLemmas
+pub mod ShapeLemmas
+pub mod SameLemmas

@@ -1,0 +1,29 @@
+-- The classes of the register's objects (ISO 19152:2012, LA_Party, LA_BAUnit, LA_SpatialUnit, LA_Right, LA_Restriction).
+use Rattle.std.specs.Prelude.{ℕ, ℤ, pos, Option, Some, None, if◌then◌else◌}
+use Rattle.std.specs.Ordering.{int_eq}
+use Rattle.cad_versions.specs.declared.body.Body.{Body}
+use Rattle.cad_versions.specs.declared.body.Body.TheVariants as body
+use Rattle.cad_versions.specs.declared.body.Class.{Class}
+use Rattle.cad_versions.specs.declared.body.Class.TheVariants as class
+
+abbrev pub class_of : Body → Class
+class_of (body.Party name code) = class.Party
+class_of (body.Unit name) = class.Unit
+class_of (body.Parcel unit label area shape spot) = class.Parcel
+class_of (body.Right unit party code share) = class.Right
+class_of (body.Restriction unit party code share required) = class.Restriction
+
+-- the number of a class in the stored table (own profile)
+abbrev pub class_number : Class → ℕ
+class_number class.Party = 1
+class_number class.Unit = 2
+class_number class.Parcel = 3
+class_number class.Right = 4
+class_number class.Restriction = 5
+
+abbrev pub is_number_of : ℤ → Class → Option Class → Option Class
+is_number_of number class others = if int_eq number (pos (class_number class)) then Some class else others
+
+abbrev pub class_numbered : ℤ → Option Class
+class_numbered number =
+    is_number_of number class.Party (is_number_of number class.Unit (is_number_of number class.Parcel (is_number_of number class.Right (is_number_of number class.Restriction None))))

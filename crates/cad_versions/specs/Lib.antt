@@ -1,0 +1,16 @@
+pub mod Objects
+pub mod Texts
+pub mod Fractions
+pub mod Class
+pub mod VersionedObject
+pub mod Command
+pub mod Fault
+pub mod DayBefore
+pub mod Versions
+pub mod Refusals
+pub mod Histories
+pub mod Entries
+pub mod AsOf
+pub mod Laws
+pub mod ShapeBytes
+pub mod BodyParts

@@ -1,0 +1,99 @@
+//! What a version says of its object.
+
+ghost use Rattle.std.specs.Prelude.{◌≡◌};
+ghost use Rattle.cad_versions.specs.Class.{class_of, class_number, class_numbered};
+
+use crate::object_id::ObjectId;
+use crate::share::Share;
+use crate::words::Words;
+use cad_shape::{Point, Ring};
+
+/// What a version says of its object, by the object's class.
+#[derive(Debug, Drop)]
+pub enum Body {
+    /// LA_Party. The code says what kind of party it is.
+    Party {
+        name: Option<Words>,
+        code: Words,
+    },
+    /// LA_BAUnit.
+    Unit {
+        name: Option<Words>,
+    },
+    /// LA_SpatialUnit, of one unit. The area is in square metres.
+    Parcel {
+        unit: ObjectId,
+        label: Words,
+        area: Option<u32>,
+        shape: Option<Ring>,
+        spot: Option<Point>,
+    },
+    /// LA_Right on a unit. The code says what kind of right it is.
+    Right {
+        unit: ObjectId,
+        party: Option<ObjectId>,
+        code: Words,
+        share: Option<Share>,
+    },
+    /// LA_Restriction on a unit, and whether a party is required for what it restricts.
+    Restriction {
+        unit: ObjectId,
+        party: Option<ObjectId>,
+        code: Words,
+        share: Option<Share>,
+        required: Option<bool>,
+    },
+}
+
+/// The class of an object, which all its versions have.
+#[derive(Clone, Copy, Debug, PartialEq, Eq)]
+pub enum Class {
+    Party,
+    Unit,
+    Parcel,
+    Right,
+    Restriction,
+}
+
+impl Body {
+    pub fn class(&self) -> Class
+        ensures { result ≡ class_of self.now }
+    {
+        match self {
+            Body::Party { .. } => Class::Party,
+            Body::Unit { .. } => Class::Unit,
+            Body::Parcel { .. } => Class::Parcel,
+            Body::Right { .. } => Class::Right,
+            Body::Restriction { .. } => Class::Restriction,
+        }
+    }
+}
+
+impl Class {
+    /// The class as it is stored.
+    pub fn number(self) -> u8
+        ensures { result ≡ class_number self }
+    {
+        match self {
+            Class::Party => 1,
+            Class::Unit => 2,
+            Class::Parcel => 3,
+            Class::Right => 4,
+            Class::Restriction => 5,
+        }
+    }
+
+    /// The class that is stored as this number.
+    pub fn from_number(number: i64) -> Option<Class>
+        ensures { result ≡ class_numbered number }
+    {
+        match number {
+            1 => Some(Class::Party),
+            2 => Some(Class::Unit),
+            3 => Some(Class::Parcel),
+            4 => Some(Class::Right),
+            5 => Some(Class::Restriction),
+            _ => None,
+        }
+    }
+}

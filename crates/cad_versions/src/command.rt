@@ -1,0 +1,42 @@
+//! What the land office asks for.
+
+ghost use Rattle.std.specs.Prelude.{◌≡◌};
+ghost use Rattle.cad_versions.specs.Command.{object_named};
+
+use crate::body::Body;
+use crate::object_id::ObjectId;
+use cad_day::Day;
+
+/// One change of the register.
+#[derive(Debug, Drop)]
+pub enum Command {
+    /// Begins an object with version 1, which holds from `first` on.
+    Enter {
+        object: ObjectId,
+        first: Day,
+        body: Body,
+    },
+    /// Ends the object's open version on the day before `first`, and begins the next one.
+    Amend {
+        object: ObjectId,
+        first: Day,
+        body: Body,
+    },
+    /// Ends the object's open version on `last`.
+    Retire {
+        object: ObjectId,
+        last: Day,
+    },
+}
+
+impl Command {
+    pub fn object(&self) -> ObjectId
+        ensures { result ≡ object_named self.now }
+    {
+        match self {
+            Command::Enter { object, .. } => *object,
+            Command::Amend { object, .. } => *object,
+            Command::Retire { object, .. } => *object,
+        }
+    }
+}

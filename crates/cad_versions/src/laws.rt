@@ -1,0 +1,18 @@
+//! What holds of every register, whatever commands made it. Each contract is a law; the functions do nothing.
+
+ghost use Rattle.cad_versions.specs.Laws.{VersionsAreHistories, RevisionsStay, RevisionsAreSeen};
+
+/// Each object's versions are numbered 1, 2 and so on. At most one is open, and it is the last. Their days do not overlap.
+pub fn versions_are_histories()
+    ensures { VersionsAreHistories }
+{}
+
+/// What a revision was stays the same, whatever commands come later.
+pub fn revisions_stay()
+    ensures { RevisionsStay }
+{}
+
+/// The entries up to a revision, with closings of later revisions left out, are the register at that revision.
+pub fn revisions_are_seen()
+    ensures { RevisionsAreSeen }
+{}

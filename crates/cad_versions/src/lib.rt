@@ -1,0 +1,28 @@
+//! The versions of a land register: what the register keeps, and how commands change it.
+//!
+//! - `ObjectId`, `Words`, `Share`: values that cannot hold what the register must not.
+//! - `Body`, `Class`, `Version`: one version of a party, a basic administrative unit, a parcel, a right or a restriction.
+//! - `Command`, `RegisterFault`: what the land office asks for, and why it is refused.
+//! - `laws`: what holds of every register, whatever commands made it.
+#![tactic(auto)]
+
+mod body;
+mod body_parts;
+mod command;
+mod decision;
+mod fault;
+pub mod laws;
+mod object_id;
+mod shape_bytes;
+mod share;
+mod version;
+mod words;
+
+pub use body::{Body, Class};
+pub use command::Command;
+pub use fault::RegisterFault;
+pub use object_id::ObjectId;
+pub use shape_bytes::{read_shape, write_shape};
+pub use share::Share;
+pub use version::Version;
+pub use words::Words;

@@ -1,0 +1,34 @@
+//! The number of an object of the register.
+
+ghost use Rattle.std.specs.Prelude.{◌≤◌};
+
+/// The number of an object, from 1 to 2,147,483,647. It names the object for good.
+#[derive(Clone, Copy, Debug, PartialEq, Eq, PartialOrd, Ord)]
+pub struct ObjectId {
+    number: u32,
+    pub ghost positive: { 1 ≤ number },
+    pub ghost small: { number ≤ 2147483647 },
+}
+
+impl ObjectId {
+    ghost use Rattle.std.specs.Prelude.{◌≡◌, ◌≤◌, MatchOption};
+    ghost use Rattle.cad_versions.specs.Objects.{IsObjectNumber, object_number};
+
+    /// The object of this number, where there can be one.
+    pub fn new(number: u32) -> Option<ObjectId>
+        ensures { MatchOption result (¬ IsObjectNumber number) (λ object. object_number object ≡ number) }
+    {
+        if 1 <= number && number <= 2_147_483_647 {
+            Some(ObjectId { number })
+        } else {
+            None
+        }
+    }
+
+    pub fn number(self) -> u32
+        ensures value { result ≡ object_number self }
+        ensures in_range { IsObjectNumber result }
+    {
+        self.number
+    }
+}

@@ -1,0 +1,55 @@
+//! Short texts: names, codes and labels.
+
+ghost use Rattle.std.specs.Prelude.{◌≡◌, ◌≤◌, ◌==◌, false, length, IsUtf8};
+ghost use Rattle.std.specs.List.{list_any};
+
+use std::marker::Model;
+
+// The bytes alone, so that two words of one spelling are one value.
+#[derive(Debug, Drop)]
+struct Spelling {
+    text: String,
+}
+
+impl Model for Spelling {
+    ghost use Rattle.std.specs.Prelude.{List, ℕ, string_bytes};
+
+    ghost Value = { List ℕ };
+
+    ghost view = { λ spelling. string_bytes spelling.text };
+}
+
+/// A text of 1 to 200 bytes of UTF-8 without U+0000.
+#[derive(Debug, Drop)]
+pub struct Words {
+    spelling: Spelling,
+    pub ghost some: { 1 ≤ length spelling },
+    pub ghost few: { length spelling ≤ 200 },
+    pub ghost printable: { list_any (λ b. b == 0) spelling ≡ false },
+    pub ghost utf8: { ∥ IsUtf8 spelling ∥₁ },
+}
+
+impl Words {
+    ghost use Rattle.std.specs.Prelude.{◌≡◌, string_bytes, MatchResult, IsUtf8};
+    ghost use Rattle.cad_versions.specs.Texts.{AreWords, bytes_of};
+
+    /// The text as words, or the text back where it is none.
+    pub fn new(text: String) -> Result<Words, String>
+        ensures { MatchResult result (λ words. bytes_of words ≡ string_bytes text) (λ back. (back ≡ text) × ¬ AreWords (string_bytes text)) }
+    {
+        if 1 <= text.len() && text.len() <= 200 && !text.as_bytes().contains(&0) {
+            Ok(Words {
+                spelling: Spelling { text },
+            })
+        } else {
+            Err(text)
+        }
+    }
+
+    pub fn as_str(&self) -> &str
+        ensures value { result.now ≡ bytes_of self.now }
+        ensures words { AreWords result.now }
+    {
+        self.spelling.text.as_str()
+    }
+}
