@@ -34,8 +34,12 @@ pub(crate) fn standing_of<S: Alter>(
     connection: &mut Connection<S>,
     object: ObjectId,
 ) -> Result<Standing, RegisterFault>
-    ensures told { HasCleanDisk (state S.Store connection.new) → Tells (state S.Store connection.old) (state S.Store connection.new) result (λ commands standing. IsStanding (versions commands) object standing) (λ commands fault. IsStoreFault fault) }
-    ensures clean { HasCleanDisk (state S.Store connection.new) → HasCleanDisk (state S.Store connection.old) }
+    ensures told { HasCleanDisk (state S.Store connection.new) →
+        Tells (state S.Store connection.old) (state S.Store connection.new) result
+        (λ commands standing. IsStanding (versions commands) object standing) (λ commands fault.
+        IsStoreFault fault) }
+    ensures clean { HasCleanDisk (state S.Store connection.new) →
+        HasCleanDisk (state S.Store connection.old) }
 {
     let rows = match cad_tables::history(connection, object.number()) {
         Ok(rows) => rows,
@@ -57,10 +61,16 @@ pub(crate) fn versions_of<S: Alter>(
     connection: &mut Connection<S>,
     revision: u32,
 ) -> Result<Vec<Version>, RegisterFault>
-    ensures told { HasCleanDisk (state S.Store connection.new) → Tells (state S.Store connection.old) (state S.Store connection.new) result (λ commands found. revision ≤ length commands → found.items ≡ as_of revision commands) (λ commands fault. IsListingFault revision commands fault) }
+    ensures told { HasCleanDisk (state S.Store connection.new) →
+        Tells (state S.Store connection.old) (state S.Store connection.new) result
+        (λ commands found. revision ≤ length commands → found.items ≡ as_of revision commands)
+        (λ commands fault. IsListingFault revision commands fault) }
     ensures known { IfErr result (λ fault. fault ≢ RegisterFault.UnknownRevision) }
-    ensures store { HasCleanDisk (state S.Store connection.new) → result ≡ Err RegisterFault.Store → (e : Error) × FailsToQuery listing_text (Int (pos revision) ∷ []) (state S.Store connection.old) (state S.Store connection.new) e }
-    ensures clean { HasCleanDisk (state S.Store connection.new) → HasCleanDisk (state S.Store connection.old) }
+    ensures store { HasCleanDisk (state S.Store connection.new) → result ≡ Err RegisterFault.Store →
+        (e : Error) ×
+        FailsToQuery listing_text (Int (pos revision) ∷ []) (state S.Store connection.old) (state S.Store connection.new) e }
+    ensures clean { HasCleanDisk (state S.Store connection.new) →
+        HasCleanDisk (state S.Store connection.old) }
 {
     match cad_tables::listing(connection, revision) {
         Ok(rows) => versions_at(alloc, &rows, revision),

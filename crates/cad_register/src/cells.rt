@@ -48,7 +48,8 @@ pub(crate) fn day_or_null(day: Option<Day>) -> ValueRef<'static>
 }
 
 pub(crate) fn object_or_null(object: Option<ObjectId>) -> ValueRef<'static>
-    ensures { bound_value (owned result) ≡ or_null (λ n. Int (pos n)) (option_map object_number object) }
+    ensures { bound_value (owned result) ≡ or_null (λ n.
+        Int (pos n)) (option_map object_number object) }
 {
     match object {
         Some(object) => count_cell(object.number()),
@@ -66,7 +67,8 @@ pub(crate) fn words_or_null(words: Option<&Words>) -> ValueRef<'_>
 }
 
 pub(crate) fn flag_or_null(flag: Option<bool>) -> ValueRef<'static>
-    ensures { bound_value (owned result) ≡ or_null (λ n. Int (pos n)) (option_map flag_number flag) }
+    ensures { bound_value (owned result) ≡ or_null (λ n.
+        Int (pos n)) (option_map flag_number flag) }
 {
     match flag {
         Some(true) => ValueRef::Int(1),

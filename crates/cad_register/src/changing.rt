@@ -100,10 +100,14 @@ pub(crate) fn enact<S: Alter>(
 ) -> Result<(), RegisterFault>
     requires positive { 1 ≤ number }
     requires small { number ≤ 2147483647 }
-    ensures enacted { HasCleanDisk (state S.Store connection.new) → OnOk result (Enacts (state S.Store connection.old) (state S.Store connection.new) command number revision) }
+    ensures enacted { HasCleanDisk (state S.Store connection.new) →
+        OnOk result (Enacts (state S.Store connection.old) (state S.Store connection.new) command number revision) }
     ensures cause { IfErr result IsStoreFault }
-    ensures unchanged { HasCleanDisk (state S.Store connection.new) → IsTrue (state S.Store connection.new).is_open → OnErr result (KeepsAll (state S.Store connection.old) (state S.Store connection.new)) }
-    ensures clean { HasCleanDisk (state S.Store connection.new) → HasCleanDisk (state S.Store connection.old) }
+    ensures unchanged { HasCleanDisk (state S.Store connection.new) →
+        IsTrue (state S.Store connection.new).is_open →
+        OnErr result (KeepsAll (state S.Store connection.old) (state S.Store connection.new)) }
+    ensures clean { HasCleanDisk (state S.Store connection.new) →
+        HasCleanDisk (state S.Store connection.old) }
 {
     let change = change_of(alloc, command, number, revision)?;
     match cad_tables::write(connection, &change, revision) {

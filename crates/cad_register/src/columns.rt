@@ -131,7 +131,8 @@ pub(crate) fn words_at(alloc: Global, row: &Row, at: usize) -> Result<Option<Wor
 }
 
 pub(crate) fn optional_count_at(row: &Row, at: usize) -> Result<Option<u32>, ReadFault>
-    ensures { Reads result (λ count. (column row.now at ≡ or_null (λ n. Int (pos n)) count) × ForSome count (λ n. n < 2 ^ 32)) }
+    ensures { Reads result (λ count. (column row.now at ≡ or_null (λ n. Int (pos n)) count) ×
+        ForSome count (λ n. n < 2 ^ 32)) }
 {
     match cell(row, at) {
         ValueRef::Null => Ok(None),
@@ -143,7 +144,8 @@ pub(crate) fn optional_count_at(row: &Row, at: usize) -> Result<Option<u32>, Rea
 }
 
 pub(crate) fn named_object_at(row: &Row, at: usize) -> Result<Option<ObjectId>, ReadFault>
-    ensures { Reads result (λ object. column row.now at ≡ or_null (λ n. Int (pos n)) (option_map object_number object)) }
+    ensures { Reads result (λ object. column row.now at ≡ or_null (λ n.
+        Int (pos n)) (option_map object_number object)) }
 {
     match cell(row, at) {
         ValueRef::Null => Ok(None),
@@ -167,7 +169,8 @@ pub(crate) fn last_day_at(row: &Row, at: usize) -> Result<Option<Day>, ReadFault
 }
 
 pub(crate) fn flag_at(row: &Row, at: usize) -> Result<Option<bool>, ReadFault>
-    ensures { Reads result (λ flag. column row.now at ≡ or_null (λ n. Int (pos n)) (option_map flag_number flag)) }
+    ensures { Reads result (λ flag. column row.now at ≡ or_null (λ n.
+        Int (pos n)) (option_map flag_number flag)) }
 {
     match cell(row, at) {
         ValueRef::Null => Ok(None),
@@ -178,7 +181,8 @@ pub(crate) fn flag_at(row: &Row, at: usize) -> Result<Option<bool>, ReadFault>
 }
 
 pub(crate) fn shape_at(alloc: Global, row: &Row, at: usize) -> Result<Option<Ring>, ReadFault>
-    ensures { Reads result (λ ring. column row.now at ≡ or_null Blob (option_map bytes_of_ring ring)) }
+    ensures { Reads result
+        (λ ring. column row.now at ≡ or_null Blob (option_map bytes_of_ring ring)) }
 {
     match cell(row, at) {
         ValueRef::Null => Ok(None),
@@ -193,7 +197,9 @@ pub(crate) fn shape_at(alloc: Global, row: &Row, at: usize) -> Result<Option<Rin
 /// A share in two columns, which are NULL together.
 pub(crate) fn share_at(row: &Row, at: usize) -> Result<Option<Share>, ReadFault>
     requires { at < 100 }
-    ensures { Reads result (λ share. (column row.now at ≡ or_null (λ n. Int (pos n)) (option_map num_of share)) × (column row.now (at + 1) ≡ or_null (λ n. Int (pos n)) (option_map den_of share))) }
+    ensures { Reads result (λ share. (column row.now at ≡ or_null (λ n.
+        Int (pos n)) (option_map num_of share)) × (column row.now (at + 1) ≡ or_null (λ n.
+        Int (pos n)) (option_map den_of share))) }
 {
     if is_null(row, at) && is_null(row, at + 1) {
         return Ok(None);
@@ -209,7 +215,8 @@ pub(crate) fn share_at(row: &Row, at: usize) -> Result<Option<Share>, ReadFault>
 /// A point in two columns, which are NULL together.
 pub(crate) fn spot_at(row: &Row, at: usize) -> Result<Option<Point>, ReadFault>
     requires { at < 100 }
-    ensures { Reads result (λ spot. (column row.now at ≡ or_null Int (option_map x_of spot)) × (column row.now (at + 1) ≡ or_null Int (option_map y_of spot))) }
+    ensures { Reads result (λ spot. (column row.now at ≡ or_null Int (option_map x_of spot)) ×
+        (column row.now (at + 1) ≡ or_null Int (option_map y_of spot))) }
 {
     match (cell(row, at), cell(row, at + 1)) {
         (ValueRef::Null, ValueRef::Null) => Ok(None),

@@ -22,8 +22,12 @@ fn is_entered<S: Alter>(
     class: Class,
     object: Option<ObjectId>,
 ) -> Result<bool, RegisterFault>
-    ensures told { HasCleanDisk (state S.Store connection.new) → Tells (state S.Store connection.old) (state S.Store connection.new) result (λ commands known. known ≡ entered (versions commands) class object) (λ commands fault. IsStoreFault fault) }
-    ensures clean { HasCleanDisk (state S.Store connection.new) → HasCleanDisk (state S.Store connection.old) }
+    ensures told { HasCleanDisk (state S.Store connection.new) →
+        Tells (state S.Store connection.old) (state S.Store connection.new) result
+        (λ commands known. known ≡ entered (versions commands) class object) (λ commands fault.
+        IsStoreFault fault) }
+    ensures clean { HasCleanDisk (state S.Store connection.new) →
+        HasCleanDisk (state S.Store connection.old) }
 {
     match object {
         None => Ok(true),
@@ -39,8 +43,12 @@ fn is_entered<S: Alter>(
 
 /// Whether all that the body names was entered.
 fn are_entered<S: Alter>(connection: &mut Connection<S>, body: &Body) -> Result<bool, RegisterFault>
-    ensures told { HasCleanDisk (state S.Store connection.new) → Tells (state S.Store connection.old) (state S.Store connection.new) result (λ commands known. known ≡ all_entered (versions commands) body.now) (λ commands fault. IsStoreFault fault) }
-    ensures clean { HasCleanDisk (state S.Store connection.new) → HasCleanDisk (state S.Store connection.old) }
+    ensures told { HasCleanDisk (state S.Store connection.new) →
+        Tells (state S.Store connection.old) (state S.Store connection.new) result
+        (λ commands known. known ≡ all_entered (versions commands) body.now) (λ commands fault.
+        IsStoreFault fault) }
+    ensures clean { HasCleanDisk (state S.Store connection.new) →
+        HasCleanDisk (state S.Store connection.old) }
 {
     if is_entered(connection, Class::Unit, body.unit())? {
         let known = is_entered(connection, Class::Party, body.party())?;
@@ -56,8 +64,12 @@ fn is_full<S: Alter>(
     connection: &mut Connection<S>,
     revision: u32,
 ) -> Result<bool, RegisterFault>
-    ensures told { HasCleanDisk (state S.Store connection.new) → Tells (state S.Store connection.old) (state S.Store connection.new) result (λ commands full. revision ≡ length commands → full ≡ filled (versions commands)) (λ commands fault. revision ≡ length commands → IsListingFault (length commands) commands fault) }
-    ensures clean { HasCleanDisk (state S.Store connection.new) → HasCleanDisk (state S.Store connection.old) }
+    ensures told { HasCleanDisk (state S.Store connection.new) →
+        Tells (state S.Store connection.old) (state S.Store connection.new) result (λ commands full.
+        revision ≡ length commands → full ≡ filled (versions commands)) (λ commands fault.
+        revision ≡ length commands → IsListingFault (length commands) commands fault) }
+    ensures clean { HasCleanDisk (state S.Store connection.new) →
+        HasCleanDisk (state S.Store connection.old) }
 {
     if revision < MOST_VERSIONS {
         return Ok(false);
@@ -73,8 +85,13 @@ fn check_addition<S: Alter>(
     revision: u32,
     body: &Body,
 ) -> Result<(), RegisterFault>
-    ensures told { HasCleanDisk (state S.Store connection.new) → Tells (state S.Store connection.old) (state S.Store connection.new) result (λ commands _. revision ≡ length commands → refuses_body (versions commands) (Some body.now) ≡ None) (λ commands fault. revision ≡ length commands → IsRefusal (refuses_body (versions commands) (Some body.now)) commands fault) }
-    ensures clean { HasCleanDisk (state S.Store connection.new) → HasCleanDisk (state S.Store connection.old) }
+    ensures told { HasCleanDisk (state S.Store connection.new) →
+        Tells (state S.Store connection.old) (state S.Store connection.new) result (λ commands _.
+        revision ≡ length commands → refuses_body (versions commands) (Some body.now) ≡ None)
+        (λ commands fault. revision ≡ length commands →
+        IsRefusal (refuses_body (versions commands) (Some body.now)) commands fault) }
+    ensures clean { HasCleanDisk (state S.Store connection.new) →
+        HasCleanDisk (state S.Store connection.old) }
 {
     if !are_entered(connection, body)? {
         return Err(RegisterFault::UnknownReference);
@@ -92,8 +109,15 @@ pub(crate) fn decide<S: Alter>(
     revision: u32,
     command: &Command,
 ) -> Result<usize, RegisterFault>
-    ensures told { HasCleanDisk (state S.Store connection.new) → Tells (state S.Store connection.old) (state S.Store connection.new) result (λ commands count. revision ≡ length commands → (refusal (versions commands) command.now ≡ None) × (count ≡ length (history (object_named command.now) (versions commands)))) (λ commands fault. revision ≡ length commands → IsRefusal (refusal (versions commands) command.now) commands fault) }
-    ensures clean { HasCleanDisk (state S.Store connection.new) → HasCleanDisk (state S.Store connection.old) }
+    ensures told { HasCleanDisk (state S.Store connection.new) →
+        Tells (state S.Store connection.old) (state S.Store connection.new) result
+        (λ commands count. revision ≡ length commands →
+        (refusal (versions commands) command.now ≡ None) ×
+        (count ≡ length (history (object_named command.now) (versions commands))))
+        (λ commands fault. revision ≡ length commands →
+        IsRefusal (refusal (versions commands) command.now) commands fault) }
+    ensures clean { HasCleanDisk (state S.Store connection.new) →
+        HasCleanDisk (state S.Store connection.old) }
 {
     let standing = standing_of(connection, command.object())?;
     if let Some(fault) = command.refused_by_object(standing.class, standing.open_since) {

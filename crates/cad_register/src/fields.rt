@@ -72,7 +72,8 @@ impl Fields {
     }
 
     fn into_party(self) -> Option<Body>
-        ensures { MatchOption result ((b : BodyOfVersion) → class_of b ≡ Class.Party → ¬ (fields_of b ≡ self)) (λ b. (class_of b ≡ Class.Party) × (fields_of b ≡ self)) }
+        ensures { MatchOption result ((b : BodyOfVersion) → class_of b ≡ Class.Party →
+            ¬ (fields_of b ≡ self)) (λ b. (class_of b ≡ Class.Party) × (fields_of b ≡ self)) }
     {
         if !(self.is_no_parcel() && self.is_no_right() && self.unit.is_none()) {
             return None;
@@ -83,7 +84,8 @@ impl Fields {
     }
 
     fn into_unit(self) -> Option<Body>
-        ensures { MatchOption result ((b : BodyOfVersion) → class_of b ≡ Class.Unit → ¬ (fields_of b ≡ self)) (λ b. (class_of b ≡ Class.Unit) × (fields_of b ≡ self)) }
+        ensures { MatchOption result ((b : BodyOfVersion) → class_of b ≡ Class.Unit →
+            ¬ (fields_of b ≡ self)) (λ b. (class_of b ≡ Class.Unit) × (fields_of b ≡ self)) }
     {
         if !(self.is_no_parcel()
             && self.is_no_right()
@@ -97,7 +99,8 @@ impl Fields {
     }
 
     fn into_parcel(self) -> Option<Body>
-        ensures { MatchOption result ((b : BodyOfVersion) → class_of b ≡ Class.Parcel → ¬ (fields_of b ≡ self)) (λ b. (class_of b ≡ Class.Parcel) × (fields_of b ≡ self)) }
+        ensures { MatchOption result ((b : BodyOfVersion) → class_of b ≡ Class.Parcel →
+            ¬ (fields_of b ≡ self)) (λ b. (class_of b ≡ Class.Parcel) × (fields_of b ≡ self)) }
     {
         if !(self.is_no_right() && self.name.is_none() && self.code.is_none()) {
             return None;
@@ -122,7 +125,8 @@ impl Fields {
     }
 
     fn into_right(self) -> Option<Body>
-        ensures { MatchOption result ((b : BodyOfVersion) → class_of b ≡ Class.Right → ¬ (fields_of b ≡ self)) (λ b. (class_of b ≡ Class.Right) × (fields_of b ≡ self)) }
+        ensures { MatchOption result ((b : BodyOfVersion) → class_of b ≡ Class.Right →
+            ¬ (fields_of b ≡ self)) (λ b. (class_of b ≡ Class.Right) × (fields_of b ≡ self)) }
     {
         if !(self.is_no_parcel() && self.name.is_none() && self.required.is_none()) {
             return None;
@@ -145,7 +149,8 @@ impl Fields {
     }
 
     fn into_restriction(self) -> Option<Body>
-        ensures { MatchOption result ((b : BodyOfVersion) → class_of b ≡ Class.Restriction → ¬ (fields_of b ≡ self)) (λ b. (class_of b ≡ Class.Restriction) × (fields_of b ≡ self)) }
+        ensures { MatchOption result ((b : BodyOfVersion) → class_of b ≡ Class.Restriction →
+            ¬ (fields_of b ≡ self)) (λ b. (class_of b ≡ Class.Restriction) × (fields_of b ≡ self)) }
     {
         if !(self.is_no_parcel() && self.name.is_none()) {
             return None;
@@ -171,7 +176,8 @@ impl Fields {
 
     /// The body of this class that has these fields and no others.
     pub(crate) fn into_body(self, class: Class) -> Option<Body>
-        ensures { MatchOption result ((b : BodyOfVersion) → class_of b ≡ class → ¬ (fields_of b ≡ self)) (λ b. (class_of b ≡ class) × (fields_of b ≡ self)) }
+        ensures { MatchOption result ((b : BodyOfVersion) → class_of b ≡ class →
+            ¬ (fields_of b ≡ self)) (λ b. (class_of b ≡ class) × (fields_of b ≡ self)) }
     {
         match class {
             Class::Party => self.into_party(),

@@ -47,7 +47,8 @@ fn next_version(
     before: Option<(i64, i64)>,
     count: usize,
 ) -> Result<KeptVersion, ReadFault>
-    ensures { Reads result (λ kept. IsRowOf row.now (entry_of kept) × (is_after before (identifier_in row.now) ≡ true) × (count < 2147483647)) }
+    ensures { Reads result (λ kept. IsRowOf row.now (entry_of kept) ×
+        (is_after before (identifier_in row.now) ≡ true) × (count < 2147483647)) }
 {
     let kept = KeptVersion::read(alloc, row)?;
     if count < MOST_VERSIONS && comes_after(before, identifier(row)) {
@@ -64,7 +65,9 @@ pub(crate) fn versions_at(
     revision: u32,
 ) -> Result<Vec<Version>, RegisterFault>
     ensures sound { IfOk result (λ _. AreSound None 0 rows.now) }
-    ensures seen { IfOk result (λ versions. (entries : List Entry) → rows.now ≡ map (λ entry. cells_of (line_of entry)) entries → versions.items ≡ map (seen_at revision) entries) }
+    ensures seen { IfOk result (λ versions. (entries : List Entry) → rows.now ≡ map
+        (λ entry. cells_of (line_of entry)) entries →
+        versions.items ≡ map (seen_at revision) entries) }
     ensures cause { IfErr result (IsCauseIn rows.now) }
 {
     let mut versions = Vec::new(alloc);

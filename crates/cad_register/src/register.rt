@@ -71,13 +71,22 @@ impl<S: Alter> Register<S> {
         alloc: Global,
         connection: Connection<S>,
     ) -> Result<Register<S>, (RegisterFault, Connection<S>)>
-        ensures made { IfOk result (λ register. HasCleanDisk (state_of S.Store register) → (state S.Store connection).now.schema ≡ no_schema → IsRegisterOf S.Store register []) }
-        ensures free { IfOk result (λ register. HasCleanDisk (state_of S.Store register) → is_standing (state S.Store connection).now.schema ≡ false) }
-        ensures taken { IfErr result (λ refused. HasCleanDisk (state S.Store refused.1) → refused.0 ≡ RegisterFault.NotARegister → is_standing (state S.Store connection).now.schema ≡ true) }
-        ensures cause { IfErr result (λ refused. refused.0 ≢ RegisterFault.NotARegister → IsStoreFault refused.0) }
+        ensures made { IfOk result (λ register. HasCleanDisk (state_of S.Store register) →
+            (state S.Store connection).now.schema ≡ no_schema → IsRegisterOf S.Store register []) }
+        ensures free { IfOk result (λ register. HasCleanDisk (state_of S.Store register) →
+            is_standing (state S.Store connection).now.schema ≡ false) }
+        ensures taken { IfErr result (λ refused. HasCleanDisk (state S.Store refused.1) →
+            refused.0 ≡ RegisterFault.NotARegister →
+            is_standing (state S.Store connection).now.schema ≡ true) }
+        ensures cause { IfErr result (λ refused. refused.0 ≢ RegisterFault.NotARegister →
+            IsStoreFault refused.0) }
         // What the database itself refused, a statement that makes the tables or the commit.
-        ensures store { IfErr result (λ refused. HasCleanDisk (state S.Store refused.1) → refused.0 ≡ RegisterFault.Store → (e : Error) × RefusesTransaction S.Store creating e connection refused.1) }
-        ensures unchanged { IfErr result (λ refused. HasCleanDisk (state S.Store refused.1) → IsTrue (state S.Store refused.1).is_open → KeepsAll (state S.Store connection) (state S.Store refused.1)) }
+        ensures store { IfErr result (λ refused. HasCleanDisk (state S.Store refused.1) →
+            refused.0 ≡ RegisterFault.Store → (e : Error) ×
+            RefusesTransaction S.Store creating e connection refused.1) }
+        ensures unchanged { IfErr result (λ refused. HasCleanDisk (state S.Store refused.1) →
+            IsTrue (state S.Store refused.1).is_open →
+            KeepsAll (state S.Store connection) (state S.Store refused.1)) }
     {
         let mut connection = connection;
         match cad_tables::create(&mut connection) {
@@ -96,12 +105,22 @@ impl<S: Alter> Register<S> {
         alloc: Global,
         connection: Connection<S>,
     ) -> Result<Register<S>, (RegisterFault, Connection<S>)>
-        ensures found { IfOk result (λ register. HasCleanDisk (state_of S.Store register) → (commands : List CommandOf) → StandsFor (state S.Store connection) commands → length commands ≤ 4294967294 → IsRegisterOf S.Store register commands) }
-        ensures known { IfErr result (λ refused. HasCleanDisk (state S.Store refused.1) → (commands : List CommandOf) → StandsFor (state S.Store connection) commands → length commands ≤ 4294967294 → refused.0 ≢ RegisterFault.NotARegister) }
-        ensures cause { IfErr result (λ refused. refused.0 ≢ RegisterFault.NotARegister → IsStoreFault refused.0) }
+        ensures found { IfOk result (λ register. HasCleanDisk (state_of S.Store register) →
+            (commands : List CommandOf) → StandsFor (state S.Store connection) commands →
+            length commands ≤ 4294967294 → IsRegisterOf S.Store register commands) }
+        ensures known { IfErr result (λ refused. HasCleanDisk (state S.Store refused.1) →
+            (commands : List CommandOf) → StandsFor (state S.Store connection) commands →
+            length commands ≤ 4294967294 → refused.0 ≢ RegisterFault.NotARegister) }
+        ensures cause { IfErr result (λ refused. refused.0 ≢ RegisterFault.NotARegister →
+            IsStoreFault refused.0) }
         // What the database itself refused, of the two questions for the columns and the row of `state`.
-        ensures store { IfErr result (λ refused. HasCleanDisk (state S.Store refused.1) → refused.0 ≡ RegisterFault.Store → (fault : Fault) × RefusesRegister S.Store connection refused.1 fault) }
-        ensures unchanged { IfErr result (λ refused. HasCleanDisk (state S.Store refused.1) → IsTrue (state S.Store refused.1).is_open → (commands : List CommandOf) → StandsFor (state S.Store connection) commands → StandsFor (state S.Store refused.1) commands) }
+        ensures store { IfErr result (λ refused. HasCleanDisk (state S.Store refused.1) →
+            refused.0 ≡ RegisterFault.Store → (fault : Fault) ×
+            RefusesRegister S.Store connection refused.1 fault) }
+        ensures unchanged { IfErr result (λ refused. HasCleanDisk (state S.Store refused.1) →
+            IsTrue (state S.Store refused.1).is_open → (commands : List CommandOf) →
+            StandsFor (state S.Store connection) commands →
+            StandsFor (state S.Store refused.1) commands) }
     {
         let mut connection = connection;
         match cad_tables::open(&mut connection) {
@@ -117,13 +136,25 @@ impl<S: Alter> Register<S> {
 
     /// The versions at a revision, by object and number. A closing of a later revision is not seen.
     pub fn as_of(&mut self, revision: Revision) -> Result<Vec<Version>, RegisterFault>
-        ensures shown { HasCleanDisk (state_of S.Store self.new) → IfOk result (λ versions. (commands : List CommandOf) → IsRegisterOf S.Store self.old commands → versions.items ≡ register_as_of revision commands) }
-        ensures beyond { revision_of self.old < revision → result ≡ Err RegisterFault.UnknownRevision }
-        ensures within { revision ≤ revision_of self.old → result ≢ Err RegisterFault.UnknownRevision }
-        ensures cause { HasCleanDisk (state_of S.Store self.new) → IfErr result (λ fault. (commands : List CommandOf) → IsRegisterOf S.Store self.old commands → revision ≤ length commands → IsListingFault revision commands fault) }
-        ensures store { HasCleanDisk (state_of S.Store self.new) → result ≡ Err RegisterFault.Store → (e : Error) × FailsToQuery listing_text (Int (pos revision) ∷ []) (state_of S.Store self.old) (state_of S.Store self.new) e }
-        ensures kept { HasCleanDisk (state_of S.Store self.new) → OnOk result ((commands : List CommandOf) → IsRegisterOf S.Store self.old commands → IsRegisterOf S.Store self.new commands) }
-        ensures unchanged { HasCleanDisk (state_of S.Store self.new) → IsTrue (state_of S.Store self.new).is_open → OnErr result ((commands : List CommandOf) → IsRegisterOf S.Store self.old commands → IsRegisterOf S.Store self.new commands) }
+        ensures shown { HasCleanDisk (state_of S.Store self.new) → IfOk result (λ versions.
+            (commands : List CommandOf) → IsRegisterOf S.Store self.old commands →
+            versions.items ≡ register_as_of revision commands) }
+        ensures beyond { revision_of self.old < revision →
+            result ≡ Err RegisterFault.UnknownRevision }
+        ensures within { revision ≤ revision_of self.old →
+            result ≢ Err RegisterFault.UnknownRevision }
+        ensures cause { HasCleanDisk (state_of S.Store self.new) → IfErr result (λ fault.
+            (commands : List CommandOf) → IsRegisterOf S.Store self.old commands →
+            revision ≤ length commands → IsListingFault revision commands fault) }
+        ensures store { HasCleanDisk (state_of S.Store self.new) →
+            result ≡ Err RegisterFault.Store → (e : Error) ×
+            FailsToQuery listing_text (Int (pos revision) ∷ []) (state_of S.Store self.old) (state_of S.Store self.new) e }
+        ensures kept { HasCleanDisk (state_of S.Store self.new) →
+            OnOk result ((commands : List CommandOf) → IsRegisterOf S.Store self.old commands →
+            IsRegisterOf S.Store self.new commands) }
+        ensures unchanged { HasCleanDisk (state_of S.Store self.new) →
+            IsTrue (state_of S.Store self.new).is_open → OnErr result ((commands : List CommandOf) →
+            IsRegisterOf S.Store self.old commands → IsRegisterOf S.Store self.new commands) }
     {
         if u64::from(self.revision) < revision {
             return Err(RegisterFault::UnknownRevision);
@@ -133,9 +164,16 @@ impl<S: Alter> Register<S> {
 
     /// Makes the next revision of the register, or changes nothing. After `Store` from a file it is to be opened again.
     pub fn apply(&mut self, command: Command) -> Result<Revision, RegisterFault>
-        ensures accepted { HasCleanDisk (state_of S.Store self.new) → IfOk result (λ revision. (commands : List CommandOf) → IsRegisterOf S.Store self.old commands → (refusal (versions commands) command ≡ None) × (revision ≡ length commands + 1) × IsRegisterOf S.Store self.new (commands ++ command ∷ [])) }
-        ensures refused { HasCleanDisk (state_of S.Store self.new) → IfErr result (λ fault. (commands : List CommandOf) → IsRegisterOf S.Store self.old commands → IsRefused commands command fault) }
-        ensures unchanged { HasCleanDisk (state_of S.Store self.new) → IsTrue (state_of S.Store self.new).is_open → OnErr result ((commands : List CommandOf) → IsRegisterOf S.Store self.old commands → IsRegisterOf S.Store self.new commands) }
+        ensures accepted { HasCleanDisk (state_of S.Store self.new) → IfOk result (λ revision.
+            (commands : List CommandOf) → IsRegisterOf S.Store self.old commands →
+            (refusal (versions commands) command ≡ None) × (revision ≡ length commands + 1) ×
+            IsRegisterOf S.Store self.new (commands ++ command ∷ [])) }
+        ensures refused { HasCleanDisk (state_of S.Store self.new) → IfErr result (λ fault.
+            (commands : List CommandOf) → IsRegisterOf S.Store self.old commands →
+            IsRefused commands command fault) }
+        ensures unchanged { HasCleanDisk (state_of S.Store self.new) →
+            IsTrue (state_of S.Store self.new).is_open → OnErr result ((commands : List CommandOf) →
+            IsRegisterOf S.Store self.old commands → IsRegisterOf S.Store self.new commands) }
     {
         let count = decide(self.alloc, &mut self.connection, self.revision, &command)?;
         if self.revision >= MOST_REVISION {

@@ -18,16 +18,20 @@ pub(crate) struct Standing {
 }
 
 fn row_class(row: &Row) -> Result<Class, ReadFault>
-    ensures known { IfOk result (λ class. (v : VersionedObject) → row.now ≡ outline v → class ≡ class_of_version v) }
-    ensures damaged { IfErr result (λ fault. fault ≡ ReadFault.Damaged → (v : VersionedObject) → row.now ≢ outline v) }
+    ensures known { IfOk result (λ class. (v : VersionedObject) → row.now ≡ outline v →
+        class ≡ class_of_version v) }
+    ensures damaged { IfErr result (λ fault. fault ≡ ReadFault.Damaged → (v : VersionedObject) →
+        row.now ≢ outline v) }
 {
     class_at(row, 1)
 }
 
 /// The first day of a version that is open.
 fn row_opened(row: &Row) -> Result<Option<Day>, ReadFault>
-    ensures known { IfOk result (λ day. (v : VersionedObject) → row.now ≡ outline v → day ≡ if_open v) }
-    ensures damaged { IfErr result (λ fault. fault ≡ ReadFault.Damaged → (v : VersionedObject) → row.now ≢ outline v) }
+    ensures known { IfOk result (λ day. (v : VersionedObject) → row.now ≡ outline v →
+        day ≡ if_open v) }
+    ensures damaged { IfErr result (λ fault. fault ≡ ReadFault.Damaged → (v : VersionedObject) →
+        row.now ≢ outline v) }
 {
     if is_null(row, 3) {
         let first = day_at(row, 2)?;
@@ -38,8 +42,10 @@ fn row_opened(row: &Row) -> Result<Option<Day>, ReadFault>
 }
 
 fn first_class(rows: &[Row]) -> Result<Option<Class>, ReadFault>
-    ensures known { IfOk result (λ class. (vs : List VersionedObject) → rows.now ≡ map outline vs → class ≡ class_of_first vs) }
-    ensures damaged { IfErr result (λ fault. fault ≡ ReadFault.Damaged → (vs : List VersionedObject) → rows.now ≢ map outline vs) }
+    ensures known { IfOk result (λ class. (vs : List VersionedObject) → rows.now ≡ map outline vs →
+        class ≡ class_of_first vs) }
+    ensures damaged { IfErr result (λ fault. fault ≡ ReadFault.Damaged →
+        (vs : List VersionedObject) → rows.now ≢ map outline vs) }
 {
     match rows.first() {
         None => Ok(None),
@@ -51,8 +57,10 @@ fn first_class(rows: &[Row]) -> Result<Option<Class>, ReadFault>
 }
 
 fn last_opened(rows: &[Row]) -> Result<Option<Day>, ReadFault>
-    ensures known { IfOk result (λ day. (vs : List VersionedObject) → rows.now ≡ map outline vs → day ≡ opened_last vs) }
-    ensures damaged { IfErr result (λ fault. fault ≡ ReadFault.Damaged → (vs : List VersionedObject) → rows.now ≢ map outline vs) }
+    ensures known { IfOk result (λ day. (vs : List VersionedObject) → rows.now ≡ map outline vs →
+        day ≡ opened_last vs) }
+    ensures damaged { IfErr result (λ fault. fault ≡ ReadFault.Damaged →
+        (vs : List VersionedObject) → rows.now ≢ map outline vs) }
 {
     match rows.last() {
         None => Ok(None),
@@ -66,8 +74,11 @@ fn last_opened(rows: &[Row]) -> Result<Option<Day>, ReadFault>
 impl Standing {
     /// What the rows of an object tell of it.
     pub(crate) fn read(rows: &[Row]) -> Result<Standing, ReadFault>
-        ensures known { IfOk result (λ s. (vs : List VersionedObject) → rows.now ≡ map outline vs → (s.class ≡ class_of_first vs) × (s.open_since ≡ opened_last vs) × (s.count ≡ length vs)) }
-        ensures damaged { IfErr result (λ fault. fault ≡ ReadFault.Damaged → (vs : List VersionedObject) → rows.now ≢ map outline vs) }
+        ensures known { IfOk result (λ s. (vs : List VersionedObject) → rows.now ≡ map outline vs →
+            (s.class ≡ class_of_first vs) × (s.open_since ≡ opened_last vs) ×
+            (s.count ≡ length vs)) }
+        ensures damaged { IfErr result (λ fault. fault ≡ ReadFault.Damaged →
+            (vs : List VersionedObject) → rows.now ≢ map outline vs) }
     {
         let class = first_class(rows)?;
         let open_since = last_opened(rows)?;

@@ -56,6 +56,7 @@ pub enum Class {
 }
 
 impl Body {
+    /// The class of the objects that have such a body (ISO 19152).
     pub fn class(&self) -> Class
         ensures { result ≡ class_of self.now }
     {

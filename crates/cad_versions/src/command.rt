@@ -30,6 +30,7 @@ pub enum Command {
 }
 
 impl Command {
+    /// The object that the command enters, amends or retires.
     pub fn object(&self) -> ObjectId
         ensures { result ≡ object_named self.now }
     {

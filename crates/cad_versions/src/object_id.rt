@@ -16,7 +16,8 @@ impl ObjectId {
 
     /// The object of this number, where there can be one.
     pub fn new(number: u32) -> Option<ObjectId>
-        ensures { MatchOption result (¬ IsObjectNumber number) (λ object. object_number object ≡ number) }
+        ensures { MatchOption result (¬ IsObjectNumber number)
+            (λ object. object_number object ≡ number) }
     {
         if 1 <= number && number <= 2_147_483_647 {
             Some(ObjectId { number })
@@ -25,6 +26,7 @@ impl ObjectId {
         }
     }
 
+    /// From 1 to 2,147,483,647.
     pub fn number(self) -> u32
         ensures value { result ≡ object_number self }
         ensures in_range { IsObjectNumber result }

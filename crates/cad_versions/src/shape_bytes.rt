@@ -53,7 +53,8 @@ pub fn write_shape(alloc: Global, ring: &Ring) -> Result<Vec<u8>, AllocError>
 
 /// The number at the front, and the bytes behind it.
 fn first_coordinate(bytes: &[u8]) -> Option<(i64, &[u8])>
-    ensures { MatchOption result (length bytes.now < 8) (λ found. (bytes.now ≡ coordinate_bytes found.0 ++ found.1.now) × FitsSigned w64 found.0) }
+    ensures { MatchOption result (length bytes.now < 8) (λ found.
+        (bytes.now ≡ coordinate_bytes found.0 ++ found.1.now) × FitsSigned w64 found.0) }
 {
     let (coordinate, rest) = bytes.split_first_chunk::<8>()?;
     let bits = u64::from_be_bytes(*coordinate);
@@ -62,7 +63,9 @@ fn first_coordinate(bytes: &[u8]) -> Option<(i64, &[u8])>
 
 /// The corner at the front, and the bytes behind it.
 fn first_corner(bytes: &[u8]) -> Option<(Point, &[u8])>
-    ensures { MatchOption result ((corner : Corner) (rest : List ℕ) → bytes.now ≢ corner_bytes corner ++ rest) (λ found. bytes.now ≡ corner_bytes found.0 ++ found.1.now) }
+    ensures { MatchOption result ((corner : Corner) (rest : List ℕ) →
+        bytes.now ≢ corner_bytes corner ++ rest)
+        (λ found. bytes.now ≡ corner_bytes found.0 ++ found.1.now) }
 {
     let (x, rest) = first_coordinate(bytes)?;
     let (y, rest) = first_coordinate(rest)?;
@@ -72,7 +75,8 @@ fn first_corner(bytes: &[u8]) -> Option<(Point, &[u8])>
 
 /// All corners, if the bytes are corners one after the other.
 fn all_corners(alloc: Global, bytes: &[u8]) -> Result<Option<Vec<Point>>, AllocError>
-    ensures { IfOk result (λ found. MatchOption found ((corners : List Corner) → bytes.now ≢ corners_bytes corners) (λ corners. bytes.now ≡ corners_bytes corners.items)) }
+    ensures { IfOk result (λ found. MatchOption found ((corners : List Corner) →
+        bytes.now ≢ corners_bytes corners) (λ corners. bytes.now ≡ corners_bytes corners.items)) }
 {
     let mut corners = Vec::new(alloc);
     let mut rest = bytes;
@@ -88,7 +92,9 @@ fn all_corners(alloc: Global, bytes: &[u8]) -> Result<Option<Vec<Point>>, AllocE
 
 /// The number of corners, and the bytes behind it, of a shape of one ring.
 fn counted_corners(bytes: &[u8]) -> Option<(usize, &[u8])>
-    ensures { MatchOption result ((count : ℕ) (rest : List ℕ) → bytes.now ≢ 1 ∷ (to_be_bytes w16 count ++ rest)) (λ found. (bytes.now ≡ 1 ∷ (to_be_bytes w16 found.0 ++ found.1.now)) × (found.0 < 2 ^ 16)) }
+    ensures { MatchOption result ((count : ℕ) (rest : List ℕ) →
+        bytes.now ≢ 1 ∷ (to_be_bytes w16 count ++ rest)) (λ found.
+        (bytes.now ≡ 1 ∷ (to_be_bytes w16 found.0 ++ found.1.now)) × (found.0 < 2 ^ 16)) }
 {
     let [form, high, low, rest @ ..] = bytes else {
         return None;
@@ -102,7 +108,9 @@ fn counted_corners(bytes: &[u8]) -> Option<(usize, &[u8])>
 
 /// The shape that is stored under these bytes; `Ok(None)` where none is.
 pub fn read_shape(alloc: Global, bytes: &[u8]) -> Result<Option<Ring>, AllocError>
-    ensures { IfOk result (λ found. MatchOption found ((ring : RingOfCorners) → bytes.now ≢ shape_bytes (corners_of ring)) (λ ring. bytes.now ≡ shape_bytes (corners_of ring))) }
+    ensures { IfOk result (λ found. MatchOption found ((ring : RingOfCorners) →
+        bytes.now ≢ shape_bytes (corners_of ring))
+        (λ ring. bytes.now ≡ shape_bytes (corners_of ring))) }
 {
     let Some((count, rest)) = counted_corners(bytes) else {
         return Ok(None);

@@ -18,7 +18,8 @@ impl Share {
 
     /// `num` parts of `den`, where 1 <= num <= den <= 1,000,000,000.
     pub fn new(num: u32, den: u32) -> Option<Share>
-        ensures { MatchOption result (¬ IsShare num den) (λ share. (num_of share ≡ num) × (den_of share ≡ den)) }
+        ensures { MatchOption result (¬ IsShare num den) (λ share. (num_of share ≡ num) ×
+            (den_of share ≡ den)) }
     {
         if 1 <= num && num <= den && den <= 1_000_000_000 {
             Some(Share { num, den })
@@ -27,12 +28,14 @@ impl Share {
         }
     }
 
+    /// The parts of the share, from 1 to `den`.
     pub fn num(self) -> u32
         ensures { result ≡ num_of self }
     {
         self.num
     }
 
+    /// The parts of the whole, at most 1,000,000,000.
     pub fn den(self) -> u32
         ensures { result ≡ den_of self }
     {

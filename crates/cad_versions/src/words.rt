@@ -35,7 +35,8 @@ impl Words {
 
     /// The text as words, or the text back where it is none.
     pub fn new(text: String) -> Result<Words, String>
-        ensures { MatchResult result (λ words. bytes_of words ≡ string_bytes text) (λ back. (back ≡ text) × ¬ AreWords (string_bytes text)) }
+        ensures { MatchResult result (λ words. bytes_of words ≡ string_bytes text) (λ back.
+            (back ≡ text) × ¬ AreWords (string_bytes text)) }
     {
         if 1 <= text.len() && text.len() <= 200 && !text.as_bytes().contains(&0) {
             Ok(Words {
@@ -46,6 +47,7 @@ impl Words {
         }
     }
 
+    /// The text, of 1 to 200 bytes.
     pub fn as_str(&self) -> &str
         ensures value { result.now ≡ bytes_of self.now }
         ensures words { AreWords result.now }
