@@ -1,5 +1,5 @@
 -- What a command line asks for (own profile).
-use Rattle.std.specs.Prelude.{◌≡◌, ℕ, List, [], ◌∷◌, codes, Option, Some, None, ⊤, if◌then◌else◌}
+use Rattle.std.specs.Prelude.{◌≡◌, ℕ, List, [], ◌∷◌, codes, Option, Some, None, if◌then◌else◌}
 use Rattle.std.specs.Str.{bytes_eq}
 use Rattle.cadastre.specs.declared.command.Command.{Command}
 use Rattle.cadastre.specs.declared.command.Command.TheVariants.{Sample, Office}
