@@ -8,3 +8,4 @@ pub mod StandLemmas
 pub mod CountLemmas
 pub mod DecisionLemmas
 pub mod WriteLemmas
+pub mod RefusingLemmas

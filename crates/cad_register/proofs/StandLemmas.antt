@@ -47,36 +47,40 @@ pub listing_told : (revision : ℕ) (cs : List Command) (rows : List Row) (new :
 listing_told revision cs rows new (Ok vs) is stands seen cause = (λ h. seen (sort_by entry_order (entries_at revision (entries_of cs))) is ∙ listing_is revision cs h, stands)
 listing_told revision cs rows new (Err f) is stands seen cause = (listing_cause revision cs f (subst (λ l. IsCauseIn l f) is cause), λ _. stands)
 
-closing_foreign : (is_late : Day → Bool) (o : Option Day) → ¬ (refuses_closing is_late o ≡ Some fault.NotARegister)
-closing_foreign is_late None h = cc
-closing_foreign is_late (Some day) h = go (is_late day) h
-  where
-    go : (t : Bool) → refuse_if t (fault.DayNotAfter day) ≡ Some fault.NotARegister → ⊥
-    go true h = cc
-    go false h = cc
+-- causes that the fold never has: its own are others
+module _ (k : RegisterFault) where
+  when_foreign : (t : Bool) (f : RegisterFault) → ¬ (f ≡ k) → ¬ (refuse_if t f ≡ Some k)
+  when_foreign true f other h = other cc
+  when_foreign false f other h = cc
 
-when_foreign : (t : Bool) (f : RegisterFault) → ¬ (f ≡ fault.NotARegister) → ¬ (refuse_if t f ≡ Some fault.NotARegister)
-when_foreign true f other h = other cc
-when_foreign false f other h = cc
+  else_foreign : (a b : Option RegisterFault) → ¬ (a ≡ Some k) → ¬ (b ≡ Some k) → ¬ (or_else a b ≡ Some k)
+  else_foreign None b one other h = other h
+  else_foreign (Some f) b one other h = one h
 
-else_foreign : (a b : Option RegisterFault) → ¬ (a ≡ Some fault.NotARegister) → ¬ (b ≡ Some fault.NotARegister) → ¬ (or_else a b ≡ Some fault.NotARegister)
-else_foreign None b one other h = other h
-else_foreign (Some f) b one other h = one h
+  closing_foreign : ¬ (fault.Retired ≡ k) → ((day : Day) → ¬ (fault.DayNotAfter day ≡ k)) → (is_late : Day → Bool) (o : Option Day) → ¬ (refuses_closing is_late o ≡ Some k)
+  closing_foreign retired late is_late None h = retired cc
+  closing_foreign retired late is_late (Some day) h = when_foreign (is_late day) (fault.DayNotAfter day) (late day) h
 
-object_foreign : (class : Option Class) (begun : Option Day) (c : Command) → ¬ (refuses_object class begun c ≡ Some fault.NotARegister)
-object_foreign None begun (Enter object first body) h = cc
-object_foreign (Some class) begun (Enter object first body) h = cc
-object_foreign None begun (Amend object first body) h = cc
-object_foreign (Some class) begun (Amend object first body) h = else_foreign _ _ (when_foreign _ fault.OtherClass (λ e. cc)) (closing_foreign _ begun) h
-object_foreign None begun (Retire object last) h = cc
-object_foreign (Some class) begun (Retire object last) h = closing_foreign _ begun h
+  object_foreign : ¬ (fault.Retired ≡ k) → ((day : Day) → ¬ (fault.DayNotAfter day ≡ k)) → ¬ (fault.KnownObject ≡ k) → ¬ (fault.UnknownObject ≡ k) → ¬ (fault.OtherClass ≡ k)
+      → (class : Option Class) (begun : Option Day) (c : Command) → ¬ (refuses_object class begun c ≡ Some k)
+  object_foreign retired late known unknown other None begun (Enter object first body) h = cc
+  object_foreign retired late known unknown other (Some class) begun (Enter object first body) h = known cc
+  object_foreign retired late known unknown other None begun (Amend object first body) h = unknown cc
+  object_foreign retired late known unknown other (Some class) begun (Amend object first body) h = else_foreign _ _ (when_foreign _ fault.OtherClass other) (closing_foreign retired late _ begun) h
+  object_foreign retired late known unknown other None begun (Retire object last) h = unknown cc
+  object_foreign retired late known unknown other (Some class) begun (Retire object last) h = closing_foreign retired late _ begun h
 
 body_foreign : (vs : List VersionedObject) (o : Option Body) → ¬ (refuses_body vs o ≡ Some fault.NotARegister)
 body_foreign vs None h = cc
-body_foreign vs (Some body) h = else_foreign _ _ (when_foreign _ fault.UnknownReference (λ e. cc)) (when_foreign _ fault.Full (λ e. cc)) h
+body_foreign vs (Some body) h = else_foreign fault.NotARegister _ _ (when_foreign fault.NotARegister _ fault.UnknownReference (λ e. cc)) (when_foreign fault.NotARegister _ fault.Full (λ e. cc)) h
 
 never_foreign : (vs : List VersionedObject) (c : Command) → ¬ (refusal vs c ≡ Some fault.NotARegister)
-never_foreign vs c h = else_foreign _ _ (object_foreign (class_at vs (object_named c)) (open_since vs (object_named c)) c) (body_foreign vs (body_added c)) h
+never_foreign vs c h =
+    else_foreign fault.NotARegister _ _ (object_foreign fault.NotARegister (λ e. cc) (λ day e. cc) (λ e. cc) (λ e. cc) (λ e. cc) (class_at vs (object_named c)) (open_since vs (object_named c)) c) (body_foreign vs (body_added c)) h
+
+-- what stands of an object is no cause to answer for the database
+pub object_answers_for_itself : (class : Option Class) (begun : Option Day) (c : Command) → ¬ (refuses_object class begun c ≡ Some fault.Store)
+object_answers_for_itself class begun c h = object_foreign fault.Store (λ e. cc) (λ day e. cc) (λ e. cc) (λ e. cc) (λ e. cc) class begun c h
 
 -- what decides never answers that there is no register
 pub refused_as : (cs : List Command) (c : Command) (f : RegisterFault) → IsRefusal (refusal (versions cs) c) cs f → IsRefused cs c f

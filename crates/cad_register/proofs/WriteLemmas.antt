@@ -8,7 +8,6 @@ use Rattle.cad_day.specs.Days.{number_of}
 use Rattle.cad_tables.specs.declared.changes.Closing.{Closing}
 use Rattle.cad_tables.specs.declared.changes.Change.{Change}
 use Rattle.cad_tables.specs.declared.changes.Change.TheVariants as change
-use Rattle.cad_tables.specs.Line.{Line}
 use Rattle.cad_tables.specs.Holding.{Holds}
 use Rattle.cad_tables.specs.Changes.{is_open_of as is_open_line, closed_line, closed_if, changed, NamesOne, Fits}
 use Rattle.cad_tables.specs.Steps.{Commits}
@@ -30,7 +29,7 @@ use Rattle.cad_versions.proofs.HistoryLemmas.{histories, amends, retires, find-f
 use Rattle.cad_versions.proofs.EntryLemmas.{versions_of_entries, entries_append}
 use Rattle.cad_register.specs.declared.writing.NewEntry.{NewEntry}
 use Rattle.cad_register.specs.Rows.{line_of}
-use Rattle.cad_register.specs.Changing.{IsNew, IsChangeOf}
+use Rattle.cad_register.specs.Changing.{IsNew, IsChangeOf, line_written}
 use Rattle.cad_register.specs.Stands.{StandsFor, IsNumbered}
 use Rattle.cad_register.proofs.CountLemmas.{history_few}
 use Rattle.std.proofs.lemmas.Bool.Decides.{nat_tests}
@@ -95,9 +94,6 @@ names_one object v c cs is h f =
     (line_of one.0, filter-map (is_open_line c.object) line_of es ∙ ap (map line_of) (filter_same _ _ (λ e. open_same object c.object e is) es ∙ one.1))
 
 -- ---- the change of a command
-
-abbrev pub line_written : NewEntry → Line
-line_written n = line_of (entered_at n.entered n.version)
 
 new_line : (v : VersionedObject) (revision : ℕ) (n : NewEntry) → IsNew v revision n → line_written n ≡ line_of (entered_at revision v)
 new_line v revision n h = ap₂ (λ r w. line_of (entered_at r w)) h.1 h.0

@@ -8,6 +8,9 @@ use Rattle.cad_versions.specs.declared.command.Command.TheVariants.{Enter, Amend
 use Rattle.cad_versions.specs.Objects.{object_number}
 use Rattle.cad_versions.specs.VersionedObject.{VersionedObject}
 use Rattle.cad_versions.specs.Versions.{begun}
+use Rattle.cad_versions.specs.Entries.{entered_at}
+use Rattle.cad_tables.specs.Line.{Line}
+use Rattle.cad_register.specs.Rows.{line_of}
 use Rattle.cad_register.specs.declared.writing.NewEntry.{NewEntry}
 
 abbrev pub IsNew : VersionedObject → ℕ → NewEntry → Type 0
@@ -20,3 +23,7 @@ IsChangeOf (Amend object first body) number revision (change.Amend closing entry
     (closing.object ≡ object_number object) × (closing.last ≡ number_of first -ℤ pos 1) × IsNew (begun object number first body) revision entry
 IsChangeOf (Retire object last) number revision (change.Retire closing) = (closing.object ≡ object_number object) × (closing.last ≡ number_of last)
 IsChangeOf command number revision other = ⊥
+
+-- the line of a new entry
+abbrev pub line_written : NewEntry → Line
+line_written n = line_of (entered_at n.entered n.version)

@@ -6,4 +6,5 @@ pub mod Damage
 pub mod Stands
 pub mod Outlines
 pub mod Changing
+pub mod Refusing
 pub mod Registers

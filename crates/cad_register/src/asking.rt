@@ -11,6 +11,7 @@ ghost use Rattle.cad_versions.specs.Versions.{versions};
 ghost use Rattle.cad_versions.specs.AsOf.{as_of};
 ghost use Rattle.cad_register.specs.Outlines.{IsStanding};
 ghost use Rattle.cad_register.specs.Stands.{Tells, IsStoreFault, IsListingFault};
+ghost use Rattle.cad_register.specs.Refusing.{Asks};
 
 use crate::columns::ReadFault;
 use crate::listing::versions_at;
@@ -38,6 +39,8 @@ pub(crate) fn standing_of<S: Alter>(
         Tells (state S.Store connection.old) (state S.Store connection.new) result
         (λ commands standing. IsStanding (versions commands) object standing) (λ commands fault.
         IsStoreFault fault) }
+    ensures asked { HasCleanDisk (state S.Store connection.new) →
+        Asks S.Store connection.old connection.new result }
     ensures clean { HasCleanDisk (state S.Store connection.new) →
         HasCleanDisk (state S.Store connection.old) }
 {
@@ -69,6 +72,8 @@ pub(crate) fn versions_of<S: Alter>(
     ensures store { HasCleanDisk (state S.Store connection.new) → result ≡ Err RegisterFault.Store →
         (e : Error) ×
         FailsToQuery listing_text (Int (pos revision) ∷ []) (state S.Store connection.old) (state S.Store connection.new) e }
+    ensures asked { HasCleanDisk (state S.Store connection.new) →
+        Asks S.Store connection.old connection.new result }
     ensures clean { HasCleanDisk (state S.Store connection.new) →
         HasCleanDisk (state S.Store connection.old) }
 {

@@ -1,12 +1,13 @@
 //! What a command changes in the tables.
 
-ghost use Rattle.std.specs.Prelude.{◌≡◌, ◌≤◌, ◌<◌, ◌+◌, ◌^◌, IfOk, IfErr, OnOk, OnErr, IsTrue};
+ghost use Rattle.std.specs.Prelude.{◌≡◌, Err, ◌≤◌, ◌<◌, ◌+◌, ◌^◌, IfOk, IfErr, OnOk, OnErr, IsTrue};
 ghost use Rattle.sqlite.specs.State.{HasCleanDisk};
 ghost use Rattle.sqlite.specs.Held.{state};
 ghost use Rattle.cad_tables.specs.Steps.{KeepsAll};
 ghost use Rattle.cad_versions.specs.Versions.{begun};
 ghost use Rattle.cad_register.specs.Changing.{IsNew, IsChangeOf};
 ghost use Rattle.cad_register.specs.Stands.{Enacts, IsStoreFault};
+ghost use Rattle.cad_register.specs.Refusing.{RefusesChange};
 
 use crate::asking::store_fault;
 use crate::writing::NewEntry;
@@ -106,6 +107,8 @@ pub(crate) fn enact<S: Alter>(
     ensures unchanged { HasCleanDisk (state S.Store connection.new) →
         IsTrue (state S.Store connection.new).is_open →
         OnErr result (KeepsAll (state S.Store connection.old) (state S.Store connection.new)) }
+    ensures store { HasCleanDisk (state S.Store connection.new) → result ≡ Err RegisterFault.Store →
+        RefusesChange S.Store connection.old connection.new command revision }
     ensures clean { HasCleanDisk (state S.Store connection.new) →
         HasCleanDisk (state S.Store connection.old) }
 {

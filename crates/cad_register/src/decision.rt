@@ -8,6 +8,7 @@ ghost use Rattle.cad_versions.specs.Command.{object_named};
 ghost use Rattle.cad_versions.specs.Versions.{history, versions};
 ghost use Rattle.cad_versions.specs.Refusals.{is_entered as entered, are_entered as all_entered, is_full as filled, refuses_body, refusal};
 ghost use Rattle.cad_register.specs.Stands.{Tells, IsStoreFault, IsListingFault, IsRefusal};
+ghost use Rattle.cad_register.specs.Refusing.{Asks};
 
 use crate::asking::{standing_of, versions_of};
 use cad_versions::{Body, Class, Command, ObjectId, RegisterFault};
@@ -26,6 +27,8 @@ fn is_entered<S: Alter>(
         Tells (state S.Store connection.old) (state S.Store connection.new) result
         (λ commands known. known ≡ entered (versions commands) class object) (λ commands fault.
         IsStoreFault fault) }
+    ensures asked { HasCleanDisk (state S.Store connection.new) →
+        Asks S.Store connection.old connection.new result }
     ensures clean { HasCleanDisk (state S.Store connection.new) →
         HasCleanDisk (state S.Store connection.old) }
 {
@@ -47,6 +50,8 @@ fn are_entered<S: Alter>(connection: &mut Connection<S>, body: &Body) -> Result<
         Tells (state S.Store connection.old) (state S.Store connection.new) result
         (λ commands known. known ≡ all_entered (versions commands) body.now) (λ commands fault.
         IsStoreFault fault) }
+    ensures asked { HasCleanDisk (state S.Store connection.new) →
+        Asks S.Store connection.old connection.new result }
     ensures clean { HasCleanDisk (state S.Store connection.new) →
         HasCleanDisk (state S.Store connection.old) }
 {
@@ -68,6 +73,8 @@ fn is_full<S: Alter>(
         Tells (state S.Store connection.old) (state S.Store connection.new) result (λ commands full.
         revision ≡ length commands → full ≡ filled (versions commands)) (λ commands fault.
         revision ≡ length commands → IsListingFault (length commands) commands fault) }
+    ensures asked { HasCleanDisk (state S.Store connection.new) →
+        Asks S.Store connection.old connection.new result }
     ensures clean { HasCleanDisk (state S.Store connection.new) →
         HasCleanDisk (state S.Store connection.old) }
 {
@@ -90,6 +97,8 @@ fn check_addition<S: Alter>(
         revision ≡ length commands → refuses_body (versions commands) (Some body.now) ≡ None)
         (λ commands fault. revision ≡ length commands →
         IsRefusal (refuses_body (versions commands) (Some body.now)) commands fault) }
+    ensures asked { HasCleanDisk (state S.Store connection.new) →
+        Asks S.Store connection.old connection.new result }
     ensures clean { HasCleanDisk (state S.Store connection.new) →
         HasCleanDisk (state S.Store connection.old) }
 {
@@ -116,6 +125,8 @@ pub(crate) fn decide<S: Alter>(
         (count ≡ length (history (object_named command.now) (versions commands))))
         (λ commands fault. revision ≡ length commands →
         IsRefusal (refusal (versions commands) command.now) commands fault) }
+    ensures asked { HasCleanDisk (state S.Store connection.new) →
+        Asks S.Store connection.old connection.new result }
     ensures clean { HasCleanDisk (state S.Store connection.new) →
         HasCleanDisk (state S.Store connection.old) }
 {

@@ -45,6 +45,7 @@ impl<S: Alter> Register<S> {
     ghost use Rattle.cad_versions.specs.Refusals.{refusal};
     ghost use Rattle.cad_versions.specs.AsOf.{as_of as register_as_of};
     ghost use Rattle.cad_register.specs.Stands.{StandsFor, IsStoreFault, IsListingFault};
+    ghost use Rattle.cad_register.specs.Refusing.{RefusesToApply};
     ghost use Rattle.cad_register.specs.Registers.{connection_of, state_of, revision_of, IsRegisterOf, IsRefused};
 
     /// Gives the connection back.
@@ -171,6 +172,11 @@ impl<S: Alter> Register<S> {
         ensures refused { HasCleanDisk (state_of S.Store self.new) → IfErr result (λ fault.
             (commands : List CommandOf) → IsRegisterOf S.Store self.old commands →
             IsRefused commands command fault) }
+        // What the database itself refused, a question for what stands, a statement of the change or its commit.
+        ensures store { HasCleanDisk (state_of S.Store self.new) →
+            result ≡ Err RegisterFault.Store → (commands : List CommandOf) →
+            IsRegisterOf S.Store self.old commands →
+            RefusesToApply S.Store (connection_of self.old) (connection_of self.new) command (length commands + 1) }
         ensures unchanged { HasCleanDisk (state_of S.Store self.new) →
             IsTrue (state_of S.Store self.new).is_open → OnErr result ((commands : List CommandOf) →
             IsRegisterOf S.Store self.old commands → IsRegisterOf S.Store self.new commands) }

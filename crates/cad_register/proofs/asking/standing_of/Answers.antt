@@ -1,4 +1,4 @@
-use Rattle.std.proofs.Common.{◌≡◌, ◌∙◌, length, map, subst, sym, ap}
+use Rattle.std.proofs.Common.{refl, inl, ◌≡◌, ◌∙◌, length, map, subst, sym, ap}
 use Rattle.sqlite.specs.Held.{state}
 use Rattle.cad_tables.specs.Listing.{HaveNoTies, number_order, lines_of_object, history as known, outline_of}
 use Rattle.cad_versions.specs.Objects.{object_number}
@@ -9,6 +9,8 @@ use Rattle.cad_register.specs.Rows.{line_of}
 use Rattle.cad_register.proofs.OrderLemmas.{history_untied, history_rows}
 use Rattle.cad_register.proofs.StandingLemmas.{class_stands, opened_stands}
 use Rattle.cad_register.proofs.StandLemmas.{stands_same}
+use Rattle.cad_tables.specs.Texts.{history_text}
+use Rattle.cad_register.proofs.RefusingLemmas.{settled_here, settled_by}
 use Rattle.cad_register.proofs.asking.standing_of.Goals as goal
 
 pub returns-in-Ok-read-clause-told : goal.returns-in-Ok-read-clause-told
@@ -33,3 +35,13 @@ returns-clause-told g c clean cs stands =
     let untied = subst (λ n. HaveNoTies number_order (lines_of_object n lines)) (sym n) (history_untied object cs all) in
     let rows = c.in-Ok.ensures.rows clean (length cs) lines stands.holds untied ∙ ap (λ n. map outline_of (known n lines)) n ∙ history_rows object cs all in
     absurd (c.in-Err-Damaged.ensures.damaged c.in-Err-Damaged.field-0-is (history object (versions cs)) (c.deref.ensures.value ∙ rows))
+
+pub returns-in-Err-clause-asked : goal.returns-in-Err-clause-asked
+returns-in-Err-clause-asked g c clean cs stands e =
+    let told = c.in-Err.ensures.refused clean in
+    (c.args.connection.now, settled_here g.S.Store c.args.connection.now stands.live, history_text, c.number.result, told.0, inl refl, told.2)
+
+pub returns-in-Ok-read-clause-asked : goal.returns-in-Ok-read-clause-asked
+returns-in-Ok-read-clause-asked g c clean cs stands =
+    let lines = map line_of (entries_of cs) in
+    settled_by g.S.Store c.args.connection.now c.history.new.conn _ (c.in-Ok.ensures.same clean (length cs) lines stands.holds) (c.history.ensures.crash (length cs) lines stands.holds)

@@ -1,10 +1,12 @@
-use Rattle.std.proofs.Common.{◌∙◌, length, map}
+use Rattle.std.proofs.Common.{refl, inr, ◌∙◌, length, map}
 use Rattle.sqlite.specs.Held.{state}
 use Rattle.cad_versions.specs.Entries.{entries_of}
 use Rattle.cad_versions.proofs.HistoryLemmas.{histories}
 use Rattle.cad_register.specs.Rows.{line_of}
 use Rattle.cad_register.proofs.OrderLemmas.{listing_untied, listing_rows}
 use Rattle.cad_register.proofs.StandLemmas.{stands_same, listing_told}
+use Rattle.cad_tables.specs.Texts.{listing_text}
+use Rattle.cad_register.proofs.RefusingLemmas.{settled_here}
 use Rattle.cad_register.proofs.asking.versions_of.Goals as goal
 
 pub returns-in-Ok-clause-told : goal.returns-in-Ok-clause-told
@@ -16,3 +18,8 @@ returns-in-Ok-clause-told g c clean cs stands =
     let new = state g.S.Store c.listing.new.conn in
     listing_told revision cs c.deref.result.now new c.versions_at.result (c.deref.ensures.value ∙ rows)
     (stands_same (state g.S.Store c.args.connection.now) new cs (c.in-Ok.ensures.same clean (length cs) lines stands.holds) stands) c.versions_at.ensures.seen c.versions_at.ensures.cause
+
+pub returns-in-Err-clause-asked : goal.returns-in-Err-clause-asked
+returns-in-Err-clause-asked g c clean cs stands e =
+    let told = c.in-Err.ensures.refused clean in
+    (c.args.connection.now, settled_here g.S.Store c.args.connection.now stands.live, listing_text, c.args.revision, told.0, inr refl, told.2)

@@ -1,8 +1,10 @@
-use Rattle.std.proofs.Common.{◌∙◌, sym, subst}
+use Rattle.std.proofs.Common.{◌∙◌, sym, subst, ap, Some}
 use Rattle.std.proofs.lemmas.Result.{err_from_is_err_and}
 use Rattle.cad_versions.specs.Versions.{versions}
 use Rattle.cad_register.specs.Stands.{IsRefusal}
 use Rattle.cad_register.proofs.DecisionLemmas.{body_decides}
+use Rattle.cad_register.proofs.StandLemmas.{object_answers_for_itself}
+use Rattle.cad_register.proofs.RefusingLemmas.{refuses_then}
 use Rattle.cad_register.proofs.decision.decide.Goals as goal
 
 pub returns-in_err-check_addition-clause-told : goal.returns-in_err-check_addition-clause-told
@@ -12,3 +14,15 @@ returns-in_err-check_addition-clause-told g c clean cs stands =
     let rest = c.in_err-check_addition.ensures.told clean cs mid.1 in
     let same = body_decides (versions cs) c.args.command.now c.object.result c.in_ok-standing.standing c.in-Some-body.body.now c.object.ensures mid.0 (sym c.refused_by_object.ensures ∙ c.in_default.is) c.in-Some-body.ensures in
     rw (p.1, p.2) (λ e. subst (λ o. IsRefusal o cs c.in_err-check_addition.field-0.0) same (rest.0 e), rest.1)
+
+pub returns-in-Some-clause-asked : goal.returns-in-Some-clause-asked
+returns-in-Some-clause-asked g c clean cs stands e =
+    absurd (object_answers_for_itself c.in_ok-standing.standing.class c.in_ok-standing.standing.open_since c.args.command.now (sym c.refused_by_object.ensures ∙ c.in-Some.is ∙ ap Some e))
+
+pub returns-in_err-check_addition-clause-asked : goal.returns-in_err-check_addition-clause-asked
+returns-in_err-check_addition-clause-asked g c clean cs stands =
+    let p = err_from_is_err_and c.from_residual-in_err-check_addition.result c.from_residual-in_err-check_addition.ensures.1 in
+    let early = c.in_err-check_addition.ensures.clean clean in
+    let mid = c.in_ok-standing.ensures.told early cs stands in
+    let same = c.in_ok-standing.ensures.asked early cs stands in
+    rw (p.1, p.2) (λ e. refuses_then g.S.Store c.args.connection.now c.standing_of.new.connection c.check_addition.new.connection same (c.in_err-check_addition.ensures.asked clean cs mid.1 e))

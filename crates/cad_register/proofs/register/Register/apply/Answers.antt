@@ -1,7 +1,9 @@
-use Rattle.std.proofs.Common.{◌≡◌, ◌∙◌, ◌+◌, length, length-append, ap, sym, ◌∷◌, []}
+use Rattle.std.proofs.Common.{◌≡◌, Err, inr, subst, ◌∙◌, ◌+◌, length, length-append, ap, sym, ◌∷◌, []}
 use Rattle.std.proofs.lemmas.Result.{err_from_is_err_and}
 use Rattle.cad_register.proofs.WriteLemmas.{numbered}
 use Rattle.cad_register.proofs.StandLemmas.{refused_as}
+use Rattle.cad_versions.specs.declared.fault.RegisterFault.TheVariants as fault
+use Rattle.cad_register.specs.Refusing.{RefusesChange}
 use Rattle.cad_register.proofs.register.Register.apply.Goals as goal
 
 pub returns-in_err-count-clause-refused : goal.returns-in_err-count-clause-refused
@@ -22,3 +24,12 @@ returns-clause-accepted g c clean cs register =
         counted = next ∙ sym (length-append cs (c.args.command ∷ []));
       },
     )
+
+pub returns-in_err-enact-clause-store : goal.returns-in_err-enact-clause-store
+returns-in_err-enact-clause-store g c clean e cs register =
+    let p = err_from_is_err_and c.from_residual-in_err-enact.result c.from_residual-in_err-enact.ensures.1 in
+    let early = c.in_err-enact.ensures.clean clean in
+    let same = c.in_ok-count.ensures.asked early cs register.stands in
+    let is : c.in_err-enact.field-0.0 ≡ fault.Store = let known = p.0 in let given = p.1 in cc in
+    let next : c.args.self.now.revision + 1 ≡ length cs + 1 = ap (λ n. n + 1) register.counted in
+    inr (c.decide.new.connection, same, subst (RefusesChange g.S.Store c.decide.new.connection c.enact.new.connection c.args.command) next (c.in_err-enact.ensures.store clean (ap Err is)))

@@ -1,0 +1,11 @@
+use Rattle.std.proofs.lemmas.Result.{err_from_is_err_and}
+use Rattle.cad_register.proofs.RefusingLemmas.{refuses_then}
+use Rattle.cad_register.proofs.decision.check_addition.Goals as goal
+
+pub returns-in_err-is_full-clause-asked : goal.returns-in_err-is_full-clause-asked
+returns-in_err-is_full-clause-asked g c clean cs stands =
+    let p = err_from_is_err_and c.from_residual-in_err-is_full.result c.from_residual-in_err-is_full.ensures.1 in
+    let early = c.in_err-is_full.ensures.clean clean in
+    let mid = c.in_ok-are_entered.ensures.told early cs stands in
+    let same = c.in_ok-are_entered.ensures.asked early cs stands in
+    rw (p.1, p.2) (λ e. refuses_then g.S.Store c.args.connection.now c.are_entered.new.connection c.is_full.new.connection same (c.in_err-is_full.ensures.asked clean cs mid.1 e))
