@@ -2,3 +2,4 @@ pub mod WriteLemmas
 pub mod PrintLemmas
 pub mod KeepingLemmas
 pub mod FillingLemmas
+pub mod MemberLemmas

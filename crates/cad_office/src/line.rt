@@ -27,6 +27,7 @@ impl Line {
     ghost use Rattle.std.specs.Prelude.{◌≡◌, ℕ, List, [], ◌∷◌, ◌++◌, not, true, false};
     ghost use Rattle.cad_office.specs.Lines.{is_begun, StandsFor};
 
+    /// A line of which no byte was read.
     pub fn new(alloc: Global) -> Line
         ensures begun { is_begun result ≡ false }
         ensures stands { StandsFor [] result }
@@ -52,18 +53,21 @@ impl Line {
         }
     }
 
+    /// Whether no byte of the line was read, be it held or not.
     pub fn is_empty(&self) -> bool
         ensures { result ≡ not (is_begun self.now) }
     {
         self.bytes.is_empty() && self.fate == Fate::Held
     }
 
+    /// How the line can be read so far.
     pub fn fate(&self) -> Fate
         ensures { result ≡ self.now.fate }
     {
         self.fate
     }
 
+    /// The bytes that are held, at most 65,536: all of the line where its fate says so.
     pub fn bytes(&self) -> &[u8]
         ensures { result.now ≡ self.now.bytes.items }
     {

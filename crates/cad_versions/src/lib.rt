@@ -15,6 +15,8 @@ pub mod laws;
 mod object_id;
 mod shape_bytes;
 mod share;
+#[cfg(test)]
+mod tests;
 mod version;
 mod words;
 
