@@ -4,4 +4,6 @@ pub mod Keeping
 pub mod Lines
 pub mod OfficeFaults
 pub mod Values
+pub mod Instructions
+pub mod CommandObjects
 pub mod Registers

@@ -1,6 +1,7 @@
 -- Values of a command's members (own profile).
-use Rattle.std.specs.Prelude.{ℕ, ℤ, pos, neg_ℤ, ◌^◌, Bool, ◌&&◌, nat_lt, nat_le, int_le, if◌then◌else◌, List, Option, Some, None, is_some}
+use Rattle.std.specs.Prelude.{ℕ, ℤ, pos, neg_ℤ, ◌^◌, ◌==◌, Bool, not, ◌&&◌, nat_lt, nat_le, int_le, if◌then◌else◌, List, [], ◌∷◌, length, Option, Some, None, is_some, option_map}
 use Rattle.std.specs.Option.{option_and_then}
+use Rattle.std.specs.List.{list_any}
 use Rattle.serde_json.specs.Data.{Data, Items, no_items, item, Members}
 use Rattle.serde_json.specs.Find.{get_member, as_null, as_number, as_u64, as_i64, as_str, as_array}
 use Rattle.cad_day.specs.DayTexts.{day_named}
@@ -18,6 +19,14 @@ object_in d =
 -- the number of the day that a text names
 abbrev pub day_in : Data → Option ℤ
 day_in d = option_and_then day_named (as_str d)
+
+-- 1 to 200 bytes without U+0000
+abbrev pub words_of : List ℕ → Option (List ℕ)
+words_of bytes =
+    if nat_le 1 (length bytes) && (nat_le (length bytes) 200 && not (list_any (λ b. b == 0) bytes)) then Some bytes else None
+
+abbrev pub words_in : Data → Option (List ℕ)
+words_in d = option_and_then words_of (as_str d)
 
 -- a member that is null is as one that is not there
 abbrev pub unless_null : Data → Option Data
@@ -59,3 +68,15 @@ place_of x y = if is_on_plane x && is_on_plane y then Some (x, y) else None
 abbrev pub point_in : Data → Option (ℤ × ℤ)
 point_in d =
     option_and_then (λ pair. option_and_then (λ x. option_and_then (λ y. place_of x y) (integer_in pair.1)) (integer_in pair.0)) (pair_in d)
+
+-- all the points, or none where one is no point
+abbrev pub points_in : Items → Option (List (ℤ × ℤ))
+points_in no_items = Some []
+points_in (item d ds) = option_and_then (λ p. option_map (λ ps. p ∷ ps) (points_in ds)) (point_in d)
+
+abbrev pub corners_of_ring : List (ℤ × ℤ) → Option (List (ℤ × ℤ))
+corners_of_ring corners = if nat_le 3 (length corners) && nat_le (length corners) 1000 then Some corners else None
+
+-- the corners of a ring, the first not repeated
+abbrev pub ring_in : Data → Option (List (ℤ × ℤ))
+ring_in d = option_and_then corners_of_ring (option_and_then points_in (as_array d))
