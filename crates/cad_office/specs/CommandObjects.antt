@@ -9,7 +9,6 @@ use Rattle.cad_office.specs.Lines.{longest_line}
 use Rattle.cad_office.specs.Values.{whole_in, object_in, day_in, member_in, words_in, share_in, point_in, ring_in}
 
 infixl 20 ◌⊛◌
-
 -- the function at the value, where both are there
 abbrev pub ◌⊛◌ : {X Y : Type 0} → Option (X → Y) → Option X → Option Y
 None ⊛ value = None

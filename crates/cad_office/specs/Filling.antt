@@ -1,22 +1,28 @@
 -- Many commands, one after the other (own profile).
-use Rattle.std.specs.Prelude.{◌≡◌, ℕ, zero, suc, ◌<◌, ◌⊎◌, Result, Ok, Err}
+use Rattle.std.specs.Prelude.{◌≡◌, ℕ, List, [], ◌∷◌, ◌++◌, ◌⊎◌, Result, Ok, Err}
 use Rattle.cad_versions.specs.declared.command.Command.{Command}
 use Rattle.cad_versions.specs.declared.fault.RegisterFault.{RegisterFault}
 use Rattle.cad_versions.specs.declared.fault.RegisterFault.TheVariants.{Memory}
+use Rattle.cad_office.specs.Instructions.{Instruction, instruction_of}
 
--- the book accepts so many commands, one after the other, and answers this revision to the last of them
-unfoldable pub Accepts : {B : Type 0} → (B → Command → Result ℕ RegisterFault → B → Type 0) → ℕ → B → ℕ → B → Type 0
-Accepts applies zero old revision new = new ≡ old
-Accepts {B} applies (suc count) old revision new =
-    (mid : B) × (before : ℕ) × (command : Command) × Accepts applies count old before mid × applies mid command (Ok revision) new
+module _ {B : Type 0} (applies : B → Command → Result ℕ RegisterFault → B → Type 0) where
+  -- the book answers this to a command that says so
+  abbrev pub Answers : B → Instruction → Result ℕ RegisterFault → B → Type 0
+  Answers old instruction result new = (command : Command) × (instruction_of command ≡ instruction) × applies old command result new
 
--- the book refuses one more command, or there is no memory for the commands
-abbrev pub Refuses : {B : Type 0} → (B → Command → Result ℕ RegisterFault → B → Type 0) → B → RegisterFault → B → Type 0
-Refuses applies old fault new =
-    ((command : Command) × applies old command (Err fault) new) ⊎ ((fault ≡ Memory) × (new ≡ old))
+  -- the book accepts these, one after the other, and answers the last revision; before them it had answered the first
+  abbrev pub Accepts : List Instruction → B → ℕ → ℕ → B → Type 0
+  Accepts [] old first last new = (new ≡ old) × (last ≡ first)
+  Accepts (instruction ∷ more) old first last new =
+      (revision : ℕ) × (mid : B) × Answers old instruction (Ok revision) mid × Accepts more mid revision last new
 
--- so many commands are accepted, or fewer and then one is refused
-abbrev pub Enters : {B : Type 0} → (B → Command → Result ℕ RegisterFault → B → Type 0) → ℕ → B → Result ℕ RegisterFault → B → Type 0
-Enters applies count old (Ok revision) new = Accepts applies count old revision new
-Enters {B} applies count old (Err fault) new =
-    (accepted : ℕ) × (revision : ℕ) × (mid : B) × (accepted < count) × Accepts applies accepted old revision mid × Refuses applies mid fault new
+  -- the book refuses the next one, or there is no memory for it
+  abbrev pub Refuses : List Instruction → B → RegisterFault → B → Type 0
+  Refuses [] old fault new = ⊥
+  Refuses (instruction ∷ more) old fault new = Answers old instruction (Err fault) new ⊎ ((fault ≡ Memory) × (new ≡ old))
+
+  -- all are accepted, or some and then one is refused
+  abbrev pub Enters : List Instruction → B → Result ℕ RegisterFault → B → Type 0
+  Enters all old (Ok revision) new = Accepts all old 0 revision new
+  Enters all old (Err fault) new =
+      (accepted : List Instruction) × (left : List Instruction) × (revision : ℕ) × (mid : B) × (all ≡ accepted ++ left) × Accepts accepted old 0 revision mid × Refuses left mid fault new

@@ -7,3 +7,4 @@ pub mod Values
 pub mod Instructions
 pub mod CommandObjects
 pub mod Registers
+pub mod Sample

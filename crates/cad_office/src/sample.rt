@@ -1,10 +1,14 @@
 //! The sample register.
 
-ghost use Rattle.std.specs.Prelude.{◌≡◌, ◌≤◌, length, is_some, IsTrue, IfOk, vec_len};
+ghost use Rattle.std.specs.Prelude.{◌≡◌, ◌≤◌, length, map, Some, None, is_some, option_map, IsTrue, IfOk};
+ghost use Rattle.cad_day.specs.Days.{number_of};
 ghost use Rattle.cad_day.specs.DayTexts.{day_named};
-ghost use Rattle.cad_versions.specs.Objects.{IsObjectNumber};
-ghost use Rattle.cad_versions.specs.Texts.{AreWords};
+ghost use Rattle.cad_shape.specs.Rings.{corners_of};
+ghost use Rattle.cad_versions.specs.Objects.{IsObjectNumber, object_number};
+ghost use Rattle.cad_versions.specs.Texts.{AreWords, bytes_of};
 ghost use Rattle.cad_office.specs.Filling.{Enters};
+ghost use Rattle.cad_office.specs.Instructions.{a_parcel, to_enter, to_amend, attributes_of, instruction_of, coordinates_of};
+ghost use Rattle.cad_office.specs.Sample.{sample as commands_of_sample, ana, first_parcel as first, second_parcel as second, third_parcel as third, fourth_parcel as fourth, ownership, no_building};
 
 use crate::turns::Book;
 use cad_day::Day;
@@ -16,7 +20,7 @@ use std::alloc::{AllocError, Global};
 ///
 /// It stops at the first refusal, and the commands before it stay.
 pub fn fill<B: Book>(alloc: Global, book: &mut B) -> Result<u64, RegisterFault>
-    ensures { Enters B.applies 10 book.old result book.new }
+    ensures { Enters B.applies commands_of_sample book.old result book.new }
 {
     match sample(alloc) {
         Ok(commands) => enter_all(book, commands),
@@ -25,7 +29,7 @@ pub fn fill<B: Book>(alloc: Global, book: &mut B) -> Result<u64, RegisterFault>
 }
 
 fn enter_all<B: Book>(book: &mut B, commands: Vec<Command>) -> Result<u64, RegisterFault>
-    ensures { Enters B.applies (vec_len commands) book.old result book.new }
+    ensures { Enters B.applies (map instruction_of commands.items) book.old result book.new }
 {
     let mut revision = 0;
     for command in commands {
@@ -38,7 +42,7 @@ fn enter_all<B: Book>(book: &mut B, commands: Vec<Command>) -> Result<u64, Regis
 }
 
 fn sample(alloc: Global) -> Result<Vec<Command>, AllocError>
-    ensures { IfOk result (λ commands. vec_len commands ≡ 10) }
+    ensures { IfOk result (λ commands. map instruction_of commands.items ≡ commands_of_sample) }
 {
     let mut commands = Vec::new(alloc);
     let mill = Some(words(alloc, "Mill")?);
@@ -55,36 +59,48 @@ fn sample(alloc: Global) -> Result<Vec<Command>, AllocError>
     Ok(commands)
 }
 
-fn party(alloc: Global) -> Result<Body, AllocError> {
+fn party(alloc: Global) -> Result<Body, AllocError>
+    ensures { IfOk result (λ body. attributes_of body ≡ ana) }
+{
     Ok(Body::Party {
         name: Some(words(alloc, "Ana Straße")?),
         code: words(alloc, "naturalPerson")?,
     })
 }
 
-fn first_parcel(alloc: Global, area: u32) -> Result<Body, AllocError> {
+fn first_parcel(alloc: Global, area: u32) -> Result<Body, AllocError>
+    ensures { IfOk result (λ body. attributes_of body ≡ first area) }
+{
     let corners = [(0, 0), (20_000, 0), (20_000, 20_000), (0, 20_000)];
     let shape = Some(ring(alloc, &corners)?);
     parcel(alloc, 10, "A-1", Some(area), shape)
 }
 
-fn second_parcel(alloc: Global) -> Result<Body, AllocError> {
+fn second_parcel(alloc: Global) -> Result<Body, AllocError>
+    ensures { IfOk result (λ body. attributes_of body ≡ second) }
+{
     let corners = [(20_000, 0), (40_000, 0), (40_000, 20_000), (20_000, 20_000)];
     let shape = Some(ring(alloc, &corners)?);
     parcel(alloc, 10, "A-2", None, shape)
 }
 
-fn third_parcel(alloc: Global) -> Result<Body, AllocError> {
+fn third_parcel(alloc: Global) -> Result<Body, AllocError>
+    ensures { IfOk result (λ body. attributes_of body ≡ third) }
+{
     let corners = [(0, 30_000), (30_000, 30_000), (0, 60_000)];
     let shape = Some(ring(alloc, &corners)?);
     parcel(alloc, 11, "b-7", Some(900), shape)
 }
 
-fn fourth_parcel(alloc: Global) -> Result<Body, AllocError> {
+fn fourth_parcel(alloc: Global) -> Result<Body, AllocError>
+    ensures { IfOk result (λ body. attributes_of body ≡ fourth) }
+{
     parcel(alloc, 11, "C%1", Some(0), None)
 }
 
-fn right(alloc: Global) -> Result<Body, AllocError> {
+fn right(alloc: Global) -> Result<Body, AllocError>
+    ensures { IfOk result (λ body. attributes_of body ≡ ownership) }
+{
     Ok(Body::Right {
         unit: object_id(10),
         party: Some(object_id(20)),
@@ -93,7 +109,9 @@ fn right(alloc: Global) -> Result<Body, AllocError> {
     })
 }
 
-fn restriction(alloc: Global) -> Result<Body, AllocError> {
+fn restriction(alloc: Global) -> Result<Body, AllocError>
+    ensures { IfOk result (λ body. attributes_of body ≡ no_building) }
+{
     Ok(Body::Restriction {
         unit: object_id(11),
         party: None,
@@ -106,6 +124,7 @@ fn restriction(alloc: Global) -> Result<Body, AllocError> {
 fn enter(object: u32, first: &str, body: Body) -> Command
     requires object { IsObjectNumber object }
     requires first { IsTrue (is_some (day_named first.now)) }
+    ensures { option_map (λ day. to_enter object day (attributes_of body)) (day_named first.now) ≡ Some (instruction_of result) }
 {
     Command::Enter {
         object: object_id(object),
@@ -117,6 +136,7 @@ fn enter(object: u32, first: &str, body: Body) -> Command
 fn amend(object: u32, first: &str, body: Body) -> Command
     requires object { IsObjectNumber object }
     requires first { IsTrue (is_some (day_named first.now)) }
+    ensures { option_map (λ day. to_amend object day (attributes_of body)) (day_named first.now) ≡ Some (instruction_of result) }
 {
     Command::Amend {
         object: object_id(object),
@@ -134,6 +154,7 @@ fn parcel(
 ) -> Result<Body, AllocError>
     requires unit { IsObjectNumber unit }
     requires label { AreWords label.now }
+    ensures { IfOk result (λ body. attributes_of body ≡ a_parcel unit label.now area (option_map (λ ring. map coordinates_of (corners_of ring)) shape) None) }
 {
     Ok(Body::Parcel {
         unit: object_id(unit),
@@ -146,18 +167,21 @@ fn parcel(
 
 fn object_id(number: u32) -> ObjectId
     requires { IsObjectNumber number }
+    ensures { object_number result ≡ number }
 {
     ObjectId::new(number).unwrap()
 }
 
 fn day(text: &str) -> Day
     requires { IsTrue (is_some (day_named text.now)) }
+    ensures { day_named text.now ≡ Some (number_of result) }
 {
     Day::read(text).unwrap()
 }
 
 fn words(alloc: Global, text: &str) -> Result<Words, AllocError>
     requires { AreWords text.now }
+    ensures { IfOk result (λ words. bytes_of words ≡ text.now) }
 {
     match Words::new(String::from_str(alloc, text)?) {
         Ok(words) => Ok(words),
@@ -168,6 +192,7 @@ fn words(alloc: Global, text: &str) -> Result<Words, AllocError>
 fn ring(alloc: Global, corners: &[(i32, i32)]) -> Result<Ring, AllocError>
     requires enough { 3 ≤ length corners.now }
     requires not_too_many { length corners.now ≤ 1000 }
+    ensures { IfOk result (λ ring. map coordinates_of (corners_of ring) ≡ corners.now) }
 {
     match Ring::new(points(alloc, corners)?) {
         Ok(ring) => Ok(ring),
@@ -176,7 +201,7 @@ fn ring(alloc: Global, corners: &[(i32, i32)]) -> Result<Ring, AllocError>
 }
 
 fn points(alloc: Global, corners: &[(i32, i32)]) -> Result<Vec<Point>, AllocError>
-    ensures { IfOk result (λ points. vec_len points ≡ length corners.now) }
+    ensures { IfOk result (λ points. map coordinates_of points.items ≡ corners.now) }
 {
     let mut points = Vec::new(alloc);
     for (x, y) in corners {

@@ -1,9 +1,11 @@
-use Rattle.std.proofs.Common.{◌≡◌, ◌+◌, length, vec_len}
+use Rattle.std.proofs.Common.{◌≡◌, ◌+◌, ◌++◌, length, map, vec_len}
 use Rattle.cad_office.specs.Filling.{Accepts}
+use Rattle.cad_office.specs.Instructions.{instruction_of}
 use Rattle.cad_office.proofs.sample.enter_all.Given as goal
 
 abbrev pub invariant-loop-command : goal.invariant-loop-command
 invariant-loop-command g l = record {
+  left : l.yielded ++ l.command-iterator.rest.items ≡ l.fn.commands.items;
   counted : length l.yielded + l.command-iterator.rest.len ≡ vec_len l.fn.commands;
-  accepted : Accepts g.B.Book.applies (length l.yielded) l.fn.book l.revision l.book;
+  accepted : Accepts g.B.Book.applies (map instruction_of l.yielded) l.fn.book 0 l.revision l.book;
 }

@@ -1,6 +1,6 @@
-use Rattle.std.proofs.Common.{arith, inr, refl}
-use Rattle.cad_office.proofs.FillingLemmas.{accepts_none}
+use Rattle.std.proofs.Common.{[], refl, inr}
+use Rattle.cad_office.specs.Sample.{sample}
 use Rattle.cad_office.proofs.sample.fill.Goals as goal
 
 pub returns-in-Err : goal.returns-in-Err
-returns-in-Err g c = (0, 0, c.args.book.now, omega arith, accepts_none g.B.Book.applies c.args.book.now 0, inr (refl, refl))
+returns-in-Err g c = ([], sample, 0, c.args.book.now, refl, (refl, refl), inr (refl, refl))
