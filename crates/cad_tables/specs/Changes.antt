@@ -12,27 +12,7 @@ is_open_of object line = int_eq (pos line.object) (pos object) && is_none line.l
 
 -- own profile: the line, closed by a revision
 abbrev pub closed_line : Closing → ℕ → Line → Line
-closed_line c revision line = record {
-  object = line.object;
-  number = line.number;
-  class = line.class;
-  first = line.first;
-  last = Some c.last;
-  entered = line.entered;
-  closed = Some revision;
-  name = line.name;
-  code = line.code;
-  label = line.label;
-  area = line.area;
-  unit = line.unit;
-  party = line.party;
-  share_num = line.share_num;
-  share_den = line.share_den;
-  required = line.required;
-  spot_x = line.spot_x;
-  spot_y = line.spot_y;
-  shape = line.shape;
-}
+closed_line c revision line = record line { last = Some c.last; closed = Some revision }
 
 abbrev pub closed_if : Closing → ℕ → Line → Line
 closed_if c revision line = if is_open_of c.object line then closed_line c revision line else line

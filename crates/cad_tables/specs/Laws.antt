@@ -6,27 +6,7 @@ use Rattle.cad_tables.specs.declared.changes.Change.{Change}
 
 -- own profile: all of a line but whether and when it was closed
 abbrev pub unclosed : Line → Line
-unclosed line = record {
-  object = line.object;
-  number = line.number;
-  class = line.class;
-  first = line.first;
-  last = None;
-  entered = line.entered;
-  closed = None;
-  name = line.name;
-  code = line.code;
-  label = line.label;
-  area = line.area;
-  unit = line.unit;
-  party = line.party;
-  share_num = line.share_num;
-  share_den = line.share_den;
-  required = line.required;
-  spot_x = line.spot_x;
-  spot_y = line.spot_y;
-  shape = line.shape;
-}
+unclosed line = record line { last = None; closed = None }
 
 -- ISO 19152, VersionedObject: a change takes no line out, moves none, and of those that were there alters the closing alone
 abbrev pub KeepsLines : {L : Type 0} → (L → Line) → Type 0
