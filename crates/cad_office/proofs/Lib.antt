@@ -3,3 +3,4 @@ pub mod PrintLemmas
 pub mod KeepingLemmas
 pub mod FillingLemmas
 pub mod MemberLemmas
+pub mod TakingLemmas

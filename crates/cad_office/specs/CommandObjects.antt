@@ -38,33 +38,34 @@ are_only [] no_members = true
 are_only [] (member name d ms) = false
 are_only (name ∷ names) ms = are_only names (without name ms)
 
+-- the value, where the object has members of these names and no others
+abbrev pub of_only : {X : Type 0} → List (List ℕ) → Members → Option X → Option X
+of_only names ms None = None
+of_only names ms (Some x) = if are_only names ms then Some x else None
+
 -- what is said of an object of each class, by members of these names and no others
 abbrev pub party_in : Members → Option Attributes
 party_in ms =
-    if are_only (codes "name" ∷ codes "code" ∷ []) ms
-    then Some party ⊛ optional words_in (codes "name") ms ⊛ required words_in (codes "code") ms
-    else None
+    of_only (codes "name" ∷ codes "code" ∷ []) ms
+    (Some party ⊛ optional words_in (codes "name") ms ⊛ required words_in (codes "code") ms)
 
 abbrev pub unit_in : Members → Option Attributes
-unit_in ms = if are_only (codes "name" ∷ []) ms then Some unit ⊛ optional words_in (codes "name") ms else None
+unit_in ms = of_only (codes "name" ∷ []) ms (Some unit ⊛ optional words_in (codes "name") ms)
 
 abbrev pub parcel_in : Members → Option Attributes
 parcel_in ms =
-    if are_only (codes "unit" ∷ codes "label" ∷ codes "area" ∷ codes "shape" ∷ codes "spot" ∷ []) ms
-    then Some parcel ⊛ required object_in (codes "unit") ms ⊛ required words_in (codes "label") ms ⊛ optional whole_in (codes "area") ms ⊛ optional ring_in (codes "shape") ms ⊛ optional point_in (codes "spot") ms
-    else None
+    of_only (codes "unit" ∷ codes "label" ∷ codes "area" ∷ codes "shape" ∷ codes "spot" ∷ []) ms
+    (Some parcel ⊛ required object_in (codes "unit") ms ⊛ required words_in (codes "label") ms ⊛ optional whole_in (codes "area") ms ⊛ optional ring_in (codes "shape") ms ⊛ optional point_in (codes "spot") ms)
 
 abbrev pub right_in : Members → Option Attributes
 right_in ms =
-    if are_only (codes "unit" ∷ codes "party" ∷ codes "code" ∷ codes "share" ∷ []) ms
-    then Some right ⊛ required object_in (codes "unit") ms ⊛ optional object_in (codes "party") ms ⊛ required words_in (codes "code") ms ⊛ optional share_in (codes "share") ms
-    else None
+    of_only (codes "unit" ∷ codes "party" ∷ codes "code" ∷ codes "share" ∷ []) ms
+    (Some right ⊛ required object_in (codes "unit") ms ⊛ optional object_in (codes "party") ms ⊛ required words_in (codes "code") ms ⊛ optional share_in (codes "share") ms)
 
 abbrev pub restriction_in : Members → Option Attributes
 restriction_in ms =
-    if are_only (codes "unit" ∷ codes "party" ∷ codes "code" ∷ codes "share" ∷ codes "required" ∷ []) ms
-    then Some restriction ⊛ required object_in (codes "unit") ms ⊛ optional object_in (codes "party") ms ⊛ required words_in (codes "code") ms ⊛ optional share_in (codes "share") ms ⊛ optional as_bool (codes "required") ms
-    else None
+    of_only (codes "unit" ∷ codes "party" ∷ codes "code" ∷ codes "share" ∷ codes "required" ∷ []) ms
+    (Some restriction ⊛ required object_in (codes "unit") ms ⊛ optional object_in (codes "party") ms ⊛ required words_in (codes "code") ms ⊛ optional share_in (codes "share") ms ⊛ optional as_bool (codes "required") ms)
 
 abbrev pub attributes_in : List ℕ → Members → Option Attributes
 attributes_in name ms =
@@ -74,11 +75,15 @@ attributes_in name ms =
     else (if bytes_eq name (codes "right") then right_in ms
     else (if bytes_eq name (codes "restriction") then restriction_in ms else None))))
 
+-- the one member, with its name
+abbrev pub only_member : Members → Option (List ℕ × Data)
+only_member no_members = None
+only_member (member name d no_members) = Some (name, d)
+only_member (member name d (member other e ms)) = None
+
 -- the one member, which is named by the object's class
 abbrev pub body_in : Members → Option Attributes
-body_in no_members = None
-body_in (member name d no_members) = option_and_then (attributes_in name) (as_object d)
-body_in (member name d (member other e ms)) = None
+body_in ms = option_and_then (λ m. option_and_then (attributes_in m.0) (as_object m.1)) (only_member ms)
 
 -- what begins a version: the class's member is what is left beside object and day
 abbrev pub beginning_in : (ℕ → ℤ → Attributes → Instruction) → Members → Option Instruction
@@ -87,9 +92,8 @@ beginning_in what ms =
 
 abbrev pub retiring_in : Members → Option Instruction
 retiring_in ms =
-    if are_only (codes "object" ∷ codes "last" ∷ []) ms
-    then Some retire ⊛ required object_in (codes "object") ms ⊛ required day_in (codes "last") ms
-    else None
+    of_only (codes "object" ∷ codes "last" ∷ []) ms
+    (Some retire ⊛ required object_in (codes "object") ms ⊛ required day_in (codes "last") ms)
 
 -- what is to be done with the other members
 abbrev pub doing_in : List ℕ → Members → Option Instruction

@@ -1,50 +1,61 @@
 //! Bodies of versions, as JSON objects.
 
-use crate::members::{Members, Unread, flag, if_any, object_id, point, share, whole, words};
+ghost use Rattle.std.specs.Prelude.{◌≡◌, ◌≢◌, IfErr, None, map, option_map};
+ghost use Rattle.std.specs.Result.{result_ok};
+ghost use Rattle.serde_json.specs.View.{items_view, members_view, view};
+ghost use Rattle.cad_shape.specs.Rings.{corners_of};
+ghost use Rattle.cad_office.specs.CommandObjects.{party_in, unit_in, parcel_in, right_in, restriction_in, body_in};
+ghost use Rattle.cad_office.specs.Instructions.{attributes_of, coordinates_of};
+ghost use Rattle.cad_office.specs.Values.{points_in, ring_in};
+
+use crate::members::{Members, Unread, point};
 use cad_shape::{Point, Ring};
 use cad_versions::Body;
 use serde_json::Value;
 use std::alloc::Global;
 
-/// The one body among the members of a command.
-pub fn body(alloc: Global, members: &mut Members) -> Result<Body, Unread> {
-    if let Some(value) = members.optional("party") {
-        return party(Members::of(value)?);
+/// The body, which is all that is left of a command.
+pub fn body(alloc: Global, mut members: Members) -> Result<Body, Unread> {
+    let (name, value) = members.only()?;
+    let members = Members::of(value)?;
+    match name.as_str() {
+        "party" => party(members),
+        "unit" => unit(members),
+        "parcel" => parcel(alloc, members),
+        "right" => right(members),
+        "restriction" => restriction(members),
+        _ => Err(Unread::NotACommand),
     }
-    if let Some(value) = members.optional("unit") {
-        return unit(Members::of(value)?);
-    }
-    if let Some(value) = members.optional("parcel") {
-        return parcel(alloc, Members::of(value)?);
-    }
-    if let Some(value) = members.optional("right") {
-        return right(Members::of(value)?);
-    }
-    restriction(Members::of(members.required("restriction")?)?)
 }
 
-fn party(mut members: Members) -> Result<Body, Unread> {
-    let name = if_any(members.optional("name"), words)?;
-    let code = words(members.required("code")?)?;
+fn party(mut members: Members) -> Result<Body, Unread>
+    ensures value { option_map attributes_of (result_ok result) ≡ party_in (members_view members.left.entries) }
+    ensures refused { IfErr result (λ e. e ≡ Unread.NotACommand) }
+{
+    let name = members.optional("name")?;
+    let code = members.required("code")?;
     members.end()?;
     Ok(Body::Party { name, code })
 }
 
-fn unit(mut members: Members) -> Result<Body, Unread> {
-    let name = if_any(members.optional("name"), words)?;
+fn unit(mut members: Members) -> Result<Body, Unread>
+    ensures value { option_map attributes_of (result_ok result) ≡ unit_in (members_view members.left.entries) }
+    ensures refused { IfErr result (λ e. e ≡ Unread.NotACommand) }
+{
+    let name = members.optional("name")?;
     members.end()?;
     Ok(Body::Unit { name })
 }
 
 fn parcel(alloc: Global, mut members: Members) -> Result<Body, Unread> {
-    let unit = object_id(members.required("unit")?)?;
-    let label = words(members.required("label")?)?;
-    let area = if_any(members.optional("area"), |value| whole(&value))?;
-    let shape = match members.optional("shape") {
+    let unit = members.required("unit")?;
+    let label = members.required("label")?;
+    let area = members.optional("area")?;
+    let shape = match members.take("shape") {
         Some(value) => Some(ring(alloc, &value)?),
         None => None,
     };
-    let spot = if_any(members.optional("spot"), |value| point(&value))?;
+    let spot = members.optional("spot")?;
     members.end()?;
     Ok(Body::Parcel {
         unit,
@@ -55,11 +66,14 @@ fn parcel(alloc: Global, mut members: Members) -> Result<Body, Unread> {
     })
 }
 
-fn right(mut members: Members) -> Result<Body, Unread> {
-    let unit = object_id(members.required("unit")?)?;
-    let party = if_any(members.optional("party"), object_id)?;
-    let code = words(members.required("code")?)?;
-    let share = if_any(members.optional("share"), share)?;
+fn right(mut members: Members) -> Result<Body, Unread>
+    ensures value { option_map attributes_of (result_ok result) ≡ right_in (members_view members.left.entries) }
+    ensures refused { IfErr result (λ e. e ≡ Unread.NotACommand) }
+{
+    let unit = members.required("unit")?;
+    let party = members.optional("party")?;
+    let code = members.required("code")?;
+    let share = members.optional("share")?;
     members.end()?;
     Ok(Body::Right {
         unit,
@@ -69,12 +83,15 @@ fn right(mut members: Members) -> Result<Body, Unread> {
     })
 }
 
-fn restriction(mut members: Members) -> Result<Body, Unread> {
-    let unit = object_id(members.required("unit")?)?;
-    let party = if_any(members.optional("party"), object_id)?;
-    let code = words(members.required("code")?)?;
-    let share = if_any(members.optional("share"), share)?;
-    let required = if_any(members.optional("required"), flag)?;
+fn restriction(mut members: Members) -> Result<Body, Unread>
+    ensures value { option_map attributes_of (result_ok result) ≡ restriction_in (members_view members.left.entries) }
+    ensures refused { IfErr result (λ e. e ≡ Unread.NotACommand) }
+{
+    let unit = members.required("unit")?;
+    let party = members.optional("party")?;
+    let code = members.required("code")?;
+    let share = members.optional("share")?;
+    let required = members.optional("required")?;
     members.end()?;
     Ok(Body::Restriction {
         unit,
@@ -86,13 +103,17 @@ fn restriction(mut members: Members) -> Result<Body, Unread> {
 }
 
 /// A ring, as the list of its corners, the first not repeated.
-fn ring(alloc: Global, value: &Value) -> Result<Ring, Unread> {
+fn ring(alloc: Global, value: &Value) -> Result<Ring, Unread>
+    ensures { result ≢ Err Unread.Memory → option_map (λ ring. map coordinates_of (corners_of ring)) (result_ok result) ≡ ring_in (view value.now) }
+{
     let list = value.as_array().ok_or(Unread::NotACommand)?;
     let corners = points(alloc, list)?;
     Ring::new(corners).map_err(|_| Unread::NotACommand)
 }
 
-fn points(alloc: Global, list: &[Value]) -> Result<Vec<Point>, Unread> {
+fn points(alloc: Global, list: &[Value]) -> Result<Vec<Point>, Unread>
+    ensures { result ≢ Err Unread.Memory → option_map (λ points. map coordinates_of points.items) (result_ok result) ≡ points_in (items_view list.now) }
+{
     let mut points = Vec::new(alloc);
     for value in list {
         points.push(point(value)?)?;

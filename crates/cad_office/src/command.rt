@@ -1,8 +1,9 @@
 //! Commands, each a line of JSON.
 
 use crate::body::body;
-use crate::members::{Members, Unread, day, object_id, text};
-use cad_versions::Command;
+use crate::members::{Members, Unread};
+use cad_day::Day;
+use cad_versions::{Body, Command, ObjectId};
 use serde_json::Value;
 use std::alloc::Global;
 use std::str;
@@ -21,25 +22,40 @@ pub fn read_command(alloc: Global, line: &[u8]) -> Result<Command, Unread> {
 }
 
 fn command(alloc: Global, mut members: Members) -> Result<Command, Unread> {
-    let deed = text(members.required("do")?)?;
-    let object = object_id(members.required("object")?)?;
-    let command = match deed.as_str() {
-        "enter" => Command::Enter {
-            object,
-            first: day(members.required("first")?)?,
-            body: body(alloc, &mut members)?,
-        },
-        "amend" => Command::Amend {
-            object,
-            first: day(members.required("first")?)?,
-            body: body(alloc, &mut members)?,
-        },
-        "retire" => Command::Retire {
-            object,
-            last: day(members.required("last")?)?,
-        },
-        _ => return Err(Unread::NotACommand),
-    };
+    let deed: String = members.required("do")?;
+    match deed.as_str() {
+        "enter" => {
+            let (object, first, body) = beginning(alloc, members)?;
+            Ok(Command::Enter {
+                object,
+                first,
+                body,
+            })
+        }
+        "amend" => {
+            let (object, first, body) = beginning(alloc, members)?;
+            Ok(Command::Amend {
+                object,
+                first,
+                body,
+            })
+        }
+        "retire" => retiring(members),
+        _ => Err(Unread::NotACommand),
+    }
+}
+
+/// The object, the first day and the body of a version that begins.
+fn beginning(alloc: Global, mut members: Members) -> Result<(ObjectId, Day, Body), Unread> {
+    let object = members.required("object")?;
+    let first = members.required("first")?;
+    let body = body(alloc, members)?;
+    Ok((object, first, body))
+}
+
+fn retiring(mut members: Members) -> Result<Command, Unread> {
+    let object = members.required("object")?;
+    let last = members.required("last")?;
     members.end()?;
-    Ok(command)
+    Ok(Command::Retire { object, last })
 }

@@ -1,15 +1,13 @@
 //! Members of a JSON object, taken out one by one, so that a member that nothing asked for is seen.
 
-ghost use Rattle.std.specs.Prelude.{◌≡◌, ◌↔◌, ℕ, List, Some, IfOk, IsOk, IfErr, IsErr, IsTrue, is_some, option_map, string_bytes};
-ghost use Rattle.std.specs.BTreeMap.{btree_map_len};
+ghost use Rattle.std.specs.Prelude.{◌≡◌, ◌↔◌, IsOk, IfErr, option_map, string_bytes};
 ghost use Rattle.std.specs.Result.{result_ok};
-ghost use Rattle.serde_json.specs.Find.{as_bool, as_object, as_str};
+ghost use Rattle.serde_json.specs.Data.{no_members};
+ghost use Rattle.serde_json.specs.Find.{as_object};
 ghost use Rattle.serde_json.specs.View.{items_view, members_view, view};
-ghost use Rattle.cad_day.specs.Days.{number_of};
-ghost use Rattle.cad_versions.specs.Fractions.{num_of, den_of};
-ghost use Rattle.cad_versions.specs.Objects.{object_number};
-ghost use Rattle.cad_versions.specs.Texts.{AreWords, bytes_of};
-ghost use Rattle.cad_office.specs.Values.{whole_in, object_in, day_in, member_in, two_of, pair_in, share_in, point_in};
+ghost use Rattle.cad_office.specs.CommandObjects.{only_member, optional, required, without};
+ghost use Rattle.cad_office.specs.Instructions.{coordinates_of};
+ghost use Rattle.cad_office.specs.Values.{whole_in, member_in, two_of, pair_in, point_in};
 
 use cad_day::Day;
 use cad_shape::Point;
@@ -48,6 +46,27 @@ impl<T: Drop> From<AllocFailed<T>> for Unread {
     }
 }
 
+/// What the value of a member is read as.
+pub trait FromValue: Sized {
+    ghost use Rattle.std.specs.Prelude.{◌≡◌, IfErr, Option, option_map};
+    ghost use Rattle.std.specs.Result.{result_ok};
+    ghost use Rattle.serde_json.specs.Data.{Data};
+    ghost use Rattle.serde_json.specs.View.{view};
+
+    // A number or a text.
+    ghost Said: { Type 0 };
+
+    // What it says.
+    ghost says: { Self → Said };
+
+    // What the value says.
+    ghost said_in: { Data → Option Said };
+
+    fn from_value(value: Value) -> Result<Self, Unread>
+        ensures value { option_map says (result_ok result) ≡ said_in (view value) }
+        ensures refused { IfErr result (λ e. e ≡ Unread.NotACommand) };
+}
+
 /// What is left of an object.
 #[derive(Drop)]
 pub struct Members {
@@ -67,24 +86,49 @@ impl Members {
     }
 
     /// The member, where it is there and not null.
-    pub fn optional(&mut self, name: &str) -> Option<Value>
-        ensures { option_map view result ≡ member_in name.now (members_view self.old.left.entries) }
+    pub fn take(&mut self, name: &str) -> Option<Value>
+        ensures value { option_map view result ≡ member_in name.now (members_view self.old.left.entries) }
+        ensures left { members_view self.new.left.entries ≡ without name.now (members_view self.old.left.entries) }
     {
         let value = self.left.remove(name)?;
         if value.is_null() { None } else { Some(value) }
     }
 
-    /// The member, which has to be there and not null.
-    pub fn required(&mut self, name: &str) -> Result<Value, Unread>
-        ensures value { option_map view (result_ok result) ≡ member_in name.now (members_view self.old.left.entries) }
+    /// What the member says, if it is there and not null.
+    pub fn optional<T: FromValue>(&mut self, name: &str) -> Result<Option<T>, Unread>
+        ensures value { option_map (option_map T.says) (result_ok result) ≡ optional T.said_in name.now (members_view self.old.left.entries) }
+        ensures left { members_view self.new.left.entries ≡ without name.now (members_view self.old.left.entries) }
         ensures refused { IfErr result (λ e. e ≡ Unread.NotACommand) }
     {
-        self.optional(name).ok_or(Unread::NotACommand)
+        match self.take(name) {
+            Some(value) => Ok(Some(T::from_value(value)?)),
+            None => Ok(None),
+        }
+    }
+
+    /// What the member says, which has to be there and not null.
+    pub fn required<T: FromValue>(&mut self, name: &str) -> Result<T, Unread>
+        ensures value { option_map T.says (result_ok result) ≡ required T.said_in name.now (members_view self.old.left.entries) }
+        ensures left { members_view self.new.left.entries ≡ without name.now (members_view self.old.left.entries) }
+        ensures refused { IfErr result (λ e. e ≡ Unread.NotACommand) }
+    {
+        let value = self.take(name).ok_or(Unread::NotACommand)?;
+        T::from_value(value)
+    }
+
+    /// The one member that is left.
+    pub fn only(mut self) -> Result<(String, Value), Unread>
+        ensures value { option_map (λ m. (string_bytes m.0, view m.1)) (result_ok result) ≡ only_member (members_view self.left.entries) }
+        ensures refused { IfErr result (λ e. e ≡ Unread.NotACommand) }
+    {
+        let member = self.left.pop_first().ok_or(Unread::NotACommand)?;
+        self.end()?;
+        Ok(member)
     }
 
     /// Whether every member was asked for.
     pub fn end(&self) -> Result<(), Unread>
-        ensures value { IsOk result ↔ (btree_map_len self.now.left ≡ 0) }
+        ensures value { IsOk result ↔ (members_view self.now.left.entries ≡ no_members) }
         ensures refused { IfErr result (λ e. e ≡ Unread.NotACommand) }
     {
         if self.left.is_empty() {
@@ -95,72 +139,146 @@ impl Members {
     }
 }
 
-/// `Some` of what is read of the value, if there is one.
-pub fn if_any<T, F: FnOnce(Value) -> Result<T, Unread>>(
-    value: Option<Value>,
-    read: F,
-) -> Result<Option<T>, Unread>
-    requires { F.IsAlwaysCallable read }
-    ensures value { IfOk result (λ read. is_some read ≡ is_some value) }
-    ensures refused { IsErr result → IsTrue (is_some value) }
-{
-    match value {
-        Some(value) => Ok(Some(read(value)?)),
-        None => Ok(None),
+impl FromValue for String {
+    ghost use Rattle.std.specs.Prelude.{ℕ, List, string_bytes};
+    ghost use Rattle.serde_json.specs.Find.{as_str};
+
+    ghost Said = { List ℕ };
+
+    ghost says = { string_bytes };
+
+    ghost said_in = { as_str };
+
+    fn from_value(value: Value) -> Result<String, Unread> {
+        match value {
+            Value::String(text) => Ok(text),
+            _ => Err(Unread::NotACommand),
+        }
     }
 }
 
-/// A text.
-pub fn text(value: Value) -> Result<String, Unread>
-    ensures value { option_map string_bytes (result_ok result) ≡ as_str (view value) }
-    ensures refused { IfErr result (λ e. e ≡ Unread.NotACommand) }
-{
-    match value {
-        Value::String(text) => Ok(text),
-        _ => Err(Unread::NotACommand),
+impl FromValue for Words {
+    ghost use Rattle.std.specs.Prelude.{ℕ, List};
+    ghost use Rattle.cad_versions.specs.Texts.{bytes_of};
+    ghost use Rattle.cad_office.specs.Values.{words_in};
+
+    ghost Said = { List ℕ };
+
+    ghost says = { bytes_of };
+
+    ghost said_in = { words_in };
+
+    fn from_value(value: Value) -> Result<Words, Unread> {
+        let text = String::from_value(value)?;
+        Words::new(text).map_err(|_| Unread::NotACommand)
     }
 }
 
-/// A text of 1 to 200 bytes without U+0000.
-pub fn words(value: Value) -> Result<Words, Unread>
-    ensures value { IfOk result (λ words. as_str (view value) ≡ Some (bytes_of words)) }
-    ensures refused { IfErr result (λ e. (e ≡ Unread.NotACommand) × ((text : List ℕ) → as_str (view value) ≡ Some text → ¬ AreWords text)) }
-{
-    Words::new(text(value)?).map_err(|_| Unread::NotACommand)
+impl FromValue for bool {
+    ghost use Rattle.std.specs.Prelude.{Bool};
+    ghost use Rattle.serde_json.specs.Find.{as_bool};
+
+    ghost Said = { Bool };
+
+    ghost says = { λ b. b };
+
+    ghost said_in = { as_bool };
+
+    fn from_value(value: Value) -> Result<bool, Unread> {
+        value.as_bool().ok_or(Unread::NotACommand)
+    }
 }
 
-/// `true` or `false`.
-pub fn flag(value: Value) -> Result<bool, Unread>
-    ensures value { result_ok result ≡ as_bool (view value) }
-    ensures refused { IfErr result (λ e. e ≡ Unread.NotACommand) }
-{
-    value.as_bool().ok_or(Unread::NotACommand)
+impl FromValue for u32 {
+    ghost use Rattle.std.specs.Prelude.{ℕ};
+    ghost use Rattle.cad_office.specs.Instructions.{coordinates_of};
+    ghost use Rattle.cad_office.specs.Values.{whole_in};
+
+    ghost Said = { ℕ };
+
+    ghost says = { λ n. n };
+
+    ghost said_in = { whole_in };
+
+    fn from_value(value: Value) -> Result<u32, Unread> {
+        whole(&value)
+    }
+}
+
+impl FromValue for ObjectId {
+    ghost use Rattle.std.specs.Prelude.{ℕ};
+    ghost use Rattle.cad_versions.specs.Objects.{object_number};
+    ghost use Rattle.cad_office.specs.Values.{object_in};
+
+    ghost Said = { ℕ };
+
+    ghost says = { object_number };
+
+    ghost said_in = { object_in };
+
+    fn from_value(value: Value) -> Result<ObjectId, Unread> {
+        ObjectId::new(whole(&value)?).ok_or(Unread::NotACommand)
+    }
+}
+
+impl FromValue for Day {
+    ghost use Rattle.std.specs.Prelude.{ℤ};
+    ghost use Rattle.cad_day.specs.Days.{number_of};
+    ghost use Rattle.cad_office.specs.Values.{day_in};
+
+    ghost Said = { ℤ };
+
+    ghost says = { number_of };
+
+    ghost said_in = { day_in };
+
+    fn from_value(value: Value) -> Result<Day, Unread> {
+        let text = value.as_str().ok_or(Unread::NotACommand)?;
+        Day::read(text).ok_or(Unread::NotACommand)
+    }
+}
+
+impl FromValue for Share {
+    ghost use Rattle.std.specs.Prelude.{ℕ};
+    ghost use Rattle.cad_office.specs.Instructions.{parts_of};
+    ghost use Rattle.cad_office.specs.Values.{share_in};
+
+    ghost Said = { ℕ × ℕ };
+
+    ghost says = { parts_of };
+
+    ghost said_in = { share_in };
+
+    /// A fraction, as `[num,den]`.
+    fn from_value(value: Value) -> Result<Share, Unread> {
+        let (num, den) = pair(&value)?;
+        Share::new(whole(num)?, whole(den)?).ok_or(Unread::NotACommand)
+    }
+}
+
+impl FromValue for Point {
+    ghost use Rattle.std.specs.Prelude.{ℤ};
+    ghost use Rattle.cad_office.specs.Instructions.{coordinates_of};
+    ghost use Rattle.cad_office.specs.Values.{point_in};
+
+    ghost Said = { ℤ × ℤ };
+
+    ghost says = { coordinates_of };
+
+    ghost said_in = { point_in };
+
+    fn from_value(value: Value) -> Result<Point, Unread> {
+        point(&value)
+    }
 }
 
 /// A whole number from 0 to 4,294,967,295. A number with a fraction or an exponent is none.
-pub fn whole(value: &Value) -> Result<u32, Unread>
+fn whole(value: &Value) -> Result<u32, Unread>
     ensures value { result_ok result ≡ whole_in (view value.now) }
     ensures refused { IfErr result (λ e. e ≡ Unread.NotACommand) }
 {
     let number = value.as_u64().ok_or(Unread::NotACommand)?;
     u32::try_from(number).map_err(|_| Unread::NotACommand)
-}
-
-/// The number of an object, from 1 to 2,147,483,647.
-pub fn object_id(value: Value) -> Result<ObjectId, Unread>
-    ensures value { option_map object_number (result_ok result) ≡ object_in (view value) }
-    ensures refused { IfErr result (λ e. e ≡ Unread.NotACommand) }
-{
-    ObjectId::new(whole(&value)?).ok_or(Unread::NotACommand)
-}
-
-/// A day, as the text `YYYY-MM-DD`.
-pub fn day(value: Value) -> Result<Day, Unread>
-    ensures value { option_map number_of (result_ok result) ≡ day_in (view value) }
-    ensures refused { IfErr result (λ e. e ≡ Unread.NotACommand) }
-{
-    let text = value.as_str().ok_or(Unread::NotACommand)?;
-    Day::read(text).ok_or(Unread::NotACommand)
 }
 
 fn pair(value: &Value) -> Result<(&Value, &Value), Unread>
@@ -180,18 +298,9 @@ fn two(list: &[Value]) -> Option<(&Value, &Value)>
     }
 }
 
-/// A fraction, as `[num,den]`.
-pub fn share(value: Value) -> Result<Share, Unread>
-    ensures value { option_map (λ s. (num_of s, den_of s)) (result_ok result) ≡ share_in (view value) }
-    ensures refused { IfErr result (λ e. e ≡ Unread.NotACommand) }
-{
-    let (num, den) = pair(&value)?;
-    Share::new(whole(num)?, whole(den)?).ok_or(Unread::NotACommand)
-}
-
 /// A point, as `[x,y]`.
 pub fn point(value: &Value) -> Result<Point, Unread>
-    ensures value { option_map (λ p. (p.x, p.y)) (result_ok result) ≡ point_in (view value.now) }
+    ensures value { option_map coordinates_of (result_ok result) ≡ point_in (view value.now) }
     ensures refused { IfErr result (λ e. e ≡ Unread.NotACommand) }
 {
     let (x, y) = pair(value)?;
