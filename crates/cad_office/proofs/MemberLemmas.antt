@@ -1,5 +1,5 @@
 -- Members and pairs of JSON values.
-use Rattle.std.proofs.Common.{◌≡◌, ℕ, List, [], ◌∷◌, length, Bool, true, false, true≢false, if◌then◌else◌, cond, Option, Some, None, option_map, String, Global, Ordering, Less, Equal, Greater, is_eq, nat_cmp, string_bytes, bytes_eq, refl, sym, ap, ◌∙◌}
+use Rattle.std.proofs.Common.{◌≡◌, ℕ, List, [], ◌∷◌, length, Bool, true, false, true≢false, if◌then◌else◌, cond, Option, Some, None, String, Global, Ordering, Less, Equal, Greater, is_eq, nat_cmp, string_bytes, bytes_eq, refl, sym, ap, ◌∙◌}
 use Rattle.std.proofs.lemmas.Map.Text.{is_eq-slice_cmp}
 use Rattle.std.proofs.lemmas.Slice.Eq.{bytes_eq-Decides}
 use Rattle.std.specs.BTreeMap.{is_at}
@@ -75,3 +75,10 @@ get_member-without name other (member third d ms) apart = past_at name other thi
 pub no_entries : (es : List (String Global × Value)) → members_view es ≡ no_members → length es ≡ 0
 no_entries [] none = refl
 no_entries (e ∷ es) none = cc
+
+other_at : (xs ys : List ℕ) (b : Bool) → bytes_eq xs ys ≡ b → (xs ≡ ys → ⊥) → b ≡ false
+other_at xs ys true is other = absurd (other ((bytes_eq-Decides xs ys).0 is))
+other_at xs ys false is other = refl
+
+pub other_name : (xs ys : List ℕ) → (xs ≡ ys → ⊥) → bytes_eq xs ys ≡ false
+other_name xs ys other = other_at xs ys _ refl other

@@ -1,8 +1,10 @@
 -- What is read of members that are taken out of an object one after another.
 use Rattle.std.proofs.Common.{◌≡◌, ℕ, List, [], ◌∷◌, Bool, true, false, true≢false, if◌then◌else◌, Option, Some, None, option_map, bytes_eq, Result, Ok, Err, IsErr, refl, sym, ap, ◌∙◌}
 use Rattle.std.specs.Option.{option_and_then}
-use Rattle.std.specs.Result.{result_ok}
+use Rattle.std.specs.Result.{IsErrAnd, result_ok}
 use Rattle.serde_json.specs.Data.{Data, Members, no_members, member}
+use Rattle.cad_office.specs.declared.members.Unread.{Unread}
+use Rattle.cad_office.specs.declared.members.Unread.TheVariants.{Memory}
 use Rattle.cad_office.specs.CommandObjects.{without, are_only}
 use Rattle.cad_office.specs.Values.{unless_null, member_in}
 use Rattle.cad_office.proofs.MemberLemmas.{get_member-without}
@@ -11,6 +13,11 @@ use Rattle.cad_office.proofs.MemberLemmas.{get_member-without}
 pub nothing_read : {T E X : Type 0} (see : T → X) (r : Result T E) → IsErr r → option_map see (result_ok r) ≡ None
 nothing_read see (Ok x) is = absurd (true≢false (sym is))
 nothing_read see (Err e) is = refl
+
+-- where what is handed on is no want of memory, neither was what it came from
+pub not_memory : {T V : Type 0} (r : Result T Unread) (e : Unread) → IsErrAnd r (λ y. y ≡ e) → (r ≡ Err Memory → ⊥) → ◌≡◌ {A = Result V Unread} (Err e) (Err Memory) → ⊥
+not_memory (Ok x) e is more memory = absurd is
+not_memory (Err y) e is more memory = more (cc)
 
 abbrev pub without_all : List (List ℕ) → Members → Members
 without_all [] ms = ms

@@ -105,7 +105,10 @@ doing_in deed ms =
 abbrev pub instruction_in : Members → Option Instruction
 instruction_in ms = option_and_then (λ deed. doing_in deed (without (codes "do") ms)) (required as_str (codes "do") ms)
 
--- the line is the JSON text, in UTF-8, of an object that says this
+-- the text is the JSON text, in UTF-8, of an object that says this
+abbrev pub Says : List ℕ → Instruction → Type 0
+Says text instruction = IsUtf8 text × (option_and_then instruction_in (option_and_then as_object (read text)) ≡ Some instruction)
+
+-- a line that is not too long asks for what its text says
 abbrev pub Asks : List ℕ → Instruction → Type 0
-Asks line instruction =
-    (length line ≤ longest_line) × IsUtf8 line × (option_and_then instruction_in (option_and_then as_object (read line)) ≡ Some instruction)
+Asks line instruction = (length line ≤ longest_line) × Says line instruction

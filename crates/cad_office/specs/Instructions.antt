@@ -1,6 +1,7 @@
 -- What a command says, in numbers and texts (ISO 19152:2012, attributes of the classes).
-use Rattle.std.specs.Prelude.{ℕ, ℤ, Bool, List, map, Option, Some, None, option_map}
+use Rattle.std.specs.Prelude.{ℕ, ℤ, Bool, List, map, Option, option_map}
 use Rattle.cad_shape.specs.declared.point.Point.{Point}
+use Rattle.cad_shape.specs.declared.ring.Ring.{Ring}
 use Rattle.cad_shape.specs.Rings.{corners_of}
 use Rattle.cad_day.specs.Days.{number_of}
 use Rattle.cad_versions.specs.declared.share.Share.{Share}
@@ -59,6 +60,10 @@ retire = to_retire
 abbrev pub coordinates_of : Point → ℤ × ℤ
 coordinates_of p = (p.x, p.y)
 
+-- the corners of a ring in order, the first not repeated
+abbrev pub outline_of : Ring → List (ℤ × ℤ)
+outline_of ring = map coordinates_of (corners_of ring)
+
 abbrev pub parts_of : Share → ℕ × ℕ
 parts_of s = (num_of s, den_of s)
 
@@ -66,7 +71,7 @@ abbrev pub attributes_of : Body → Attributes
 attributes_of (body.Party name code) = a_party (option_map bytes_of name) (bytes_of code)
 attributes_of (body.Unit name) = a_unit (option_map bytes_of name)
 attributes_of (body.Parcel unit label area shape spot) =
-    a_parcel (object_number unit) (bytes_of label) area (option_map (λ ring. map coordinates_of (corners_of ring)) shape) (option_map coordinates_of spot)
+    a_parcel (object_number unit) (bytes_of label) area (option_map outline_of shape) (option_map coordinates_of spot)
 attributes_of (body.Right unit party code share) =
     a_right (object_number unit) (option_map object_number party) (bytes_of code) (option_map parts_of share)
 attributes_of (body.Restriction unit party code share required) =

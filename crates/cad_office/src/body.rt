@@ -1,11 +1,10 @@
 //! Bodies of versions, as JSON objects.
 
-ghost use Rattle.std.specs.Prelude.{◌≡◌, ◌≢◌, IfErr, None, map, option_map};
+ghost use Rattle.std.specs.Prelude.{◌≡◌, ◌≢◌, IfErr, codes, map, option_map};
 ghost use Rattle.std.specs.Result.{result_ok};
 ghost use Rattle.serde_json.specs.View.{items_view, members_view, view};
-ghost use Rattle.cad_shape.specs.Rings.{corners_of};
-ghost use Rattle.cad_office.specs.CommandObjects.{party_in, unit_in, parcel_in, right_in, restriction_in, body_in};
-ghost use Rattle.cad_office.specs.Instructions.{attributes_of, coordinates_of};
+ghost use Rattle.cad_office.specs.CommandObjects.{optional, without, party_in, unit_in, parcel_in, right_in, restriction_in, body_in};
+ghost use Rattle.cad_office.specs.Instructions.{attributes_of, coordinates_of, outline_of};
 ghost use Rattle.cad_office.specs.Values.{points_in, ring_in};
 
 use crate::members::{Members, Unread, point};
@@ -15,7 +14,9 @@ use serde_json::Value;
 use std::alloc::Global;
 
 /// The body, which is all that is left of a command.
-pub fn body(alloc: Global, mut members: Members) -> Result<Body, Unread> {
+pub fn body(alloc: Global, members: Members) -> Result<Body, Unread>
+    ensures { result ≢ Err Unread.Memory → option_map attributes_of (result_ok result) ≡ body_in (members_view members.left.entries) }
+{
     let (name, value) = members.only()?;
     let members = Members::of(value)?;
     match name.as_str() {
@@ -47,14 +48,13 @@ fn unit(mut members: Members) -> Result<Body, Unread>
     Ok(Body::Unit { name })
 }
 
-fn parcel(alloc: Global, mut members: Members) -> Result<Body, Unread> {
+fn parcel(alloc: Global, mut members: Members) -> Result<Body, Unread>
+    ensures { result ≢ Err Unread.Memory → option_map attributes_of (result_ok result) ≡ parcel_in (members_view members.left.entries) }
+{
     let unit = members.required("unit")?;
     let label = members.required("label")?;
     let area = members.optional("area")?;
-    let shape = match members.take("shape") {
-        Some(value) => Some(ring(alloc, &value)?),
-        None => None,
-    };
+    let shape = shape(alloc, &mut members)?;
     let spot = members.optional("spot")?;
     members.end()?;
     Ok(Body::Parcel {
@@ -102,9 +102,19 @@ fn restriction(mut members: Members) -> Result<Body, Unread>
     })
 }
 
+fn shape(alloc: Global, members: &mut Members) -> Result<Option<Ring>, Unread>
+    ensures value { result ≢ Err Unread.Memory → option_map (option_map outline_of) (result_ok result) ≡ optional ring_in (codes "shape") (members_view members.old.left.entries) }
+    ensures left { members_view members.new.left.entries ≡ without (codes "shape") (members_view members.old.left.entries) }
+{
+    match members.take("shape") {
+        Some(value) => Ok(Some(ring(alloc, &value)?)),
+        None => Ok(None),
+    }
+}
+
 /// A ring, as the list of its corners, the first not repeated.
 fn ring(alloc: Global, value: &Value) -> Result<Ring, Unread>
-    ensures { result ≢ Err Unread.Memory → option_map (λ ring. map coordinates_of (corners_of ring)) (result_ok result) ≡ ring_in (view value.now) }
+    ensures { result ≢ Err Unread.Memory → option_map outline_of (result_ok result) ≡ ring_in (view value.now) }
 {
     let list = value.as_array().ok_or(Unread::NotACommand)?;
     let corners = points(alloc, list)?;

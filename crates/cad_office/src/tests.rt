@@ -146,6 +146,8 @@ fn reads_no_other_lines(rt: HostRuntime) {
         r#"{"do":"open","object":11,"first":"2001-01-01","unit":{}}"#,
         r#"{"do":"enter","object":11,"first":"2001-01-01","unit":{},"last":null}"#,
         r#"{"do":"enter","object":11,"first":"2001-01-01","unit":{},"party":{"code":"x"}}"#,
+        r#"{"do":"enter","object":11,"first":"2001-01-01","unit":{},"party":null}"#,
+        r#"{"do":"enter","object":11,"first":"2001-01-01","unit":{},"restriction":null}"#,
         r#"{"do":"enter","object":11,"first":"2001-01-01","unit":{"code":"x"}}"#,
         r#"{"do":"enter","object":11,"first":"2001-01-01","unit":{"name":""}}"#,
         r#"{"do":"enter","object":11,"first":"2001-01-01","unit":{"name":"\u0000"}}"#,

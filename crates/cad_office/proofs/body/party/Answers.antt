@@ -1,7 +1,7 @@
-use Rattle.std.proofs.Common.{◌≡◌, [], ◌∷◌, codes, refl, ap, ◌∙◌}
+use Rattle.std.proofs.Common.{[], ◌∷◌, codes, refl, ap, ◌∙◌}
 use Rattle.std.specs.Option.{option_and_then}
 use Rattle.serde_json.specs.View.{members_view}
-use Rattle.cad_office.specs.CommandObjects.{are_only, if_any, without}
+use Rattle.cad_office.specs.CommandObjects.{without}
 use Rattle.cad_office.specs.Instructions.{attributes_of}
 use Rattle.cad_office.specs.Values.{words_in}
 use Rattle.cad_office.proofs.TakingLemmas.{nothing_read, read_first, are_only_left, are_not_only}

@@ -1,8 +1,8 @@
-use Rattle.std.proofs.Common.{◌≡◌, [], ◌∷◌, codes, Some, refl, ap, ◌∙◌}
+use Rattle.std.proofs.Common.{[], ◌∷◌, codes, Some, refl, ap, ◌∙◌}
 use Rattle.std.specs.Option.{option_and_then}
 use Rattle.serde_json.specs.Find.{as_bool}
 use Rattle.serde_json.specs.View.{members_view}
-use Rattle.cad_office.specs.CommandObjects.{are_only, if_any, without}
+use Rattle.cad_office.specs.CommandObjects.{if_any, without}
 use Rattle.cad_office.specs.Instructions.{attributes_of}
 use Rattle.cad_office.specs.Values.{object_in, share_in, words_in}
 use Rattle.cad_office.proofs.TakingLemmas.{nothing_read, read_first, says_itself, are_only_left, are_not_only}
