@@ -1,5 +1,6 @@
 pub mod WriteLemmas
 pub mod PrintLemmas
+pub mod LineLemmas
 pub mod KeepingLemmas
 pub mod FillingLemmas
 pub mod MemberLemmas

@@ -1,32 +1,27 @@
 -- Lines of bytes, each ended by LF, of which the empty ones ask for nothing (own profile).
-use Rattle.std.specs.Prelude.{◌≡◌, ℕ, ◌+◌, ◌<◌, ◌≤◌, ◌==◌, Bool, true, false, not, ◌||◌, if◌then◌else◌, List, [], ◌∷◌, ◌++◌, length}
+use Rattle.std.specs.Prelude.{◌≡◌, ℕ, ◌<◌, ◌≤◌, ◌==◌, Bool, not, List, length}
+use Rattle.std.specs.List.{filter, slice_split, before_last, after_last}
 use Rattle.cad_office.specs.declared.line.Line.{Line}
 use Rattle.cad_office.specs.declared.line.Fate.{Fate}
 use Rattle.cad_office.specs.declared.line.Fate.TheVariants.{Held, TooLong, NoMemory}
 
--- how many lines that are not empty end in the bytes; `begun` tells whether the first of them began before
-abbrev pub lines_ended : Bool → List ℕ → ℕ
-lines_ended begun [] = 0
-lines_ended begun (b ∷ bs) =
-    if b == 10 then (if begun then 1 else 0) + lines_ended false bs else lines_ended true bs
+abbrev pub is_lf : ℕ → Bool
+is_lf byte = byte == 10
 
--- whether a line has begun after the bytes
-abbrev pub begun_after : Bool → List ℕ → Bool
-begun_after begun [] = begun
-begun_after begun (b ∷ bs) = if b == 10 then begun_after false bs else begun_after true bs
+abbrev pub is_filled : List ℕ → Bool
+is_filled line = not (length line == 0)
 
--- how many lines that are not empty the whole input has; the last one needs no LF
-abbrev pub lines_asked : List ℕ → ℕ
-lines_asked bytes = lines_ended false (bytes ++ 10 ∷ [])
+-- the parts between LFs that are not empty; the last one needs no LF
+unfoldable pub lines_in : List ℕ → List (List ℕ)
+lines_in bytes = filter is_filled (slice_split is_lf bytes)
 
-abbrev pub is_held : Fate → Bool
-is_held Held = true
-is_held TooLong = false
-is_held NoMemory = false
+-- those that an LF ended
+unfoldable pub lines_ended : List ℕ → List (List ℕ)
+lines_ended bytes = lines_in (before_last is_lf bytes)
 
--- whether bytes of the line were read, be they held or not
-abbrev pub is_begun : Line → Bool
-is_begun line = not (length line.bytes.items == 0) || not (is_held line.fate)
+-- what stands after the last LF: the line that has begun
+unfoldable pub line_begun : List ℕ → List ℕ
+line_begun bytes = after_last is_lf bytes
 
 -- the most bytes that a command's line has
 abbrev pub longest_line : ℕ

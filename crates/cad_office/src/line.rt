@@ -24,13 +24,12 @@ pub struct Line {
 }
 
 impl Line {
-    ghost use Rattle.std.specs.Prelude.{◌≡◌, ℕ, List, [], ◌∷◌, ◌++◌, not, true, false};
-    ghost use Rattle.cad_office.specs.Lines.{is_begun, StandsFor};
+    ghost use Rattle.std.specs.Prelude.{◌≡◌, ℕ, ◌==◌, List, [], ◌∷◌, ◌++◌, length};
+    ghost use Rattle.cad_office.specs.Lines.{StandsFor};
 
     /// A line of which no byte was read.
     pub fn new(alloc: Global) -> Line
-        ensures begun { is_begun result ≡ false }
-        ensures stands { StandsFor [] result }
+        ensures { StandsFor [] result }
     {
         Line {
             bytes: Vec::new(alloc),
@@ -40,8 +39,7 @@ impl Line {
 
     /// One byte more, which is no LF.
     pub fn add(&mut self, byte: u8)
-        ensures begun { is_begun self.new ≡ true }
-        ensures stands { (text : List ℕ) → StandsFor text self.old → StandsFor (text ++ byte ∷ []) self.new }
+        ensures { (text : List ℕ) → StandsFor text self.old → StandsFor (text ++ byte ∷ []) self.new }
     {
         if self.fate != Fate::Held {
             return;
@@ -55,7 +53,7 @@ impl Line {
 
     /// Whether no byte of the line was read, be it held or not.
     pub fn is_empty(&self) -> bool
-        ensures { result ≡ not (is_begun self.now) }
+        ensures { (text : List ℕ) → StandsFor text self.now → result ≡ (length text == 0) }
     {
         self.bytes.is_empty() && self.fate == Fate::Held
     }
@@ -76,8 +74,7 @@ impl Line {
 
     /// The next line begins.
     pub fn clear(&mut self)
-        ensures begun { is_begun self.new ≡ false }
-        ensures stands { StandsFor [] self.new }
+        ensures { StandsFor [] self.new }
     {
         self.bytes.clear();
         self.fate = Fate::Held;

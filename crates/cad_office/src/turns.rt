@@ -1,9 +1,11 @@
 //! The office: reads lines, applies commands, prints answers.
 
-ghost use Rattle.std.specs.Prelude.{◌≡◌, ◌∷◌, [], IsOk, IsTrue};
+ghost use Rattle.std.specs.Prelude.{◌≡◌, ◌↔◌, ℕ, List, ◌∷◌, [], IsOk, IsTrue};
 ghost use Rattle.std.specs.Io.KnownBytes.{IsAtEnd};
+ghost use Rattle.cad_office.specs.CommandObjects.{Asks};
+ghost use Rattle.cad_office.specs.Instructions.{instruction_of};
 ghost use Rattle.cad_office.specs.Keeping.{IsKept, IsPiece, Works, Comes, Writes, ReadsAndWrites};
-ghost use Rattle.cad_office.specs.Lines.{is_begun};
+ghost use Rattle.cad_office.specs.Lines.{line_begun, StandsFor};
 
 use crate::command::read_command;
 use crate::fault::OfficeFault;
@@ -40,7 +42,8 @@ pub fn office<R: Read, W: Write, B: Book>(
     book: &mut B,
 ) -> Result<bool, OfficeFault>
     ensures kept { ReadsAndWrites (R.remaining reader.old) (R.remaining reader.new)
-        (W.contents writer.old) (W.contents writer.new) (IsKept (Works B.applies book.old book.new) result) }
+        (W.contents writer.old) (W.contents writer.new)
+        (IsKept (Works B.applies book.old book.new) (IsAtEnd (R.remaining reader.new)) result) }
     ensures all { IsOk result → IsAtEnd (R.remaining reader.new) }
 {
     let mut line = Line::new(alloc);
@@ -69,8 +72,8 @@ fn take_piece<W: Write, B: Book>(
     writer: &mut W,
     book: &mut B,
 ) -> Result<bool, OfficeFault>
-    ensures { Writes (W.contents writer.old) (W.contents writer.new)
-        (IsPiece (Works B.applies book.old book.new) (is_begun line.old) result (is_begun line.new) piece.now) }
+    ensures { (read : List ℕ) → StandsFor (line_begun read) line.old → Writes (W.contents writer.old) (W.contents writer.new)
+        (IsPiece (Works B.applies book.old book.new) read result line.new piece.now) }
 {
     let mut accepted = true;
     for byte in piece {
@@ -87,8 +90,8 @@ fn take_byte<W: Write, B: Book>(
     writer: &mut W,
     book: &mut B,
 ) -> Result<bool, OfficeFault>
-    ensures { Writes (W.contents writer.old) (W.contents writer.new)
-        (IsPiece (Works B.applies book.old book.new) (is_begun line.old) result (is_begun line.new) (byte ∷ [])) }
+    ensures { (read : List ℕ) → StandsFor (line_begun read) line.old → Writes (W.contents writer.old) (W.contents writer.new)
+        (IsPiece (Works B.applies book.old book.new) read result line.new (byte ∷ [])) }
 {
     if byte == b'\n' {
         let accepted = end_line(alloc, line, writer, book)?;
@@ -105,8 +108,8 @@ fn end_line<W: Write, B: Book>(
     writer: &mut W,
     book: &mut B,
 ) -> Result<bool, OfficeFault>
-    ensures { Writes (W.contents writer.old) (W.contents writer.new)
-        (IsPiece (Works B.applies book.old book.new) (is_begun line.old) result (is_begun line.new) (10 ∷ [])) }
+    ensures { (read : List ℕ) → StandsFor (line_begun read) line.old → Writes (W.contents writer.old) (W.contents writer.new)
+        (IsPiece (Works B.applies book.old book.new) read result line.new (10 ∷ [])) }
 {
     if line.is_empty() {
         return Ok(true);
@@ -126,13 +129,13 @@ fn end_line<W: Write, B: Book>(
 }
 
 fn is_store(fault: RegisterFault) -> bool
-    ensures { IsTrue result → fault ≡ RegisterFault.Store }
+    ensures { IsTrue result ↔ fault ≡ RegisterFault.Store }
 {
     matches!(fault, RegisterFault::Store)
 }
 
 fn answer_line<B: Book>(alloc: Global, line: &Line, book: &mut B) -> Answer
-    ensures { Comes B.applies book.old result book.new }
+    ensures { (text : List ℕ) → StandsFor text line.now → Comes B.applies text book.old result book.new }
 {
     match line.fate() {
         Fate::TooLong => Answer::NotACommand,
@@ -146,7 +149,7 @@ fn answer_line<B: Book>(alloc: Global, line: &Line, book: &mut B) -> Answer
 }
 
 fn apply<B: Book>(book: &mut B, command: Command) -> Answer
-    ensures { Comes B.applies book.old result book.new }
+    ensures { (line : List ℕ) → Asks line (instruction_of command) → Comes B.applies line book.old result book.new }
 {
     match book.apply(command) {
         Ok(revision) => Answer::Entered(revision),

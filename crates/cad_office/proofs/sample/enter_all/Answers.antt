@@ -1,4 +1,4 @@
-use Rattle.std.proofs.Common.{◌≡◌, [], ◌∷◌, ◌++◌, length, map, vec_len, arith, length-append, append_assoc, refl, sym, ap, ◌∙◌, inl}
+use Rattle.std.proofs.Common.{[], ◌∷◌, map, arith, length-append, append_assoc, refl, ◌∙◌, inl}
 use Rattle.cad_office.specs.Instructions.{instruction_of}
 use Rattle.cad_office.proofs.FillingLemmas.{accepts_more, all_but_rest, all_of}
 use Rattle.cad_office.proofs.sample.enter_all.Goals as goal

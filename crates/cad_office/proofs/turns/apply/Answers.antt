@@ -2,4 +2,4 @@ use Rattle.std.proofs.Common.{inl}
 use Rattle.cad_office.proofs.turns.apply.Goals as goal
 
 pub returns-in-Err : goal.returns-in-Err
-returns-in-Err g c = inl (c.args.command, c.in-Err.ensures)
+returns-in-Err g c = λ line asks. inl (c.args.command, asks, c.in-Err.ensures)
