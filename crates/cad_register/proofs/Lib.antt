@@ -2,6 +2,7 @@ pub mod ReadLemmas
 pub mod FieldLemmas
 pub mod KeptLemmas
 pub mod DamageLemmas
+pub mod ListedLemmas
 pub mod OrderLemmas
 pub mod StandingLemmas
 pub mod StandLemmas

@@ -3,6 +3,7 @@ pub mod Reading
 pub mod Fields
 pub mod Kept
 pub mod Damage
+pub mod Listed
 pub mod Stands
 pub mod Outlines
 pub mod Changing

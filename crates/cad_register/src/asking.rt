@@ -1,6 +1,6 @@
 //! What the tables tell of a register.
 
-ghost use Rattle.std.specs.Prelude.{◌≡◌, ◌≢◌, ◌≤◌, ◌∷◌, [], List, length, pos, IfErr};
+ghost use Rattle.std.specs.Prelude.{◌≡◌, ◌≢◌, ◌≤◌, ◌∷◌, [], List, length, pos, IfOk, IfErr};
 ghost use Rattle.sqlite.specs.State.{HasCleanDisk, FailsToQuery};
 ghost use Rattle.sqlite.specs.declared.error.Error.{Error};
 ghost use Rattle.sqlite_value.specs.declared.value.Value.TheVariants.{Int};
@@ -9,6 +9,7 @@ ghost use Rattle.sqlite.specs.Held.{state};
 ghost use Rattle.cad_versions.specs.declared.command.Command.{Command};
 ghost use Rattle.cad_versions.specs.Versions.{versions};
 ghost use Rattle.cad_versions.specs.AsOf.{as_of};
+ghost use Rattle.cad_register.specs.Listed.{IsListing};
 ghost use Rattle.cad_register.specs.Outlines.{IsStanding};
 ghost use Rattle.cad_register.specs.Stands.{Tells, IsStoreFault, IsListingFault};
 ghost use Rattle.cad_register.specs.Refusing.{Asks};
@@ -68,6 +69,7 @@ pub(crate) fn versions_of<S: Alter>(
         Tells (state S.Store connection.old) (state S.Store connection.new) result
         (λ commands found. revision ≤ length commands → found.items ≡ as_of revision commands)
         (λ commands fault. IsListingFault revision commands fault) }
+    ensures listed { IfOk result (λ found. IsListing found.items) }
     ensures known { IfErr result (λ fault. fault ≢ RegisterFault.UnknownRevision) }
     ensures store { HasCleanDisk (state S.Store connection.new) → result ≡ Err RegisterFault.Store →
         (e : Error) ×

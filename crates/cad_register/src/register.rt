@@ -44,6 +44,7 @@ impl<S: Alter> Register<S> {
     ghost use Rattle.cad_versions.specs.Versions.{versions};
     ghost use Rattle.cad_versions.specs.Refusals.{refusal};
     ghost use Rattle.cad_versions.specs.AsOf.{as_of as register_as_of};
+    ghost use Rattle.cad_register.specs.Listed.{IsListing};
     ghost use Rattle.cad_register.specs.Stands.{StandsFor, IsStoreFault, IsListingFault};
     ghost use Rattle.cad_register.specs.Refusing.{RefusesToApply};
     ghost use Rattle.cad_register.specs.Registers.{connection_of, state_of, revision_of, IsRegisterOf, IsRefused};
@@ -140,6 +141,8 @@ impl<S: Alter> Register<S> {
         ensures shown { HasCleanDisk (state_of S.Store self.new) → IfOk result (λ versions.
             (commands : List CommandOf) → IsRegisterOf S.Store self.old commands →
             versions.items ≡ register_as_of revision commands) }
+        // Whatever the disk returns.
+        ensures ascending { IfOk result (λ versions. IsListing versions.items) }
         ensures beyond { revision_of self.old < revision →
             result ≡ Err RegisterFault.UnknownRevision }
         ensures within { revision ≤ revision_of self.old →

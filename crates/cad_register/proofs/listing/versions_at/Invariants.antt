@@ -1,13 +1,16 @@
-use Rattle.std.proofs.Common.{◌≡◌, ℤ, List, None, map, take, drop, vec_len}
+use Rattle.std.proofs.Common.{◌≡◌, ◌≤◌, ℤ, List, None, length, map, take, drop, vec_len}
 use Rattle.cad_tables.specs.Line.{cells_of}
 use Rattle.cad_versions.specs.Entries.{Entry, seen_at}
 use Rattle.cad_register.specs.Rows.{line_of}
 use Rattle.cad_register.specs.Damage.{AreSound, IsFirstDamaged}
+use Rattle.cad_register.proofs.ListedLemmas.{AreListed}
 use Rattle.cad_register.proofs.listing.versions_at.Given as goal
 
 abbrev pub invariant-loop-row : goal.invariant-loop-row
 invariant-loop-row l = record {
   count : vec_len l.versions ≡ l.row-index;
+  few : length l.versions.items ≤ 2147483647;
+  listed : AreListed l.before l.versions.items;
   sound : AreSound l.before l.row-index (drop l.row-index l.rows) → AreSound None 0 l.rows;
   damaged : (id : ℤ × ℤ) → IsFirstDamaged id l.before l.row-index (drop l.row-index l.rows) → IsFirstDamaged id None 0 l.rows;
   seen : (entries : List Entry) → l.rows ≡ map (λ entry. cells_of (line_of entry)) entries → l.versions.items ≡ map (seen_at l.revision) (take l.row-index entries);
