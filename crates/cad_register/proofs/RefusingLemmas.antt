@@ -1,12 +1,14 @@
 -- One question after another.
-use Rattle.std.proofs.Common.{◌≡◌, ℕ, ◌≤◌, Result, Ok, Err, MatchResult, refl, ◌∙◌, IsTrue, arith}
+use Rattle.std.proofs.Common.{◌≡◌, ◌≢◌, ℕ, ◌≤◌, refl, ◌∙◌, IsTrue, arith}
 use Rattle.sqlite_trees.specs.declared.store.Store.{Ghosts}
 use Rattle.sqlite.specs.State.{State, IsUnchanged, Survives}
 use Rattle.sqlite.specs.Held.{Held, state}
 use Rattle.cad_tables.specs.Opening.{IsSettled}
-use Rattle.cad_versions.specs.declared.fault.RegisterFault.{RegisterFault}
 use Rattle.cad_versions.specs.declared.fault.RegisterFault.TheVariants as fault
-use Rattle.cad_register.specs.Refusing.{RefusesQuestion}
+use Rattle.cad_tables.specs.Refusals.{Statement}
+use Rattle.cad_tables.specs.declared.faults.TableFault.{TableFault}
+use Rattle.cad_tables.specs.declared.faults.TableFault.TheVariants.{Memory, Store}
+use Rattle.cad_register.specs.Refusing.{RefusesQuestion, told_as}
 
 unchanged_then : (a b c : State) → IsUnchanged a b → IsUnchanged b c → IsUnchanged a c
 unchanged_then a b c p q = (
@@ -38,11 +40,29 @@ module _ {S : Type 0} (g : Ghosts S) where
     faults = count_then (state g old).faults (state g mid).faults (state g new).faults p.faults q.faults;
   }
 
-  pub refuses_then : (old mid new : Held S) → IsSettled g old mid → RefusesQuestion g mid new → RefusesQuestion g old new
-  refuses_then old mid new p q = (q.0, settled_then old mid q.0 p q.1, q.2, q.3, q.4, q.5, q.6)
+  pub refuses_then : (old mid new : Held S) (P : Statement → Type 0) → IsSettled g old mid → RefusesQuestion g mid new P → RefusesQuestion g old new P
+  refuses_then old mid new P p q = record {
+    mid = q.mid;
+    settled = settled_then old mid q.mid p q.settled;
+    question = q.question;
+    asked = q.asked;
+    cause = q.cause;
+    told = q.told;
+    fails = q.fails;
+  }
 
-  -- an answer after those that left all as it was
-  pub asks_then : {X : Type 0} (old mid new : Held S) (r : Result X RegisterFault) → IsSettled g old mid → MatchResult r (λ _. IsSettled g mid new) (λ f. f ≡ fault.Store → RefusesQuestion g mid new)
-      → MatchResult r (λ _. IsSettled g old new) (λ f. f ≡ fault.Store → RefusesQuestion g old new)
-  asks_then old mid new (Ok x) p q = settled_then old mid new p q
-  asks_then old mid new (Err f) p q = λ e. refuses_then old mid new p (q e)
+  -- one of some questions is one of more
+  pub refuses_more : (old new : Held S) (P Q : Statement → Type 0) → ((question : Statement) → P question → Q question) → RefusesQuestion g old new P → RefusesQuestion g old new Q
+  refuses_more old new P Q more q = record {
+    mid = q.mid;
+    settled = q.settled;
+    question = q.question;
+    asked = more q.question q.asked;
+    cause = q.cause;
+    told = q.told;
+    fails = q.fails;
+  }
+
+pub not_for_memory : (f : TableFault) → told_as f ≡ fault.Store → f ≢ Memory
+not_for_memory Memory e = absurd cc
+not_for_memory (Store e) is = λ h. cc

@@ -1,41 +1,97 @@
 -- What the database refuses of a command, by its own account.
-use Rattle.std.specs.Prelude.{◌≡◌, ◌⊎◌, ℕ, pos, List, [], ◌∷◌, Result, MatchResult}
+use Rattle.std.specs.Prelude.{◌≡◌, ◌≢◌, ◌⊎◌, ◌≤◌, ℕ, ◌+◌, pos, List, [], ◌∷◌, Option, Some, None, Result, MatchResult}
 use Rattle.sqlite_value.specs.declared.value.Value.TheVariants.{Int}
 use Rattle.sqlite_trees.specs.declared.store.Store.{Ghosts}
 use Rattle.sqlite.specs.declared.error.Error.{Error}
 use Rattle.sqlite.specs.State.{FailsToQuery}
 use Rattle.sqlite.specs.Held.{Held, state}
 use Rattle.cad_tables.specs.Texts.{history_text, listing_text}
+use Rattle.cad_tables.specs.Faults.{fault_of}
 use Rattle.cad_tables.specs.Opening.{IsSettled}
-use Rattle.cad_tables.specs.Refusals.{RefusesTransaction, all_statements_of}
+use Rattle.cad_tables.specs.Refusals.{Statement, RefusesTransaction, all_statements_of}
 use Rattle.cad_tables.specs.declared.changes.Change.{Change}
+use Rattle.cad_tables.specs.declared.faults.TableFault.{TableFault}
+use Rattle.cad_tables.specs.declared.faults.TableFault.TheVariants.{Memory, Store}
+use Rattle.cad_versions.specs.declared.object_id.ObjectId.{ObjectId}
+use Rattle.cad_versions.specs.declared.body.Body.{Body}
 use Rattle.cad_versions.specs.declared.command.Command.{Command}
 use Rattle.cad_versions.specs.declared.fault.RegisterFault.{RegisterFault}
 use Rattle.cad_versions.specs.declared.fault.RegisterFault.TheVariants as fault
+use Rattle.cad_versions.specs.Objects.{object_number}
+use Rattle.cad_versions.specs.Command.{object_named, body_added}
+use Rattle.cad_versions.specs.Refusals.{unit_named, party_named, most_versions}
 use Rattle.cad_register.specs.declared.writing.NewEntry.{NewEntry}
 use Rattle.cad_register.specs.Changing.{IsChangeOf, line_written}
 use Rattle.cad_register.specs.Stands.{StandsFor}
 
--- the history of an object, or the lines of a revision (own profile)
-abbrev pub IsQuestion : List ℕ → Type 0
-IsQuestion text = (text ≡ history_text) ⊎ (text ≡ listing_text)
+-- want of memory is told as such, and every other refusal of the database as its own (own profile)
+abbrev pub told_as : TableFault → RegisterFault
+told_as Memory = fault.Memory
+told_as (Store e) = fault.Store
+
+-- SQLite, Result and Error Codes, SQLITE_NOMEM: the cause is another than want of memory
+abbrev pub IsNotForMemory : Error → Type 0
+IsNotForMemory e = fault_of e ≢ Memory
+
+-- ---- the questions that a command asks (own profile)
+
+abbrev pub asking : List ℕ → ℕ → Statement
+asking text n = record { text = text; params = Int (pos n) ∷ [] }
+
+-- for the history of this object
+abbrev pub IsForObject : ObjectId → Statement → Type 0
+IsForObject object question = question ≡ asking history_text (object_number object)
+
+-- for the history of what is named, if anything is
+abbrev pub IsForNamed : Option ObjectId → Statement → Type 0
+IsForNamed None question = ⊥
+IsForNamed (Some object) question = IsForObject object question
+
+-- for the history of the unit or the party that the body names
+abbrev pub IsForBody : Body → Statement → Type 0
+IsForBody body question = IsForNamed (unit_named body) question ⊎ IsForNamed (party_named body) question
+
+-- for the lines of the revision
+abbrev pub IsForLines : ℕ → Statement → Type 0
+IsForLines revision question = question ≡ asking listing_text revision
+
+-- for them, where as many commands were accepted as there may be versions
+abbrev pub IsForRoom : ℕ → Statement → Type 0
+IsForRoom revision question = (most_versions ≤ revision) × IsForLines revision question
+
+-- what the body names, or whether there is room, where a version is added
+abbrev pub IsForAddition : Option Body → ℕ → Statement → Type 0
+IsForAddition None revision question = ⊥
+IsForAddition (Some body) revision question = IsForBody body question ⊎ IsForRoom revision question
+
+-- the object of the command, or what it adds
+abbrev pub IsForCommand : Command → ℕ → Statement → Type 0
+IsForCommand command revision question = IsForObject (object_named command) question ⊎ IsForAddition (body_added command) revision question
+
+-- ---- what is refused (own profile)
 
 module _ {S : Type 0} (g : Ghosts S) (old new : Held S) where
-  -- with the database as it was, it refuses a question (own profile)
-  abbrev pub RefusesQuestion : Type 0
-  RefusesQuestion =
-      (mid : Held S) × IsSettled g old mid × (text : List ℕ) × (n : ℕ) × (e : Error) × IsQuestion text × FailsToQuery text (Int (pos n) ∷ []) (state g mid) (state g new) e
+  -- with the database as it was, it refuses one of these questions, and not for want of memory
+  pub record RefusesQuestion (IsAsked : Statement → Type 0) : Type 0 where
+    pub mid : Held S
+    pub settled : IsSettled g old mid
+    pub question : Statement
+    pub asked : IsAsked question
+    pub cause : Error
+    pub told : IsNotForMemory cause
+    pub fails : FailsToQuery question.text question.params (state g mid) (state g new) cause
 
-  -- it refuses a statement of what the command changes at this revision, or their commit (own profile)
+  -- it refuses a statement of what the command changes at this revision, or their commit, and not for want of memory
   abbrev pub RefusesChange : Command → ℕ → Type 0
   RefusesChange command revision =
-      (change : Change NewEntry) × (number : ℕ) × (e : Error) × IsChangeOf command number revision change × RefusesTransaction g (all_statements_of line_written change revision) e old new
+      (change : Change NewEntry) × (number : ℕ) × (e : Error) × IsChangeOf command number revision change × IsNotForMemory e × RefusesTransaction g (all_statements_of line_written change revision) e old new
 
-  -- questions are answered with the database as it was, or one is refused (own profile)
-  abbrev pub Asks : {X : Type 0} → Result X RegisterFault → Type 0
-  Asks result =
-      (commands : List Command) → StandsFor (state g old) commands → MatchResult result (λ _. IsSettled g old new) (λ cause. cause ≡ fault.Store → RefusesQuestion)
+  -- these questions are answered with the database as it was, or one is refused
+  abbrev pub Asks : {X : Type 0} → (Statement → Type 0) → Result X RegisterFault → Type 0
+  Asks IsAsked result =
+      (commands : List Command) → StandsFor (state g old) commands → MatchResult result (λ _. IsSettled g old new) (λ cause. cause ≡ fault.Store → RefusesQuestion IsAsked)
 
--- a question is refused, or else the change, where the command makes this revision (own profile)
+-- a question of the command at this revision is refused, or else the change that makes the next
 abbrev pub RefusesToApply : {S : Type 0} → Ghosts S → Held S → Held S → Command → ℕ → Type 0
-RefusesToApply g old new command revision = RefusesQuestion g old new ⊎ ((mid : Held _) × IsSettled g old mid × RefusesChange g mid new command revision)
+RefusesToApply g old new command revision =
+    RefusesQuestion g old new (IsForCommand command revision) ⊎ ((mid : Held _) × IsSettled g old mid × RefusesChange g mid new command (revision + 1))

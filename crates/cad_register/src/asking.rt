@@ -12,7 +12,7 @@ ghost use Rattle.cad_versions.specs.AsOf.{as_of};
 ghost use Rattle.cad_register.specs.Listed.{IsListing};
 ghost use Rattle.cad_register.specs.Outlines.{IsStanding};
 ghost use Rattle.cad_register.specs.Stands.{Tells, IsStoreFault, IsListingFault};
-ghost use Rattle.cad_register.specs.Refusing.{Asks};
+ghost use Rattle.cad_register.specs.Refusing.{Asks, IsForObject, IsForLines, IsNotForMemory, told_as};
 
 use crate::columns::ReadFault;
 use crate::listing::versions_at;
@@ -23,7 +23,8 @@ use sqlite::{Alter, Connection};
 use std::alloc::Global;
 
 pub(crate) fn store_fault(fault: TableFault) -> RegisterFault
-    ensures { IsStoreFault result }
+    ensures cause { IsStoreFault result }
+    ensures told { result ≡ told_as fault }
 {
     match fault {
         TableFault::Memory => RegisterFault::Memory,
@@ -41,7 +42,7 @@ pub(crate) fn standing_of<S: Alter>(
         (λ commands standing. IsStanding (versions commands) object standing) (λ commands fault.
         IsStoreFault fault) }
     ensures asked { HasCleanDisk (state S.Store connection.new) →
-        Asks S.Store connection.old connection.new result }
+        Asks S.Store connection.old connection.new (IsForObject object) result }
     ensures clean { HasCleanDisk (state S.Store connection.new) →
         HasCleanDisk (state S.Store connection.old) }
 {
@@ -72,10 +73,10 @@ pub(crate) fn versions_of<S: Alter>(
     ensures listed { IfOk result (λ found. IsListing found.items) }
     ensures known { IfErr result (λ fault. fault ≢ RegisterFault.UnknownRevision) }
     ensures store { HasCleanDisk (state S.Store connection.new) → result ≡ Err RegisterFault.Store →
-        (e : Error) ×
+        (e : Error) × IsNotForMemory e ×
         FailsToQuery listing_text (Int (pos revision) ∷ []) (state S.Store connection.old) (state S.Store connection.new) e }
     ensures asked { HasCleanDisk (state S.Store connection.new) →
-        Asks S.Store connection.old connection.new result }
+        Asks S.Store connection.old connection.new (IsForLines revision) result }
     ensures clean { HasCleanDisk (state S.Store connection.new) →
         HasCleanDisk (state S.Store connection.old) }
 {

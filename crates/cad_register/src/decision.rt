@@ -8,7 +8,7 @@ ghost use Rattle.cad_versions.specs.Command.{object_named};
 ghost use Rattle.cad_versions.specs.Versions.{history, versions};
 ghost use Rattle.cad_versions.specs.Refusals.{is_entered as entered, are_entered as all_entered, is_full as filled, refuses_body, refusal};
 ghost use Rattle.cad_register.specs.Stands.{Tells, IsStoreFault, IsListingFault, IsRefusal};
-ghost use Rattle.cad_register.specs.Refusing.{Asks};
+ghost use Rattle.cad_register.specs.Refusing.{Asks, IsForNamed, IsForBody, IsForRoom, IsForAddition, IsForCommand};
 
 use crate::asking::{standing_of, versions_of};
 use cad_versions::{Body, Class, Command, ObjectId, RegisterFault};
@@ -28,7 +28,7 @@ fn is_entered<S: Alter>(
         (λ commands known. known ≡ entered (versions commands) class object) (λ commands fault.
         IsStoreFault fault) }
     ensures asked { HasCleanDisk (state S.Store connection.new) →
-        Asks S.Store connection.old connection.new result }
+        Asks S.Store connection.old connection.new (IsForNamed object) result }
     ensures clean { HasCleanDisk (state S.Store connection.new) →
         HasCleanDisk (state S.Store connection.old) }
 {
@@ -51,7 +51,7 @@ fn are_entered<S: Alter>(connection: &mut Connection<S>, body: &Body) -> Result<
         (λ commands known. known ≡ all_entered (versions commands) body.now) (λ commands fault.
         IsStoreFault fault) }
     ensures asked { HasCleanDisk (state S.Store connection.new) →
-        Asks S.Store connection.old connection.new result }
+        Asks S.Store connection.old connection.new (IsForBody body.now) result }
     ensures clean { HasCleanDisk (state S.Store connection.new) →
         HasCleanDisk (state S.Store connection.old) }
 {
@@ -74,7 +74,7 @@ fn is_full<S: Alter>(
         revision ≡ length commands → full ≡ filled (versions commands)) (λ commands fault.
         revision ≡ length commands → IsListingFault (length commands) commands fault) }
     ensures asked { HasCleanDisk (state S.Store connection.new) →
-        Asks S.Store connection.old connection.new result }
+        Asks S.Store connection.old connection.new (IsForRoom revision) result }
     ensures clean { HasCleanDisk (state S.Store connection.new) →
         HasCleanDisk (state S.Store connection.old) }
 {
@@ -98,7 +98,7 @@ fn check_addition<S: Alter>(
         (λ commands fault. revision ≡ length commands →
         IsRefusal (refuses_body (versions commands) (Some body.now)) commands fault) }
     ensures asked { HasCleanDisk (state S.Store connection.new) →
-        Asks S.Store connection.old connection.new result }
+        Asks S.Store connection.old connection.new (IsForAddition (Some body.now) revision) result }
     ensures clean { HasCleanDisk (state S.Store connection.new) →
         HasCleanDisk (state S.Store connection.old) }
 {
@@ -126,7 +126,7 @@ pub(crate) fn decide<S: Alter>(
         (λ commands fault. revision ≡ length commands →
         IsRefusal (refusal (versions commands) command.now) commands fault) }
     ensures asked { HasCleanDisk (state S.Store connection.new) →
-        Asks S.Store connection.old connection.new result }
+        Asks S.Store connection.old connection.new (IsForCommand command.now revision) result }
     ensures clean { HasCleanDisk (state S.Store connection.new) →
         HasCleanDisk (state S.Store connection.old) }
 {

@@ -46,7 +46,8 @@ impl<S: Alter> Register<S> {
     ghost use Rattle.cad_versions.specs.AsOf.{as_of as register_as_of};
     ghost use Rattle.cad_register.specs.Listed.{IsListing};
     ghost use Rattle.cad_register.specs.Stands.{StandsFor, IsStoreFault, IsListingFault};
-    ghost use Rattle.cad_register.specs.Refusing.{RefusesToApply};
+    ghost use Rattle.cad_register.specs.Refusing.{told_as, IsNotForMemory, RefusesToApply};
+    ghost use Rattle.cad_tables.specs.Faults.{fault_of};
     ghost use Rattle.cad_register.specs.Registers.{connection_of, state_of, revision_of, IsRegisterOf, IsRefused};
 
     /// Gives the connection back.
@@ -84,7 +85,8 @@ impl<S: Alter> Register<S> {
             IsStoreFault refused.0) }
         // What the database itself refused, a statement that makes the tables or the commit.
         ensures store { IfErr result (λ refused. HasCleanDisk (state S.Store refused.1) →
-            refused.0 ≡ RegisterFault.Store → (e : Error) ×
+            refused.0 ≢ RegisterFault.NotARegister →
+            (e : Error) × (refused.0 ≡ told_as (fault_of e)) ×
             RefusesTransaction S.Store creating e connection refused.1) }
         ensures unchanged { IfErr result (λ refused. HasCleanDisk (state S.Store refused.1) →
             IsTrue (state S.Store refused.1).is_open →
@@ -117,7 +119,8 @@ impl<S: Alter> Register<S> {
             IsStoreFault refused.0) }
         // What the database itself refused, of the two questions for the columns and the row of `state`.
         ensures store { IfErr result (λ refused. HasCleanDisk (state S.Store refused.1) →
-            refused.0 ≡ RegisterFault.Store → (fault : Fault) ×
+            refused.0 ≢ RegisterFault.NotARegister →
+            (fault : Fault) × (refused.0 ≡ told_as fault) ×
             RefusesRegister S.Store connection refused.1 fault) }
         ensures unchanged { IfErr result (λ refused. HasCleanDisk (state S.Store refused.1) →
             IsTrue (state S.Store refused.1).is_open → (commands : List CommandOf) →
@@ -151,7 +154,7 @@ impl<S: Alter> Register<S> {
             (commands : List CommandOf) → IsRegisterOf S.Store self.old commands →
             revision ≤ length commands → IsListingFault revision commands fault) }
         ensures store { HasCleanDisk (state_of S.Store self.new) →
-            result ≡ Err RegisterFault.Store → (e : Error) ×
+            result ≡ Err RegisterFault.Store → (e : Error) × IsNotForMemory e ×
             FailsToQuery listing_text (Int (pos revision) ∷ []) (state_of S.Store self.old) (state_of S.Store self.new) e }
         ensures kept { HasCleanDisk (state_of S.Store self.new) →
             OnOk result ((commands : List CommandOf) → IsRegisterOf S.Store self.old commands →
@@ -179,7 +182,7 @@ impl<S: Alter> Register<S> {
         ensures store { HasCleanDisk (state_of S.Store self.new) →
             result ≡ Err RegisterFault.Store → (commands : List CommandOf) →
             IsRegisterOf S.Store self.old commands →
-            RefusesToApply S.Store (connection_of self.old) (connection_of self.new) command (length commands + 1) }
+            RefusesToApply S.Store (connection_of self.old) (connection_of self.new) command (length commands) }
         ensures unchanged { HasCleanDisk (state_of S.Store self.new) →
             IsTrue (state_of S.Store self.new).is_open → OnErr result ((commands : List CommandOf) →
             IsRegisterOf S.Store self.old commands → IsRegisterOf S.Store self.new commands) }

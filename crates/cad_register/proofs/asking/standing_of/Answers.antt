@@ -1,4 +1,4 @@
-use Rattle.std.proofs.Common.{refl, inl, ◌≡◌, ◌∙◌, length, map, subst, sym, ap}
+use Rattle.std.proofs.Common.{◌≡◌, ◌∙◌, length, map, subst, sym, ap}
 use Rattle.sqlite.specs.Held.{state}
 use Rattle.cad_tables.specs.Listing.{HaveNoTies, number_order, lines_of_object, history as known, outline_of}
 use Rattle.cad_versions.specs.Objects.{object_number}
@@ -10,7 +10,9 @@ use Rattle.cad_register.proofs.OrderLemmas.{history_untied, history_rows}
 use Rattle.cad_register.proofs.StandingLemmas.{class_stands, opened_stands}
 use Rattle.cad_register.proofs.StandLemmas.{stands_same}
 use Rattle.cad_tables.specs.Texts.{history_text}
-use Rattle.cad_register.proofs.RefusingLemmas.{settled_here, settled_by}
+use Rattle.cad_register.proofs.RefusingLemmas.{settled_here, settled_by, not_for_memory}
+use Rattle.cad_tables.specs.Faults.{fault_of}
+use Rattle.cad_register.specs.Refusing.{asking, told_as}
 use Rattle.cad_register.proofs.asking.standing_of.Goals as goal
 
 pub returns-in-Ok-read-clause-told : goal.returns-in-Ok-read-clause-told
@@ -39,7 +41,15 @@ returns-clause-told g c clean cs stands =
 pub returns-in-Err-clause-asked : goal.returns-in-Err-clause-asked
 returns-in-Err-clause-asked g c clean cs stands e =
     let told = c.in-Err.ensures.refused clean in
-    (c.args.connection.now, settled_here g.S.Store c.args.connection.now stands.live, history_text, c.number.result, told.0, inl refl, told.2)
+    record {
+      mid = c.args.connection.now;
+      settled = settled_here g.S.Store c.args.connection.now stands.live;
+      question = asking history_text c.number.result;
+      asked = ap (asking history_text) c.number.ensures.value;
+      cause = told.0;
+      told = not_for_memory (fault_of told.0) (ap told_as (sym told.1) ∙ sym c.store_fault.ensures.told ∙ e);
+      fails = told.2;
+    }
 
 pub returns-in-Ok-read-clause-asked : goal.returns-in-Ok-read-clause-asked
 returns-in-Ok-read-clause-asked g c clean cs stands =

@@ -1,4 +1,4 @@
-use Rattle.std.proofs.Common.{refl, inr, ◌∙◌, length, map}
+use Rattle.std.proofs.Common.{refl, ◌∙◌, length, map, sym, ap}
 use Rattle.sqlite.specs.Held.{state}
 use Rattle.cad_versions.specs.Entries.{entries_of}
 use Rattle.cad_versions.proofs.HistoryLemmas.{histories}
@@ -6,7 +6,9 @@ use Rattle.cad_register.specs.Rows.{line_of}
 use Rattle.cad_register.proofs.OrderLemmas.{listing_untied, listing_rows}
 use Rattle.cad_register.proofs.StandLemmas.{stands_same, listing_told}
 use Rattle.cad_tables.specs.Texts.{listing_text}
-use Rattle.cad_register.proofs.RefusingLemmas.{settled_here}
+use Rattle.cad_register.proofs.RefusingLemmas.{settled_here, not_for_memory}
+use Rattle.cad_tables.specs.Faults.{fault_of}
+use Rattle.cad_register.specs.Refusing.{asking, told_as}
 use Rattle.cad_register.proofs.asking.versions_of.Goals as goal
 
 pub returns-in-Ok-clause-told : goal.returns-in-Ok-clause-told
@@ -22,4 +24,12 @@ returns-in-Ok-clause-told g c clean cs stands =
 pub returns-in-Err-clause-asked : goal.returns-in-Err-clause-asked
 returns-in-Err-clause-asked g c clean cs stands e =
     let told = c.in-Err.ensures.refused clean in
-    (c.args.connection.now, settled_here g.S.Store c.args.connection.now stands.live, listing_text, c.args.revision, told.0, inr refl, told.2)
+    record {
+      mid = c.args.connection.now;
+      settled = settled_here g.S.Store c.args.connection.now stands.live;
+      question = asking listing_text c.args.revision;
+      asked = refl;
+      cause = told.0;
+      told = not_for_memory (fault_of told.0) (ap told_as (sym told.1) ∙ sym c.store_fault.ensures.told ∙ e);
+      fails = told.2;
+    }

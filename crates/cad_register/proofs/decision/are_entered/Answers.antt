@@ -1,6 +1,14 @@
+use Rattle.std.proofs.Common.{subst, inl, inr}
 use Rattle.std.proofs.lemmas.Result.{err_from_is_err_and}
-use Rattle.cad_register.proofs.RefusingLemmas.{refuses_then}
+use Rattle.cad_register.specs.Refusing.{IsForNamed, IsForBody}
+use Rattle.cad_register.proofs.RefusingLemmas.{refuses_then, refuses_more}
 use Rattle.cad_register.proofs.decision.are_entered.Goals as goal
+
+pub returns-in_err-is_entered-clause-asked : goal.returns-in_err-is_entered-clause-asked
+returns-in_err-is_entered-clause-asked g c clean cs stands =
+    let p = err_from_is_err_and c.from_residual.result c.from_residual.ensures.1 in
+    rw (p.1, p.2)
+    (λ e. refuses_more g.S.Store c.args.connection.now c.is_entered.new.connection (IsForNamed c.unit.result) (IsForBody c.args.body.now) (λ question h. inl (subst (λ o. IsForNamed o question) c.unit.ensures h)) (c.in_err-is_entered.ensures.asked clean cs stands e))
 
 pub returns-in_err-known-clause-asked : goal.returns-in_err-known-clause-asked
 returns-in_err-known-clause-asked g c clean cs stands =
@@ -8,4 +16,8 @@ returns-in_err-known-clause-asked g c clean cs stands =
     let early = c.in_err-known.ensures.clean clean in
     let mid = c.in_ok-is_entered.ensures.told early cs stands in
     let same = c.in_ok-is_entered.ensures.asked early cs stands in
-    rw (p.1, p.2) (λ e. refuses_then g.S.Store c.args.connection.now c.is_entered.new.connection c.is_entered-then-branch.new.connection same (c.in_err-known.ensures.asked clean cs mid.1 e))
+    let old = c.args.connection.now in
+    let later = c.is_entered.new.connection in
+    let new = c.is_entered-then-branch.new.connection in
+    rw (p.1, p.2)
+    (λ e. refuses_more g.S.Store old new (IsForNamed c.party.result) (IsForBody c.args.body.now) (λ question h. inr (subst (λ o. IsForNamed o question) c.party.ensures h)) (refuses_then g.S.Store old later new (IsForNamed c.party.result) same (c.in_err-known.ensures.asked clean cs mid.1 e)))

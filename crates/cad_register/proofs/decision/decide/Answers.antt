@@ -1,10 +1,11 @@
-use Rattle.std.proofs.Common.{◌∙◌, sym, subst, ap, Some}
+use Rattle.std.proofs.Common.{◌∙◌, sym, subst, ap, Some, inl, inr}
 use Rattle.std.proofs.lemmas.Result.{err_from_is_err_and}
 use Rattle.cad_versions.specs.Versions.{versions}
 use Rattle.cad_register.specs.Stands.{IsRefusal}
 use Rattle.cad_register.proofs.DecisionLemmas.{body_decides}
 use Rattle.cad_register.proofs.StandLemmas.{object_answers_for_itself}
-use Rattle.cad_register.proofs.RefusingLemmas.{refuses_then}
+use Rattle.cad_register.proofs.RefusingLemmas.{refuses_then, refuses_more}
+use Rattle.cad_register.specs.Refusing.{IsForObject, IsForAddition, IsForCommand}
 use Rattle.cad_register.proofs.decision.decide.Goals as goal
 
 pub returns-in_err-check_addition-clause-told : goal.returns-in_err-check_addition-clause-told
@@ -19,10 +20,21 @@ pub returns-in-Some-clause-asked : goal.returns-in-Some-clause-asked
 returns-in-Some-clause-asked g c clean cs stands e =
     absurd (object_answers_for_itself c.in_ok-standing.standing.class c.in_ok-standing.standing.open_since c.args.command.now (sym c.refused_by_object.ensures ∙ c.in-Some.is ∙ ap Some e))
 
+pub returns-in_err-standing-clause-asked : goal.returns-in_err-standing-clause-asked
+returns-in_err-standing-clause-asked g c clean cs stands =
+    let p = err_from_is_err_and c.from_residual.result c.from_residual.ensures.1 in
+    rw (p.1, p.2)
+    (λ e. refuses_more g.S.Store c.args.connection.now c.standing_of.new.connection (IsForObject c.object.result) (IsForCommand c.args.command.now c.args.revision) (λ question h. inl (subst (λ o. IsForObject o question) c.object.ensures h)) (c.in_err-standing.ensures.asked clean cs stands e))
+
 pub returns-in_err-check_addition-clause-asked : goal.returns-in_err-check_addition-clause-asked
 returns-in_err-check_addition-clause-asked g c clean cs stands =
     let p = err_from_is_err_and c.from_residual-in_err-check_addition.result c.from_residual-in_err-check_addition.ensures.1 in
     let early = c.in_err-check_addition.ensures.clean clean in
     let mid = c.in_ok-standing.ensures.told early cs stands in
     let same = c.in_ok-standing.ensures.asked early cs stands in
-    rw (p.1, p.2) (λ e. refuses_then g.S.Store c.args.connection.now c.standing_of.new.connection c.check_addition.new.connection same (c.in_err-check_addition.ensures.asked clean cs mid.1 e))
+    let old = c.args.connection.now in
+    let later = c.standing_of.new.connection in
+    let new = c.check_addition.new.connection in
+    let asked = IsForAddition (Some c.in-Some-body.body.now) c.args.revision in
+    rw (p.1, p.2)
+    (λ e. refuses_more g.S.Store old new asked (IsForCommand c.args.command.now c.args.revision) (λ question h. inr (subst (λ o. IsForAddition o c.args.revision question) c.in-Some-body.ensures h)) (refuses_then g.S.Store old later new asked same (c.in_err-check_addition.ensures.asked clean cs mid.1 e)))
