@@ -9,4 +9,5 @@ pub mod StandLemmas
 pub mod CountLemmas
 pub mod DecisionLemmas
 pub mod WriteLemmas
+pub mod SurvivingLemmas
 pub mod RefusingLemmas

@@ -10,7 +10,8 @@ use Rattle.cad_tables.specs.declared.changes.Change.{Change}
 use Rattle.cad_tables.specs.declared.changes.Change.TheVariants as change
 use Rattle.cad_tables.specs.Holding.{Holds}
 use Rattle.cad_tables.specs.Changes.{is_open_of as is_open_line, closed_line, closed_if, changed, NamesOne, Fits}
-use Rattle.cad_tables.specs.Steps.{Commits}
+use Rattle.sqlite.specs.Effect.{Database}
+use Rattle.cad_tables.specs.Steps.{Commits, IsWrittenTo}
 use Rattle.cad_versions.specs.declared.object_id.ObjectId.{ObjectId}
 use Rattle.cad_versions.specs.declared.body.Body.{Body}
 use Rattle.cad_versions.specs.declared.command.Command.{Command}
@@ -125,23 +126,28 @@ fits cs (Amend object first body) number revision (change.Amend c entry) all fin
 fits cs (Retire object last) number revision (change.Retire c) all fine h = let a = retires object last (versions cs) fine in names_one object a.standing c cs h.0 (histories cs all object) a.found
 fits cs c number revision ch all fine h = absurd h
 
-accepted_then : (vs : List VersionedObject) (cs : List Command) (c : Command) → AreAccepted vs cs → refusal (fold after vs cs) c ≡ None → AreAccepted vs (cs ++ c ∷ [])
+pub accepted_then : (vs : List VersionedObject) (cs : List Command) (c : Command) → AreAccepted vs cs → refusal (fold after vs cs) c ≡ None → AreAccepted vs (cs ++ c ∷ [])
 accepted_then vs [] c all fine = (fine, tt)
 accepted_then vs (d ∷ cs) c all fine = (all.0, accepted_then (after vs d) cs c all.1 fine)
+
+-- a change that is written is that of the new command
+pub holds_then : (old : State) (db : Database) (cs : List Command) (c : Command) (number revision : ℕ) (ch : Change NewEntry) → StandsFor old cs → refusal (versions cs) c ≡ None → IsNumbered cs c number → revision ≡ length cs + 1
+    → IsChangeOf c number revision ch → IsWrittenTo line_written ch revision old db → Holds (length (cs ++ c ∷ [])) (map line_of (entries_of (cs ++ c ∷ []))) db
+holds_then old db cs c number revision ch stands fine count next h written =
+    let held = written (length cs) (map line_of (entries_of cs)) (fits cs c number revision ch stands.accepted fine h) stands.holds in
+    let lines = made cs c number revision ch fine count h ∙ ap (λ r. map line_of (entries_after r (entries_of cs) c)) next ∙ sym (ap (map line_of) (entries_then cs c)) in
+    let long : length (cs ++ c ∷ []) ≡ revision = length-append cs (c ∷ []) ∙ sym next in
+    subst (λ m. Holds m (map line_of (entries_of (cs ++ c ∷ []))) db) (sym long) (subst (λ ls. Holds revision ls db) lines held)
 
 -- the tables stand for the commands with the new one, once its change is committed
 pub stands_then : (old new : State) (cs : List Command) (c : Command) (number revision : ℕ) (ch : Change NewEntry) → StandsFor old cs → refusal (versions cs) c ≡ None → IsNumbered cs c number → revision ≡ length cs + 1 → IsChangeOf c number revision ch
     → Commits line_written ch revision old new → StandsFor new (cs ++ c ∷ [])
-stands_then old new cs c number revision ch stands fine count next h done =
-    let held = done.written (length cs) (map line_of (entries_of cs)) (fits cs c number revision ch stands.accepted fine h) stands.holds in
-    let lines = made cs c number revision ch fine count h ∙ ap (λ r. map line_of (entries_after r (entries_of cs) c)) next ∙ sym (ap (map line_of) (entries_then cs c)) in
-    let long : length (cs ++ c ∷ []) ≡ revision = length-append cs (c ∷ []) ∙ sym next in
-    record {
-      accepted = accepted_then [] cs c stands.accepted fine;
-      holds = subst (λ m. Holds m (map line_of (entries_of (cs ++ c ∷ []))) new.now) (sym long) (subst (λ ls. Holds revision ls new.now) lines held);
-      settled = done.committed;
-      live = done.is_open;
-    }
+stands_then old new cs c number revision ch stands fine count next h done = record {
+  accepted = accepted_then [] cs c stands.accepted fine;
+  holds = holds_then old new.now cs c number revision ch stands fine count next h done.written;
+  settled = done.committed;
+  live = done.is_open;
+}
 
 refused_when : (t : Bool) (f : RegisterFault) → refuse_if t f ≡ None → t ≡ false
 refused_when true f e = absurd cc

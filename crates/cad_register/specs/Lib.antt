@@ -8,4 +8,5 @@ pub mod Stands
 pub mod Outlines
 pub mod Changing
 pub mod Refusing
+pub mod Surviving
 pub mod Registers

@@ -12,6 +12,7 @@ ghost use Rattle.cad_versions.specs.AsOf.{as_of};
 ghost use Rattle.cad_register.specs.Listed.{IsListing};
 ghost use Rattle.cad_register.specs.Outlines.{IsStanding};
 ghost use Rattle.cad_register.specs.Stands.{Tells, IsStoreFault, IsListingFault};
+ghost use Rattle.cad_register.specs.Surviving.{KeepsDisk};
 ghost use Rattle.cad_register.specs.Refusing.{Asks, IsForObject, IsForLines, IsNotForMemory, told_as};
 
 use crate::columns::ReadFault;
@@ -43,6 +44,8 @@ pub(crate) fn standing_of<S: Alter>(
         IsStoreFault fault) }
     ensures asked { HasCleanDisk (state S.Store connection.new) →
         Asks S.Store connection.old connection.new (IsForObject object) result }
+    ensures left { HasCleanDisk (state S.Store connection.new) →
+        KeepsDisk (state S.Store connection.old) (state S.Store connection.new) }
     ensures clean { HasCleanDisk (state S.Store connection.new) →
         HasCleanDisk (state S.Store connection.old) }
 {
@@ -77,6 +80,8 @@ pub(crate) fn versions_of<S: Alter>(
         FailsToQuery listing_text (Int (pos revision) ∷ []) (state S.Store connection.old) (state S.Store connection.new) e }
     ensures asked { HasCleanDisk (state S.Store connection.new) →
         Asks S.Store connection.old connection.new (IsForLines revision) result }
+    ensures left { HasCleanDisk (state S.Store connection.new) →
+        KeepsDisk (state S.Store connection.old) (state S.Store connection.new) }
     ensures clean { HasCleanDisk (state S.Store connection.new) →
         HasCleanDisk (state S.Store connection.old) }
 {

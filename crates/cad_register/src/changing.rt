@@ -7,6 +7,7 @@ ghost use Rattle.cad_tables.specs.Steps.{KeepsAll};
 ghost use Rattle.cad_versions.specs.Versions.{begun};
 ghost use Rattle.cad_register.specs.Changing.{IsNew, IsChangeOf};
 ghost use Rattle.cad_register.specs.Stands.{Enacts, IsStoreFault};
+ghost use Rattle.cad_register.specs.Surviving.{EnactsOrNot};
 ghost use Rattle.cad_register.specs.Refusing.{RefusesChange};
 
 use crate::asking::store_fault;
@@ -109,6 +110,8 @@ pub(crate) fn enact<S: Alter>(
         OnErr result (KeepsAll (state S.Store connection.old) (state S.Store connection.new)) }
     ensures store { HasCleanDisk (state S.Store connection.new) → result ≡ Err RegisterFault.Store →
         RefusesChange S.Store connection.old connection.new command revision }
+    ensures crash { HasCleanDisk (state S.Store connection.new) →
+        EnactsOrNot (state S.Store connection.old) (state S.Store connection.new) command number revision }
     ensures clean { HasCleanDisk (state S.Store connection.new) →
         HasCleanDisk (state S.Store connection.old) }
 {

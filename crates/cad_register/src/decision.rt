@@ -8,6 +8,7 @@ ghost use Rattle.cad_versions.specs.Command.{object_named};
 ghost use Rattle.cad_versions.specs.Versions.{history, versions};
 ghost use Rattle.cad_versions.specs.Refusals.{is_entered as entered, are_entered as all_entered, is_full as filled, refuses_body, refusal};
 ghost use Rattle.cad_register.specs.Stands.{Tells, IsStoreFault, IsListingFault, IsRefusal};
+ghost use Rattle.cad_register.specs.Surviving.{KeepsDisk};
 ghost use Rattle.cad_register.specs.Refusing.{Asks, IsForNamed, IsForBody, IsForRoom, IsForAddition, IsForCommand};
 
 use crate::asking::{standing_of, versions_of};
@@ -29,6 +30,8 @@ fn is_entered<S: Alter>(
         IsStoreFault fault) }
     ensures asked { HasCleanDisk (state S.Store connection.new) →
         Asks S.Store connection.old connection.new (IsForNamed object) result }
+    ensures left { HasCleanDisk (state S.Store connection.new) →
+        KeepsDisk (state S.Store connection.old) (state S.Store connection.new) }
     ensures clean { HasCleanDisk (state S.Store connection.new) →
         HasCleanDisk (state S.Store connection.old) }
 {
@@ -52,6 +55,8 @@ fn are_entered<S: Alter>(connection: &mut Connection<S>, body: &Body) -> Result<
         IsStoreFault fault) }
     ensures asked { HasCleanDisk (state S.Store connection.new) →
         Asks S.Store connection.old connection.new (IsForBody body.now) result }
+    ensures left { HasCleanDisk (state S.Store connection.new) →
+        KeepsDisk (state S.Store connection.old) (state S.Store connection.new) }
     ensures clean { HasCleanDisk (state S.Store connection.new) →
         HasCleanDisk (state S.Store connection.old) }
 {
@@ -75,6 +80,8 @@ fn is_full<S: Alter>(
         revision ≡ length commands → IsListingFault (length commands) commands fault) }
     ensures asked { HasCleanDisk (state S.Store connection.new) →
         Asks S.Store connection.old connection.new (IsForRoom revision) result }
+    ensures left { HasCleanDisk (state S.Store connection.new) →
+        KeepsDisk (state S.Store connection.old) (state S.Store connection.new) }
     ensures clean { HasCleanDisk (state S.Store connection.new) →
         HasCleanDisk (state S.Store connection.old) }
 {
@@ -99,6 +106,8 @@ fn check_addition<S: Alter>(
         IsRefusal (refuses_body (versions commands) (Some body.now)) commands fault) }
     ensures asked { HasCleanDisk (state S.Store connection.new) →
         Asks S.Store connection.old connection.new (IsForAddition (Some body.now) revision) result }
+    ensures left { HasCleanDisk (state S.Store connection.new) →
+        KeepsDisk (state S.Store connection.old) (state S.Store connection.new) }
     ensures clean { HasCleanDisk (state S.Store connection.new) →
         HasCleanDisk (state S.Store connection.old) }
 {
@@ -127,6 +136,8 @@ pub(crate) fn decide<S: Alter>(
         IsRefusal (refusal (versions commands) command.now) commands fault) }
     ensures asked { HasCleanDisk (state S.Store connection.new) →
         Asks S.Store connection.old connection.new (IsForCommand command.now revision) result }
+    ensures left { HasCleanDisk (state S.Store connection.new) →
+        KeepsDisk (state S.Store connection.old) (state S.Store connection.new) }
     ensures clean { HasCleanDisk (state S.Store connection.new) →
         HasCleanDisk (state S.Store connection.old) }
 {

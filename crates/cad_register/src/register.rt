@@ -29,7 +29,7 @@ impl<S: Alter + Drop> Drop for Register<S> {
 }
 
 impl<S: Alter> Register<S> {
-    ghost use Rattle.std.specs.Prelude.{◌≡◌, ◌≢◌, ◌≤◌, ◌<◌, ◌+◌, ◌++◌, Err, None, ◌∷◌, [], List, length, pos, true, false, IfOk, IfErr, OnErr, OnOk, IsTrue};
+    ghost use Rattle.std.specs.Prelude.{◌≡◌, ◌≢◌, ◌≤◌, ◌<◌, ◌+◌, ◌++◌, Err, None, ◌∷◌, [], List, length, pos, true, false, IfOk, IfErr, OnErr, OnOk, MatchResult, IsTrue};
     ghost use Rattle.sqlite.specs.State.{HasCleanDisk, FailsToQuery};
     ghost use Rattle.sqlite.specs.declared.error.Error.{Error};
     ghost use Rattle.sqlite_value.specs.declared.value.Value.TheVariants.{Int};
@@ -48,6 +48,7 @@ impl<S: Alter> Register<S> {
     ghost use Rattle.cad_register.specs.Stands.{StandsFor, IsStoreFault, IsListingFault};
     ghost use Rattle.cad_register.specs.Refusing.{told_as, IsNotForMemory, RefusesToApply};
     ghost use Rattle.cad_tables.specs.Faults.{fault_of};
+    ghost use Rattle.cad_register.specs.Surviving.{Leaves, LeavesEither, LeavesOrMakes};
     ghost use Rattle.cad_register.specs.Registers.{connection_of, state_of, revision_of, IsRegisterOf, IsRefused};
 
     /// Gives the connection back.
@@ -91,6 +92,11 @@ impl<S: Alter> Register<S> {
         ensures unchanged { IfErr result (λ refused. HasCleanDisk (state S.Store refused.1) →
             IsTrue (state S.Store refused.1).is_open →
             KeepsAll (state S.Store connection) (state S.Store refused.1)) }
+        // What an open after a crash may find, at every exit.
+        ensures crash { MatchResult result (λ register. HasCleanDisk (state_of S.Store register) →
+            LeavesOrMakes (state S.Store connection) (state_of S.Store register)) (λ refused.
+            HasCleanDisk (state S.Store refused.1) →
+            LeavesOrMakes (state S.Store connection) (state S.Store refused.1)) }
     {
         let mut connection = connection;
         match cad_tables::create(&mut connection) {
@@ -126,6 +132,13 @@ impl<S: Alter> Register<S> {
             IsTrue (state S.Store refused.1).is_open → (commands : List CommandOf) →
             StandsFor (state S.Store connection) commands →
             StandsFor (state S.Store refused.1) commands) }
+        // What an open after a crash may find, at every exit.
+        ensures crash { MatchResult result (λ register. HasCleanDisk (state_of S.Store register) →
+            (commands : List CommandOf) → StandsFor (state S.Store connection) commands →
+            Leaves (state_of S.Store register) commands) (λ refused.
+            HasCleanDisk (state S.Store refused.1) → (commands : List CommandOf) →
+            StandsFor (state S.Store connection) commands →
+            Leaves (state S.Store refused.1) commands) }
     {
         let mut connection = connection;
         match cad_tables::open(&mut connection) {
@@ -162,6 +175,10 @@ impl<S: Alter> Register<S> {
         ensures unchanged { HasCleanDisk (state_of S.Store self.new) →
             IsTrue (state_of S.Store self.new).is_open → OnErr result ((commands : List CommandOf) →
             IsRegisterOf S.Store self.old commands → IsRegisterOf S.Store self.new commands) }
+        // What an open after a crash may find, at every exit.
+        ensures crash { HasCleanDisk (state_of S.Store self.new) → (commands : List CommandOf) →
+            IsRegisterOf S.Store self.old commands →
+            Leaves (state_of S.Store self.new) commands }
     {
         if u64::from(self.revision) < revision {
             return Err(RegisterFault::UnknownRevision);
@@ -186,6 +203,13 @@ impl<S: Alter> Register<S> {
         ensures unchanged { HasCleanDisk (state_of S.Store self.new) →
             IsTrue (state_of S.Store self.new).is_open → OnErr result ((commands : List CommandOf) →
             IsRegisterOf S.Store self.old commands → IsRegisterOf S.Store self.new commands) }
+        // What an open after a crash may find, at every exit, and once the revision is told.
+        ensures crash { HasCleanDisk (state_of S.Store self.new) → (commands : List CommandOf) →
+            IsRegisterOf S.Store self.old commands →
+            LeavesEither (state_of S.Store self.new) commands command }
+        ensures durable { HasCleanDisk (state_of S.Store self.new) →
+            OnOk result ((commands : List CommandOf) → IsRegisterOf S.Store self.old commands →
+            Leaves (state_of S.Store self.new) (commands ++ command ∷ [])) }
     {
         let count = decide(self.alloc, &mut self.connection, self.revision, &command)?;
         if self.revision >= MOST_REVISION {

@@ -1,9 +1,11 @@
-use Rattle.std.proofs.Common.{◌≡◌, Err, inr, subst, ◌∙◌, ◌+◌, length, length-append, ap, sym, ◌∷◌, []}
+use Rattle.std.proofs.Common.{◌≡◌, Err, inr, subst, ◌∙◌, ◌+◌, length, length-append, ap, sym, ◌∷◌, [], ◌++◌}
 use Rattle.std.proofs.lemmas.Result.{err_from_is_err_and}
 use Rattle.cad_register.proofs.WriteLemmas.{numbered}
 use Rattle.cad_register.proofs.StandLemmas.{refused_as}
 use Rattle.cad_versions.specs.declared.fault.RegisterFault.TheVariants as fault
 use Rattle.cad_register.specs.Refusing.{RefusesChange}
+use Rattle.sqlite.specs.Held.{state}
+use Rattle.cad_register.proofs.SurvivingLemmas.{leaves_standing, leaves_then, leaves_or}
 use Rattle.cad_register.proofs.register.Register.apply.Goals as goal
 
 pub returns-in_err-count-clause-refused : goal.returns-in_err-count-clause-refused
@@ -33,3 +35,41 @@ returns-in_err-enact-clause-store g c clean e cs register =
     let is : c.in_err-enact.field-0.0 ≡ fault.Store = let known = p.0 in let given = p.1 in cc in
     let next : c.args.self.now.revision + 1 ≡ length cs + 1 = ap (λ n. n + 1) register.counted in
     inr (c.decide.new.connection, same, subst (RefusesChange g.S.Store c.decide.new.connection c.enact.new.connection c.args.command) next (c.in_err-enact.ensures.store clean (ap Err is)))
+
+pub returns-in_err-count-clause-crash : goal.returns-in_err-count-clause-crash
+returns-in_err-count-clause-crash g c clean cs register =
+    let old = state g.S.Store c.args.self.now.connection in
+    let new = state g.S.Store c.decide.new.connection in
+    leaves_or new cs c.args.command (leaves_then old new cs (c.in_err-count.ensures.left clean cs register.stands) (leaves_standing old cs (g.met.S.Store.settled c.args.self.now.connection.store) register.stands))
+
+pub returns-in_err-enact-clause-crash : goal.returns-in_err-enact-clause-crash
+returns-in_err-enact-clause-crash g c clean cs register =
+    let old = state g.S.Store c.args.self.now.connection in
+    let mid = state g.S.Store c.decide.new.connection in
+    let early = c.in_err-enact.ensures.clean clean in
+    let told = c.in_ok-count.ensures.told early cs register.stands in
+    let decided = told.0 register.counted in
+    let next : c.args.self.now.revision + 1 ≡ length cs + 1 = ap (λ n. n + 1) register.counted in
+    let fits = numbered cs c.args.command c.in_ok-count.count c.next_number.result decided.0 decided.1 c.next_number.ensures.next in
+    let leaves = leaves_then old mid cs (c.in_ok-count.ensures.left early cs register.stands) (leaves_standing old cs (g.met.S.Store.settled c.args.self.now.connection.store) register.stands) in
+    c.in_err-enact.ensures.crash clean cs told.1 leaves decided.0 fits next
+
+pub returns-clause-crash : goal.returns-clause-crash
+returns-clause-crash g c clean cs register =
+    let old = state g.S.Store c.args.self.now.connection in
+    let mid = state g.S.Store c.decide.new.connection in
+    let early = c.in_ok-enact.ensures.clean clean in
+    let told = c.in_ok-count.ensures.told early cs register.stands in
+    let decided = told.0 register.counted in
+    let next : c.args.self.now.revision + 1 ≡ length cs + 1 = ap (λ n. n + 1) register.counted in
+    let fits = numbered cs c.args.command c.in_ok-count.count c.next_number.result decided.0 decided.1 c.next_number.ensures.next in
+    let leaves = leaves_then old mid cs (c.in_ok-count.ensures.left early cs register.stands) (leaves_standing old cs (g.met.S.Store.settled c.args.self.now.connection.store) register.stands) in
+    c.in_ok-enact.ensures.crash clean cs told.1 leaves decided.0 fits next
+
+pub returns-clause-durable : goal.returns-clause-durable
+returns-clause-durable g c clean cs register =
+    let told = c.in_ok-count.ensures.told (c.in_ok-enact.ensures.clean clean) cs register.stands in
+    let decided = told.0 register.counted in
+    let next : c.args.self.now.revision + 1 ≡ length cs + 1 = ap (λ n. n + 1) register.counted in
+    let fits = numbered cs c.args.command c.in_ok-count.count c.next_number.result decided.0 decided.1 c.next_number.ensures.next in
+    leaves_standing (state g.S.Store c.enact.new.connection) (cs ++ c.args.command ∷ []) (g.met.S.Store.settled c.enact.new.connection.store) (c.in_ok-enact.ensures.enacted clean cs told.1 decided.0 fits next)

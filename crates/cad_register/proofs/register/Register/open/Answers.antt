@@ -3,6 +3,7 @@ use Rattle.sqlite.specs.Held.{state}
 use Rattle.cad_versions.specs.Entries.{entries_of}
 use Rattle.cad_register.specs.Rows.{line_of}
 use Rattle.cad_register.proofs.StandLemmas.{stands_kept}
+use Rattle.cad_register.proofs.SurvivingLemmas.{leaves_standing, leaves_then, leaves_no_more}
 use Rattle.cad_register.proofs.register.Register.open.Goals as goal
 
 pub returns-in-Ok-Some-clause-found : goal.returns-in-Ok-Some-clause-found
@@ -27,3 +28,21 @@ returns-in-Ok-None-clause-unchanged g c clean live cs stands =
 pub returns-in-Err-clause-unchanged : goal.returns-in-Err-clause-unchanged
 returns-in-Err-clause-unchanged g c clean live cs stands =
     stands_kept (state g.S.Store c.args.connection) (state g.S.Store c.open.new.conn) cs (c.in-Err.ensures.kept clean live (length cs) (map line_of (entries_of cs)) stands.holds stands.settled) live stands
+
+pub returns-in-Ok-Some-clause-crash : goal.returns-in-Ok-Some-clause-crash
+returns-in-Ok-Some-clause-crash g c clean cs stands =
+    let old = state g.S.Store c.args.connection in
+    let new = state g.S.Store c.open.new.conn in
+    leaves_then old new cs (leaves_no_more old new clean (c.open.ensures.crash (length cs) (map line_of (entries_of cs)) stands.holds)) (leaves_standing old cs (g.met.S.Store.settled c.args.connection.store) stands)
+
+pub returns-in-Ok-None-clause-crash : goal.returns-in-Ok-None-clause-crash
+returns-in-Ok-None-clause-crash g c clean cs stands =
+    let old = state g.S.Store c.args.connection in
+    let new = state g.S.Store c.open.new.conn in
+    leaves_then old new cs (leaves_no_more old new clean (c.open.ensures.crash (length cs) (map line_of (entries_of cs)) stands.holds)) (leaves_standing old cs (g.met.S.Store.settled c.args.connection.store) stands)
+
+pub returns-in-Err-clause-crash : goal.returns-in-Err-clause-crash
+returns-in-Err-clause-crash g c clean cs stands =
+    let old = state g.S.Store c.args.connection in
+    let new = state g.S.Store c.open.new.conn in
+    leaves_then old new cs (leaves_no_more old new clean (c.open.ensures.crash (length cs) (map line_of (entries_of cs)) stands.holds)) (leaves_standing old cs (g.met.S.Store.settled c.args.connection.store) stands)

@@ -1,0 +1,49 @@
+-- What a crash leaves after each step.
+use Rattle.std.proofs.Common.{◌≡◌, ℕ, ◌+◌, inl, inr, List, [], ◌∷◌, ◌++◌, length, map, None, IsTrue, refl, sym, subst}
+use Rattle.sqlite_trees.specs.Tree.{Trees}
+use Rattle.sqlite.specs.State.{State, HasCleanDisk, Survives}
+use Rattle.sqlite.specs.Effect.{Database}
+use Rattle.cad_tables.specs.Holding.{Holds}
+use Rattle.cad_tables.specs.Steps.{CommitsTo, CreatesTo}
+use Rattle.cad_tables.specs.declared.changes.Change.{Change}
+use Rattle.cad_versions.specs.declared.command.Command.{Command}
+use Rattle.cad_versions.specs.Versions.{versions}
+use Rattle.cad_versions.specs.Refusals.{refusal, AreAccepted}
+use Rattle.cad_versions.specs.Entries.{entries_of}
+use Rattle.cad_register.specs.declared.writing.NewEntry.{NewEntry}
+use Rattle.cad_register.specs.Rows.{line_of}
+use Rattle.cad_register.specs.Changing.{IsChangeOf, line_written}
+use Rattle.cad_register.specs.Stands.{StandsFor, IsNumbered}
+use Rattle.cad_register.specs.Surviving.{IsDiskOf, LeavesNoMore, Leaves, LeavesEither, LeavesOrMakes}
+use Rattle.cad_register.proofs.WriteLemmas.{accepted_then, holds_then}
+
+disk_of : (db : Database) (cs : List Command) → AreAccepted [] cs → Holds (length cs) (map line_of (entries_of cs)) db → IsDiskOf cs db.trees
+disk_of db cs fine h = record { accepted = fine; holds = record { schema = refl; state = h.state; versions = h.versions } }
+
+-- what stands is what a crash leaves, where it leaves the last commit
+pub leaves_standing : (s : State) (cs : List Command) → ((trees : Trees) → IsTrue s.is_open → s.may_leave trees → trees ≡ s.committed.trees) → StandsFor s cs → Leaves s cs
+leaves_standing s cs settled stands trees h =
+    let last : s.committed.trees ≡ s.now.trees = λ i. (stands.settled i).trees in
+    subst (IsDiskOf cs) (sym (settled trees stands.live h)) (subst (IsDiskOf cs) (sym last) (disk_of s.now cs stands.accepted stands.holds))
+
+pub leaves_no_more : (old new : State) → HasCleanDisk new → Survives old new (λ _. ⊥) → LeavesNoMore old new
+leaves_no_more old new clean survives trees h = elim (survives.crash clean trees h) [ inl was ↦ was | inr none ↦ absurd none ]
+
+pub leaves_then : (old new : State) (cs : List Command) → LeavesNoMore old new → Leaves old cs → Leaves new cs
+leaves_then old new cs no_more leaves trees h = leaves trees (no_more trees h)
+
+pub leaves_or : (s : State) (cs : List Command) (c : Command) → Leaves s cs → LeavesEither s cs c
+leaves_or s cs c leaves trees h = inl (leaves trees h)
+
+pub leaves_written : (old new : State) (cs : List Command) (c : Command) (number revision : ℕ) (ch : Change NewEntry) → HasCleanDisk new → Survives old new (CommitsTo line_written ch revision old) → StandsFor old cs → Leaves old cs
+    → refusal (versions cs) c ≡ None → IsNumbered cs c number → revision ≡ length cs + 1 → IsChangeOf c number revision ch → LeavesEither new cs c
+leaves_written old new cs c number revision ch clean survives stands leaves fine count next h trees left = elim (survives.crash clean trees left) [
+  | inl was ↦ inl (leaves trees was)
+  | inr made ↦ inr (fine, subst (IsDiskOf (cs ++ c ∷ [])) (sym made.2) (disk_of made.0 (cs ++ c ∷ []) (accepted_then [] cs c stands.accepted fine) (holds_then old made.0 cs c number revision ch stands fine count next h made.1)))
+]
+
+pub leaves_made : (old new : State) → HasCleanDisk new → Survives old new (CreatesTo old) → LeavesOrMakes old new
+leaves_made old new clean survives trees left = elim (survives.crash clean trees left) [
+  | inl was ↦ inl was
+  | inr made ↦ inr (λ none. subst (IsDiskOf []) (sym made.2) (disk_of made.0 [] tt (made.1 none)))
+]

@@ -1,0 +1,43 @@
+-- What an open after a crash may find of a register (SQLite, Atomic Commit; own profile).
+use Rattle.std.specs.Prelude.{◌≡◌, ◌⊎◌, ℕ, ◌+◌, List, [], ◌∷◌, ◌++◌, length, map, None}
+use Rattle.sqlite_trees.specs.Tree.{Trees}
+use Rattle.sqlite.specs.State.{State}
+use Rattle.cad_tables.specs.Tables.{no_schema, register_schema}
+use Rattle.cad_tables.specs.Holding.{Holds}
+use Rattle.cad_versions.specs.declared.command.Command.{Command}
+use Rattle.cad_versions.specs.Versions.{versions}
+use Rattle.cad_versions.specs.Refusals.{refusal, AreAccepted}
+use Rattle.cad_versions.specs.Entries.{entries_of}
+use Rattle.cad_register.specs.Rows.{line_of}
+use Rattle.cad_register.specs.Stands.{StandsFor, IsNumbered}
+
+-- under the register's schema, the trees of the disk hold what the commands made, and these were accepted one after the other
+pub record IsDiskOf (commands : List Command) (trees : Trees) : Type 0 where
+  pub accepted : AreAccepted [] commands
+  pub holds : Holds (length commands) (map line_of (entries_of commands)) (record { schema = register_schema; trees = trees })
+
+-- a crash leaves nothing that it did not leave before
+abbrev pub LeavesNoMore : State → State → Type 0
+LeavesNoMore old new = (trees : Trees) → new.may_leave trees → old.may_leave trees
+
+-- the same, where the tables stood for some commands
+abbrev pub KeepsDisk : State → State → Type 0
+KeepsDisk old new = (commands : List Command) → StandsFor old commands → LeavesNoMore old new
+
+-- a crash leaves the register of the commands
+abbrev pub Leaves : State → List Command → Type 0
+Leaves s commands = (trees : Trees) → s.may_leave trees → IsDiskOf commands trees
+
+-- a crash leaves the register of the commands, or of them and the new one, where that is accepted
+abbrev pub LeavesEither : State → List Command → Command → Type 0
+LeavesEither s commands command =
+    (trees : Trees) → s.may_leave trees → IsDiskOf commands trees ⊎ ((refusal (versions commands) command ≡ None) × IsDiskOf (commands ++ command ∷ []) trees)
+
+-- a crash leaves what it left before, or the register of no commands, where the database was empty
+abbrev pub LeavesOrMakes : State → State → Type 0
+LeavesOrMakes old new = (trees : Trees) → new.may_leave trees → old.may_leave trees ⊎ (old.now.schema ≡ no_schema → IsDiskOf [] trees)
+
+-- so a change leaves it, whose command is accepted, whose number is the next and whose revision counts it
+abbrev pub EnactsOrNot : State → State → Command → ℕ → ℕ → Type 0
+EnactsOrNot old new command number revision =
+    (commands : List Command) → StandsFor old commands → Leaves old commands → refusal (versions commands) command ≡ None → IsNumbered commands command number → revision ≡ length commands + 1 → LeavesEither new commands command
