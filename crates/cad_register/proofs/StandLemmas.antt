@@ -2,6 +2,7 @@
 use Rattle.std.proofs.Common.{◌≡◌, ◌≤◌, ℕ, Vec, Global, Result, Ok, Err, MatchResult, IfOk, IfErr, List, length, map, subst, sym, ◌∙◌, IsTrue, Option, Some, None, Bool, true, false, inl, inr}
 use Rattle.sqlite_value.specs.Order.{Row}
 use Rattle.sqlite_keyed.specs.Lists.{sort_by}
+use Rattle.sqlite.specs.Effect.{IsDatabase}
 use Rattle.sqlite.specs.State.{State, IsUnchanged}
 use Rattle.cad_tables.specs.Holding.{Holds}
 use Rattle.cad_tables.specs.Steps.{KeepsAll}
@@ -22,13 +23,14 @@ use Rattle.cad_versions.specs.declared.command.Command.{Command}
 use Rattle.cad_versions.specs.Entries.{Entry, entries_of, entries_at, seen_at}
 use Rattle.cad_register.specs.Rows.{line_of}
 use Rattle.cad_register.specs.Damage.{IsCauseIn}
-use Rattle.cad_register.specs.Stands.{StandsFor, IsListingFault, IsRefusal, rows_at}
+use Rattle.cad_register.specs.Stands.{StandsFor, IsStoreFault, IsListingFault, IsRefusal, rows_at}
 use Rattle.cad_register.specs.Registers.{IsRefused}
 
 pub stands_kept : (old new : State) (cs : List Command) → KeepsAll old new → IsTrue new.is_open → StandsFor old cs → StandsFor new cs
 stands_kept old new cs keeps still stands = record {
   accepted = stands.accepted;
   holds = subst (Holds (length cs) (map line_of (entries_of cs))) (sym keeps.0) stands.holds;
+  sound = subst IsDatabase (sym keeps.0) stands.sound;
   settled = keeps.1 ∙ stands.settled ∙ sym keeps.0;
   live = still;
 }
@@ -39,6 +41,11 @@ stands_same old new cs same stands = stands_kept old new cs (same.0.now_is, same
 listing_cause : (revision : ℕ) (cs : List Command) (f : RegisterFault) → IsCauseIn (rows_at revision cs) f → IsListingFault revision cs f
 listing_cause revision cs fault.Store h = tt
 listing_cause revision cs f h = h
+
+pub store_cause : (revision : ℕ) (cs : List Command) (f : RegisterFault) → IsStoreFault f → IsListingFault revision cs f
+store_cause revision cs fault.Store h = tt
+store_cause revision cs fault.Memory h = tt
+store_cause revision cs f h = absurd h
 
 -- what the rows of a revision show is the register at the revision
 pub listing_told : (revision : ℕ) (cs : List Command) (rows : List Row) (new : State) (r : Result (Vec VersionedObject Global) RegisterFault) → rows ≡ rows_at revision cs → StandsFor new cs

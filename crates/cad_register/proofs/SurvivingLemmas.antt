@@ -1,8 +1,10 @@
 -- What a crash leaves after each step.
-use Rattle.std.proofs.Common.{◌≡◌, ℕ, ◌+◌, inl, inr, List, [], ◌∷◌, ◌++◌, length, map, None, IsTrue, refl, sym, subst}
+use Rattle.std.proofs.Common.{◌≡◌, ℕ, ◌+◌, inl, inr, List, [], ◌∷◌, ◌++◌, length, map, None, IsTrue, refl, sym, subst, ◌∙◌}
 use Rattle.sqlite_trees.specs.Tree.{Trees}
 use Rattle.sqlite.specs.State.{State, HasCleanDisk, Survives}
-use Rattle.sqlite.specs.Effect.{Database}
+use Rattle.sqlite.specs.Effect.{Database, IsDatabase}
+use Rattle.cad_tables.specs.Tables.{register_schema}
+use Rattle.cad_tables.proofs.SchemaLemmas.{register_schema_only}
 use Rattle.cad_tables.specs.Holding.{Holds}
 use Rattle.cad_tables.specs.Steps.{CommitsTo, CreatesTo}
 use Rattle.cad_tables.specs.declared.changes.Change.{Change}
@@ -14,17 +16,17 @@ use Rattle.cad_register.specs.declared.writing.NewEntry.{NewEntry}
 use Rattle.cad_register.specs.Rows.{line_of}
 use Rattle.cad_register.specs.Changing.{IsChangeOf, line_written}
 use Rattle.cad_register.specs.Stands.{StandsFor, IsNumbered}
-use Rattle.cad_register.specs.Surviving.{IsDiskOf, LeavesNoMore, Leaves, LeavesEither, LeavesOrMakes}
+use Rattle.cad_register.specs.Surviving.{database_of, IsDiskOf, IsOpenedOn, LeavesNoMore, Leaves, LeavesEither, LeavesOrMakes}
 use Rattle.cad_register.proofs.WriteLemmas.{accepted_then, holds_then}
 
-disk_of : (db : Database) (cs : List Command) → AreAccepted [] cs → Holds (length cs) (map line_of (entries_of cs)) db → IsDiskOf cs db.trees
-disk_of db cs fine h = record { accepted = fine; holds = record { schema = refl; state = h.state; versions = h.versions } }
+disk_of : (db : Database) (cs : List Command) → AreAccepted [] cs → Holds (length cs) (map line_of (entries_of cs)) db × IsDatabase db → IsDiskOf cs db.trees
+disk_of db cs fine h = record { accepted = fine; holds = record { schema = refl; state = h.0.state; versions = h.0.versions }; sound = subst (λ s. IsDatabase (record { schema = s; trees = db.trees })) h.0.schema h.1 }
 
 -- what stands is what a crash leaves, where it leaves the last commit
 pub leaves_standing : (s : State) (cs : List Command) → ((trees : Trees) → IsTrue s.is_open → s.may_leave trees → trees ≡ s.committed.trees) → StandsFor s cs → Leaves s cs
 leaves_standing s cs settled stands trees h =
     let last : s.committed.trees ≡ s.now.trees = λ i. (stands.settled i).trees in
-    subst (IsDiskOf cs) (sym (settled trees stands.live h)) (subst (IsDiskOf cs) (sym last) (disk_of s.now cs stands.accepted stands.holds))
+    subst (IsDiskOf cs) (sym (settled trees stands.live h)) (subst (IsDiskOf cs) (sym last) (disk_of s.now cs stands.accepted (stands.holds, stands.sound)))
 
 pub leaves_no_more : (old new : State) → HasCleanDisk new → Survives old new (λ _. ⊥) → LeavesNoMore old new
 leaves_no_more old new clean survives trees h = elim (survives.crash clean trees h) [ inl was ↦ was | inr none ↦ absurd none ]
@@ -47,3 +49,17 @@ leaves_made old new clean survives trees left = elim (survives.crash clean trees
   | inl was ↦ inl was
   | inr made ↦ inr (λ none. subst (IsDiskOf []) (sym made.2) (disk_of made.0 [] tt (made.1 none)))
 ]
+
+-- what an open gives over such a disk stands for the commands
+pub stands_opened : (s : State) (cs : List Command) → IsOpenedOn cs s → StandsFor s cs
+stands_opened s cs opened =
+    let live = opened.live opened.opens.is_open in
+    let schema : s.committed.schema ≡ register_schema = register_schema_only s.committed.trees s.committed.schema opened.disk.sound live.1 in
+    let found : s.committed ≡ database_of s.committed.trees = λ i. record { schema = schema i; trees = s.committed.trees } in
+    record {
+      accepted = opened.disk.accepted;
+      holds = subst (Holds (length cs) (map line_of (entries_of cs))) (sym (opened.opens.clean ∙ found)) opened.disk.holds;
+      sound = live.0;
+      settled = sym opened.opens.clean;
+      live = opened.opens.is_open;
+    }

@@ -10,7 +10,7 @@ use Rattle.cad_tables.specs.declared.changes.Change.{Change}
 use Rattle.cad_tables.specs.declared.changes.Change.TheVariants as change
 use Rattle.cad_tables.specs.Holding.{Holds}
 use Rattle.cad_tables.specs.Changes.{is_open_of as is_open_line, closed_line, closed_if, changed, NamesOne, Fits}
-use Rattle.sqlite.specs.Effect.{Database}
+use Rattle.sqlite.specs.Effect.{Database, IsDatabase}
 use Rattle.cad_tables.specs.Steps.{Commits, IsWrittenTo}
 use Rattle.cad_versions.specs.declared.object_id.ObjectId.{ObjectId}
 use Rattle.cad_versions.specs.declared.body.Body.{Body}
@@ -132,19 +132,20 @@ accepted_then vs (d ∷ cs) c all fine = (all.0, accepted_then (after vs d) cs c
 
 -- a change that is written is that of the new command
 pub holds_then : (old : State) (db : Database) (cs : List Command) (c : Command) (number revision : ℕ) (ch : Change NewEntry) → StandsFor old cs → refusal (versions cs) c ≡ None → IsNumbered cs c number → revision ≡ length cs + 1
-    → IsChangeOf c number revision ch → IsWrittenTo line_written ch revision old db → Holds (length (cs ++ c ∷ [])) (map line_of (entries_of (cs ++ c ∷ []))) db
+    → IsChangeOf c number revision ch → IsWrittenTo line_written ch revision old db → Holds (length (cs ++ c ∷ [])) (map line_of (entries_of (cs ++ c ∷ []))) db × IsDatabase db
 holds_then old db cs c number revision ch stands fine count next h written =
     let held = written (length cs) (map line_of (entries_of cs)) (fits cs c number revision ch stands.accepted fine h) stands.holds in
     let lines = made cs c number revision ch fine count h ∙ ap (λ r. map line_of (entries_after r (entries_of cs) c)) next ∙ sym (ap (map line_of) (entries_then cs c)) in
     let long : length (cs ++ c ∷ []) ≡ revision = length-append cs (c ∷ []) ∙ sym next in
-    subst (λ m. Holds m (map line_of (entries_of (cs ++ c ∷ []))) db) (sym long) (subst (λ ls. Holds revision ls db) lines held)
+    (subst (λ m. Holds m (map line_of (entries_of (cs ++ c ∷ []))) db) (sym long) (subst (λ ls. Holds revision ls db) lines held.0), held.1)
 
 -- the tables stand for the commands with the new one, once its change is committed
 pub stands_then : (old new : State) (cs : List Command) (c : Command) (number revision : ℕ) (ch : Change NewEntry) → StandsFor old cs → refusal (versions cs) c ≡ None → IsNumbered cs c number → revision ≡ length cs + 1 → IsChangeOf c number revision ch
     → Commits line_written ch revision old new → StandsFor new (cs ++ c ∷ [])
 stands_then old new cs c number revision ch stands fine count next h done = record {
   accepted = accepted_then [] cs c stands.accepted fine;
-  holds = holds_then old new.now cs c number revision ch stands fine count next h done.written;
+  holds = (holds_then old new.now cs c number revision ch stands fine count next h done.written).0;
+  sound = (holds_then old new.now cs c number revision ch stands fine count next h done.written).1;
   settled = done.committed;
   live = done.is_open;
 }

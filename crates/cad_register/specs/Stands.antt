@@ -7,6 +7,7 @@ use Rattle.cad_versions.specs.declared.fault.RegisterFault.{RegisterFault}
 use Rattle.cad_versions.specs.declared.fault.RegisterFault.TheVariants as fault
 use Rattle.cad_versions.specs.AsOf.{by_identifier}
 use Rattle.cad_register.specs.Damage.{IsCauseIn}
+use Rattle.sqlite.specs.Effect.{IsDatabase}
 use Rattle.sqlite.specs.State.{State}
 use Rattle.cad_tables.specs.Holding.{Holds}
 use Rattle.cad_versions.specs.declared.command.Command.{Command}
@@ -16,10 +17,11 @@ use Rattle.cad_versions.specs.Refusals.{refusal, AreAccepted}
 use Rattle.cad_versions.specs.Entries.{Entry, version_in, entries_of, entries_at}
 use Rattle.cad_register.specs.Rows.{line_of}
 
--- the tables stand for the commands: these were accepted one after the other, and their entries are stored and committed (own profile)
+-- the tables stand for the commands: these were accepted one after the other, and their entries are stored and committed in a database that lists its tables and obeys them, as each open connection's does (own profile)
 pub record StandsFor (s : State) (commands : List Command) : Type 0 where
   pub accepted : AreAccepted [] commands
   pub holds : Holds (length commands) (map line_of (entries_of commands)) s.now
+  pub sound : IsDatabase s.now
   pub settled : s.committed ≡ s.now
   pub live : IsTrue s.is_open
 

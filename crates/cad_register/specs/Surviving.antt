@@ -1,7 +1,8 @@
 -- What an open after a crash may find of a register (SQLite, Atomic Commit; own profile).
 use Rattle.std.specs.Prelude.{◌≡◌, ◌⊎◌, ℕ, ◌+◌, List, [], ◌∷◌, ◌++◌, length, map, None}
 use Rattle.sqlite_trees.specs.Tree.{Trees}
-use Rattle.sqlite.specs.State.{State}
+use Rattle.sqlite.specs.Effect.{Database, IsDatabase}
+use Rattle.sqlite.specs.State.{State, Opens, IsLive}
 use Rattle.cad_tables.specs.Tables.{no_schema, register_schema}
 use Rattle.cad_tables.specs.Holding.{Holds}
 use Rattle.cad_versions.specs.declared.command.Command.{Command}
@@ -11,10 +12,20 @@ use Rattle.cad_versions.specs.Entries.{entries_of}
 use Rattle.cad_register.specs.Rows.{line_of}
 use Rattle.cad_register.specs.Stands.{StandsFor, IsNumbered}
 
--- under the register's schema, the trees of the disk hold what the commands made, and these were accepted one after the other
+abbrev pub database_of : Trees → Database
+database_of trees = record { schema = register_schema; trees = trees }
+
+-- the trees of the disk list the register's tables and obey them, and hold what the commands made; these were accepted one after the other
 pub record IsDiskOf (commands : List Command) (trees : Trees) : Type 0 where
   pub accepted : AreAccepted [] commands
-  pub holds : Holds (length commands) (map line_of (entries_of commands)) (record { schema = register_schema; trees = trees })
+  pub holds : Holds (length commands) (map line_of (entries_of commands)) (database_of trees)
+  pub sound : IsDatabase (database_of trees)
+
+-- the connection is as an open gives it (SQLite, Opening A New Database Connection), over such a disk
+pub record IsOpenedOn (commands : List Command) (s : State) : Type 0 where
+  pub opens : Opens s
+  pub live : IsLive s
+  pub disk : IsDiskOf commands s.committed.trees
 
 -- a crash leaves nothing that it did not leave before
 abbrev pub LeavesNoMore : State → State → Type 0

@@ -48,7 +48,7 @@ impl<S: Alter> Register<S> {
     ghost use Rattle.cad_register.specs.Stands.{StandsFor, IsStoreFault, IsListingFault};
     ghost use Rattle.cad_register.specs.Refusing.{told_as, IsNotForMemory, RefusesToApply};
     ghost use Rattle.cad_tables.specs.Faults.{fault_of};
-    ghost use Rattle.cad_register.specs.Surviving.{Leaves, LeavesEither, LeavesOrMakes};
+    ghost use Rattle.cad_register.specs.Surviving.{IsOpenedOn, Leaves, LeavesEither, LeavesOrMakes};
     ghost use Rattle.cad_register.specs.Registers.{connection_of, state_of, revision_of, IsRegisterOf, IsRefused};
 
     /// Gives the connection back.
@@ -118,6 +118,14 @@ impl<S: Alter> Register<S> {
         ensures found { IfOk result (λ register. HasCleanDisk (state_of S.Store register) →
             (commands : List CommandOf) → StandsFor (state S.Store connection) commands →
             length commands ≤ 4294967294 → IsRegisterOf S.Store register commands) }
+        // What a crash left of a register opens as that register.
+        ensures recovered { MatchResult result (λ register.
+            HasCleanDisk (state_of S.Store register) → (commands : List CommandOf) →
+            IsOpenedOn commands (state S.Store connection) → length commands ≤ 4294967294 →
+            IsRegisterOf S.Store register commands) (λ refused.
+            HasCleanDisk (state S.Store refused.1) → (commands : List CommandOf) →
+            IsOpenedOn commands (state S.Store connection) → length commands ≤ 4294967294 →
+            refused.0 ≢ RegisterFault.NotARegister) }
         ensures known { IfErr result (λ refused. HasCleanDisk (state S.Store refused.1) →
             (commands : List CommandOf) → StandsFor (state S.Store connection) commands →
             length commands ≤ 4294967294 → refused.0 ≢ RegisterFault.NotARegister) }

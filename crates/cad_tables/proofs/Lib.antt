@@ -13,4 +13,5 @@ pub mod RefusalLemmas
 pub mod OpeningLemmas
 pub mod NameLemmas
 pub mod StandingLemmas
+pub mod SchemaLemmas
 pub mod LawLemmas

@@ -18,7 +18,7 @@ use Rattle.sqlite.specs.Change.{created, next_tree}
 use Rattle.sqlite.specs.Does.{Tally, Does, lacks_sequence}
 use Rattle.sqlite.specs.Rows.{Written}
 use Rattle.sqlite.specs.Program.{overlay}
-use Rattle.sqlite.specs.Effect.{Database}
+use Rattle.sqlite.specs.Effect.{Database, IsDatabase}
 use Rattle.sqlite.specs.Listing.{understood}
 use Rattle.sqlite.specs.State.{State, mode_of, Executes, Shown, QueriesRow, Writes}
 use Rattle.sqlite.proofs.Callers.{statement_of, runs_as, reads_as, first_as, one_step}
@@ -56,6 +56,12 @@ counts old new n m xs count has h =
       state = ap (λ (t : Trees). t 0) whole ∙ applied.rows ∙ edit;
       versions = ap (λ (t : Trees). t 1) whole ∙ applied.tables.1.0 (λ e. absurd (omega arith)) ∙ has.versions;
     }
+
+-- what it leaves is sound
+pub counts_sound : (old new : State) (n m : ℕ) (xs : List Line) (count : ℕ) → Holds n xs old.now → Executes count_text (Int (pos m) ∷ []) old new (Ok count) → IsDatabase new.now
+counts_sound old new n m xs count has h =
+    let command = Update 0 (record { lets = []; body = count_query }) in
+    (runs_as count_text (Int (pos m) ∷ []) old new register_schema has.schema command count_is count_plain count h).sound
 
 pub reads_revision : (old new : State) (n : ℕ) (xs : List Line) (row : Row) → Holds n xs old.now → QueriesRow revision_text [] old new (Ok row) → row ≡ Int (pos 1) ∷ Int (pos n) ∷ []
 reads_revision old new n xs row has h =
@@ -141,3 +147,6 @@ begins old new count has none no_version h =
       state = ap (λ (t : Trees). t 0) whole ∙ applied.rows ∙ edit;
       versions = ap (λ (t : Trees). t 1) whole ∙ applied.tables.1.0 (λ e. absurd (omega arith)) ∙ no_version;
     }
+
+pub begins_sound : (old new : State) (count : ℕ) → old.now.schema ≡ register_schema → Executes begin_text [] old new (Ok count) → IsDatabase new.now
+begins_sound old new count has h = (runs_as begin_text [] old new register_schema has (Insert 0 (Values begin_terms 4)) begin_is begin_plain count h).sound

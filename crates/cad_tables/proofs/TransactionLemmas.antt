@@ -3,6 +3,7 @@ use Rattle.std.proofs.Common.{◌≡◌, ◌≤◌, inl, inr, List, [], ℕ, tru
 use Rattle.sqlite_trees.specs.Tree.{Trees}
 use Rattle.sqlite_trees.specs.declared.store.Store.{Ghosts}
 use Rattle.sqlite.specs.State.{HasCleanDisk, Survives, Shows}
+use Rattle.sqlite.specs.Effect.{IsDatabase}
 use Rattle.sqlite.specs.Held.{Held, state}
 use Rattle.sqlite.proofs.StateLemmas.{survives_then}
 use Rattle.sqlite.proofs.Callers.{survives_begin}
@@ -49,7 +50,7 @@ module _ {S : Type 0} (g : Ghosts S) (old begun last ended : Held S) (begins : b
       let from : MakesTables (state g (record old { in_transaction = true })) (state g last) = rw begins at made in
       record {
         free = from.free;
-        holds = λ none. subst (Holds 0 []) (sym shown.now_is) (from.holds none);
+        holds = λ none. subst (λ db. Holds 0 [] db × IsDatabase db) (sym shown.now_is) (from.holds none);
         committed = shown.committed_is ∙ sym shown.now_is;
         was_open = from.inside.was_open;
         is_open = shown.is_open;

@@ -1,7 +1,7 @@
 -- The steps of a transaction, as what a connection shows before and after.
 use Rattle.std.specs.Prelude.{◌≡◌, ℕ, true, false, IsTrue, List, [], ◌∷◌, ◌++◌, map}
 use Rattle.sqlite_trees.specs.Tree.{Trees}
-use Rattle.sqlite.specs.Effect.{Database}
+use Rattle.sqlite.specs.Effect.{Database, IsDatabase}
 use Rattle.sqlite.specs.State.{State, Shows}
 use Rattle.cad_tables.specs.Line.{Line}
 use Rattle.cad_tables.specs.Tables.{no_schema, is_standing}
@@ -23,9 +23,9 @@ pub record Adds (line : Line) (old new : State) : Type 0 where
   pub holds : (n : ℕ) (lines : List Line) → Holds n lines old.now → Holds n (lines ++ line ∷ []) new.now
   pub inside : IsInside old new
 
--- own profile: the revision is this
+-- own profile: the revision is this, in a database that lists its tables and obeys them
 pub record Counts (revision : ℕ) (old new : State) : Type 0 where
-  pub holds : (n : ℕ) (lines : List Line) → Holds n lines old.now → Holds revision lines new.now
+  pub holds : (n : ℕ) (lines : List Line) → Holds n lines old.now → Holds revision lines new.now × IsDatabase new.now
   pub inside : IsInside old new
 
 -- own profile: the open line of the object is closed
@@ -36,7 +36,7 @@ pub record Closes (c : Closing) (revision : ℕ) (old new : State) : Type 0 wher
 -- own profile: neither name was in use, and an empty database has the two tables, at revision 0 and with no lines
 pub record MakesTables (old new : State) : Type 0 where
   pub free : is_standing old.now.schema ≡ false
-  pub holds : old.now.schema ≡ no_schema → Holds 0 [] new.now
+  pub holds : old.now.schema ≡ no_schema → Holds 0 [] new.now × IsDatabase new.now
   pub inside : IsInside old new
 
 module _ {L : Type 0} (line_of : L → Line) (change : Change L) (revision : ℕ) (old : State) where
@@ -45,9 +45,9 @@ module _ {L : Type 0} (line_of : L → Line) (change : Change L) (revision : ℕ
     pub holds : (n : ℕ) (lines : List Line) → Fits change lines → Holds n lines old.now → Holds n (changed line_of change revision lines) new.now
     pub inside : IsInside old new
 
-  -- own profile: the lines are changed, and the revision is this
+  -- own profile: the lines are changed, and the revision is this, in a database that lists its tables and obeys them
   abbrev pub IsWrittenTo : Database → Type 0
-  IsWrittenTo db = (n : ℕ) (lines : List Line) → Fits change lines → Holds n lines old.now → Holds revision (changed line_of change revision lines) db
+  IsWrittenTo db = (n : ℕ) (lines : List Line) → Fits change lines → Holds n lines old.now → Holds revision (changed line_of change revision lines) db × IsDatabase db
 
   -- own profile: so it is inside the transaction
   pub record Commands (new : State) : Type 0 where
@@ -69,7 +69,7 @@ module _ {L : Type 0} (line_of : L → Line) (change : Change L) (revision : ℕ
 -- own profile: neither name was in use, and an empty database is the register of no commands, and it is the last commit
 pub record Creates (old new : State) : Type 0 where
   pub free : is_standing old.now.schema ≡ false
-  pub holds : old.now.schema ≡ no_schema → Holds 0 [] new.now
+  pub holds : old.now.schema ≡ no_schema → Holds 0 [] new.now × IsDatabase new.now
   pub committed : new.committed ≡ new.now
   pub was_open : IsTrue old.is_open
   pub is_open : IsTrue new.is_open
@@ -77,4 +77,4 @@ pub record Creates (old new : State) : Type 0 where
 
 -- SQLite, Atomic Commit: what the disk holds once the tables are committed
 abbrev pub CreatesTo : State → Trees → Type 0
-CreatesTo old trees = (db : Database) × (old.now.schema ≡ no_schema → Holds 0 [] db) × (trees ≡ db.trees)
+CreatesTo old trees = (db : Database) × (old.now.schema ≡ no_schema → Holds 0 [] db × IsDatabase db) × (trees ≡ db.trees)

@@ -8,7 +8,7 @@ use Rattle.cad_versions.proofs.HistoryLemmas.{histories}
 use Rattle.cad_register.specs.Rows.{line_of}
 use Rattle.cad_register.proofs.OrderLemmas.{history_untied, history_rows}
 use Rattle.cad_register.proofs.StandingLemmas.{class_stands, opened_stands}
-use Rattle.cad_register.proofs.StandLemmas.{stands_same}
+use Rattle.cad_register.proofs.StandLemmas.{stands_kept, stands_same}
 use Rattle.cad_tables.specs.Texts.{history_text}
 use Rattle.cad_register.proofs.RefusingLemmas.{settled_here, settled_by, not_for_memory}
 use Rattle.cad_tables.specs.Faults.{fault_of}
@@ -55,3 +55,13 @@ pub returns-in-Ok-read-clause-asked : goal.returns-in-Ok-read-clause-asked
 returns-in-Ok-read-clause-asked g c clean cs stands =
     let lines = map line_of (entries_of cs) in
     settled_by g.S.Store c.args.connection.now c.history.new.conn _ (c.in-Ok.ensures.same clean (length cs) lines stands.holds) (c.history.ensures.crash (length cs) lines stands.holds)
+
+pub returns-in-Err-clause-told : goal.returns-in-Err-clause-told
+returns-in-Err-clause-told g c clean cs stands = (
+  c.store_fault.ensures.cause,
+  λ live. stands_kept (state g.S.Store c.args.connection.now) (state g.S.Store c.history.new.conn) cs (c.in-Err.ensures.kept clean live (length cs) (map line_of (entries_of cs)) stands.holds stands.settled) live stands,
+)
+
+pub returns-in-Err-Memory-clause-told : goal.returns-in-Err-Memory-clause-told
+returns-in-Err-Memory-clause-told g c clean cs stands =
+    (tt, λ live. stands_same (state g.S.Store c.args.connection.now) (state g.S.Store c.history.new.conn) cs (c.in-Ok.ensures.same clean (length cs) (map line_of (entries_of cs)) stands.holds) stands)

@@ -4,7 +4,7 @@ use Rattle.cad_versions.specs.Entries.{entries_of}
 use Rattle.cad_versions.proofs.HistoryLemmas.{histories}
 use Rattle.cad_register.specs.Rows.{line_of}
 use Rattle.cad_register.proofs.OrderLemmas.{listing_untied, listing_rows}
-use Rattle.cad_register.proofs.StandLemmas.{stands_same, listing_told}
+use Rattle.cad_register.proofs.StandLemmas.{stands_kept, stands_same, store_cause, listing_told}
 use Rattle.cad_tables.specs.Texts.{listing_text}
 use Rattle.cad_register.proofs.RefusingLemmas.{settled_here, not_for_memory}
 use Rattle.cad_tables.specs.Faults.{fault_of}
@@ -33,3 +33,9 @@ returns-in-Err-clause-asked g c clean cs stands e =
       told = not_for_memory (fault_of told.0) (ap told_as (sym told.1) ∙ sym c.store_fault.ensures.told ∙ e);
       fails = told.2;
     }
+
+pub returns-in-Err-clause-told : goal.returns-in-Err-clause-told
+returns-in-Err-clause-told g c clean cs stands = (
+  store_cause c.args.revision cs c.store_fault.result c.store_fault.ensures.cause,
+  λ live. stands_kept (state g.S.Store c.args.connection.now) (state g.S.Store c.listing.new.conn) cs (c.in-Err.ensures.kept clean live (length cs) (map line_of (entries_of cs)) stands.holds stands.settled) live stands,
+)

@@ -3,7 +3,7 @@ use Rattle.std.proofs.Common.{arith, inl, inr, true, rules, sym, ◌∙◌, code
 use Rattle.sqlite.specs.Held.{state}
 use Rattle.sqlite.specs.State.{HasCleanDisk}
 use Rattle.cad_tables.specs.Refusals.{Ran, making_state, making_version, beginning}
-use Rattle.cad_tables.proofs.Statements.{makes_state, makes_version, begins}
+use Rattle.cad_tables.proofs.Statements.{makes_state, makes_version, begins, begins_sound}
 use Rattle.cad_tables.specs.Tables.{state_table, version_made}
 use Rattle.cad_tables.specs.Texts.{state_text, version_text}
 use Rattle.cad_tables.proofs.NameLemmas.{state_makes, version_makes}
@@ -67,7 +67,7 @@ returns-clause-makes g c clean inside is =
       holds = λ none.
           let started = makes_state old first _ none one.0 in
           let ready = makes_version first second _ started.0 started.1 two.0 in
-          begins second last _ ready.0 ready.1 ready.2 three.0;
+          (begins second last _ ready.0 ready.1 ready.2 three.0, begins_sound second last _ ready.0 three.0);
       inside = inside_then old second last (inside_then old first second one.1 two.1) three.1;
     }
 

@@ -1,6 +1,6 @@
 use Rattle.std.proofs.Common.{refl}
 use Rattle.sqlite.specs.Held.{state}
-use Rattle.cad_tables.proofs.Statements.{counts}
+use Rattle.cad_tables.proofs.Statements.{counts, counts_sound}
 use Rattle.std.proofs.Common.{inl}
 use Rattle.cad_tables.specs.Refusals.{counting}
 use Rattle.cad_tables.proofs.RefusalLemmas.{told, refused_here}
@@ -11,7 +11,8 @@ returns-clause-counts g c clean inside =
     let old = state g.S.Store c.args.tx.now.conn.now in
     let new = state g.S.Store c.execute.new.self.conn.now in
     let ran = c.in_ok-execute.ensures.runs clean inside in
-    record { holds = λ n lines has. counts old new n c.args.revision lines _ has (rw c.one_cell.ensures at ran.0); inside = ran.1 }
+    let sets = rw c.one_cell.ensures at ran.0 in
+    record { holds = λ n lines has. (counts old new n c.args.revision lines _ has sets, counts_sound old new n c.args.revision lines _ has sets); inside = ran.1 }
 
 pub returns-in_err-execute-clause-refused : goal.returns-in_err-execute-clause-refused
 returns-in_err-execute-clause-refused g c = λ clean inside.

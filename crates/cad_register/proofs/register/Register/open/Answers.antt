@@ -3,7 +3,7 @@ use Rattle.sqlite.specs.Held.{state}
 use Rattle.cad_versions.specs.Entries.{entries_of}
 use Rattle.cad_register.specs.Rows.{line_of}
 use Rattle.cad_register.proofs.StandLemmas.{stands_kept}
-use Rattle.cad_register.proofs.SurvivingLemmas.{leaves_standing, leaves_then, leaves_no_more}
+use Rattle.cad_register.proofs.SurvivingLemmas.{leaves_standing, leaves_then, leaves_no_more, stands_opened}
 use Rattle.cad_register.proofs.register.Register.open.Goals as goal
 
 pub returns-in-Ok-Some-clause-found : goal.returns-in-Ok-Some-clause-found
@@ -46,3 +46,9 @@ returns-in-Err-clause-crash g c clean cs stands =
     let old = state g.S.Store c.args.connection in
     let new = state g.S.Store c.open.new.conn in
     leaves_then old new cs (leaves_no_more old new clean (c.open.ensures.crash (length cs) (map line_of (entries_of cs)) stands.holds)) (leaves_standing old cs (g.met.S.Store.settled c.args.connection.store) stands)
+
+pub returns-in-Ok-Some-clause-recovered : goal.returns-in-Ok-Some-clause-recovered
+returns-in-Ok-Some-clause-recovered g c clean cs opened low = returns-in-Ok-Some-clause-found g c clean cs (stands_opened (state g.S.Store c.args.connection) cs opened) low
+
+pub returns-in-Ok-None-clause-recovered : goal.returns-in-Ok-None-clause-recovered
+returns-in-Ok-None-clause-recovered g c clean cs opened low = returns-in-Ok-None-clause-known g c clean cs (stands_opened (state g.S.Store c.args.connection) cs opened) low
