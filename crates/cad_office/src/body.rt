@@ -7,7 +7,8 @@ ghost use Rattle.cad_office.specs.CommandObjects.{optional, without, party_in, u
 ghost use Rattle.cad_office.specs.Instructions.{attributes_of, coordinates_of, outline_of};
 ghost use Rattle.cad_office.specs.Values.{points_in, ring_in};
 
-use crate::members::{Members, Unread, point};
+use crate::members::{Members, Unread};
+use crate::values::point;
 use cad_shape::{Point, Ring};
 use cad_versions::Body;
 use serde_json::Value;

@@ -19,6 +19,7 @@ mod sample;
 #[cfg(test)]
 mod tests;
 mod turns;
+mod values;
 mod write;
 
 pub use fault::OfficeFault;
