@@ -103,6 +103,7 @@ impl Members {
     }
 
     /// Whether every member was asked for.
+    #[tactic(auto, using(crate::proofs::MemberLemmas::no_entries))]
     pub fn end(&self) -> Result<(), Unread>
         ensures value { IsOk result ↔ (members_view self.now.left.entries ≡ no_members) }
         ensures refused { IfErr result (λ e. e ≡ Unread.NotACommand) }
