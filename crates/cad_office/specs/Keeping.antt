@@ -84,19 +84,19 @@ IsKept InBook AtEnd (Err Write) read written =
     (lines : List (List ℕ)) × AreWhole AtEnd read lines × EndsCut InBook lines written
 
 -- these lines end in the piece
-abbrev pub End : List ℕ → List ℕ → List (List ℕ) → Type 0
-End read piece lines = lines_ended (read ++ piece) ≡ lines_ended read ++ lines
+abbrev pub EndIn : List ℕ → List ℕ → List (List ℕ) → Type 0
+EndIn read piece lines = lines_ended (read ++ piece) ≡ lines_ended read ++ lines
 
 -- the same for a piece, where this was read before it
 abbrev pub IsPiece : (List (List ℕ) → List Answer → Type 0) → List ℕ → Result Bool OfficeFault → Line → List ℕ → List ℕ → Type 0
 IsPiece InBook read (Ok accepted) line piece written =
-    (lines : List (List ℕ)) × End read piece lines × ((answers : List Answer) × AreAnswered InBook lines answers written × (accepted ≡ all_accepted answers)) × StandsFor (line_begun (read ++ piece)) line
+    (lines : List (List ℕ)) × EndIn read piece lines × ((answers : List Answer) × AreAnswered InBook lines answers written × (accepted ≡ all_accepted answers)) × StandsFor (line_begun (read ++ piece)) line
 IsPiece InBook read (Err Read) line piece written = ⊥
 IsPiece InBook read (Err TurnsSpent) line piece written = ⊥
 IsPiece InBook read (Err Register) line piece written =
-    (lines : List (List ℕ)) × End read piece lines × EndsRefused InBook lines written
+    (lines : List (List ℕ)) × EndIn read piece lines × EndsRefused InBook lines written
 IsPiece InBook read (Err Write) line piece written =
-    (lines : List (List ℕ)) × End read piece lines × EndsCut InBook lines written
+    (lines : List (List ℕ)) × EndIn read piece lines × EndsCut InBook lines written
 
 -- known bytes written are so
 abbrev pub Writes : Option (List ℕ) → Option (List ℕ) → (List ℕ → Type 0) → Type 0

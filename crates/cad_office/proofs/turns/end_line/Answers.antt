@@ -3,7 +3,8 @@ use Rattle.std.proofs.lemmas.Result.{err_from_is_err_and}
 use Rattle.cad_office.specs.declared.print.Answer.TheVariants.{Refused}
 use Rattle.cad_office.specs.Keeping.{Works}
 use Rattle.cad_office.specs.Lines.{line_begun}
-use Rattle.cad_office.proofs.KeepingLemmas.{line_empty, line_answered, line_refused, line_cut, write_failed, one_came, refused_goes_on}
+use Rattle.cad_office.proofs.AnswerLemmas.{one_came}
+use Rattle.cad_office.proofs.PieceLemmas.{line_empty, line_answered, line_refused, line_cut, write_failed, refused_goes_on}
 use Rattle.cad_office.proofs.turns.end_line.Goals as goal
 
 pub returns-then-is_empty : goal.returns-then-is_empty

@@ -2,7 +2,7 @@ use Rattle.std.proofs.Common.{refl, ne_eqb}
 use Rattle.std.proofs.lemmas.Result.{err_from_is_err_and}
 use Rattle.cad_office.specs.Keeping.{Works}
 use Rattle.cad_office.specs.Lines.{line_begun}
-use Rattle.cad_office.proofs.KeepingLemmas.{piece_byte}
+use Rattle.cad_office.proofs.PieceLemmas.{piece_byte}
 use Rattle.cad_office.proofs.turns.take_byte.Goals as goal
 
 pub returns-in_err-accepted : goal.returns-in_err-accepted

@@ -2,7 +2,7 @@ use Rattle.std.proofs.Common.{◌≡◌, ◌+◌, ◌++◌, [], ◌∷◌, take,
 use Rattle.std.proofs.lemmas.List.{take-append-drop, take_more}
 use Rattle.std.proofs.lemmas.Result.{err_from_is_err_and}
 use Rattle.cad_office.specs.Keeping.{Works}
-use Rattle.cad_office.proofs.KeepingLemmas.{piece_nothing, piece_more, piece_failed}
+use Rattle.cad_office.proofs.PieceLemmas.{piece_nothing, piece_more, piece_failed}
 use Rattle.cad_office.proofs.turns.take_piece.Goals as goal
 
 pub loop-byte-init : goal.loop-byte-init
