@@ -15,14 +15,17 @@ use Rattle.cad_office.specs.CommandObjects.{Asks}
 use Rattle.cad_office.specs.Instructions.{Instruction, instruction_of}
 use Rattle.cad_office.specs.Lines.{lines_in, lines_ended, line_begun, StandsFor}
 
+-- the lines of the answers, one after the other
 abbrev pub all_printed : List Answer → List ℕ
 all_printed answers = joined (map printed answers)
 
+-- only a command that the book accepted is a line accepted
 abbrev pub is_accepted : Answer → Bool
 is_accepted (Entered revision) = true
 is_accepted (Refused fault) = false
 is_accepted NotACommand = false
 
+-- no line was refused
 abbrev pub all_accepted : List Answer → Bool
 all_accepted answers = list_all is_accepted answers
 
@@ -33,6 +36,7 @@ goes_on (Refused Store) = false
 goes_on (Refused fault) = true
 goes_on NotACommand = true
 
+-- no answer ends the work
 abbrev pub AllGoOn : List Answer → Type 0
 AllGoOn answers = IsTrue (list_all goes_on answers)
 
@@ -52,16 +56,16 @@ Works applies old new (line ∷ lines) [] = ⊥
 Works {B} applies old new (line ∷ lines) (answer ∷ answers) =
     (mid : B) × Comes applies line old answer mid × Works applies mid new lines answers
 
--- each of the lines has its answer, and each answer is written
+-- each of the lines has its answer, each answer is written, and none ends the work
 abbrev pub AreAnswered : (List (List ℕ) → List Answer → Type 0) → List (List ℕ) → List Answer → List ℕ → Type 0
 AreAnswered InBook lines answers written = (written ≡ all_printed answers) × AllGoOn answers × InBook lines answers
 
--- the answer that is written last is that the database refused
+-- all answers before the last let the work go on, and the last is that the database refused
 abbrev pub EndsRefused : (List (List ℕ) → List Answer → Type 0) → List (List ℕ) → List ℕ → Type 0
 EndsRefused InBook lines written =
     (before : List Answer) × (written ≡ all_printed before ++ printed (Refused Store)) × AllGoOn before × InBook (take (length before + 1) lines) (before ++ Refused Store ∷ [])
 
--- the answer that is written last may be cut
+-- all answers before the last are whole and let the work go on, and the last may be cut
 abbrev pub EndsCut : (List (List ℕ) → List Answer → Type 0) → List (List ℕ) → List ℕ → Type 0
 EndsCut InBook lines written =
     (before : List Answer) × (last : Answer) × (n : ℕ) × (written ≡ all_printed before ++ take n (printed last)) × AllGoOn before × InBook (take (length before + 1) lines) (before ++ last ∷ [])

@@ -5,9 +5,11 @@ use Rattle.cad_office.specs.declared.line.Line.{Line}
 use Rattle.cad_office.specs.declared.line.Fate.{Fate}
 use Rattle.cad_office.specs.declared.line.Fate.TheVariants.{Held, TooLong, NoMemory}
 
+-- the byte that ends a line
 abbrev pub is_lf : ℕ → Bool
 is_lf byte = byte == 10
 
+-- an empty line asks for nothing
 abbrev pub is_filled : List ℕ → Bool
 is_filled line = not (length line == 0)
 
@@ -33,5 +35,6 @@ Stands text held Held = (held ≡ text) × (length text ≤ longest_line)
 Stands text held TooLong = longest_line < length text
 Stands text held NoMemory = 0 < length text
 
+-- the same of the line as it is held
 abbrev pub StandsFor : List ℕ → Line → Type 0
 StandsFor text line = Stands text line.bytes.items line.fate
