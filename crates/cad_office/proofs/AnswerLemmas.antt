@@ -62,7 +62,7 @@ module _ {B : Type 0} (applies : B → Command → Result ℕ RegisterFault → 
 
   pub cut-append : (a b c : B) (ls ms : List (List ℕ)) (xs : List Answer) (w v : List ℕ) → AreAnswered (Works applies a b) ls xs w → EndsCut (Works applies b c) ms v → EndsCut (Works applies a c) (ls ++ ms) (w ++ v)
   cut-append a b c ls ms xs w v s t =
-      (xs ++ t.0, t.1, t.2, written-append xs t.0 w v _ s.0 t.3, all_go_on-append xs t.0 s.1 t.4, first-append a b c ls ms xs t.0 t.1 s.2 t.5)
+      (xs ++ t.0, t.1, t.2, written-append xs t.0 w v _ s.0 t.3, t.4, all_go_on-append xs t.0 s.1 t.5, first-append a b c ls ms xs t.0 t.1 s.2 t.6)
 
   -- what came of one line
   pub one_came : (a b : B) (line : List ℕ) (answer : Answer) → Comes applies line a answer b → Works applies a b (line ∷ []) (answer ∷ [])

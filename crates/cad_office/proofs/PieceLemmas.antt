@@ -1,5 +1,5 @@
 -- What is read and written of one line, and of one piece after another.
-use Rattle.std.proofs.Common.{◌≡◌, ℕ, Bool, true, false, not, cond, ◌&&◌, IsTrue, List, [], ◌∷◌, ◌++◌, Option, Result, Ok, Err, length, take, filter, refl, sym, ap, ◌∙◌, append_assoc, append-nil, arith, eqb-true}
+use Rattle.std.proofs.Common.{◌≡◌, ℕ, Bool, true, false, not, cond, ◌&&◌, IsTrue, List, [], ◌∷◌, ◌++◌, Option, Result, Ok, Err, length, filter, refl, sym, ap, ◌∙◌, append_assoc, append-nil, arith, eqb-true}
 use Rattle.std.specs.Prelude.{◌==◌}
 use Rattle.std.proofs.Math.Bool.{and-true}
 use Rattle.std.proofs.KnownBytes.{Appends-trans, Appends-nil}
@@ -12,7 +12,7 @@ use Rattle.cad_office.specs.declared.fault.OfficeFault.TheVariants.{Read, Write,
 use Rattle.cad_office.specs.declared.line.Line.{Line}
 use Rattle.cad_office.specs.declared.print.Answer.{Answer}
 use Rattle.cad_office.specs.declared.print.Answer.TheVariants.{Refused}
-use Rattle.cad_office.specs.Answers.{printed}
+use Rattle.cad_office.specs.Answers.{printed, WritesCut}
 use Rattle.cad_office.specs.Lines.{is_filled, lines_ended, line_begun, StandsFor}
 use Rattle.cad_office.specs.Keeping.{all_printed, is_accepted, goes_on, Works, EndIn, IsPiece, Writes}
 use Rattle.cad_office.proofs.LineLemmas.{lines_in-begun, lines_ended-lf, line_begun-lf, lines_ended-byte, line_begun-byte, lines_ended-append}
@@ -53,9 +53,9 @@ pub line_refused : (Q : List (List ℕ) → List Answer → Type 0) (a b : Optio
 line_refused Q a b read next filled x q =
     (printed (Refused Store), x, (line_begun read ∷ [], filled_ends read filled, ([], refl, refl, q)))
 
-pub line_cut : (Q : List (List ℕ) → List Answer → Type 0) (a b : Option (List ℕ)) (read : List ℕ) (next : Line) (answer : Answer) → (length (line_begun read) == 0) ≡ false → (n : ℕ) × Appends a b (take n (printed answer)) → Q (line_begun read ∷ []) (answer ∷ []) → Writes a b (IsPiece Q read (Err Write) next (10 ∷ []))
-line_cut Q a b read next answer filled front q =
-    (take front.0 (printed answer), front.1, (line_begun read ∷ [], filled_ends read filled, ([], answer, front.0, refl, refl, q)))
+pub line_cut : (Q : List (List ℕ) → List Answer → Type 0) (a b : Option (List ℕ)) (read : List ℕ) (next : Line) (answer : Answer) → (length (line_begun read) == 0) ≡ false → WritesCut a b (printed answer) → Q (line_begun read ∷ []) (answer ∷ []) → Writes a b (IsPiece Q read (Err Write) next (10 ∷ []))
+line_cut Q a b read next answer filled cut q =
+    (cut.0, cut.1, (line_begun read ∷ [], filled_ends read filled, ([], answer, cut.0, refl, cut.2, refl, q)))
 
 -- a byte of a line
 pub piece_byte : (Q : List (List ℕ) → List Answer → Type 0) (a : Option (List ℕ)) (read : List ℕ) (next : Line) (byte : ℕ) → (byte == 10) ≡ false → StandsFor (line_begun read ++ byte ∷ []) next → Q [] [] → Writes a a (IsPiece Q read (Ok true) next (byte ∷ []))
@@ -105,7 +105,7 @@ module _ {B : Type 0} (applies : B → Command → Result ℕ RegisterFault → 
       (s.0 ++ more.0, ends-append read p rest s.0 more.0 s.1 more.1, (s.2.0, s.2.1, s.2.2, first-more applies a b s.0 more.0 s.2.0 _ s.2.3))
   failed_more a b read last p rest w Write s =
       let more = lines_ended-append (read ++ p) rest in
-      (s.0 ++ more.0, ends-append read p rest s.0 more.0 s.1 more.1, (s.2.0, s.2.1, s.2.2, s.2.3, s.2.4, first-more applies a b s.0 more.0 s.2.0 s.2.1 s.2.5))
+      (s.0 ++ more.0, ends-append read p rest s.0 more.0 s.1 more.1, (s.2.0, s.2.1, s.2.2, s.2.3, s.2.4, s.2.5, first-more applies a b s.0 more.0 s.2.0 s.2.1 s.2.6))
 
   pub piece_more : (a b c : B) (u v w : Option (List ℕ)) (read : List ℕ) (mid last : Line) (p q : List ℕ) (x y : Bool) → Writes u v (IsPiece (Works applies a b) read (Ok x) mid p) → ((earlier : List ℕ) → StandsFor (line_begun earlier) mid → Writes v w (IsPiece (Works applies b c) earlier (Ok y) last q)) → Writes u w (IsPiece (Works applies a c) read (Ok (x && y)) last (p ++ q))
   piece_more a b c u v w read mid last p q x y s next =

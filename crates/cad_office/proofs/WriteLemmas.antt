@@ -1,10 +1,10 @@
 -- Texts written piece by piece.
-use Rattle.std.proofs.Common.{◌≡◌, ℕ, zero, suc, ◌+◌, ◌<◌, arith, get_or, List, [], ◌∷◌, ◌++◌, Option, length, take, drop, map, refl, sym, ap, subst, ◌∙◌, append_assoc, append-nil}
-use Rattle.std.proofs.Math.Seq.{take-add, take-append-add}
+use Rattle.std.proofs.Common.{◌≡◌, ℕ, zero, suc, ◌+◌, ◌<◌, arith, get_or, List, [], ◌∷◌, ◌++◌, Option, length, take, drop, map, refl, sym, ap, subst, ◌∙◌, append_assoc, append-nil, length-append, length-drop}
+use Rattle.std.proofs.Math.Seq.{take-add}
 use Rattle.std.proofs.lemmas.List.{take-append-drop}
 use Rattle.std.proofs.KnownBytes.{Appends-trans}
 use Rattle.std.specs.Io.KnownBytes.{Appends}
-use Rattle.cad_office.specs.Answers.{joined}
+use Rattle.cad_office.specs.Answers.{joined, WritesCut}
 
 -- one more write of what is left
 pub appends_more : (a b c : Option (List ℕ)) (bs : List ℕ) (d n : ℕ) → Appends a b (take d bs) → Appends b c (take n (drop d bs)) → Appends a c (take (d + n) bs)
@@ -24,21 +24,12 @@ joined_next f (x ∷ xs) zero d h = append-nil (f x)
 joined_next f (x ∷ xs) (suc i) d h =
     ap (λ (s : List ℕ). f x ++ s) (joined_next f xs i d (omega arith)) ∙ sym (append_assoc (f x) (joined (map f (take i xs))) _)
 
-take_whole : (a b : List ℕ) → take (length a) (a ++ b) ≡ a
-take_whole a b = let none : length a ≡ length a + 0 = omega arith in rw none (take-append-add a b 0 ∙ append-nil a)
-
--- a front of a piece is a front of what it begins
-front_in : (p r : List ℕ) (n : ℕ) → take n p ≡ take (length (take n p)) (p ++ r)
-front_in p r n =
-    sym (take_whole (take n p) (drop n p ++ r)) ∙ ap (λ (s : List ℕ). take (length (take n p)) s) (sym (append_assoc (take n p) (drop n p) r) ∙ ap (λ (s : List ℕ). s ++ r) (take-append-drop n p))
+-- what is left to write is lost where a write fails
+pub cut_at : (a c : Option (List ℕ)) (bs : List ℕ) (d : ℕ) → d < length bs → Appends a c (take d bs) → WritesCut a c bs
+cut_at a c bs d h x = (take d bs, x, (drop d bs, sym (take-append-drop d bs), omega (arith, length-drop d bs)))
 
 -- pieces that were written, and a front of the next one
-pub front_with : (a b c : Option (List ℕ)) (done piece rest all : List ℕ) → all ≡ done ++ (piece ++ rest) → Appends a b done → (n : ℕ) × Appends b c (take n piece) → (n : ℕ) × Appends a c (take n all)
-front_with a b c done piece rest all e x front =
-    let more : take (length done + length (take front.0 piece)) all ≡ done ++ take front.0 piece =
-    ap (λ (s : List ℕ). take (length done + length (take front.0 piece)) s) e ∙ take-append-add done (piece ++ rest) (length (take front.0 piece)) ∙ ap (λ (s : List ℕ). done ++ s) (sym (front_in piece rest front.0)) in
-    (length done + length (take front.0 piece), subst (λ (w : List ℕ). Appends a c w) (sym more) (Appends-trans a b c done (take front.0 piece) x front.1))
-
--- all of it is a front of it
-pub front_of_whole : (a c : Option (List ℕ)) (all : List ℕ) → Appends a c all → (n : ℕ) × Appends a c (take n all)
-front_of_whole a c all x = (length all, subst (λ (w : List ℕ). Appends a c w) (sym (ap (λ (s : List ℕ). take (length all) s) (sym (append-nil all)) ∙ take_whole all [])) x)
+pub cut_with : (a b c : Option (List ℕ)) (done piece rest all : List ℕ) → all ≡ done ++ (piece ++ rest) → Appends a b done → WritesCut b c piece → WritesCut a c all
+cut_with a b c done piece rest all e x cut =
+    let left : all ≡ (done ++ cut.0) ++ (cut.2.0 ++ rest) = e ∙ ap (λ (s : List ℕ). done ++ (s ++ rest)) cut.2.1 ∙ ap (λ (s : List ℕ). done ++ s) (append_assoc cut.0 cut.2.0 rest) ∙ sym (append_assoc done cut.0 (cut.2.0 ++ rest)) in
+    (done ++ cut.0, Appends-trans a b c done cut.0 x cut.1, (cut.2.0 ++ rest, left, omega (arith, cut.2.2, length-append cut.2.0 rest)))

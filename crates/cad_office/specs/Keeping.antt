@@ -10,7 +10,7 @@ use Rattle.cad_office.specs.declared.fault.OfficeFault.TheVariants.{Read, Write,
 use Rattle.cad_office.specs.declared.line.Line.{Line}
 use Rattle.cad_office.specs.declared.print.Answer.{Answer}
 use Rattle.cad_office.specs.declared.print.Answer.TheVariants.{Entered, Refused, NotACommand}
-use Rattle.cad_office.specs.Answers.{joined, printed}
+use Rattle.cad_office.specs.Answers.{joined, printed, IsCut}
 use Rattle.cad_office.specs.CommandObjects.{Asks}
 use Rattle.cad_office.specs.Instructions.{Instruction, instruction_of}
 use Rattle.cad_office.specs.Lines.{lines_in, lines_ended, line_begun, StandsFor}
@@ -65,10 +65,10 @@ abbrev pub EndsRefused : (List (List ℕ) → List Answer → Type 0) → List (
 EndsRefused InBook lines written =
     (before : List Answer) × (written ≡ all_printed before ++ printed (Refused Store)) × AllGoOn before × InBook (take (length before + 1) lines) (before ++ Refused Store ∷ [])
 
--- all answers before the last are whole and let the work go on, and the last may be cut
+-- all answers before the last are whole and let the work go on, and the last is cut
 abbrev pub EndsCut : (List (List ℕ) → List Answer → Type 0) → List (List ℕ) → List ℕ → Type 0
 EndsCut InBook lines written =
-    (before : List Answer) × (last : Answer) × (n : ℕ) × (written ≡ all_printed before ++ take n (printed last)) × AllGoOn before × InBook (take (length before + 1) lines) (before ++ last ∷ [])
+    (before : List Answer) × (last : Answer) × (front : List ℕ) × (written ≡ all_printed before ++ front) × IsCut (printed last) front × AllGoOn before × InBook (take (length before + 1) lines) (before ++ last ∷ [])
 
 -- the lines that were read whole: those that an LF ended, and at the end of the input the last one
 abbrev pub AreWhole : Type 0 → List ℕ → List (List ℕ) → Type 0

@@ -1,8 +1,8 @@
 //! What is printed for a line.
 
-ghost use Rattle.std.specs.Prelude.{◌≡◌, ℕ, ◌≤◌, length, take, drop, map, OnOk, OnErr, Err};
+ghost use Rattle.std.specs.Prelude.{◌≡◌, ◌≤◌, length, drop, map, OnOk, OnErr, Err};
 ghost use Rattle.std.specs.Io.KnownBytes.{Appends};
-ghost use Rattle.cad_office.specs.Answers.{joined, printed};
+ghost use Rattle.cad_office.specs.Answers.{joined, printed, WritesCut};
 
 use crate::fault::OfficeFault;
 use crate::write::{write_pieces, write_whole};
@@ -24,7 +24,7 @@ pub enum Answer {
 /// Prints the answer as one line, or a front of it where a write fails.
 pub fn print<W: Write>(writer: &mut W, answer: Answer) -> Result<(), OfficeFault>
     ensures whole { OnOk result (Appends (W.contents writer.old) (W.contents writer.new) (printed answer)) }
-    ensures front { (n : ℕ) × Appends (W.contents writer.old) (W.contents writer.new) (take n (printed answer)) }
+    ensures cut { OnErr result (WritesCut (W.contents writer.old) (W.contents writer.new) (printed answer)) }
     ensures fault { OnErr result (result ≡ Err OfficeFault.Write) }
 {
     match answer {
@@ -36,7 +36,7 @@ pub fn print<W: Write>(writer: &mut W, answer: Answer) -> Result<(), OfficeFault
 
 fn print_revision<W: Write>(writer: &mut W, revision: u64) -> Result<(), OfficeFault>
     ensures whole { OnOk result (Appends (W.contents writer.old) (W.contents writer.new) (printed (Answer.Entered revision))) }
-    ensures front { (n : ℕ) × Appends (W.contents writer.old) (W.contents writer.new) (take n (printed (Answer.Entered revision))) }
+    ensures cut { OnErr result (WritesCut (W.contents writer.old) (W.contents writer.new) (printed (Answer.Entered revision))) }
     ensures fault { OnErr result (result ≡ Err OfficeFault.Write) }
 {
     let mut number = Buffer::new();
@@ -50,7 +50,7 @@ fn print_revision<W: Write>(writer: &mut W, revision: u64) -> Result<(), OfficeF
 
 fn print_refusal<W: Write>(writer: &mut W, fault: RegisterFault) -> Result<(), OfficeFault>
     ensures whole { OnOk result (Appends (W.contents writer.old) (W.contents writer.new) (printed (Answer.Refused fault))) }
-    ensures front { (n : ℕ) × Appends (W.contents writer.old) (W.contents writer.new) (take n (printed (Answer.Refused fault))) }
+    ensures cut { OnErr result (WritesCut (W.contents writer.old) (W.contents writer.new) (printed (Answer.Refused fault))) }
     ensures fault { OnErr result (result ≡ Err OfficeFault.Write) }
 {
     let mut number = Buffer::new();

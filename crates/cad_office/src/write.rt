@@ -1,8 +1,8 @@
 //! Writing whole texts by a writer that may take less.
 
-ghost use Rattle.std.specs.Prelude.{◌≡◌, ℕ, ◌≤◌, length, take, drop, map, OnOk, OnErr, Err};
+ghost use Rattle.std.specs.Prelude.{◌≡◌, ◌≤◌, length, drop, map, OnOk, OnErr, Err};
 ghost use Rattle.std.specs.Io.KnownBytes.{Appends};
-ghost use Rattle.cad_office.specs.Answers.{joined};
+ghost use Rattle.cad_office.specs.Answers.{joined, WritesCut};
 
 use crate::fault::OfficeFault;
 use std::io::Write;
@@ -10,7 +10,7 @@ use std::io::Write;
 /// Writes the pieces one after the other, or a front of them where a write fails or takes nothing.
 pub fn write_pieces<W: Write>(writer: &mut W, pieces: &[&[u8]]) -> Result<(), OfficeFault>
     ensures whole { OnOk result (Appends (W.contents writer.old) (W.contents writer.new) (joined (map (λ p. p.now) pieces.now))) }
-    ensures front { (n : ℕ) × Appends (W.contents writer.old) (W.contents writer.new) (take n (joined (map (λ p. p.now) pieces.now))) }
+    ensures cut { OnErr result (WritesCut (W.contents writer.old) (W.contents writer.new) (joined (map (λ p. p.now) pieces.now))) }
     ensures fault { OnErr result (result ≡ Err OfficeFault.Write) }
 {
     for piece in pieces {
@@ -22,7 +22,7 @@ pub fn write_pieces<W: Write>(writer: &mut W, pieces: &[&[u8]]) -> Result<(), Of
 /// Writes all of it, or a front of it where a write fails or takes nothing.
 pub fn write_whole<W: Write>(writer: &mut W, bytes: &[u8]) -> Result<(), OfficeFault>
     ensures whole { OnOk result (Appends (W.contents writer.old) (W.contents writer.new) bytes.now) }
-    ensures front { (n : ℕ) × Appends (W.contents writer.old) (W.contents writer.new) (take n bytes.now) }
+    ensures cut { OnErr result (WritesCut (W.contents writer.old) (W.contents writer.new) bytes.now) }
     ensures fault { OnErr result (result ≡ Err OfficeFault.Write) }
 {
     let mut done = 0;

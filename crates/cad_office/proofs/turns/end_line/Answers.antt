@@ -15,7 +15,7 @@ pub returns-in_err-print : goal.returns-in_err-print
 returns-in_err-print g c = λ read stands.
     let filled = sym (c.is_empty.ensures (line_begun read) stands) ∙ c.if-is_empty.false in
     let came = one_came g.B.Book.applies c.args.book.now c.answer_line-answer.new.book (line_begun read) _ (c.answer_line-answer.ensures (line_begun read) stands) in
-    let cut = line_cut (Works g.B.Book.applies c.args.book.now c.answer_line-answer.new.book) _ _ read c.clear.new.self _ filled c.in_err-print.ensures.front came in
+    let cut = line_cut (Works g.B.Book.applies c.args.book.now c.answer_line-answer.new.book) _ _ read c.clear.new.self _ filled c.in_err-print.ensures.cut came in
     let p = err_from_is_err_and c.from_residual.result c.from_residual.ensures.1 in
     rw (write_failed c.from_residual.result _ _ p.1 p.2 c.in_err-print.ensures.fault) cut
 
