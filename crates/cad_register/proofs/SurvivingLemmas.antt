@@ -1,11 +1,12 @@
 -- What a crash leaves after each step.
-use Rattle.std.proofs.Common.{◌≡◌, ℕ, ◌+◌, inl, inr, List, [], ◌∷◌, ◌++◌, length, map, None, IsTrue, refl, sym, subst, ◌∙◌}
+use Rattle.std.proofs.Common.{◌≡◌, ℕ, ◌+◌, ◌<◌, inl, inr, List, [], ◌∷◌, ◌++◌, length, map, None, IsTrue, refl, sym, subst, ◌∙◌}
 use Rattle.sqlite_trees.specs.Tree.{Trees}
 use Rattle.sqlite.specs.State.{State, HasCleanDisk, Survives}
 use Rattle.sqlite.specs.Effect.{Database, IsDatabase}
 use Rattle.cad_tables.specs.Tables.{register_schema}
 use Rattle.cad_tables.proofs.SchemaLemmas.{register_schema_only}
 use Rattle.cad_tables.specs.Holding.{Holds}
+use Rattle.cad_tables.specs.Opening.{most_revision}
 use Rattle.cad_tables.specs.Steps.{CommitsTo, CreatesTo}
 use Rattle.cad_tables.specs.declared.changes.Change.{Change}
 use Rattle.cad_versions.specs.declared.command.Command.{Command}
@@ -38,10 +39,10 @@ pub leaves_or : (s : State) (cs : List Command) (c : Command) → Leaves s cs �
 leaves_or s cs c leaves trees h = inl (leaves trees h)
 
 pub leaves_written : (old new : State) (cs : List Command) (c : Command) (number revision : ℕ) (ch : Change NewEntry) → HasCleanDisk new → Survives old new (CommitsTo line_written ch revision old) → StandsFor old cs → Leaves old cs
-    → refusal (versions cs) c ≡ None → IsNumbered cs c number → revision ≡ length cs + 1 → IsChangeOf c number revision ch → LeavesEither new cs c
-leaves_written old new cs c number revision ch clean survives stands leaves fine count next h trees left = elim (survives.crash clean trees left) [
+    → refusal (versions cs) c ≡ None → IsNumbered cs c number → revision ≡ length cs + 1 → length cs < most_revision → IsChangeOf c number revision ch → LeavesEither new cs c
+leaves_written old new cs c number revision ch clean survives stands leaves fine count next room h trees left = elim (survives.crash clean trees left) [
   | inl was ↦ inl (leaves trees was)
-  | inr made ↦ inr (fine, subst (IsDiskOf (cs ++ c ∷ [])) (sym made.2) (disk_of made.0 (cs ++ c ∷ []) (accepted_then [] cs c stands.accepted fine) (holds_then old made.0 cs c number revision ch stands fine count next h made.1)))
+  | inr made ↦ inr (fine, room, subst (IsDiskOf (cs ++ c ∷ [])) (sym made.2) (disk_of made.0 (cs ++ c ∷ []) (accepted_then [] cs c stands.accepted fine) (holds_then old made.0 cs c number revision ch stands fine count next h made.1)))
 ]
 
 pub leaves_made : (old new : State) → HasCleanDisk new → Survives old new (CreatesTo old) → LeavesOrMakes old new

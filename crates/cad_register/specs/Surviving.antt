@@ -1,10 +1,11 @@
 -- What an open after a crash may find of a register (SQLite, Atomic Commit; own profile).
-use Rattle.std.specs.Prelude.{◌≡◌, ◌⊎◌, ℕ, ◌+◌, List, [], ◌∷◌, ◌++◌, length, map, None}
+use Rattle.std.specs.Prelude.{◌≡◌, ◌⊎◌, ℕ, ◌+◌, ◌<◌, List, [], ◌∷◌, ◌++◌, length, map, None}
 use Rattle.sqlite_trees.specs.Tree.{Trees}
 use Rattle.sqlite.specs.Effect.{Database, IsDatabase}
 use Rattle.sqlite.specs.State.{State, Opens, IsLive}
 use Rattle.cad_tables.specs.Tables.{no_schema, register_schema}
 use Rattle.cad_tables.specs.Holding.{Holds}
+use Rattle.cad_tables.specs.Opening.{most_revision}
 use Rattle.cad_versions.specs.declared.command.Command.{Command}
 use Rattle.cad_versions.specs.Versions.{versions}
 use Rattle.cad_versions.specs.Refusals.{refusal, AreAccepted}
@@ -39,16 +40,16 @@ KeepsDisk old new = (commands : List Command) → StandsFor old commands → Lea
 abbrev pub Leaves : State → List Command → Type 0
 Leaves s commands = (trees : Trees) → s.may_leave trees → IsDiskOf commands trees
 
--- a crash leaves the register of the commands, or of them and the new one, where that is accepted
+-- a crash leaves the register of the commands, or of them and the new one, where that is accepted and its revision may be stored
 abbrev pub LeavesEither : State → List Command → Command → Type 0
 LeavesEither s commands command =
-    (trees : Trees) → s.may_leave trees → IsDiskOf commands trees ⊎ ((refusal (versions commands) command ≡ None) × IsDiskOf (commands ++ command ∷ []) trees)
+    (trees : Trees) → s.may_leave trees → IsDiskOf commands trees ⊎ ((refusal (versions commands) command ≡ None) × (length commands < most_revision) × IsDiskOf (commands ++ command ∷ []) trees)
 
 -- a crash leaves what it left before, or the register of no commands, where the database was empty
 abbrev pub LeavesOrMakes : State → State → Type 0
 LeavesOrMakes old new = (trees : Trees) → new.may_leave trees → old.may_leave trees ⊎ (old.now.schema ≡ no_schema → IsDiskOf [] trees)
 
--- so a change leaves it, whose command is accepted, whose number is the next and whose revision counts it
+-- so a change leaves it, whose command is accepted, whose number is the next and whose revision counts it and may be stored
 abbrev pub EnactsOrNot : State → State → Command → ℕ → ℕ → Type 0
 EnactsOrNot old new command number revision =
-    (commands : List Command) → StandsFor old commands → Leaves old commands → refusal (versions commands) command ≡ None → IsNumbered commands command number → revision ≡ length commands + 1 → LeavesEither new commands command
+    (commands : List Command) → StandsFor old commands → Leaves old commands → refusal (versions commands) command ≡ None → IsNumbered commands command number → revision ≡ length commands + 1 → length commands < most_revision → LeavesEither new commands command

@@ -1,9 +1,10 @@
-use Rattle.std.proofs.Common.{◌≡◌, Err, inr, subst, ◌∙◌, ◌+◌, length, length-append, ap, sym, ◌∷◌, [], ◌++◌}
+use Rattle.std.proofs.Common.{◌≡◌, ◌<◌, arith, Err, inr, subst, ◌∙◌, ◌+◌, length, length-append, ap, sym, ◌∷◌, [], ◌++◌}
 use Rattle.std.proofs.lemmas.Result.{err_from_is_err_and}
 use Rattle.cad_register.proofs.WriteLemmas.{numbered}
 use Rattle.cad_register.proofs.StandLemmas.{refused_as}
 use Rattle.cad_versions.specs.declared.fault.RegisterFault.TheVariants as fault
 use Rattle.cad_register.specs.Refusing.{RefusesChange}
+use Rattle.cad_tables.specs.Opening.{most_revision}
 use Rattle.sqlite.specs.Held.{state}
 use Rattle.cad_register.proofs.SurvivingLemmas.{leaves_standing, leaves_then, leaves_or}
 use Rattle.cad_register.proofs.register.Register.apply.Goals as goal
@@ -52,7 +53,8 @@ returns-in_err-enact-clause-crash g c clean cs register =
     let next : c.args.self.now.revision + 1 ≡ length cs + 1 = ap (λ n. n + 1) register.counted in
     let fits = numbered cs c.args.command c.in_ok-count.count c.next_number.result decided.0 decided.1 c.next_number.ensures.next in
     let leaves = leaves_then old mid cs (c.in_ok-count.ensures.left early cs register.stands) (leaves_standing old cs (g.met.S.Store.settled c.args.self.now.connection.store) register.stands) in
-    c.in_err-enact.ensures.crash clean cs told.1 leaves decided.0 fits next
+    let room : length cs < most_revision = omega (arith, register.counted) in
+    c.in_err-enact.ensures.crash clean cs told.1 leaves decided.0 fits next room
 
 pub returns-clause-crash : goal.returns-clause-crash
 returns-clause-crash g c clean cs register =
@@ -64,7 +66,8 @@ returns-clause-crash g c clean cs register =
     let next : c.args.self.now.revision + 1 ≡ length cs + 1 = ap (λ n. n + 1) register.counted in
     let fits = numbered cs c.args.command c.in_ok-count.count c.next_number.result decided.0 decided.1 c.next_number.ensures.next in
     let leaves = leaves_then old mid cs (c.in_ok-count.ensures.left early cs register.stands) (leaves_standing old cs (g.met.S.Store.settled c.args.self.now.connection.store) register.stands) in
-    c.in_ok-enact.ensures.crash clean cs told.1 leaves decided.0 fits next
+    let room : length cs < most_revision = omega (arith, register.counted) in
+    c.in_ok-enact.ensures.crash clean cs told.1 leaves decided.0 fits next room
 
 pub returns-clause-durable : goal.returns-clause-durable
 returns-clause-durable g c clean cs register =
