@@ -67,6 +67,7 @@ restriction_in ms =
     of_only (codes "unit" ∷ codes "party" ∷ codes "code" ∷ codes "share" ∷ codes "required" ∷ []) ms
     (Some restriction ⊛ required object_in (codes "unit") ms ⊛ optional object_in (codes "party") ms ⊛ required words_in (codes "code") ms ⊛ optional share_in (codes "share") ms ⊛ optional as_bool (codes "required") ms)
 
+-- what is said of an object of the class of this name
 abbrev pub attributes_in : List ℕ → Members → Option Attributes
 attributes_in name ms =
     if bytes_eq name (codes "party") then party_in ms
@@ -90,18 +91,20 @@ abbrev pub beginning_in : (ℕ → ℤ → Attributes → Instruction) → Membe
 beginning_in what ms =
     Some what ⊛ required object_in (codes "object") ms ⊛ required day_in (codes "first") ms ⊛ body_in (without (codes "first") (without (codes "object") ms))
 
+-- what ends an object: its last day, and nothing else
 abbrev pub retiring_in : Members → Option Instruction
 retiring_in ms =
     of_only (codes "object" ∷ codes "last" ∷ []) ms
     (Some retire ⊛ required object_in (codes "object") ms ⊛ required day_in (codes "last") ms)
 
--- what is to be done with the other members
+-- what the deed of this name asks for by the other members
 abbrev pub doing_in : List ℕ → Members → Option Instruction
 doing_in deed ms =
     if bytes_eq deed (codes "enter") then beginning_in enter ms
     else (if bytes_eq deed (codes "amend") then beginning_in amend ms
     else (if bytes_eq deed (codes "retire") then retiring_in ms else None))
 
+-- the deed, by its name and what the other members say of it
 abbrev pub instruction_in : Members → Option Instruction
 instruction_in ms = option_and_then (λ deed. doing_in deed (without (codes "do") ms)) (required as_str (codes "do") ms)
 
