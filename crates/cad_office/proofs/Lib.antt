@@ -5,5 +5,3 @@ pub mod AnswerLemmas
 pub mod PieceLemmas
 pub mod KeepingLemmas
 pub mod FillingLemmas
-pub mod MemberLemmas
-pub mod TakingLemmas

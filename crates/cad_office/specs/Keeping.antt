@@ -1,5 +1,5 @@
 -- What the office writes for what it reads (own profile).
-use Rattle.std.specs.Prelude.{◌≡◌, ℕ, ◌+◌, Bool, true, false, IsTrue, List, [], ◌∷◌, ◌++◌, ◌⊎◌, length, map, take, Option, Result, Ok, Err}
+use Rattle.std.specs.Prelude.{◌≡◌, ℕ, ◌+◌, ◌≤◌, Bool, true, false, IsTrue, List, [], ◌∷◌, ◌++◌, ◌⊎◌, length, map, take, Option, Result, Ok, Err}
 use Rattle.std.specs.List.{list_all}
 use Rattle.std.specs.Io.KnownBytes.{Consumes, Appends}
 use Rattle.cad_versions.specs.declared.fault.RegisterFault.TheVariants.{Store, Memory}
@@ -11,9 +11,9 @@ use Rattle.cad_office.specs.declared.line.Line.{Line}
 use Rattle.cad_office.specs.declared.print.Answer.{Answer}
 use Rattle.cad_office.specs.declared.print.Answer.TheVariants.{Entered, Refused, NotACommand}
 use Rattle.cad_office.specs.Answers.{joined, printed, IsCut}
-use Rattle.cad_office.specs.CommandObjects.{Asks}
-use Rattle.cad_office.specs.Instructions.{Instruction, instruction_of}
-use Rattle.cad_office.specs.Lines.{lines_in, lines_ended, line_begun, StandsFor}
+use Rattle.cad_commands.specs.CommandObjects.{Says}
+use Rattle.cad_commands.specs.Instructions.{Instruction, instruction_of}
+use Rattle.cad_office.specs.Lines.{longest_line, lines_in, lines_ended, line_begun, StandsFor}
 
 -- the lines of the answers, one after the other
 abbrev pub all_printed : List Answer → List ℕ
@@ -39,6 +39,10 @@ goes_on NotACommand = true
 -- no answer ends the work
 abbrev pub AllGoOn : List Answer → Type 0
 AllGoOn answers = IsTrue (list_all goes_on answers)
+
+-- a line that is not too long asks for what its text says
+abbrev pub Asks : List ℕ → Instruction → Type 0
+Asks line instruction = (length line ≤ longest_line) × Says line instruction
 
 -- what came of the line in the book: what the book answers to the command that the line asks for, or no change
 abbrev pub Comes : {B : Type 0} → (B → Command → Result ℕ RegisterFault → B → Type 0) → List ℕ → B → Answer → B → Type 0

@@ -3,8 +3,4 @@ pub mod Filling
 pub mod Keeping
 pub mod Lines
 pub mod OfficeFaults
-pub mod Values
-pub mod Instructions
-pub mod CommandObjects
-pub mod Registers
 pub mod Sample

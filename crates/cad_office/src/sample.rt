@@ -7,13 +7,12 @@ ghost use Rattle.cad_shape.specs.Rings.{corners_of};
 ghost use Rattle.cad_versions.specs.Objects.{IsObjectNumber, object_number};
 ghost use Rattle.cad_versions.specs.Texts.{AreWords, bytes_of};
 ghost use Rattle.cad_office.specs.Filling.{Enters};
-ghost use Rattle.cad_office.specs.Instructions.{a_parcel, to_enter, to_amend, attributes_of, instruction_of, coordinates_of};
+ghost use Rattle.cad_commands.specs.Instructions.{a_parcel, to_enter, to_amend, attributes_of, instruction_of, coordinates_of};
 ghost use Rattle.cad_office.specs.Sample.{sample as commands_of_sample, ana, first_parcel as first, second_parcel as second, third_parcel as third, fourth_parcel as fourth, ownership, no_building};
 
-use crate::turns::Book;
 use cad_day::Day;
 use cad_shape::{Point, Ring};
-use cad_versions::{Body, Command, ObjectId, RegisterFault, Share, Words};
+use cad_versions::{Body, Book, Command, ObjectId, RegisterFault, Share, Words};
 use std::alloc::{AllocError, Global};
 
 /// Applies the ten commands of the sample register, in their order, and answers the last revision.

@@ -2,35 +2,19 @@
 
 ghost use Rattle.std.specs.Prelude.{◌≡◌, ◌↔◌, ℕ, List, ◌∷◌, [], IsOk, IsTrue};
 ghost use Rattle.std.specs.Io.KnownBytes.{IsAtEnd};
-ghost use Rattle.cad_office.specs.CommandObjects.{Asks};
-ghost use Rattle.cad_office.specs.Instructions.{instruction_of};
-ghost use Rattle.cad_office.specs.Keeping.{IsKept, IsPiece, Works, Comes, Writes, ReadsAndWrites};
+ghost use Rattle.cad_commands.specs.Instructions.{instruction_of};
+ghost use Rattle.cad_office.specs.Keeping.{Asks, IsKept, IsPiece, Works, Comes, Writes, ReadsAndWrites};
 ghost use Rattle.cad_office.specs.Lines.{line_begun, StandsFor};
 
-use crate::command::read_command;
 use crate::fault::OfficeFault;
 use crate::line::{Fate, Line};
-use crate::members::Unread;
 use crate::print::{Answer, print};
-use cad_versions::{Command, RegisterFault};
+use cad_commands::{Unread, read_command};
+use cad_versions::{Book, Command, RegisterFault};
 use std::alloc::Global;
 use std::io::{Read, Write};
 
 const TURNS: u32 = 1_000_000;
-
-/// What commands are entered into.
-pub trait Book {
-    ghost use Rattle.std.specs.Prelude.{ℕ, Result};
-    ghost use Rattle.cad_versions.specs.declared.command.Command.{Command};
-    ghost use Rattle.cad_versions.specs.declared.fault.RegisterFault.{RegisterFault};
-
-    // What one command does and answers.
-    ghost applies: { Self → Command → Result ℕ RegisterFault → Self → Type 0 };
-
-    /// Applies the command, and answers the revision since, or refuses it and stays as it was.
-    fn apply(&mut self, command: Command) -> Result<u64, RegisterFault>
-        ensures { applies self.old command result self.new };
-}
 
 /// Reads lines to their end, applies each command and prints an answer for each line, and says whether no line was refused.
 ///

@@ -10,3 +10,4 @@ pub mod Changing
 pub mod Refusing
 pub mod Surviving
 pub mod Registers
+pub mod Applying

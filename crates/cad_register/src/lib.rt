@@ -5,6 +5,7 @@
 #![tactic(auto)]
 
 mod asking;
+mod book;
 mod cells;
 mod changing;
 mod columns;

@@ -3,11 +3,13 @@
 //! - `ObjectId`, `Words`, `Share`: values that cannot hold what the register must not.
 //! - `Body`, `Class`, `Version`: one version of a party, a basic administrative unit, a parcel, a right or a restriction.
 //! - `Command`, `RegisterFault`: what the land office asks for, and why it is refused.
+//! - `Book`: what commands are entered into, as a land register.
 //! - `laws`: what holds of every register, whatever commands made it.
 #![tactic(auto)]
 
 mod body;
 mod body_parts;
+mod book;
 mod command;
 mod decision;
 mod fault;
@@ -21,6 +23,7 @@ mod version;
 mod words;
 
 pub use body::{Body, Class};
+pub use book::Book;
 pub use command::Command;
 pub use fault::RegisterFault;
 pub use object_id::ObjectId;

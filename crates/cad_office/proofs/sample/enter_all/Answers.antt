@@ -1,5 +1,5 @@
 use Rattle.std.proofs.Common.{[], ◌∷◌, map, arith, length-append, append_assoc, refl, ◌∙◌, inl}
-use Rattle.cad_office.specs.Instructions.{instruction_of}
+use Rattle.cad_commands.specs.Instructions.{instruction_of}
 use Rattle.cad_office.proofs.FillingLemmas.{accepts_more, all_but_rest, all_of}
 use Rattle.cad_office.proofs.sample.enter_all.Goals as goal
 

@@ -1,6 +1,6 @@
 use Rattle.std.proofs.Common.{◌≡◌, ◌+◌, ◌++◌, length, map, vec_len}
 use Rattle.cad_office.specs.Filling.{Accepts}
-use Rattle.cad_office.specs.Instructions.{instruction_of}
+use Rattle.cad_commands.specs.Instructions.{instruction_of}
 use Rattle.cad_office.proofs.sample.enter_all.Given as goal
 
 abbrev pub invariant-loop-command : goal.invariant-loop-command

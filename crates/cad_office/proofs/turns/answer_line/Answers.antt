@@ -1,7 +1,7 @@
 use Rattle.std.proofs.Common.{◌≡◌, ℕ, List, Err, sym, ap, ◌∙◌, refl, subst}
 use Rattle.cad_office.specs.declared.line.Fate.{Fate}
 use Rattle.cad_office.specs.declared.line.Fate.TheVariants.{Held, TooLong, NoMemory}
-use Rattle.cad_office.specs.CommandObjects.{Says}
+use Rattle.cad_commands.specs.CommandObjects.{Says}
 use Rattle.cad_office.specs.Lines.{Stands}
 use Rattle.cad_office.proofs.turns.answer_line.Goals as goal
 
