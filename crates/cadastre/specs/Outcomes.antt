@@ -1,11 +1,14 @@
 -- How runs end (exit statuses: own profile).
-use Rattle.std.specs.Prelude.{ℕ, Bool, true, false, Result, Ok, Err}
+use Rattle.std.specs.Prelude.{ℕ, Bool, true, false, List, codes, Option, Some, None, Result, Ok, Err}
 use Rattle.cad_http.specs.declared.connection.Ending.{Ending}
 use Rattle.cad_http.specs.declared.connection.Ending.TheVariants.{PeerEnded, WeEnded, Refused}
 use Rattle.cad_http.specs.declared.serve_fault.ServeFault.{ServeFault}
+use Rattle.cad_http.specs.Faults.{serve_fault_number, serve_fault_name, desk_fault_number, desk_fault_name}
 use Rattle.cad_office.specs.declared.fault.OfficeFault.{OfficeFault}
 use Rattle.cad_office.specs.declared.fault.OfficeFault.TheVariants as office
+use Rattle.cad_office.specs.OfficeFaults.{fault_number as office_fault_number, fault_name as office_fault_name}
 use Rattle.cad_versions.specs.declared.fault.RegisterFault.TheVariants as register
+use Rattle.cad_versions.specs.Fault.{fault_number as register_fault_number, fault_name as register_fault_name}
 use Rattle.cadastre.specs.declared.outcome.Outcome.{Outcome}
 use Rattle.cadastre.specs.declared.outcome.Outcome.TheVariants as outcome
 
@@ -18,6 +21,16 @@ status_of (outcome.Office fault) = 1
 status_of (outcome.Desk fault) = 1
 status_of outcome.Usage = 2
 status_of (outcome.Register fault) = 3
+
+-- what failed, and its fault's number and name, as the line on standard error tells them
+abbrev pub fault_of : Outcome → Option (List ℕ × ℕ × List ℕ)
+fault_of outcome.Good = None
+fault_of outcome.Refused = None
+fault_of outcome.Usage = None
+fault_of (outcome.Serve fault) = Some (codes "serve", serve_fault_number fault, serve_fault_name fault)
+fault_of (outcome.Office fault) = Some (codes "serve", office_fault_number fault, office_fault_name fault)
+fault_of (outcome.Desk fault) = Some (codes "desk", desk_fault_number fault, desk_fault_name fault)
+fault_of (outcome.Register fault) = Some (codes "register", register_fault_number fault, register_fault_name fault)
 
 -- how serving one request ends a run
 abbrev pub outcome_of : Result Ending ServeFault → Outcome

@@ -23,8 +23,8 @@ pub enum Outcome {
 }
 
 impl Outcome {
-    ghost use Rattle.std.specs.Prelude.{◌≡◌};
-    ghost use Rattle.cadastre.specs.Outcomes.{office_outcome_of, outcome_of, status_of};
+    ghost use Rattle.std.specs.Prelude.{◌≡◌, option_map};
+    ghost use Rattle.cadastre.specs.Outcomes.{fault_of, office_outcome_of, outcome_of, status_of};
 
     /// How serving one request ends a run.
     pub fn of_serving(served: Result<Ending, ServeFault>) -> Outcome
@@ -60,17 +60,38 @@ impl Outcome {
             Outcome::Register(_) => 3,
         }
     }
+
+    /// The fault of a bad outcome, which is told on standard error.
+    ///
+    /// Refused lines were told on standard output, and wrong arguments are told by the usage line.
+    pub fn fault(self) -> Option<Fault>
+        ensures { option_map (λ f. (f.kind.now, f.number, f.name.now)) result ≡ fault_of self }
+    {
+        let (kind, number, name) = match self {
+            Outcome::Good | Outcome::Refused | Outcome::Usage => return None,
+            Outcome::Serve(fault) => ("serve", fault.number(), fault.name()),
+            Outcome::Office(fault) => ("serve", fault.number(), fault.name()),
+            Outcome::Desk(fault) => ("desk", fault.number(), fault.name()),
+            Outcome::Register(fault) => ("register", fault.number(), fault.name()),
+        };
+        Some(Fault { kind, number, name })
+    }
+}
+
+/// A fault as it is told: `KIND: NUMBER NAME`.
+#[derive(Clone, Copy, Debug, PartialEq, Eq)]
+pub struct Fault {
+    pub kind: &'static str,
+    pub number: u8,
+    pub name: &'static str,
 }
 
 /// Tells a bad outcome on standard error. Where that cannot be written, the status alone tells it.
 pub fn tell(rt: &impl Eprint, outcome: Outcome) {
-    let _ = match outcome {
-        // Refused lines were told on standard output.
-        Outcome::Good | Outcome::Refused => Ok(()),
-        Outcome::Serve(fault) => eprintln!(rt; "serve: {} {}", fault.number(), fault.name()),
-        Outcome::Office(fault) => eprintln!(rt; "serve: {} {}", fault.number(), fault.name()),
-        Outcome::Desk(fault) => eprintln!(rt; "desk: {} {}", fault.number(), fault.name()),
-        Outcome::Register(fault) => eprintln!(rt; "register: {} {}", fault.number(), fault.name()),
-        Outcome::Usage => eprintln!(rt; "usage: cadastre sample | office FILE"),
-    };
+    if outcome == Outcome::Usage {
+        let _ = eprintln!(rt; "usage: cadastre sample | office FILE");
+    }
+    if let Some(fault) = outcome.fault() {
+        let _ = eprintln!(rt; "{}: {} {}", fault.kind, fault.number, fault.name);
+    }
 }
