@@ -11,3 +11,4 @@ pub mod DecisionLemmas
 pub mod WriteLemmas
 pub mod SurvivingLemmas
 pub mod RefusingLemmas
+pub mod OpeningLemmas

@@ -4,7 +4,10 @@ use Rattle.sqlite_value.specs.Order.{Row}
 use Rattle.sqlite_keyed.specs.Lists.{sort_by}
 use Rattle.sqlite.specs.Effect.{IsDatabase}
 use Rattle.sqlite.specs.State.{State, IsUnchanged}
+use Rattle.sqlite.specs.Held.{Held, state}
+use Rattle.sqlite_trees.specs.declared.store.Store.{Ghosts}
 use Rattle.cad_tables.specs.Holding.{Holds}
+use Rattle.cad_tables.specs.Opening.{TellsRegister}
 use Rattle.cad_tables.specs.Steps.{KeepsAll}
 use Rattle.cad_tables.specs.Line.{cells_of}
 use Rattle.cad_versions.specs.declared.fault.RegisterFault.{RegisterFault}
@@ -37,6 +40,11 @@ stands_kept old new cs keeps still stands = record {
 
 pub stands_same : (old new : State) (cs : List Command) → IsUnchanged old new → StandsFor old cs → StandsFor new cs
 stands_same old new cs same stands = stands_kept old new cs (same.0.now_is, same.0.committed_is) same.0.is_open stands
+
+-- a database that tells a revision was open
+pub told_while_open : {S : Type 0} (g : Ghosts S) (old new : Held S) (revision : ℕ) → TellsRegister g old new (Some revision) → IsTrue (state g old).is_open
+told_while_open g old new revision (inl lacking) = absurd (cc lacking.1)
+told_while_open g old new revision (inr told) = told.1.same.0.was_open
 
 listing_cause : (revision : ℕ) (cs : List Command) (f : RegisterFault) → IsCauseIn (rows_at revision cs) f → IsListingFault revision cs f
 listing_cause revision cs fault.Store h = tt

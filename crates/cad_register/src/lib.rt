@@ -1,6 +1,6 @@
 //! The land register: versions in SQLite, and the register at any revision.
 //!
-//! - `Register`: made by `create` or `open` over a connection, changed by `apply`, read by `as_of`.
+//! - `Register`: made by `create`, `open` or `open_or_create` over a connection, changed by `apply`, read by `as_of`.
 //! - The types of versions, commands and faults are those of `cad_versions`.
 #![tactic(auto)]
 
@@ -21,6 +21,3 @@ pub use cad_versions::{
     Body, Class, Command, ObjectId, RegisterFault, Share, Version, Words, laws,
 };
 pub use register::{Register, Revision};
-
-#[cfg(test)]
-mod tests;

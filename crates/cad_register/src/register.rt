@@ -39,14 +39,13 @@ impl<S: Alter> Register<S> {
     ghost use Rattle.cad_tables.specs.declared.faults.TableFault.{TableFault as Fault};
     ghost use Rattle.sqlite.specs.Held.{state};
     ghost use Rattle.cad_tables.specs.Tables.{no_schema, is_standing};
-    ghost use Rattle.cad_tables.specs.Steps.{KeepsAll};
     ghost use Rattle.cad_versions.specs.declared.command.Command.{Command as CommandOf};
     ghost use Rattle.cad_versions.specs.Versions.{versions};
     ghost use Rattle.cad_versions.specs.Refusals.{refusal};
     ghost use Rattle.cad_versions.specs.AsOf.{as_of as register_as_of};
     ghost use Rattle.cad_register.specs.Listed.{IsListing};
-    ghost use Rattle.cad_register.specs.Stands.{StandsFor, IsStoreFault, IsListingFault};
-    ghost use Rattle.cad_register.specs.Refusing.{told_as, IsNotForMemory, RefusesToApply};
+    ghost use Rattle.cad_register.specs.Stands.{StandsFor, KeepsWhileOpen, IsStoreFault, IsListingFault};
+    ghost use Rattle.cad_register.specs.Refusing.{told_as, IsNotForMemory, RefusesDatabase, RefusesToApply};
     ghost use Rattle.cad_tables.specs.Faults.{fault_of};
     ghost use Rattle.cad_register.specs.Surviving.{IsOpenedOn, Leaves, LeavesEither, LeavesOrMakes};
     ghost use Rattle.cad_register.specs.Registers.{connection_of, state_of, revision_of, IsRegisterOf, IsRefused};
@@ -90,8 +89,7 @@ impl<S: Alter> Register<S> {
             (e : Error) × (refused.0 ≡ told_as (fault_of e)) ×
             RefusesTransaction S.Store creating e connection refused.1) }
         ensures unchanged { IfErr result (λ refused. HasCleanDisk (state S.Store refused.1) →
-            IsTrue (state S.Store refused.1).is_open →
-            KeepsAll (state S.Store connection) (state S.Store refused.1)) }
+            KeepsWhileOpen (state S.Store connection) (state S.Store refused.1)) }
         // What an open after a crash may find, at every exit.
         ensures crash { MatchResult result (λ register. HasCleanDisk (state_of S.Store register) →
             LeavesOrMakes (state S.Store connection) (state_of S.Store register)) (λ refused.
@@ -126,6 +124,12 @@ impl<S: Alter> Register<S> {
             HasCleanDisk (state S.Store refused.1) → (commands : List CommandOf) →
             IsOpenedOn commands (state S.Store connection) → length commands ≤ 4294967294 →
             refused.0 ≢ RegisterFault.NotARegister) }
+        // What is opened was open.
+        ensures live { IfOk result (λ register. HasCleanDisk (state_of S.Store register) →
+            IsTrue (state S.Store connection).is_open) }
+        ensures clean { MatchResult result (λ register. HasCleanDisk (state_of S.Store register) →
+            HasCleanDisk (state S.Store connection)) (λ refused.
+            HasCleanDisk (state S.Store refused.1) → HasCleanDisk (state S.Store connection)) }
         ensures known { IfErr result (λ refused. HasCleanDisk (state S.Store refused.1) →
             (commands : List CommandOf) → StandsFor (state S.Store connection) commands →
             length commands ≤ 4294967294 → refused.0 ≢ RegisterFault.NotARegister) }
@@ -157,6 +161,38 @@ impl<S: Alter> Register<S> {
             }),
             Ok(None) => Err((RegisterFault::NotARegister, connection)),
             Err(fault) => Err((store_fault(fault), connection)),
+        }
+    }
+
+    /// The register of a database, which is made where neither a table `state` nor a table `version` stands. A refusal gives the connection back.
+    pub fn open_or_create(
+        alloc: Global,
+        connection: Connection<S>,
+    ) -> Result<Register<S>, (RegisterFault, Connection<S>)>
+        ensures made { IfOk result (λ register. HasCleanDisk (state_of S.Store register) →
+            (state S.Store connection).now.schema ≡ no_schema → IsRegisterOf S.Store register []) }
+        ensures found { IfOk result (λ register. HasCleanDisk (state_of S.Store register) →
+            (commands : List CommandOf) → StandsFor (state S.Store connection) commands →
+            length commands ≤ 4294967294 → IsRegisterOf S.Store register commands) }
+        // What a crash left of a register opens as that register.
+        ensures recovered { IfOk result (λ register. HasCleanDisk (state_of S.Store register) →
+            (commands : List CommandOf) → IsOpenedOn commands (state S.Store connection) →
+            length commands ≤ 4294967294 → IsRegisterOf S.Store register commands) }
+        ensures cause { IfErr result (λ refused. refused.0 ≢ RegisterFault.NotARegister →
+            IsStoreFault refused.0) }
+        // What the database itself refused, a statement that makes the tables, the commit, or a question for the register that stands there.
+        ensures store { IfErr result (λ refused. HasCleanDisk (state S.Store refused.1) →
+            refused.0 ≢ RegisterFault.NotARegister →
+            RefusesDatabase S.Store connection refused.1 refused.0) }
+        // Only of a database with one of the tables.
+        ensures taken { IfErr result (λ refused. HasCleanDisk (state S.Store refused.1) →
+            refused.0 ≡ RegisterFault.NotARegister →
+            is_standing (state S.Store connection).now.schema ≡ true) }
+    {
+        match Register::create(alloc, connection) {
+            Ok(register) => Ok(register),
+            Err((RegisterFault::NotARegister, connection)) => Register::open(alloc, connection),
+            Err(refused) => Err(refused),
         }
     }
 

@@ -24,6 +24,3 @@ pub use making::{Creation, create};
 pub use opening::{MOST_REVISION, open, revision};
 pub use reading::{history, listing};
 pub use writing::write;
-
-#[cfg(test)]
-mod tests;

@@ -133,6 +133,7 @@ pub fn open<S: Alter>(conn: &mut Connection<S>) -> Result<Option<u32>, TableFaul
         → Holds n lines (state S.Store conn.old).now → n ≤ most_revision → found ≡ Some n) }
     ensures found { HasCleanDisk (state S.Store conn.new) → IfOk result (TellsRegister S.Store conn.old conn.new) }
     ensures refused { HasCleanDisk (state S.Store conn.new) → IfErr result (RefusesRegister S.Store conn.old conn.new) }
+    ensures clean { HasCleanDisk (state S.Store conn.new) → HasCleanDisk (state S.Store conn.old) }
     ensures live { HasCleanDisk (state S.Store conn.new) → (n : ℕ) (lines : List Line) → Holds n lines (state S.Store conn.old).now
         → OnOk result (IsTrue (state S.Store conn.new).is_open) }
     ensures kept { HasCleanDisk (state S.Store conn.new) → IsTrue (state S.Store conn.new).is_open

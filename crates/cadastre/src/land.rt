@@ -3,20 +3,7 @@
 use crate::outcome::Outcome;
 use cad_office::office;
 use cad_register::{Register, RegisterFault};
-use sqlite::{Alter, Connection, Error, ErrorCode};
-use std::alloc::Global;
-
-/// The register of a database, which is made where neither of its tables is there.
-fn register_in<S: Alter>(
-    alloc: Global,
-    connection: Connection<S>,
-) -> Result<Register<S>, (RegisterFault, Connection<S>)> {
-    match Register::create(alloc, connection) {
-        Ok(register) => Ok(register),
-        Err((RegisterFault::NotARegister, connection)) => Register::open(alloc, connection),
-        Err(refused) => Err(refused),
-    }
-}
+use sqlite::{Connection, Error, ErrorCode};
 
 /// Why a file is not opened.
 fn open_fault(error: Error) -> RegisterFault {
@@ -32,7 +19,7 @@ pub fn run_office(rt: &HostRuntime, file: &str) -> Outcome {
         Ok(connection) => connection,
         Err(error) => return Outcome::Register(open_fault(error)),
     };
-    let mut register = match register_in(rt.alloc(), connection) {
+    let mut register = match Register::open_or_create(rt.alloc(), connection) {
         Ok(register) => register,
         Err((fault, connection)) => {
             let _ = connection.close();

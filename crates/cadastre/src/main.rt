@@ -38,6 +38,4 @@ fn main(rt: HostRuntime) -> ExitCode {
 }
 
 #[cfg(test)]
-mod office_tests;
-#[cfg(test)]
 mod tests;

@@ -76,3 +76,6 @@ pub returns-else-branch-clause-live : goal.returns-else-branch-clause-live
 returns-else-branch-clause-live g c clean n lines has =
     let known : c.in_ok-has_columns.field-0 ≡ false = search rules in
     absurd (no_columns_lacking n lines _ has (c.in_ok-has_columns.ensures.lacks clean known))
+
+pub returns-then-branch-clause-clean : goal.returns-then-branch-clause-clean
+returns-then-branch-clause-clean g c clean = omega (arith, c.has_columns.ensures.survives.clean, c.told_revision.ensures.survives.clean)

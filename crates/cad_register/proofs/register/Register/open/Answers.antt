@@ -2,7 +2,7 @@ use Rattle.std.proofs.Common.{◌≡◌, length, map}
 use Rattle.sqlite.specs.Held.{state}
 use Rattle.cad_versions.specs.Entries.{entries_of}
 use Rattle.cad_register.specs.Rows.{line_of}
-use Rattle.cad_register.proofs.StandLemmas.{stands_kept}
+use Rattle.cad_register.proofs.StandLemmas.{stands_kept, told_while_open}
 use Rattle.cad_register.proofs.SurvivingLemmas.{leaves_standing, leaves_then, leaves_no_more, stands_opened}
 use Rattle.cad_register.proofs.register.Register.open.Goals as goal
 
@@ -52,3 +52,7 @@ returns-in-Ok-Some-clause-recovered g c clean cs opened low = returns-in-Ok-Some
 
 pub returns-in-Ok-None-clause-recovered : goal.returns-in-Ok-None-clause-recovered
 returns-in-Ok-None-clause-recovered g c clean cs opened low = returns-in-Ok-None-clause-known g c clean cs (stands_opened (state g.S.Store c.args.connection) cs opened) low
+
+pub returns-in-Ok-Some-clause-live : goal.returns-in-Ok-Some-clause-live
+returns-in-Ok-Some-clause-live g c clean =
+    told_while_open g.S.Store c.args.connection c.open.new.conn c.in-Ok-Some.revision (rw c.in-Ok-Some.field-0-is at (c.in-Ok-Some.ensures.found clean))

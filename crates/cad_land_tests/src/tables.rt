@@ -1,4 +1,6 @@
-use crate::{
+//! The two tables.
+
+use cad_tables::{
     Change, Closing, Creation, MOST_REVISION, Stored, TableFault, create, history, listing, open,
     revision, write,
 };

@@ -1,4 +1,4 @@
-//! The office over a land register in memory.
+//! The office over a register.
 
 use cad_office::{fill, office};
 use cad_register::{Register, RegisterFault, Version};

@@ -1,5 +1,7 @@
-use crate::{Body, Command, ObjectId, Register, RegisterFault, Revision, Share, Words};
+//! The register over them.
+
 use cad_day::Day;
+use cad_register::{Body, Command, ObjectId, Register, RegisterFault, Revision, Share, Words};
 use cad_shape::{Point, Ring};
 use sqlite::{Alter, Connection};
 use std::alloc::Global;
@@ -318,5 +320,35 @@ fn keeps_what_is_entered(rt: HostRuntime) -> Result<(), Fail> {
     let early = register.apply(amend(3, Y2003, parcel(alloc, 11, "b-7", None, None)?)?);
     assert_eq!(rt; early, Err(RegisterFault::DayNotAfter(day(Y2003)?)));
     assert_eq!(rt; register.revision(), 10);
+    Ok(())
+}
+
+/// The revision of what `open_or_create` gives, or the number of the fault, and the connection.
+fn found_in<S: Alter + Drop>(
+    alloc: Global,
+    connection: Connection<S>,
+) -> (Result<u64, u8>, Connection<S>) {
+    match Register::open_or_create(alloc, connection) {
+        Ok(register) => (Ok(register.revision()), register.release()),
+        Err((fault, connection)) => (Err(fault.number()), connection),
+    }
+}
+
+#[test]
+fn is_made_where_none_stands(rt: HostRuntime) -> Result<(), Fail> {
+    let alloc = rt.alloc();
+    let connection = in_memory(alloc).ok_or("in memory")?;
+    let (made, connection) = found_in(alloc, connection);
+    assert_eq!(rt; made, Ok(0));
+    let mut register = Register::open(alloc, connection).ok().ok_or("opened")?;
+    assert_eq!(rt; applied(&mut register, enter(11, Y2000, unit())?), Ok(1));
+    let (found, connection) = found_in(alloc, register.release());
+    assert_eq!(rt; found, Ok(1));
+    drop(connection);
+    let mut other = in_memory(alloc).ok_or("in memory")?;
+    assert!(rt; other.execute_batch("CREATE TABLE state (one)").is_ok());
+    let (refused, other) = found_in(alloc, other);
+    assert_eq!(rt; refused, Err(9));
+    drop(other);
     Ok(())
 }

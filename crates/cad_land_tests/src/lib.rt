@@ -1,0 +1,11 @@
+//! Tests of the land office over databases in memory: the tables, the register and the office.
+//!
+//! They stand apart from the crates that they test, so that each of those is proved once, and SQLite is built once for all of them.
+#![tactic(auto)]
+
+#[cfg(test)]
+mod office;
+#[cfg(test)]
+mod register;
+#[cfg(test)]
+mod tables;
