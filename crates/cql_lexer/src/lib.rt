@@ -13,4 +13,4 @@ mod tests;
 mod token;
 
 pub use lex::{LexFault, tokens};
-pub use token::{Comparison, Keyword, Kind, Token, Tokens};
+pub use token::{Comparison, Keyword, Kind, SpatialRelation, Token, Tokens};

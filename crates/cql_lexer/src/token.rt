@@ -1,36 +1,106 @@
 // The tokens of the filter language.
 
+use cad_day::Relation;
+
 /// How two values are compared.
 #[derive(Clone, Copy, PartialEq, Eq, Debug)]
 pub enum Comparison {
+    /// `=`
     Equal,
+    /// `<>`
     Unequal,
+    /// `<`
     Less,
+    /// `>`
     Greater,
+    /// `<=`
     AtMost,
+    /// `>=`
     AtLeast,
 }
 
-/// A word that is no name.
+/// How two shapes are compared.
+#[derive(Clone, Copy, PartialEq, Eq, Debug)]
+pub enum SpatialRelation {
+    /// `S_INTERSECTS`
+    Intersects,
+    /// `S_DISJOINT`
+    Disjoint,
+    /// `S_WITHIN`
+    Within,
+    /// `S_CONTAINS`
+    Contains,
+}
+
+/// A word that is no name, in whatever case it is written.
 #[derive(Clone, Copy, PartialEq, Eq, Debug)]
 pub enum Keyword {
+    /// `AND`
     And,
+    /// `OR`
     Or,
+    /// `NOT`
     Not,
+    /// `LIKE`
+    Like,
+    /// `BETWEEN`
+    Between,
+    /// `IN`
+    In,
+    /// `IS`
+    Is,
+    /// `NULL`
+    Null,
+    /// `TRUE`
+    True,
+    /// `FALSE`
+    False,
+    /// `DIV`
+    Div,
+    /// `CASEI`
+    Casei,
+    /// `DATE`
+    Date,
+    /// `INTERVAL`
+    Interval,
+    /// `POINT`
+    Point,
+    /// `POLYGON`
+    Polygon,
+    /// `BBOX`
+    Bbox,
+    /// One of the four names that begin with `S_`.
+    Spatial(SpatialRelation),
+    /// One of the fifteen names that begin with `T_`.
+    Temporal(Relation),
 }
 
 /// What a token is.
 #[derive(Debug, Drop)]
 pub enum Kind {
+    /// `(`
     Open,
+    /// `)`
     Close,
+    /// `,`
+    Comma,
+    /// `+`
     Plus,
+    /// `-`
     Minus,
+    /// `*`
+    Times,
+    /// `%`
+    Modulo,
+    /// `=`, `<>`, `<`, `>`, `<=` or `>=`
     Compare(Comparison),
+    /// A keyword.
     Word(Keyword),
-    /// A bare name, as it is written.
+    /// A name as it is written, without the quotes of a quoted one.
     Name(String),
-    /// The digits of a number.
+    /// What a text stands for: without its quotes, and each `''` and `\'` inside as one quote.
+    Text(String),
+    /// A number as it is written, without a sign: digits, and a fraction and an exponent where it has them.
     Number(String),
 }
 
