@@ -8,7 +8,7 @@ use Rattle.cad_day.specs.declared.day.Day.{Day}
 use Rattle.cad_day.specs.DayNumbers.{IsDayNumber}
 use Rattle.cad_day.specs.Days.{number_of}
 use Rattle.cad_shape.specs.declared.ring.Ring.{Ring}
-use Rattle.cad_shape.specs.Rings.{corners_of}
+use Rattle.cad_shape.specs.Rings.{corners_of, same_ring}
 use Rattle.cad_versions.specs.declared.object_id.ObjectId.{ObjectId}
 use Rattle.cad_versions.specs.declared.words.Words.{Words}
 use Rattle.cad_versions.specs.declared.share.Share.{Share}
@@ -37,11 +37,6 @@ same_share a b e f =
     (λ p q. subst (λ (n : ℕ). (q : a.num ≤ n) (r : n ≤ 1000000000) → a ≡ record { num = a.num; den = n; some = p; within = q; small = r }) f
     (λ q r. ap₂ (λ (p : 1 ≤ a.num) (s : (a.num ≤ a.den) × (a.den ≤ 1000000000)). record { num = a.num; den = a.den; some = p; within = s.0; small = s.1 }) (le_prop a.some p)
     (ap₂ (λ (q : a.num ≤ a.den) (r : a.den ≤ 1000000000). (q, r)) (le_prop a.within q) (le_prop a.small r))) q b.small) b.some b.within
-
-pub same_ring : (a b : Ring) → corners_of a ≡ corners_of b → a ≡ b
-same_ring a b e =
-    subst (λ cs. (p : 3 ≤ length cs) (q : length cs ≤ 1000) → a ≡ record { corners = cs; enough = p; not_too_many = q }) e
-    (λ p q. ap₂ (λ p q. record { corners = a.corners; enough = p; not_too_many = q }) (le_prop a.enough p) (le_prop a.not_too_many q)) b.enough b.not_too_many
 
 text_prop : (bytes : List ℕ) → IsProp (list_any (λ b. b == 0) bytes ≡ false)
 text_prop bytes = Coded-set coded_bool _ _

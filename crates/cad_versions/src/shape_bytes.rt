@@ -4,6 +4,7 @@ ghost use Rattle.std.specs.Prelude.{◌≡◌, ◌≢◌, ◌<◌, ◌^◌, ◌+
 ghost use Rattle.std.specs.Int.{to_be_bytes, w16, w64};
 ghost use Rattle.cad_shape.specs.declared.point.Point.{Point as Corner};
 ghost use Rattle.cad_shape.specs.declared.ring.Ring.{Ring as RingOfCorners};
+ghost use Rattle.cad_shape.specs.Outlines.{IsRing};
 ghost use Rattle.cad_shape.specs.Rings.{corners_of};
 ghost use Rattle.cad_versions.specs.ShapeBytes.{coordinate_bytes, corner_bytes, corners_bytes, shape_bytes};
 
@@ -106,6 +107,16 @@ fn counted_corners(bytes: &[u8]) -> Option<(usize, &[u8])>
     Some((usize::from(count), rest))
 }
 
+/// The ring through these corners, if they are those of one.
+fn ring_through(corners: Vec<Point>) -> Option<Ring>
+    ensures { MatchOption result (¬ (IsRing corners.items)) (λ ring. corners_of ring ≡ corners.items) }
+{
+    match Ring::new(corners) {
+        Ok(ring) => Some(ring),
+        Err(_) => None,
+    }
+}
+
 /// The shape that is stored under these bytes; `Ok(None)` where none is.
 pub fn read_shape(alloc: Global, bytes: &[u8]) -> Result<Option<Ring>, AllocError>
     ensures { IfOk result (λ found. MatchOption found ((ring : RingOfCorners) →
@@ -121,5 +132,5 @@ pub fn read_shape(alloc: Global, bytes: &[u8]) -> Result<Option<Ring>, AllocErro
     if corners.as_slice().len() != count {
         return Ok(None);
     }
-    Ok(Ring::new(corners).ok())
+    Ok(ring_through(corners))
 }

@@ -1,0 +1,39 @@
+//! Cases of shapes, one a line of the input, and an answer for each:
+//!
+//! - `ring P P P ..`: `ok`, or the fault of a ring through these corners
+//! - `segments P P P P`: whether the two segments share a point
+//! - `inside P P P P ..`: whether the first point lies in the region of the ring through the others
+//! - `bounds SHAPE`: the least box that holds the shape
+//! - `shapes SHAPE / SHAPE`: whether they meet, and whether the first lies within the second, `none` where that is not
+//!   asked
+//!
+//! P is a point, `X,Y`. A shape is `spot P`, `frame P P` by its least and greatest corner, or `area P P P ..`. A line
+//! with a part that is none is answered by `unread`.
+//!
+//! With the argument `bench` nothing is read, and what some calls take is printed.
+#![tactic(auto)]
+
+mod bench;
+mod cases;
+
+use anyhow::Result;
+use std::env;
+
+fn answer_lines(rt: &HostRuntime) -> Result<()> {
+    for line in rt.lines(rt.alloc()) {
+        let line = line?;
+        let mut answer = String::new(rt.alloc());
+        cases::put_answer(rt.alloc(), &line, &mut answer)?;
+        println!(rt; "{answer}")?;
+    }
+    Ok(())
+}
+
+fn main(rt: HostRuntime) -> Result<()> {
+    let mut args = env::args(&rt)?;
+    let _program = args.next();
+    match args.next() {
+        Some(word) if word.as_str() == "bench" => bench::tell_times(&rt),
+        _ => answer_lines(&rt),
+    }
+}
