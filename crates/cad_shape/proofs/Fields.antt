@@ -7,6 +7,7 @@ use Rattle.cad_shape.specs.declared.point.Point.{Point}
 use Rattle.cad_shape.specs.Coordinates.{IsCoordinate, IsProduct}
 use Rattle.cad_shape.specs.Boxes.{IsLower, IsUpper}
 use Rattle.cad_shape.specs.Frames.{frame_corners}
+use Rattle.cad_shape.specs.Segments.{IsOutOf}
 use Rattle.cad_shape.specs.declared.boxes.Bounds.{Bounds}
 
 fits : (n : ℤ) → IsCoordinate n → FitsSigned w64 n
@@ -87,3 +88,6 @@ pub upper_back : (a b m : ℤ) → IsCoordinate a → IsCoordinate b → IsUpper
 upper_back a b m i j h =
     let l : IsUpper a b m = rw (back a i, back b j) at h in
     subst (IsUpper a b) (sym (back m (upper_in a b m i j l))) l
+
+pub out_back : (low high a b : ℤ) → IsCoordinate low → IsCoordinate high → IsCoordinate a → IsCoordinate b → IsOutOf (to_z w64 (of_z w64 low)) (to_z w64 (of_z w64 high)) (to_z w64 (of_z w64 a)) (to_z w64 (of_z w64 b)) → IsOutOf low high a b
+out_back low high a b h i j k o = rw (back low h, back high i, back a j, back b k) at o

@@ -4,7 +4,7 @@ use Rattle.std.proofs.lemmas.Int.{ints, by_lt_z}
 use Rattle.std.proofs.lemmas.List.Elements.{recursion_from_All}
 use Rattle.std.specs.List.{All, AllByRecursion}
 use Rattle.cad_shape.specs.Segments.{IsBetween, turn}
-use Rattle.cad_shape.specs.Edges.{Edge, walk, edges_of, end_of}
+use Rattle.cad_shape.specs.Edges.{walk, edges_of, end_of}
 use Rattle.cad_shape.specs.Frames.{IsHeld}
 use Rattle.cad_shape.specs.Regions.{IsOnEdge, IsOnSome, passes, crossings, IsInRegion}
 use Rattle.cad_shape.specs.declared.point.Point.{Point}

@@ -1,7 +1,6 @@
 -- Least boxes.
-use Rattle.std.proofs.Common.{◌≡◌, ◌⊎◌, ℕ, ◌+◌, ◌<◌, ℤ, ◌≤ℤ◌, List, [], ◌∷◌, length, get_or, take, inl, inr, sym, subst, arith}
+use Rattle.std.proofs.Common.{◌≡◌, ℕ, ◌+◌, ◌<◌, ℤ, ◌≤ℤ◌, List, [], ◌∷◌, length, get_or, take, inl, inr, sym, subst, arith}
 use Rattle.std.specs.List.{All}
-use Rattle.std.proofs.lemmas.Int.{ints}
 use Rattle.std.proofs.lemmas.List.Elements.{All-cons, All-nil, All-head, All-more, All-weaker}
 use Rattle.cad_shape.specs.Coordinates.{IsCoordinate}
 use Rattle.cad_shape.specs.Boxes.{IsExtent, IsLower, IsUpper}

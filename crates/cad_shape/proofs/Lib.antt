@@ -10,3 +10,4 @@ pub mod Inside
 pub mod Overlaps
 pub mod ShapeLemmas
 pub mod Neighbours
+pub mod LawLemmas

@@ -1,9 +1,9 @@
 -- Segments that meet lie in boxes that overlap.
-use Rattle.std.proofs.Common.{ℤ, pos, ◌+ℤ◌, ◌-ℤ◌, ◌*ℤ◌, ◌≤ℤ◌, ◌<ℤ◌, inl, inr, ⊎_elim, List, [], ◌∷◌, ◌++◌, arith}
+use Rattle.std.proofs.Common.{◌⊎◌, ℤ, pos, ◌-ℤ◌, ◌*ℤ◌, ◌≤ℤ◌, ◌<ℤ◌, inl, inr, ⊎_elim, List, [], ◌∷◌, arith}
 use Rattle.std.specs.List.{All, AllByRecursion}
 use Rattle.std.proofs.lemmas.Int.{by_lt_z}
 use Rattle.std.proofs.lemmas.List.Elements.{recursion_from_All}
-use Rattle.cad_shape.specs.Segments.{IsBetween, IsOn, Meet}
+use Rattle.cad_shape.specs.Segments.{IsBetween, IsOutOf, Meet}
 use Rattle.cad_shape.specs.Frames.{IsHeld, Overlap}
 use Rattle.cad_shape.specs.Edges.{Edge, walk, edges_of, end_of}
 use Rattle.cad_shape.specs.Regions.{MeetsSome, SomeMeet}
@@ -11,6 +11,7 @@ use Rattle.cad_shape.specs.declared.point.Point.{Point}
 use Rattle.cad_shape.specs.declared.boxes.Bounds.{Bounds}
 use Rattle.cad_shape.proofs.Signs.{sums, times, times-gap, times_below}
 use Rattle.cad_shape.proofs.Walks.{any_unpushed, opened}
+use Rattle.cad_shape.proofs.SharedPoints.{meet_exchanged}
 use Rattle.cad_shape.proofs.Inside.{end_held}
 
 keeps : (w a b : ℤ) → pos 0 <ℤ w → a ≤ℤ b → (w *ℤ a) ≤ℤ (w *ℤ b)
@@ -47,13 +48,43 @@ meet_overlap a b p q r s hp hq hr hs m =
       ),
     )
 
+-- a segment that lies beside a box, in one coordinate
+misses : (w low high p q r s x : ℤ) → pos 0 <ℤ w → low ≤ℤ p → p ≤ℤ high → low ≤ℤ q → q ≤ℤ high → IsBetween (w *ℤ p) (w *ℤ q) x → IsBetween (w *ℤ r) (w *ℤ s) x → ¬ (IsOutOf low high r s)
+misses w low high p q r s x h a b c d i j (inl o) =
+    let e = above w low p q x h a c i in
+    let f = times_below w r low h o.0 in
+    let g = times_below w s low h o.1 in
+    ⊎_elim (λ k. absurd (omega (arith, sums))) (λ k. absurd (omega (arith, sums))) j
+misses w low high p q r s x h a b c d i j (inr o) =
+    let e = below w high p q x h b d i in
+    let f = times_below w high r h o.0 in
+    let g = times_below w high s h o.1 in
+    ⊎_elim (λ k. absurd (omega (arith, sums))) (λ k. absurd (omega (arith, sums))) j
+
+pub beside_misses : (b : Bounds) (p q r s : Point) → IsOutOf b.x_min b.x_max r.x s.x ⊎ IsOutOf b.y_min b.y_max r.y s.y → IsHeld b p → IsHeld b q → ¬ (Meet p q r s)
+beside_misses b p q r s (inl o) hp hq m = misses m.2 b.x_min b.x_max p.x q.x r.x s.x m.0 m.3.whole hp.0.0 hp.0.1 hq.0.0 hq.0.1 m.3.first.in_x m.3.second.in_x o
+beside_misses b p q r s (inr o) hp hq m = misses m.2 b.y_min b.y_max p.y q.y r.y s.y m.1 m.3.whole hp.1.0 hp.1.1 hq.1.0 hq.1.1 m.3.first.in_y m.3.second.in_y o
+
+-- a segment that misses all in a box misses a ring in it
+walk_missed : (b : Bounds) (p q : Point) → ((r s : Point) → IsHeld b r → IsHeld b s → ¬ (Meet r s p q)) → (r : Point) (ss : List Point) → IsHeld b r → AllByRecursion (IsHeld b) ss → ¬ (MeetsSome p q (walk r ss))
+walk_missed b p q n r [] hr k m = absurd m
+walk_missed b p q n r (s ∷ ss) hr k (inl m) = n r s hr k.0 (meet_exchanged p q r s m)
+walk_missed b p q n r (s ∷ ss) hr k (inr m) = walk_missed b p q n s ss k.0 k.1 m
+
+pub ring_missed : (b : Bounds) (p q : Point) → ((r s : Point) → IsHeld b r → IsHeld b s → ¬ (Meet r s p q)) → (cs : List Point) → All (IsHeld b) cs → ¬ (MeetsSome p q (edges_of cs))
+ring_missed b p q n [] h m = absurd m
+ring_missed b p q n (c ∷ cs) h m =
+    let k = recursion_from_All (IsHeld b) (c ∷ cs) h in
+    walk_missed b p q n (end_of c cs) (c ∷ cs) (end_held b c cs k.0 k.1) k
+    (opened (MeetsSome p q) (λ es e. any_unpushed (λ (f : Edge). Meet p q f.from f.to) es e) c cs m)
+
 walk_overlap : (a b : Bounds) (p q : Point) → IsHeld a p → IsHeld a q → (r : Point) (ss : List Point) → IsHeld b r → AllByRecursion (IsHeld b) ss → MeetsSome p q (walk r ss) → Overlap a b
 walk_overlap a b p q hp hq r [] hr k m = absurd m
 walk_overlap a b p q hp hq r (s ∷ ss) hr k (inl m) = meet_overlap a b p q r s hp hq hr k.0 m
 walk_overlap a b p q hp hq r (s ∷ ss) hr k (inr m) = walk_overlap a b p q hp hq s ss k.0 k.1 m
 
 -- a segment in one box that meets a ring in another
-pub ring_overlap : (a b : Bounds) (p q : Point) → IsHeld a p → IsHeld a q → (cs : List Point) → All (IsHeld b) cs → MeetsSome p q (edges_of cs) → Overlap a b
+ring_overlap : (a b : Bounds) (p q : Point) → IsHeld a p → IsHeld a q → (cs : List Point) → All (IsHeld b) cs → MeetsSome p q (edges_of cs) → Overlap a b
 ring_overlap a b p q hp hq [] h m = absurd m
 ring_overlap a b p q hp hq (c ∷ cs) h m =
     let k = recursion_from_All (IsHeld b) (c ∷ cs) h in

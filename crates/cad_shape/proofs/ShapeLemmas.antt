@@ -1,10 +1,8 @@
 -- Shapes and the least boxes that hold them.
-use Rattle.std.proofs.Common.{◌↔◌, ◌≤ℤ◌, ℤ, ◌⊎◌, inl, inr, ⊎_elim, List, [], ◌∷◌, arith}
+use Rattle.std.proofs.Common.{◌↔◌, ◌≤ℤ◌, inl, inr, List, [], ◌∷◌, arith}
 use Rattle.std.specs.List.{All, AllByRecursion}
 use Rattle.std.proofs.lemmas.List.Elements.{All-from_recursion, recursion_from_All, All-head, All-weaker}
-use Rattle.cad_shape.specs.Edges.{AnyOf, edges_of}
 use Rattle.cad_shape.specs.Frames.{IsHeld, Covers, Overlap, IsLeastBounds, frame_corners}
-use Rattle.cad_shape.specs.Regions.{SomeMeet}
 use Rattle.cad_shape.specs.Rings.{corners_of}
 use Rattle.cad_shape.specs.Shapes.{shape_corners, IsIn, SomeIn, RegionsMeet, RegionMeets, Meets}
 use Rattle.cad_shape.specs.declared.point.Point.{Point}

@@ -181,7 +181,7 @@ turn_first px py qx qy = rw (as_gap px, as_gap py, as_gap qx, as_gap qy) (simp g
 at_first : (p q : Point) → IsOn p q p.x p.y (pos 1)
 at_first p q = on_one p q p (turn_first p.x p.y q.x q.y ∙ omega (arith, sums, gap_is 0 0)) (between_first p.x q.x) (between_first p.y q.y)
 
-at_second : (p q : Point) → IsOn p q q.x q.y (pos 1)
+pub at_second : (p q : Point) → IsOn p q q.x q.y (pos 1)
 at_second p q = on_turned q p q.x q.y (pos 1) (at_first q p)
 
 pub one_is : pos 0 <ℤ pos 1

@@ -1,11 +1,10 @@
 -- Walks round rings, and their edges.
-use Rattle.std.proofs.Common.{◌↔◌, IsTrue, Bool, nat_eq, if◌then◌else◌, ℕ, zero, suc, ◌+◌, ◌-◌, ◌≡◌, ◌<◌, ◌≤◌, ◌%◌, ◌⊎◌, inl, inr, ⊎_elim, ℤ, pos, ◌+ℤ◌, List, [], ◌∷◌, ◌++◌, length, get_or, refl, sym, ap, ap₂, ◌∙◌, subst, arith, length-append}
-use Rattle.std.proofs.lemmas.Bool.{cases_lt}
-use Rattle.std.proofs.lemmas.List.{get_or_append_left, get_or_push, get_or_default}
+use Rattle.std.proofs.Common.{◌↔◌, IsTrue, Bool, ℕ, zero, suc, ◌+◌, ◌-◌, ◌≡◌, ◌<◌, ◌%◌, inl, inr, ⊎_elim, pos, List, [], ◌∷◌, ◌++◌, length, get_or, refl, sym, ap, ◌∙◌, subst, arith, length-append}
+use Rattle.std.proofs.lemmas.List.{get_or_append_left, get_or_push}
 use Rattle.cad_shape.specs.Segments.{IsBetween, turn}
 use Rattle.cad_shape.specs.Edges.{Edge, AnyOf, walk, edges_of, end_of}
-use Rattle.cad_shape.specs.Regions.{IsOnEdge, IsOnSome, crossings, passes, IsInRegion}
-use Rattle.cad_shape.specs.Areas.{sweep, doubled_area}
+use Rattle.cad_shape.specs.Regions.{IsOnEdge, crossings, IsInRegion}
+use Rattle.cad_shape.specs.Areas.{doubled_area}
 use Rattle.cad_shape.specs.Crossings.{origin, edge_at}
 use Rattle.cad_shape.specs.declared.point.Point.{Point}
 use Rattle.cad_shape.proofs.Signs.{sums}

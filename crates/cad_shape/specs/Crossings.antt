@@ -4,7 +4,7 @@ use Rattle.cad_shape.specs.declared.point.Point.{Point}
 use Rattle.cad_shape.specs.declared.crossing.Pair.{Pair}
 use Rattle.cad_shape.specs.declared.crossing.Pair.TheVariants.{Same, Next, Round, Far}
 use Rattle.cad_shape.specs.Segments.{IsShared, Meet}
-use Rattle.cad_shape.specs.Edges.{Edge, edges_of}
+use Rattle.cad_shape.specs.Edges.{Edge}
 
 abbrev pub origin : Point
 origin = record {

@@ -1,5 +1,5 @@
 -- The edges of rings.
-use Rattle.std.specs.Prelude.{ℕ, List, [], ◌∷◌, ◌++◌, ◌⊎◌}
+use Rattle.std.specs.Prelude.{List, [], ◌∷◌, ◌++◌, ◌⊎◌}
 use Rattle.cad_shape.specs.declared.point.Point.{Point}
 
 -- a segment, from one point to another

@@ -1,5 +1,5 @@
 -- What a box holds, covers and shares with another, and its corners.
-use Rattle.std.specs.Prelude.{ℤ, ◌≤ℤ◌, List, [], ◌∷◌, All}
+use Rattle.std.specs.Prelude.{◌≤ℤ◌, List, [], ◌∷◌, All}
 use Rattle.cad_shape.specs.declared.point.Point.{Point}
 use Rattle.cad_shape.specs.declared.boxes.Bounds.{Bounds}
 

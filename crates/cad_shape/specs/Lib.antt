@@ -9,3 +9,4 @@ pub mod Crossings
 pub mod Outlines
 pub mod Rings
 pub mod Shapes
+pub mod Laws

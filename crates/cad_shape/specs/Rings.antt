@@ -1,6 +1,6 @@
 -- Rings, and why a list of corners is none.
-use Rattle.std.specs.Prelude.{◌≡◌, ℕ, ◌<◌, ◌≤◌, ℤ, pos, List, length, codes}
-use Rattle.std.proofs.Common.{ap, ap₂, subst, arith}
+use Rattle.std.specs.Prelude.{◌≡◌, ℕ, ◌<◌, ◌≤◌, pos, List, length, codes}
+use Rattle.std.proofs.Common.{ap₂, subst, arith}
 use Rattle.std.specs.Coded.{le_prop}
 use Rattle.cad_shape.specs.declared.point.Point.{Point}
 use Rattle.cad_shape.specs.declared.ring.Ring.{Ring}

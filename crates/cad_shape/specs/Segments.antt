@@ -37,3 +37,7 @@ AllBelow a b c d = (a <ℤ c) × (a <ℤ d) × (b <ℤ c) × (b <ℤ d)
 -- in one coordinate the segments lie apart: both ends of one below both of the other
 abbrev pub Apart : ℤ → ℤ → ℤ → ℤ → Type 0
 Apart p q r s = AllBelow p q r s ⊎ AllBelow r s p q
+
+-- a and b both lie below a range, or both above it
+abbrev pub IsOutOf : ℤ → ℤ → ℤ → ℤ → Type 0
+IsOutOf low high a b = ((a <ℤ low) × (b <ℤ low)) ⊎ ((high <ℤ a) × (high <ℤ b))

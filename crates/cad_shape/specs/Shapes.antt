@@ -1,8 +1,6 @@
 -- Shapes: whether they share a point, and whether one lies within another (OGC 21-065r2, spatial functions; boundaries: own profile).
 use Rattle.std.specs.Prelude.{◌≡◌, ◌⊎◌, Bool, true, false, List, [], ◌∷◌, All}
 use Rattle.cad_shape.specs.declared.point.Point.{Point}
-use Rattle.cad_shape.specs.declared.boxes.Bounds.{Bounds}
-use Rattle.cad_shape.specs.declared.ring.Ring.{Ring}
 use Rattle.cad_shape.specs.declared.shape.Shape.{Shape}
 use Rattle.cad_shape.specs.declared.shape.Shape.TheVariants.{Spot, Frame, Area}
 use Rattle.cad_shape.specs.Edges.{Edge, AnyOf, edges_of}

@@ -2,11 +2,12 @@
 
 ghost use Rattle.std.specs.Prelude.{◌≡◌, ◌↔◌, ◌<◌, ◌≤◌, IsTrue, length, MatchOption};
 ghost use Rattle.cad_shape.specs.Segments.{turn};
+ghost use Rattle.cad_shape.specs.Frames.{IsHeld};
 ghost use Rattle.cad_shape.specs.Edges.{edges_of};
 ghost use Rattle.cad_shape.specs.Crossings.{edge_at, ShareMore, along, pair_of, Cross, IsCrossing, NoneCross, IsFirstCrossing};
 
-use crate::Point;
-use crate::segment::{product, segments_meet, turn_at};
+use crate::segment::{meets_in_box, product, turn_at};
+use crate::{Bounds, Point};
 
 // How two edges of a ring stand to each other.
 #[derive(Clone, Copy, Debug, PartialEq, Eq)]
@@ -58,14 +59,17 @@ fn has_no_length(p: Point, q: Point) -> bool
     p.x == q.x && p.y == q.y
 }
 
-fn edges_cross(pair: Pair, p: Point, q: Point, r: Point, s: Point) -> bool
+// Whether the edge from `p` to `q`, which lies in the box, and the one from `r` to `s` share more than they may.
+fn edges_cross(pair: Pair, bounds: Bounds, p: Point, q: Point, r: Point, s: Point) -> bool
+    requires from { IsHeld bounds p }
+    requires to { IsHeld bounds q }
     ensures { IsTrue result ↔ Cross pair p q r s }
 {
     match pair {
         Pair::Same => has_no_length(p, q),
         Pair::Next => doubles_back(p, q, s),
         Pair::Round => doubles_back(r, s, q),
-        Pair::Far => segments_meet(p, q, r, s),
+        Pair::Far => meets_in_box(bounds, p, q, r, s),
     }
 }
 
@@ -79,15 +83,27 @@ fn edge_ends(corners: &[Point], i: usize) -> (Point, Point)
     (corners[i], corners[next])
 }
 
-fn is_crossing(corners: &[Point], i: usize, j: usize) -> bool
+// A box that holds edge `i` of the ring through these corners.
+fn edge_bounds(corners: &[Point], i: usize) -> Bounds
+    requires { i < length corners.now }
+    ensures from { IsHeld result (edge_at (edges_of corners.now) i).from }
+    ensures to { IsHeld result (edge_at (edges_of corners.now) i).to }
+{
+    let (p, q) = edge_ends(corners, i);
+    Bounds::of_segment(p, q)
+}
+
+fn is_crossing(corners: &[Point], bounds: Bounds, i: usize, j: usize) -> bool
     requires ordered { i ≤ j }
     requires within { j < length corners.now }
+    requires from { IsHeld bounds (edge_at (edges_of corners.now) i).from }
+    requires to { IsHeld bounds (edge_at (edges_of corners.now) i).to }
     ensures { IsTrue result ↔ IsCrossing (edges_of corners.now) i j }
 {
     let pair = pair_at(corners.len(), i, j);
     let (p, q) = edge_ends(corners, i);
     let (r, s) = edge_ends(corners, j);
-    edges_cross(pair, p, q, r, s)
+    edges_cross(pair, bounds, p, q, r, s)
 }
 
 // The least pair of edges of the ring through these corners that share more than they may, if there is one.
@@ -95,8 +111,9 @@ pub(crate) fn first_crossing(corners: &[Point]) -> Option<(usize, usize)>
     ensures { MatchOption result (NoneCross (edges_of corners.now)) (λ pair. IsFirstCrossing (edges_of corners.now) pair.0 pair.1) }
 {
     for i in 0..corners.len() {
+        let bounds = edge_bounds(corners, i);
         for j in i..corners.len() {
-            if is_crossing(corners, i, j) {
+            if is_crossing(corners, bounds, i, j) {
                 return Some((i, j));
             }
         }

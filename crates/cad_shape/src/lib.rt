@@ -4,6 +4,7 @@
 mod area;
 mod boxes;
 mod crossing;
+pub mod laws;
 mod meeting;
 mod point;
 mod region;

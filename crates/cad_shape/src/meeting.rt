@@ -7,7 +7,7 @@ ghost use Rattle.cad_shape.specs.Edges.{AnyOf, walk, edges_of};
 ghost use Rattle.cad_shape.specs.Frames.{IsHeld};
 ghost use Rattle.cad_shape.specs.Regions.{MeetsSome, SomeMeet};
 
-use crate::segment::segments_meet;
+use crate::segment::{is_beside, segments_meet};
 use crate::{Bounds, Point};
 
 // Whether the segment from `p` to `q` shares a point with the walk from `start` through the corners in order.
@@ -38,7 +38,7 @@ fn meets_ring_within(p: Point, q: Point, bounds: Bounds, corners: &[Point]) -> b
     requires held { All (IsHeld bounds) corners.now }
     ensures { IsTrue result ↔ MeetsSome p q (edges_of corners.now) }
 {
-    Bounds::of_segment(p, q).overlaps(bounds) && meets_ring(p, q, corners)
+    !is_beside(bounds, p, q) && meets_ring(p, q, corners)
 }
 
 // Whether the walk from `start` through the corners shares a point with the ring inside the box.

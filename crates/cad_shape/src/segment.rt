@@ -2,9 +2,11 @@
 
 ghost use Rattle.std.specs.Prelude.{◌≡◌, ◌↔◌, IsTrue, ◌⊎◌, ◌*ℤ◌};
 ghost use Rattle.cad_shape.specs.Coordinates.{IsDifference, IsProduct};
-ghost use Rattle.cad_shape.specs.Segments.{Meet, Straddle, AllBelow, Apart, turn};
+ghost use Rattle.cad_shape.specs.Frames.{IsHeld};
+ghost use Rattle.cad_shape.specs.Segments.{Meet, Straddle, AllBelow, Apart, IsOutOf, turn};
+ghost use Rattle.cad_shape.specs.declared.point.Point.{Point as Place};
 
-use crate::Point;
+use crate::{Bounds, Point};
 
 pub(crate) fn product(a: i64, b: i64) -> i128
     requires { IsDifference a × IsDifference b }
@@ -54,4 +56,26 @@ pub fn segments_meet(p: Point, q: Point, r: Point, s: Point) -> bool
         return false;
     }
     straddle(p, q, r, s) && straddle(r, s, p, q)
+}
+
+fn out_of(low: i64, high: i64, a: i64, b: i64) -> bool
+    ensures { IsTrue result ↔ IsOutOf low high a b }
+{
+    (a < low && b < low) || (high < a && high < b)
+}
+
+// Whether the segment from `r` to `s` lies wholly on one side of the box, so that no segment inside the box meets it.
+pub(crate) fn is_beside(bounds: Bounds, r: Point, s: Point) -> bool
+    ensures { IsTrue result → (p q : Place) → IsHeld bounds p → IsHeld bounds q → ¬ (Meet p q r s) }
+{
+    out_of(bounds.x_min, bounds.x_max, r.x, s.x) || out_of(bounds.y_min, bounds.y_max, r.y, s.y)
+}
+
+// The same as `segments_meet` for a segment from `p` to `q` inside the box.
+pub(crate) fn meets_in_box(bounds: Bounds, p: Point, q: Point, r: Point, s: Point) -> bool
+    requires from { IsHeld bounds p }
+    requires to { IsHeld bounds q }
+    ensures { IsTrue result ↔ Meet p q r s }
+{
+    !is_beside(bounds, r, s) && segments_meet(p, q, r, s)
 }

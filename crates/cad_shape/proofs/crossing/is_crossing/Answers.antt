@@ -1,5 +1,4 @@
-use Rattle.std.proofs.Common.{◌≡◌, ◌↔◌, IsTrue, Bool, length, sym, ap, ◌∙◌, subst}
-use Rattle.cad_shape.specs.Edges.{edges_of}
+use Rattle.std.proofs.Common.{◌≡◌, ◌↔◌, IsTrue, Bool, sym, ap, ◌∙◌, subst}
 use Rattle.cad_shape.specs.Crossings.{pair_of, Cross}
 use Rattle.cad_shape.specs.declared.point.Point.{Point}
 use Rattle.cad_shape.specs.declared.crossing.Pair.{Pair}

@@ -1,12 +1,11 @@
-use Rattle.std.proofs.Common.{sym, ◌∙◌}
+use Rattle.std.proofs.Common.{sym, ap, ◌∙◌}
+use mathlib.Core.Bool.{not}
 use Rattle.std.proofs.lemmas.Bool.{false≢true}
-use Rattle.cad_shape.proofs.Overlaps.{ring_overlap}
+use Rattle.cad_shape.proofs.Overlaps.{ring_missed}
 use Rattle.cad_shape.proofs.meeting.meets_ring_within.Goals as goal
 
-pub returns-else-overlaps : goal.returns-else-overlaps
-returns-else-overlaps c =
-    let p = c.args.p in
-    let q = c.args.q in (
-      λ t. absurd (false≢true (sym c.if-overlaps.false ∙ t)),
-      λ m. c.overlaps.ensures.1 (ring_overlap c.of_segment.result c.args.bounds p q c.of_segment.ensures.from c.of_segment.ensures.to c.args.corners.now c.requires.held m),
-    )
+pub returns-else-not-is_beside : goal.returns-else-not-is_beside
+returns-else-not-is_beside c = (
+  λ t. absurd (false≢true (sym (ap not c.if-not-is_beside.false) ∙ t)),
+  λ m. absurd (ring_missed c.args.bounds c.args.p c.args.q (c.is_beside.ensures c.if-not-is_beside.false) c.args.corners.now c.requires.held m),
+)

@@ -1,6 +1,3 @@
-use Rattle.std.proofs.Common.{◌↔◌, IsTrue, subst}
-use Rattle.std.specs.Option.{IfSome}
-use Rattle.cad_shape.specs.Shapes.{shape_corners, AreFramed, IsWithin}
 use Rattle.cad_shape.proofs.relation.within.Goals as goal
 
 pub returns-in-Frame-clause-answer : goal.returns-in-Frame-clause-answer

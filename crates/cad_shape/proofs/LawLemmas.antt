@@ -1,0 +1,205 @@
+-- What the laws of regions and shapes stand on.
+use Rattle.std.proofs.Common.{◌≡◌, ◌↔◌, ℕ, ◌%◌, ◌<◌, if◌then◌else◌, inl, inr, ⊎_elim, ℤ, pos, ◌≤ℤ◌, List, [], ◌∷◌, ◌++◌, length, refl, sym, ap, ap₂, ◌∙◌, subst, arith}
+use Rattle.std.specs.List.{All, AllByRecursion}
+use mathlib.Core.List.{reverse}
+use Rattle.std.proofs.lemmas.List.{reverse-append, reverse-reverse}
+use Rattle.std.proofs.lemmas.Bool.{cases_lt}
+use Rattle.std.proofs.lemmas.Int.{by_lt_z}
+use Rattle.std.proofs.lemmas.List.Elements.{All-from_recursion, All-cons, All-nil, All-head}
+use Rattle.cad_shape.specs.Segments.{Meet}
+use Rattle.cad_shape.specs.Edges.{Edge, walk, edges_of, end_of}
+use Rattle.cad_shape.specs.Frames.{IsHeld, IsLeastBounds, frame_corners}
+use Rattle.cad_shape.specs.Regions.{IsOnEdge, IsOnSome, crossings, passes, IsInRegion, MeetsSome, SomeMeet}
+use Rattle.cad_shape.specs.Crossings.{IsFirstCrossing}
+use Rattle.cad_shape.specs.Boxes.{IsExtent}
+use Rattle.cad_shape.specs.Rings.{corners_of, IsRingFault}
+use lib.Dec.{T_prop}
+use Rattle.cad_shape.specs.declared.ring.RingFault.{RingFault}
+use Rattle.cad_shape.specs.declared.ring.RingFault.TheVariants.{TooFew, TooMany, Crosses, Flat}
+use Rattle.cad_shape.specs.Shapes.{shape_corners, IsIn, SomeIn, RegionsMeet, Meets, IsWithin}
+use Rattle.cad_shape.specs.declared.point.Point.{Point}
+use Rattle.cad_shape.specs.declared.boxes.Bounds.{Bounds}
+use Rattle.cad_shape.specs.declared.shape.Shape.{Shape}
+use Rattle.cad_shape.specs.declared.shape.Shape.TheVariants.{Spot, Frame, Area}
+use Rattle.cad_shape.proofs.Signs.{sums}
+use Rattle.cad_shape.proofs.SharedPoints.{on_turned, meet_exchanged, at_second}
+use Rattle.cad_shape.proofs.Heights.{passes_up, passes_down, passes_over, passes_under}
+use Rattle.cad_shape.proofs.Walks.{any_unpushed, any_mapped, crossings-push, region_pushed, walk-push}
+use Rattle.cad_shape.proofs.ShapeLemmas.{frame_least}
+
+-- ---- the corners of a ring may begin anywhere
+end_push : (p r : Point) (qs : List Point) → end_of p (qs ++ r ∷ []) ≡ r
+end_push p r [] = refl
+end_push p r (q ∷ qs) = end_push q r qs
+
+-- the edges of a ring that is turned by one corner: the first edge is now the last
+turned_edges : (p q : Point) (qs : List Point) → edges_of (q ∷ (qs ++ p ∷ [])) ≡ walk q (qs ++ p ∷ []) ++ record { from = p; to = q } ∷ []
+turned_edges p q qs = walk-push q q (qs ++ p ∷ []) ∙ ap (λ e. walk q (qs ++ p ∷ []) ++ record { from = e; to = q } ∷ []) (end_push q p qs)
+
+pub turned_region : (t p : Point) (qs : List Point) → IsInRegion t (edges_of (p ∷ qs)) ↔ IsInRegion t (edges_of (qs ++ p ∷ []))
+turned_region t p [] = (λ h. h, λ h. h)
+turned_region t p (q ∷ qs) =
+    let e = turned_edges p q qs in
+    let h = region_pushed t (walk q (qs ++ p ∷ [])) (record { from = p; to = q }) in
+    (λ k. subst (IsInRegion t) (sym e) (h.0 k), λ k. h.1 (subst (IsInRegion t) e k))
+
+-- ---- the corners of a ring may stand in the other order
+passes_turned : (t p q : Point) → passes t p q ≡ passes t q p
+passes_turned t p q = by_lt_z t.y p.y
+    (λ h. by_lt_z t.y q.y (λ k. passes_over t p q h k ∙ sym (passes_over t q p k h)) (λ k. passes_down t p q k h ∙ sym (passes_up t q p k h)))
+    (λ h. by_lt_z t.y q.y (λ k. passes_up t p q h k ∙ sym (passes_down t q p h k)) (λ k. passes_under t p q h k ∙ sym (passes_under t q p k h)))
+
+counted_turned : (t p q : Point) → ◌≡◌ {A = ℕ} (if passes t p q then 1 else 0) (if passes t q p then 1 else 0)
+counted_turned t p q = ap {B = ℕ} (λ b. if b then 1 else 0) (passes_turned t p q)
+
+-- the walk through the corners in the other order: its last edge is the first, turned
+turned_walk : (p q r : Point) (qs : List Point) → walk p (reverse (q ∷ qs) ++ r ∷ []) ≡ walk p (reverse qs ++ q ∷ []) ++ record { from = q; to = r } ∷ []
+turned_walk p q r qs =
+    ap (λ cs. walk p (cs ++ r ∷ [])) (reverse-append (q ∷ []) qs)
+    ∙ walk-push p r (reverse qs ++ q ∷ [])
+    ∙ ap (λ e. walk p (reverse qs ++ q ∷ []) ++ record { from = e; to = r } ∷ []) (end_push p q (reverse qs))
+
+crossings_turned : (t p r : Point) (qs : List Point) → crossings t (walk p (reverse qs ++ r ∷ [])) ≡ crossings t (walk r (qs ++ p ∷ []))
+crossings_turned t p r [] = let e = counted_turned t p r in omega (arith, e)
+crossings_turned t p r (q ∷ qs) =
+    let e = ap (crossings t) (turned_walk p q r qs) ∙ crossings-push t (walk p (reverse qs ++ q ∷ [])) (record { from = q; to = r }) in
+    let d = counted_turned t q r in
+    let h = crossings_turned t p q qs in
+    omega (arith, e, d, h)
+
+on_some_turned : (t p r : Point) (qs : List Point) → IsOnSome t (walk p (reverse qs ++ r ∷ [])) → IsOnSome t (walk r (qs ++ p ∷ []))
+on_some_turned t p r [] (inl h) = inl (on_turned p r t.x t.y (pos 1) h)
+on_some_turned t p r [] (inr h) = absurd h
+on_some_turned t p r (q ∷ qs) h = ⊎_elim
+    (λ k. inl (on_turned q r t.x t.y (pos 1) k))
+    (λ k. inr (on_some_turned t p q qs k))
+    (any_unpushed (λ (e : Edge). IsOnEdge t e.from e.to) (walk p (reverse qs ++ q ∷ [])) (record { from = q; to = r }) (subst (IsOnSome t) (turned_walk p q r qs) h))
+
+walk_region_turned : (t p r : Point) (qs : List Point) → IsInRegion t (walk p (reverse qs ++ r ∷ [])) → IsInRegion t (walk r (qs ++ p ∷ []))
+walk_region_turned t p r qs (inl h) = inl (on_some_turned t p r qs h)
+walk_region_turned t p r qs (inr h) = inr (sym (ap (λ n. n % 2) (crossings_turned t p r qs)) ∙ h)
+
+pub order_region : (t : Point) (cs : List Point) → IsInRegion t (edges_of cs) ↔ IsInRegion t (edges_of (reverse cs))
+order_region t [] = (λ h. h, λ h. h)
+order_region t (p ∷ qs) =
+    let e = reverse-append (p ∷ []) qs in
+    let h = turned_region t p (reverse qs) in (
+      λ k. subst (λ cs. IsInRegion t (edges_of cs)) (sym e) (h.0 (walk_region_turned t p p (reverse qs) (subst (λ cs. IsInRegion t (walk p (cs ++ p ∷ []))) (sym (reverse-reverse qs)) k))),
+      λ k. walk_region_turned t p p qs (h.1 (subst (λ cs. IsInRegion t (edges_of cs)) e k)),
+    )
+
+-- ---- meeting is symmetric
+meets_both : (p q : Point) (es : List Edge) (fs : List Edge) → MeetsSome p q fs → SomeMeet fs (record { from = p; to = q } ∷ es)
+meets_both p q es fs h = any_mapped (λ (f : Edge). Meet p q f.from f.to) (λ (f : Edge). MeetsSome f.from f.to (record { from = p; to = q } ∷ es)) (λ f m. inl (meet_exchanged p q f.from f.to m)) fs h
+
+some_meet_turned : (es fs : List Edge) → SomeMeet es fs → SomeMeet fs es
+some_meet_turned [] fs h = absurd h
+some_meet_turned (e ∷ es) fs (inl h) = meets_both e.from e.to es fs h
+some_meet_turned (e ∷ es) fs (inr h) =
+    any_mapped (λ (f : Edge). MeetsSome f.from f.to es) (λ (f : Edge). MeetsSome f.from f.to (e ∷ es)) (λ f m. inr m) fs (some_meet_turned es fs h)
+
+regions_turned : (a b : Shape) (cs ds : List Point) → RegionsMeet a cs b ds → RegionsMeet b ds a cs
+regions_turned a b cs ds (inl h) = inl (some_meet_turned (edges_of cs) (edges_of ds) h)
+regions_turned a b cs ds (inr (inl h)) = inr (inr h)
+regions_turned a b cs ds (inr (inr h)) = inr (inl h)
+
+pub meets_turned : (a b : Shape) → Meets a b → Meets b a
+meets_turned (Spot p) (Spot q) h = (sym h.0, sym h.1)
+meets_turned (Spot p) (Frame g) h = h
+meets_turned (Spot p) (Area s) h = h
+meets_turned (Frame f) (Spot q) h = h
+meets_turned (Frame f) (Frame g) h = regions_turned (Frame f) (Frame g) (frame_corners f) (frame_corners g) h
+meets_turned (Frame f) (Area s) h = regions_turned (Frame f) (Area s) (frame_corners f) (corners_of s) h
+meets_turned (Area r) (Spot q) h = h
+meets_turned (Area r) (Frame g) h = regions_turned (Area r) (Frame g) (corners_of r) (frame_corners g) h
+meets_turned (Area r) (Area s) h = regions_turned (Area r) (Area s) (corners_of r) (corners_of s) h
+
+-- ---- the corners of a ring lie on its edges
+all_mapped : {X : Type 0} (P Q : X → Type 0) → ((x : X) → P x → Q x) → (xs : List X) → AllByRecursion P xs → AllByRecursion Q xs
+all_mapped P Q f [] h = tt
+all_mapped P Q f (x ∷ xs) h = (f x h.0, all_mapped P Q f xs h.1)
+
+ends_on : (p : Point) (qs : List Point) → AllByRecursion (λ (c : Point). IsOnSome c (walk p qs)) qs
+ends_on p [] = tt
+ends_on p (q ∷ qs) = (inl (at_second p q), all_mapped (λ (c : Point). IsOnSome c (walk q qs)) (λ (c : Point). IsOnSome c (walk p (q ∷ qs))) (λ c h. inr h) qs (ends_on q qs))
+
+all_unpushed : {X : Type 0} (P : X → Type 0) (xs : List X) (x : X) → AllByRecursion P (xs ++ x ∷ []) → AllByRecursion P (x ∷ xs)
+all_unpushed P [] x h = h
+all_unpushed P (y ∷ ys) x h = let k = all_unpushed P ys x h.1 in (k.0, (h.0, k.1))
+
+ring_corners_in : (cs : List Point) → All (λ (c : Point). IsInRegion c (edges_of cs)) cs
+ring_corners_in [] = All-nil (λ (c : Point). IsInRegion c [])
+ring_corners_in (p ∷ qs) =
+    All-from_recursion (λ (c : Point). IsInRegion c (edges_of (p ∷ qs))) (p ∷ qs)
+    (all_mapped (λ (c : Point). IsOnSome c (edges_of (p ∷ qs))) (λ (c : Point). IsInRegion c (edges_of (p ∷ qs))) (λ c h. inl h) (p ∷ qs)
+    (all_unpushed (λ (c : Point). IsOnSome c (edges_of (p ∷ qs))) qs p (ends_on p (qs ++ p ∷ []))))
+
+pub corners_in : (shape : Shape) → All (λ corner. IsIn corner shape) (shape_corners shape)
+corners_in (Spot p) = All-cons (λ (c : Point). IsIn c (Spot p)) p [] (refl, refl) (All-nil (λ (c : Point). IsIn c (Spot p)))
+corners_in (Frame b) = (frame_least b).holds
+corners_in (Area ring) = ring_corners_in (corners_of ring)
+
+-- ---- a shape within another meets it
+some_framed : (g : Bounds) (cs : List Point) → 0 < length cs → All (IsHeld g) cs → SomeIn cs (Frame g)
+some_framed g [] h k = absurd (omega arith)
+some_framed g (c ∷ cs) h k = inl (All-head (IsHeld g) c cs k)
+
+pub within_meets : (a b : Shape) → IsWithin a b → Meets a b
+within_meets (Spot p) b h = h.0
+within_meets (Frame f) (Spot q) h = absurd h
+within_meets (Frame f) (Frame g) h = inr (inl (some_framed g (frame_corners f) (omega arith) h))
+within_meets (Frame f) (Area s) h = absurd h
+within_meets (Area r) (Spot q) h = absurd h
+within_meets (Area r) (Frame g) h = let e = r.enough in inr (inl (some_framed g (corners_of r) (omega arith) h))
+within_meets (Area r) (Area s) h = absurd h
+
+-- ---- one least box
+extent_prop : (a b : ℤ) → IsProp (IsExtent a b)
+extent_prop a b = hlevel T_prop
+
+same_bounds : (a b : Bounds) → a.x_min ≡ b.x_min → a.y_min ≡ b.y_min → a.x_max ≡ b.x_max → a.y_max ≡ b.y_max → a ≡ b
+same_bounds a b e f g h =
+    subst (λ (n : ℤ). (w : IsExtent n b.x_max) (v : IsExtent b.y_min b.y_max) → a ≡ record { x_min = n; y_min = b.y_min; x_max = b.x_max; y_max = b.y_max; width = w; height = v }) e
+    (λ w v. subst (λ (n : ℤ). (w : IsExtent a.x_min b.x_max) (v : IsExtent n b.y_max) → a ≡ record { x_min = a.x_min; y_min = n; x_max = b.x_max; y_max = b.y_max; width = w; height = v }) f
+    (λ w v. subst (λ (n : ℤ). (w : IsExtent a.x_min n) (v : IsExtent a.y_min b.y_max) → a ≡ record { x_min = a.x_min; y_min = a.y_min; x_max = n; y_max = b.y_max; width = w; height = v }) g
+    (λ w v. subst (λ (n : ℤ). (w : IsExtent a.x_min a.x_max) (v : IsExtent a.y_min n) → a ≡ record { x_min = a.x_min; y_min = a.y_min; x_max = a.x_max; y_max = n; width = w; height = v }) h
+    (λ w v. ap₂ (λ (w : IsExtent a.x_min a.x_max) (v : IsExtent a.y_min a.y_max). record { x_min = a.x_min; y_min = a.y_min; x_max = a.x_max; y_max = a.y_max; width = w; height = v }) (extent_prop a.x_min a.x_max a.width w) (extent_prop a.y_min a.y_max a.height v)) w v) w v) w v) b.width b.height
+
+between_both : (a b : ℤ) → a ≤ℤ b → b ≤ℤ a → a ≡ b
+between_both a b h k = omega (arith, sums)
+
+pub one_least : (a b : Bounds) (cs : List Point) → IsLeastBounds a cs → IsLeastBounds b cs → a ≡ b
+one_least a b cs h k =
+    let f = h.least b k.holds in
+    let g = k.least a h.holds in
+    same_bounds a b (between_both _ _ g.0.0 f.0.0) (between_both _ _ g.1.0 f.1.0) (between_both _ _ f.0.1 g.0.1) (between_both _ _ f.1.1 g.1.1)
+
+-- ---- one fault
+pub one_crossing : (edges : List Edge) (i j k l : ℕ) → IsFirstCrossing edges i j → IsFirstCrossing edges k l → (k ≡ i) × (l ≡ j)
+one_crossing edges i j k l f g = ⊎_elim
+    (λ d. absurd (g.first i j f.ordered f.within (inl d) f.cross))
+    (λ d. ⊎_elim
+    (λ e. absurd (f.first k l g.ordered g.within (inl e) g.cross))
+    (λ e. let same : k ≡ i = omega arith in
+    ⊎_elim (λ m. absurd (g.first i j f.ordered f.within (inr (sym same, m)) f.cross))
+    (λ m. ⊎_elim (λ n. absurd (f.first k l g.ordered g.within (inr (same, n)) g.cross)) (λ n. (same, omega arith)) (cases_lt l j)) (cases_lt j l))
+    (cases_lt k i))
+    (cases_lt i k)
+
+pub one_fault : (corners : List Point) (fault other : RingFault) → IsRingFault corners fault → IsRingFault corners other → other ≡ fault
+one_fault corners TooFew TooFew h k = refl
+one_fault corners TooFew TooMany h k = absurd (omega arith)
+one_fault corners TooFew Flat h k = let n = k.0 in absurd (omega arith)
+one_fault corners TooFew (Crosses i j) h k = let n = k.0 in absurd (omega arith)
+one_fault corners TooMany TooFew h k = absurd (omega arith)
+one_fault corners TooMany TooMany h k = refl
+one_fault corners TooMany Flat h k = let n = k.0 in absurd (omega arith)
+one_fault corners TooMany (Crosses i j) h k = let n = k.0 in absurd (omega arith)
+one_fault corners Flat TooFew h k = let n = h.0 in absurd (omega arith)
+one_fault corners Flat TooMany h k = let n = h.0 in absurd (omega arith)
+one_fault corners Flat Flat h k = refl
+one_fault corners Flat (Crosses i j) h k = absurd (k.1 h.1)
+one_fault corners (Crosses i j) TooFew h k = let n = h.0 in absurd (omega arith)
+one_fault corners (Crosses i j) TooMany h k = let n = h.0 in absurd (omega arith)
+one_fault corners (Crosses i j) Flat h k = absurd (h.1 k.1)
+one_fault corners (Crosses i j) (Crosses k l) f g = let e = one_crossing (edges_of corners) i j k l f.2 g.2 in ap₂ Crosses e.0 e.1

@@ -1,0 +1,63 @@
+-- What holds of shapes, beyond what each call says.
+use Rattle.std.specs.Prelude.{◌≡◌, ◌↔◌, IsTrue, List, [], ◌∷◌, ◌++◌, All}
+use mathlib.Core.List.{reverse}
+use Rattle.cad_shape.specs.declared.point.Point.{Point}
+use Rattle.cad_shape.specs.declared.boxes.Bounds.{Bounds}
+use Rattle.cad_shape.specs.declared.ring.Ring.{Ring}
+use Rattle.cad_shape.specs.declared.ring.RingFault.{RingFault}
+use Rattle.cad_shape.specs.declared.shape.Shape.{Shape}
+use Rattle.cad_shape.specs.Edges.{edges_of}
+use Rattle.cad_shape.specs.Frames.{IsHeld, Overlap, IsLeastBounds}
+use Rattle.cad_shape.specs.Outlines.{IsRing}
+use Rattle.cad_shape.specs.Regions.{CrossesRight, passes, IsInRegion}
+use Rattle.cad_shape.specs.Rings.{corners_of, IsRingFault}
+use Rattle.cad_shape.specs.Segments.{Meet}
+use Rattle.cad_shape.specs.Shapes.{shape_corners, IsIn, Meets, IsWithin}
+
+-- segments that meet do so whichever is named first, and from whichever end
+abbrev pub SegmentsMeetEitherWay : Type 0
+SegmentsMeetEitherWay = (p q r s : Point) → Meet p q r s → Meet r s p q × Meet q p r s
+
+-- an edge counts for a point exactly where it crosses the point's height right of it
+abbrev pub CountedEdgesCross : Type 0
+CountedEdgesCross = (t p q : Point) → IsTrue (passes t p q) ↔ CrossesRight t p q
+
+-- a ring that begins with another of its corners has the same region
+abbrev pub TurningKeepsRegions : Type 0
+TurningKeepsRegions = (t p : Point) (qs : List Point) → IsInRegion t (edges_of (p ∷ qs)) ↔ IsInRegion t (edges_of (qs ++ p ∷ []))
+
+-- a ring whose corners stand in the other order has the same region
+abbrev pub OrderKeepsRegions : Type 0
+OrderKeepsRegions = (t : Point) (corners : List Point) → IsInRegion t (edges_of corners) ↔ IsInRegion t (edges_of (reverse corners))
+
+-- a list of corners has one fault alone, and with one it is no ring
+abbrev pub OneFaultAlone : Type 0
+OneFaultAlone = (corners : List Point) (fault : RingFault) → IsRingFault corners fault → ¬ (IsRing corners) × ((other : RingFault) → IsRingFault corners other → other ≡ fault)
+
+-- two rings of one list of corners are one value
+abbrev pub CornersMakeTheRing : Type 0
+CornersMakeTheRing = (a b : Ring) → corners_of a ≡ corners_of b → a ≡ b
+
+-- corners have one least box
+abbrev pub OneLeastBox : Type 0
+OneLeastBox = (a b : Bounds) (corners : List Point) → IsLeastBounds a corners → IsLeastBounds b corners → a ≡ b
+
+-- shapes that meet do so whichever is named first
+abbrev pub MeetingIsSymmetric : Type 0
+MeetingIsSymmetric = (a b : Shape) → Meets a b → Meets b a
+
+-- the corners of a shape lie in it
+abbrev pub CornersLieInside : Type 0
+CornersLieInside = (shape : Shape) → All (λ corner. IsIn corner shape) (shape_corners shape)
+
+-- a point in a shape lies in its bounds
+abbrev pub BoundsHoldTheShape : Type 0
+BoundsHoldTheShape = (t : Point) (shape : Shape) (bounds : Bounds) → IsLeastBounds bounds (shape_corners shape) → IsIn t shape → IsHeld bounds t
+
+-- shapes that meet have bounds that overlap
+abbrev pub BoundsOverlap : Type 0
+BoundsOverlap = (a b : Shape) (f g : Bounds) → IsLeastBounds f (shape_corners a) → IsLeastBounds g (shape_corners b) → Meets a b → Overlap f g
+
+-- a shape within another meets it
+abbrev pub WithinMeets : Type 0
+WithinMeets = (a b : Shape) → IsWithin a b → Meets a b

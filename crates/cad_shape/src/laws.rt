@@ -1,0 +1,65 @@
+//! Laws of segments, regions and shapes, each proved for the definitions that the contracts cite. Nothing runs here.
+
+ghost use Rattle.cad_shape.specs.Laws.{SegmentsMeetEitherWay, CountedEdgesCross, TurningKeepsRegions, OrderKeepsRegions};
+ghost use Rattle.cad_shape.specs.Laws.{OneFaultAlone, CornersMakeTheRing, OneLeastBox, MeetingIsSymmetric, CornersLieInside};
+ghost use Rattle.cad_shape.specs.Laws.{BoundsHoldTheShape, BoundsOverlap, WithinMeets};
+
+/// Segments that meet do so whichever is named first, and from whichever end.
+pub fn segments_meet_either_way()
+    ensures { SegmentsMeetEitherWay }
+{}
+
+/// An edge counts for a point exactly where it crosses the point's height right of it.
+pub fn counted_edges_cross()
+    ensures { CountedEdgesCross }
+{}
+
+/// A ring that begins with another of its corners has the same region.
+pub fn turning_keeps_regions()
+    ensures { TurningKeepsRegions }
+{}
+
+/// A ring whose corners stand in the other order has the same region.
+pub fn order_keeps_regions()
+    ensures { OrderKeepsRegions }
+{}
+
+/// A list of corners has one fault alone, and with one it is no ring.
+pub fn one_fault_alone()
+    ensures { OneFaultAlone }
+{}
+
+/// Two rings of one list of corners are one value.
+pub fn corners_make_the_ring()
+    ensures { CornersMakeTheRing }
+{}
+
+/// Corners have one least box.
+pub fn one_least_box()
+    ensures { OneLeastBox }
+{}
+
+/// Shapes that meet do so whichever is named first.
+pub fn meeting_is_symmetric()
+    ensures { MeetingIsSymmetric }
+{}
+
+/// The corners of a shape lie in it.
+pub fn corners_lie_inside()
+    ensures { CornersLieInside }
+{}
+
+/// A point in a shape lies in its bounds.
+pub fn bounds_hold_the_shape()
+    ensures { BoundsHoldTheShape }
+{}
+
+/// Shapes that meet have bounds that overlap.
+pub fn bounds_overlap()
+    ensures { BoundsOverlap }
+{}
+
+/// A shape within another meets it.
+pub fn within_meets()
+    ensures { WithinMeets }
+{}
