@@ -11,3 +11,4 @@ pub mod Overlaps
 pub mod ShapeLemmas
 pub mod Neighbours
 pub mod LawLemmas
+pub mod PlainRingLemmas

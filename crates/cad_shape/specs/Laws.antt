@@ -1,5 +1,5 @@
 -- What holds of shapes, beyond what each call says.
-use Rattle.std.specs.Prelude.{◌≡◌, ◌↔◌, IsTrue, List, [], ◌∷◌, ◌++◌, All}
+use Rattle.std.specs.Prelude.{◌≡◌, ◌↔◌, IsTrue, List, [], ◌∷◌, ◌++◌, map, All}
 use mathlib.Core.List.{reverse}
 use Rattle.cad_shape.specs.declared.point.Point.{Point}
 use Rattle.cad_shape.specs.declared.boxes.Bounds.{Bounds}
@@ -9,6 +9,7 @@ use Rattle.cad_shape.specs.declared.shape.Shape.{Shape}
 use Rattle.cad_shape.specs.Edges.{edges_of}
 use Rattle.cad_shape.specs.Frames.{IsHeld, Overlap, IsLeastBounds}
 use Rattle.cad_shape.specs.Outlines.{IsRing}
+use Rattle.cad_shape.specs.PlainRings.{coordinates, is_plain_ring}
 use Rattle.cad_shape.specs.Regions.{CrossesRight, passes, IsInRegion}
 use Rattle.cad_shape.specs.Rings.{corners_of, IsRingFault}
 use Rattle.cad_shape.specs.Segments.{Meet}
@@ -29,6 +30,10 @@ TurningKeepsRegions = (t p : Point) (qs : List Point) → IsInRegion t (edges_of
 -- a ring whose corners stand in the other order has the same region
 abbrev pub OrderKeepsRegions : Type 0
 OrderKeepsRegions = (t : Point) (corners : List Point) → IsInRegion t (edges_of corners) ↔ IsInRegion t (edges_of (reverse corners))
+
+-- corners that the plain test takes are a ring: so a ring that is written out is made without a fault
+abbrev pub PlainRingsAreRings : Type 0
+PlainRingsAreRings = (corners : List Point) → IsTrue (is_plain_ring (map coordinates corners)) → IsRing corners
 
 -- a list of corners has one fault alone, and with one it is no ring
 abbrev pub OneFaultAlone : Type 0

@@ -10,3 +10,4 @@ pub mod Outlines
 pub mod Rings
 pub mod Shapes
 pub mod Laws
+pub mod PlainRings

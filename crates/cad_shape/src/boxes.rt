@@ -120,23 +120,13 @@ impl Bounds {
     pub fn corners(self) -> [Point; 4]
         ensures { result ≡ frame_corners self }
     {
+        let (left, right) = (self.x_min, self.x_max);
+        let (low, high) = (self.y_min, self.y_max);
         [
-            Point {
-                x: self.x_min,
-                y: self.y_min,
-            },
-            Point {
-                x: self.x_max,
-                y: self.y_min,
-            },
-            Point {
-                x: self.x_max,
-                y: self.y_max,
-            },
-            Point {
-                x: self.x_min,
-                y: self.y_max,
-            },
+            Point { x: left, y: low },
+            Point { x: right, y: low },
+            Point { x: right, y: high },
+            Point { x: left, y: high },
         ]
     }
 

@@ -2,7 +2,7 @@
 
 ghost use Rattle.cad_shape.specs.Laws.{SegmentsMeetEitherWay, CountedEdgesCross, TurningKeepsRegions, OrderKeepsRegions};
 ghost use Rattle.cad_shape.specs.Laws.{OneFaultAlone, CornersMakeTheRing, OneLeastBox, MeetingIsSymmetric, CornersLieInside};
-ghost use Rattle.cad_shape.specs.Laws.{BoundsHoldTheShape, BoundsOverlap, WithinMeets};
+ghost use Rattle.cad_shape.specs.Laws.{BoundsHoldTheShape, BoundsOverlap, PlainRingsAreRings, WithinMeets};
 
 /// Segments that meet do so whichever is named first, and from whichever end.
 pub fn segments_meet_either_way()
@@ -22,6 +22,11 @@ pub fn turning_keeps_regions()
 /// A ring whose corners stand in the other order has the same region.
 pub fn order_keeps_regions()
     ensures { OrderKeepsRegions }
+{}
+
+/// Corners that the plain test takes are a ring, so that a ring which is written out is made without a fault.
+pub fn plain_rings_are_rings()
+    ensures { PlainRingsAreRings }
 {}
 
 /// A list of corners has one fault alone, and with one it is no ring.

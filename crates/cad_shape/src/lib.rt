@@ -1,4 +1,21 @@
-//! Shapes on the register's plane, in whole millimetres.
+//! Shapes on the register's plane, in whole millimetres, judged exactly.
+//!
+//! - `Point`: a point within 100,000 kilometres of the origin either way.
+//! - `Bounds`: a closed box with sides along the axes.
+//! - `Ring`: a simple closed line with area through 3 to 1,000 corners; `RingFault` says why a list of corners is none.
+//! - `Shape`: a point, a box or the region inside a ring.
+//! - `segments_meet`: whether two segments share a point.
+//! - `in_region`: whether a point lies in the region inside a ring.
+//! - `meets`, `within`, `bounds`: whether two shapes share a point, whether one lies within another, and the least box
+//!   that holds a shape.
+//! - `laws`: what holds of all these, beyond what each call says.
+//!
+//! The corners (0, 0), (10, 0), (10, 10), (0, 10) are a ring. In its region lie (5, 5) and (10, 5), the second on an edge:
+//! `meets` says yes of both, `within` of the first alone. The corners (0, 0), (10, 10), (10, 0), (0, 20) are no ring:
+//! the fault is `Crosses { first: 0, second: 2 }`, though the two edges share no whole point.
+//!
+//! Coordinates are whole, so that each test is a sign of a number of at most 128 bits and none is rounded. No test takes
+//! memory.
 #![tactic(auto)]
 
 mod area;
