@@ -1,5 +1,5 @@
 -- A text ends in one way: by its last token, or by one fault.
-use Rattle.std.proofs.Common.{◌≡◌, ℕ, ◌+◌, ◌-◌, ◌≤◌, ◌<◌, Bool, true, false, ◌==◌, ◌||◌, List, [], ◌∷◌, ◌++◌, length, if◌then◌else◌, Result, Ok, Err, IsOk, ◌⊎◌, inl, inr, refl, sym, ap, subst, ◌∙◌, append-nil, length-append, arith}
+use Rattle.std.proofs.Common.{◌≡◌, ℕ, ◌+◌, ◌-◌, ◌≤◌, ◌<◌, Bool, true, false, ◌==◌, ◌||◌, List, [], ◌∷◌, ◌++◌, length, if◌then◌else◌, Result, Ok, Err, IfOk, IsOk, ◌⊎◌, inl, inr, refl, sym, ap, subst, ◌∙◌, append-nil, length-append, arith}
 use Rattle.std.proofs.lemmas.Bool.Decides.{nat_tests}
 use Rattle.std.specs.Str.{byte}
 use Rattle.cql_lexer.specs.Mark.{Sort, Mark, marks, name, text}
@@ -11,7 +11,7 @@ use Rattle.cql_lexer.specs.declared.fault.LexFault.{LexFault}
 use Rattle.cql_lexer.specs.declared.fault.LexFault.TheVariants.{Unterminated, StrangeCharacter, TooLong, TooMany, Memory}
 use Rattle.cql_lexer.specs.declared.token.Tokens.{Tokens}
 use Rattle.cql_lexer.proofs.Longest.{token_no_blank, token_shorter, kind_of, only_text, only_quoted}
-use Rattle.cql_lexer.proofs.Spellings.{HasBack, Meets, goes_on, went_on, meet, none_of}
+use Rattle.cql_lexer.proofs.Spellings.{HasBack, Meets, goes_on, went_on, meet, none_of, one_spelling}
 
 opposite : {b : Bool} → b ≡ true → b ≡ false → ⊥
 opposite passes fails = cc
@@ -201,3 +201,7 @@ refused_at bytes other fault result is (inr has_other) has = inr (is ∙ ap Err 
 pub refused : (bytes : List ℕ) (result : Result Tokens LexFault) → Answers bytes result → (fault : LexFault) → HasFault bytes fault → OrMemory result (result ≡ Err fault)
 refused bytes (Ok t) answer fault has = absurd (fault_or_tokens bytes fault (marks t.list.items) has answer.0)
 refused bytes (Err other) answer fault has = refused_at bytes other fault (Err other) refl (fault_answered bytes other answer) has
+
+pub only : (bytes : List ℕ) (result : Result Tokens LexFault) → Answers bytes result → (list : List Mark) → IsSpelt bytes list → IfOk result (λ read. list ≡ marks read.list.items)
+only bytes (Ok t) answer list spelt = one_spelling bytes list (marks t.list.items) spelt.spells answer.0.spells
+only bytes (Err fault) answer list spelt = tt

@@ -1,9 +1,9 @@
 // From a text to its tokens, or its fault.
 
-ghost use Rattle.std.specs.Prelude.{◌≡◌, ℕ, ◌≤◌, [], List, Err, IsOk, length};
+ghost use Rattle.std.specs.Prelude.{◌≡◌, ℕ, ◌≤◌, [], List, Err, IfOk, IsOk, length};
 ghost use Rattle.std.specs.Str.{IsUtf8};
 ghost use Rattle.cql_lexer.specs.Lexed.{Answers, HasFault, IsSpelt, OrMemory};
-ghost use Rattle.cql_lexer.specs.Mark.{Mark};
+ghost use Rattle.cql_lexer.specs.Mark.{Mark, marks};
 ghost use Rattle.cql_lexer.specs.Scan.{IsPast, no_token_fault};
 ghost use Rattle.cql_lexer.specs.Spelling.{Leads, is_blank};
 ghost use Rattle.cql_lexer.specs.declared.fault.LexFault.{LexFault};
@@ -27,6 +27,8 @@ const MOST_TOKENS: usize = 2000;
 pub fn tokens(alloc: Global, text: &str) -> Result<Tokens, LexFault>
     ensures answer { Answers text.now result }
     ensures accepted { (list : List Mark) → IsSpelt text.now list → OrMemory result (IsOk result) }
+    ensures only { (list : List Mark) → IsSpelt text.now list
+        → IfOk result (λ read. list ≡ marks read.list.items) }
     ensures refused { (fault : LexFault) → HasFault text.now fault
         → OrMemory result (result ≡ Err fault) }
 {
