@@ -26,3 +26,10 @@ register-file: sample
 
 clean:
 	rm -rf crates/*/out
+
+# Refuses each growth of a run of the case programs in turn. Needs a C compiler.
+.PHONY: refused
+refused:
+	cd crates/cql_cases && $(RT) run < stdin | cmp - stdout
+	cd crates/cad_cases && $(RT) run < stdin | cmp - stdout
+	scripts/refused

@@ -1,0 +1,7 @@
+//! Tests of what no case of data can say of the query side.
+//!
+//! - `serving`: readers and writers that fail at each call, and memory that is refused
+#![tactic(auto)]
+
+#[cfg(test)]
+mod serving;
