@@ -1,4 +1,10 @@
 pub mod Runs
+pub mod Utf8
+pub mod Roles
 pub mod Symbols
+pub mod Numbers
+pub mod Texts
 pub mod Longest
 pub mod Spellings
+pub mod Ends
+pub mod Decided

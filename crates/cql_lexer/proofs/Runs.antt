@@ -1,26 +1,29 @@
 -- Runs of bytes that pass: where the longest one ends.
-use Rattle.std.proofs.Common.{◌≡◌, ℕ, suc, ◌+◌, ◌≤◌, Bool, true, false, cond, List, [], ◌∷◌, ◌++◌, length, take, drop, refl, ap, arith}
-use Rattle.std.specs.List.{prefix_len}
-use Rattle.cql_lexer.specs.Spelling.{Run, stop, more}
-use Rattle.cql_lexer.specs.Scan.{IsPast}
+use Rattle.std.proofs.Common.{◌≡◌, ℕ, ◌≤◌, Bool, true, false, List, [], ◌∷◌, ◌++◌, length, if◌then◌else◌, refl, ap, arith}
+use Rattle.cql_lexer.specs.Runs.{Run, stop, more}
+use Rattle.cql_lexer.specs.Scan.{run_of, after_run, IsPast}
 
-run_at : (p : ℕ → Bool) (x n : ℕ) (xs : List ℕ) (b : Bool) → p x ≡ b → Run p xs (take n xs) (drop n xs) → Run p (x ∷ xs) (take (cond b (1 + n) 0) (x ∷ xs)) (drop (cond b (1 + n) 0) (x ∷ xs))
-run_at p x n xs true passes run = let next : 1 + n ≡ suc n = omega arith in rw next (more passes run)
-run_at p x n xs false passes run = stop
+run_at : (p : ℕ → Bool) (x : ℕ) (xs : List ℕ) (b : Bool) → p x ≡ b → Run p xs (run_of p xs) (after_run p xs) → Run p (x ∷ xs) (if b then x ∷ run_of p xs else []) (if b then after_run p xs else x ∷ xs)
+run_at p x xs true passes run = more passes run
+run_at p x xs false passes run = stop
 
--- the elements that pass are a run
-pub run_at_front : (p : ℕ → Bool) (xs : List ℕ) → Run p xs (take (prefix_len p xs) xs) (drop (prefix_len p xs) xs)
-run_at_front p [] = stop
-run_at_front p (x ∷ xs) = run_at p x (prefix_len p xs) xs (p x) refl (run_at_front p xs)
+-- the bytes that pass are a run
+pub run_is : (p : ℕ → Bool) (xs : List ℕ) → Run p xs (run_of p xs) (after_run p xs)
+run_is p [] = stop
+run_is p (x ∷ xs) = run_at p x xs (p x) refl (run_is p xs)
 
-past_at : (p : ℕ → Bool) (x n : ℕ) (xs : List ℕ) (b : Bool) → p x ≡ b → IsPast p (drop n xs) → IsPast p (drop (cond b (1 + n) 0) (x ∷ xs))
-past_at p x n xs true passes past = let next : 1 + n ≡ suc n = omega arith in rw next past
-past_at p x n xs false passes past = passes
+shorter_at : (b : Bool) (x : ℕ) (xs ys : List ℕ) → length ys ≤ length xs → length (if b then ys else x ∷ xs) ≤ length (x ∷ xs)
+shorter_at true x xs ys shorter = omega arith
+shorter_at false x xs ys shorter = omega arith
 
--- and behind them comes nothing that passes
-pub past_front : (p : ℕ → Bool) (xs : List ℕ) → IsPast p (drop (prefix_len p xs) xs)
-past_front p [] = tt
-past_front p (x ∷ xs) = past_at p x (prefix_len p xs) xs (p x) refl (past_front p xs)
+pub after_shorter : (p : ℕ → Bool) (xs : List ℕ) → length (after_run p xs) ≤ length xs
+after_shorter p [] = omega arith
+after_shorter p (x ∷ xs) = shorter_at (p x) x xs (after_run p xs) (after_shorter p xs)
+
+-- and no run is longer
+pub run_longest : {p : ℕ → Bool} {xs run ys : List ℕ} → Run p xs run ys → length (after_run p xs) ≤ length ys
+run_longest {p} {xs} stop = after_shorter p xs
+run_longest (more passes run) = rw passes (run_longest run)
 
 pub run_shorter : {p : ℕ → Bool} {xs run ys : List ℕ} → Run p xs run ys → length ys ≤ length xs
 run_shorter stop = omega arith
@@ -30,19 +33,22 @@ pub run_splits : {p : ℕ → Bool} {xs run ys : List ℕ} → Run p xs run ys �
 run_splits stop = refl
 run_splits (more {x} passes run) = ap (λ w. x ∷ w) (run_splits run)
 
-opposite : {b : Bool} → b ≡ true → b ≡ false → ⊥
-opposite passes fails = cc
+-- a run up to a byte that does not pass is the whole one
+pub run_whole : {p : ℕ → Bool} {y : ℕ} {xs run ys : List ℕ} → Run p xs run (y ∷ ys) → p y ≡ false → (run_of p xs ≡ run) × (after_run p xs ≡ y ∷ ys)
+run_whole stop fails = (rw fails refl, rw fails refl)
+run_whole (more {x} {xs} passes run) fails = let whole = run_whole run fails in (rw passes (ap (λ w. x ∷ w) whole.0), rw passes whole.1)
 
--- a run up to something that does not pass is the longest
-pub run_longest : {p : ℕ → Bool} {xs run ys other zs : List ℕ} → Run p xs run ys → IsPast p ys → Run p xs other zs → length ys ≤ length zs
-run_longest stop past stop = omega arith
-run_longest stop past (more passes other) = absurd (opposite passes past)
-run_longest (more passes run) past stop = omega (arith, run_shorter run)
-run_longest (more passes run) past (more _ other) = run_longest run past other
+-- what comes behind the bytes that pass does not
+past_if : (p : ℕ → Bool) (x : ℕ) (xs : List ℕ) (b : Bool) → p x ≡ b → IsPast p (after_run p xs) → IsPast p (if b then after_run p xs else x ∷ xs)
+past_if p x xs true passes past = past
+past_if p x xs false passes past = passes
 
--- runs of one length are one run
-pub run_same : {p : ℕ → Bool} {xs run ys other zs : List ℕ} → Run p xs run ys → Run p xs other zs → length ys ≡ length zs → (run ≡ other) × (ys ≡ zs)
-run_same stop stop same = (refl, refl)
-run_same stop (more passes other) same = absurd (omega (arith, run_shorter other))
-run_same (more passes run) stop same = absurd (omega (arith, run_shorter run))
-run_same (more {x} passes run) (more _ other) same = let both = run_same run other same in (ap (λ w. x ∷ w) both.0, both.1)
+pub past_after : (p : ℕ → Bool) (xs : List ℕ) → IsPast p (after_run p xs)
+past_after p [] = tt
+past_after p (x ∷ xs) = past_if p x xs (p x) refl (past_after p xs)
+
+first_past : (p : ℕ → Bool) {xs : List ℕ} (y : ℕ) (ys : List ℕ) → xs ≡ y ∷ ys → IsPast p xs → p y ≡ false
+first_past p y ys is past = rw is at past
+
+pub past_run : (p : ℕ → Bool) (xs : List ℕ) (y : ℕ) (ys : List ℕ) → after_run p xs ≡ y ∷ ys → p y ≡ false
+past_run p xs y ys is = first_past p y ys is (past_after p xs)

@@ -1,15 +1,14 @@
 -- A text has one spelling, whose tokens stand in order.
-use Rattle.std.proofs.Common.{◌≡◌, ℕ, ◌-◌, ◌≤◌, ◌<◌, Bool, true, false, ◌==◌, List, [], ◌∷◌, ◌++◌, length, refl, sym, ap, subst, ◌∙◌, arith, append-nil, length-append, append_assoc, drop}
+use Rattle.std.proofs.Common.{◌≡◌, ℕ, ◌-◌, ◌≤◌, ◌<◌, true, List, [], ◌∷◌, ◌++◌, length, refl, sym, ap, subst, ◌∙◌, arith, append-nil, length-append, append_assoc, drop}
 use Rattle.std.proofs.lemmas.List.{drop_at}
+use Rattle.std.proofs.lemmas.Bool.Decides.{nat_tests}
+use Rattle.std.specs.Str.{IsUtf8}
 use Rattle.cql_lexer.specs.Mark.{Sort, Mark, at}
-use Rattle.cql_lexer.specs.Spelling.{Run, stop, more, Leads, here, blank, token_first, IsNoToken, is_blank, IsToken}
-use Rattle.cql_lexer.specs.Scan.{IsPast}
-use Rattle.cql_lexer.specs.Lexed.{IsSpelt}
+use Rattle.cql_lexer.specs.Runs.{Run, stop, more}
+use Rattle.cql_lexer.specs.Spelling.{Leads, here, blank, token_first, is_blank}
 use Rattle.cql_lexer.specs.Laws.{HasOneSpelling, AscendWithin, HasPlacesInOrder, StandAtPlaces, HasTokensAtPlaces}
 use Rattle.cql_lexer.proofs.Longest.{token_no_blank, token_shorter, token_splits, longest_same}
-
-opposite : {b : Bool} → b ≡ true → b ≡ false → ⊥
-opposite passes fails = cc
+use Rattle.cql_lexer.proofs.Utf8.{cut}
 
 -- ---- leading on
 
@@ -22,70 +21,63 @@ pub blanks_lead : {size : ℕ} {xs run ys : List ℕ} → Run is_blank xs run ys
 blanks_lead stop = here
 blanks_lead (more is run) = blank is (blanks_lead run)
 
--- ---- what a whole spelling has behind the tokens at its front
+blank_ascii : (x : ℕ) → is_blank x ≡ true → x < 128
+blank_ascii x is = grind (arith, nat_tests)
 
-pub record HasBack (size : ℕ) (front all : List Mark) (ys : List ℕ) : Type 0 where
+pub blanks_utf8 : {xs run ys : List ℕ} → Run is_blank xs run ys → IsUtf8 xs → IsUtf8 ys
+blanks_utf8 stop utf8 = utf8
+blanks_utf8 (more {x} {xs} is run) utf8 = blanks_utf8 run (cut [] x xs (blank_ascii x is) utf8).1
+
+-- ---- two ways to lead on from the same bytes
+
+-- what leads to `zs` has these tokens at its front, and goes on from `ys`
+pub record HasBack (size : ℕ) (front all : List Mark) (ys zs : List ℕ) : Type 0 where
   pub back : List Mark
   pub is_all : all ≡ front ++ back
-  pub leads : Leads size ys back []
+  pub leads : Leads size ys back zs
 
-ap_back : {size : ℕ} {m : Mark} {front all : List Mark} {ys : List ℕ} → HasBack size front all ys → HasBack size (m ∷ front) (m ∷ all) ys
-ap_back {m} h = record { back = h.back; is_all = ap (λ ms. m ∷ ms) h.is_all; leads = h.leads }
+more_back : {size : ℕ} {m : Mark} {front all : List Mark} {ys zs : List ℕ} → HasBack size front all ys zs → HasBack size (m ∷ front) (m ∷ all) ys zs
+more_back {m} h = record { back = h.back; is_all = ap (λ ms. m ∷ ms) h.is_all; leads = h.leads }
 
-same_first : {size place : ℕ} {s t : Sort} {ys : List ℕ} {front all : List Mark} → s ≡ t → HasBack size (at place s ∷ front) (at place s ∷ all) ys → HasBack size (at place s ∷ front) (at place t ∷ all) ys
-same_first {size} {place} {s} {ys} {front} {all} same h = subst (λ (u : Sort). HasBack size (at place s ∷ front) (at place u ∷ all) ys) same h
+-- one of the two goes on from where the other ends
+pub data Meets (size : ℕ) (ms ns : List Mark) (ys zs : List ℕ) : Type 0 where
+  goes_on : HasBack size ms ns ys zs → Meets size ms ns ys zs
+  went_on : HasBack size ns ms zs ys → Meets size ms ns ys zs
 
-moved : {size : ℕ} {xs ys : List ℕ} {ms : List Mark} → xs ≡ ys → Leads size xs ms [] → Leads size ys ms []
-moved {size} {ms} same leads = subst (λ (u : List ℕ). Leads size u ms []) same leads
+more_meets : {size : ℕ} {m : Mark} {ms ns : List Mark} {ys zs : List ℕ} → Meets size ms ns ys zs → Meets size (m ∷ ms) (m ∷ ns) ys zs
+more_meets (goes_on h) = goes_on (more_back h)
+more_meets (went_on h) = went_on (more_back h)
 
-pub back_of : {size : ℕ} {xs ys : List ℕ} {front all : List Mark} → Leads size xs front ys → Leads size xs all [] → HasBack size front all ys
-back_of {all} here whole = record { back = all; is_all = refl; leads = whole }
-back_of (blank is leads) (blank _ whole) = back_of leads whole
-back_of (blank is leads) (token_first longest _) = absurd (token_no_blank longest.token is)
-back_of (token_first longest leads) here = absurd (omega (arith, token_shorter longest.token))
-back_of (token_first longest leads) (blank is _) = absurd (token_no_blank longest.token is)
-back_of (token_first longest leads) (token_first other whole) =
-    let same = longest_same other longest in
-    same_first (sym same.0) (ap_back (back_of leads (moved same.1 whole)))
+same_first : {size place : ℕ} {s t : Sort} {ms ns : List Mark} {ys zs : List ℕ} → s ≡ t → Meets size (at place s ∷ ms) (at place s ∷ ns) ys zs → Meets size (at place s ∷ ms) (at place t ∷ ns) ys zs
+same_first {size} {place} {s} {ms = ms} {ns = ns} {ys = ys} {zs = zs} same h = subst (λ (u : Sort). Meets size (at place s ∷ ms) (at place u ∷ ns) ys zs) same h
 
--- nothing spells no token
-none_of : {size : ℕ} {ms : List Mark} → Leads size [] ms [] → ms ≡ []
-none_of here = refl
+moved : {size : ℕ} {xs ys zs : List ℕ} {ms : List Mark} → xs ≡ ys → Leads size xs ms zs → Leads size ys ms zs
+moved {size} {zs = zs} {ms = ms} same leads = subst (λ (u : List ℕ). Leads size u ms zs) same leads
+
+pub meet : {size : ℕ} {xs ys zs : List ℕ} {ms ns : List Mark} → Leads size xs ms ys → Leads size xs ns zs → Meets size ms ns ys zs
+meet {ns = ns} here other = goes_on (record { back = ns; is_all = refl; leads = other })
+meet (blank is leads) (blank _ other) = meet leads other
+meet (blank {x} {xs} {marks} is leads) here = went_on (record { back = marks; is_all = refl; leads = blank {x = x} {xs = xs} is leads })
+meet (blank is leads) (token_first longest _) = absurd (token_no_blank longest.token is)
+meet (token_first {xs} {ys} {s} longest leads) here = went_on (record { back = _; is_all = refl; leads = token_first {xs = xs} {ys = ys} {s = s} longest leads })
+meet (token_first longest leads) (blank is _) = absurd (token_no_blank longest.token is)
+meet (token_first longest leads) (token_first another other) =
+    let same = longest_same longest another in
+    same_first same.0 (more_meets (meet leads (moved (sym same.1) other)))
+
+-- nothing leads to nothing, by no token
+pub none_of : {size : ℕ} {ms : List Mark} {zs : List ℕ} → Leads size [] ms zs → (ms ≡ []) × (zs ≡ [])
+none_of here = (refl, refl)
 none_of (token_first longest _) = absurd (omega (arith, token_shorter longest.token))
-
--- ---- refusals
-
-pub record HasFirst (rest : List ℕ) (tokens : List Mark) : Type 0 where
-  pub sort : Sort
-  pub left : List ℕ
-  pub token : IsToken rest sort left
-  pub some : 0 < length tokens
-
--- where no blank comes first, what is left of a spelling begins with a token
-first_of : {size : ℕ} {rest : List ℕ} {tokens : List Mark} → IsPast is_blank rest → (length rest == 0) ≡ false → Leads size rest tokens [] → HasFirst rest tokens
-first_of past filled here = absurd (opposite refl filled)
-first_of past filled (blank is _) = absurd (opposite is past)
-first_of past filled (token_first {ys} {s} longest _) = record { sort = s; left = ys; token = longest.token; some = omega arith }
-
--- no token is left to begin there, so the text has no spelling
-pub stuck : {bytes rest : List ℕ} {front : List Mark} → Leads (length bytes) bytes front rest → IsPast is_blank rest → (length rest == 0) ≡ false → IsNoToken rest → (tokens : List Mark) → IsSpelt bytes tokens → ⊥
-stuck leads past filled no_token tokens spelt =
-    let first = first_of past filled (back_of leads spelt.spells).leads in
-    no_token first.sort first.left first.token
-
--- a token is left after as many as there may be
-pub crowded : {bytes rest : List ℕ} {front : List Mark} → Leads (length bytes) bytes front rest → IsPast is_blank rest → (length rest == 0) ≡ false → length front ≡ 2000 → (tokens : List Mark) → IsSpelt bytes tokens → ⊥
-crowded {front} leads past filled full tokens spelt =
-    let h = back_of leads spelt.spells in
-    let first = first_of past filled h.leads in
-    omega (arith, spelt.few_tokens, first.some, full, length-append front h.back, ap length h.is_all)
 
 -- ---- the laws
 
+whole_same : {size : ℕ} {ms ns : List Mark} → Meets size ms ns [] [] → ms ≡ ns
+whole_same {ms = ms} (goes_on h) = sym (h.is_all ∙ ap (λ back. ms ++ back) (none_of h.leads).0 ∙ append-nil ms)
+whole_same {ns = ns} (went_on h) = h.is_all ∙ ap (λ back. ns ++ back) (none_of h.leads).0 ∙ append-nil ns
+
 pub one_spelling : HasOneSpelling
-one_spelling bytes these those this that =
-    let h = back_of this that in
-    sym (h.is_all ∙ ap (λ ms. these ++ ms) (none_of h.leads) ∙ append-nil these)
+one_spelling bytes these those this that = whole_same (meet this that)
 
 later : (first sooner end : ℕ) (tokens : List Mark) → sooner ≤ first → AscendWithin first end tokens → AscendWithin sooner end tokens
 later first sooner end [] before ascend = tt

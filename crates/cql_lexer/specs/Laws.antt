@@ -1,7 +1,9 @@
 -- What holds of every spelling.
-use Rattle.std.specs.Prelude.{◌≡◌, ℕ, ◌+◌, ◌<◌, ◌≤◌, List, [], ◌∷◌, length, drop}
+use Rattle.std.specs.Prelude.{◌≡◌, ℕ, ◌+◌, ◌<◌, ◌≤◌, ◌⊎◌, List, [], ◌∷◌, length, drop}
+use Rattle.cql_lexer.specs.Lexed.{IsSpelt, HasFault}
 use Rattle.cql_lexer.specs.Mark.{Mark, at}
 use Rattle.cql_lexer.specs.Spelling.{IsLongest, Spells}
+use Rattle.cql_lexer.specs.declared.fault.LexFault.{LexFault}
 
 -- a text has one list of tokens
 abbrev pub HasOneSpelling : Type 0
@@ -24,3 +26,15 @@ StandAtPlaces bytes (at place sort ∷ tokens) = ((left : List ℕ) × IsLongest
 -- a token is spelled in the text from its place on
 abbrev pub HasTokensAtPlaces : Type 0
 HasTokensAtPlaces = (bytes : List ℕ) (tokens : List Mark) → Spells bytes tokens → StandAtPlaces bytes tokens
+
+-- a text with a fault has no tokens
+abbrev pub HasFaultOrTokens : Type 0
+HasFaultOrTokens = (bytes : List ℕ) (fault : LexFault) (tokens : List Mark) → HasFault bytes fault → ¬ (IsSpelt bytes tokens)
+
+-- a text has at most one fault
+abbrev pub HasOneFault : Type 0
+HasOneFault = (bytes : List ℕ) (fault other : LexFault) → HasFault bytes fault → HasFault bytes other → fault ≡ other
+
+-- each text has tokens within the limits, or a fault
+abbrev pub HasTokensOrFault : Type 0
+HasTokensOrFault = (bytes : List ℕ) → ((tokens : List Mark) × IsSpelt bytes tokens) ⊎ ((fault : LexFault) × HasFault bytes fault)

@@ -1,5 +1,12 @@
 pub mod Mark
+pub mod Runs
+pub mod Tables
+pub mod Symbols
+pub mod Names
+pub mod Numbers
+pub mod Texts
 pub mod Spelling
+pub mod Faults
 pub mod Lexed
 pub mod Scan
 pub mod Laws

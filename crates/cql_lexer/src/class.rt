@@ -1,8 +1,7 @@
 // Runs of bytes of one class.
 
 ghost use Rattle.std.specs.Prelude.{◌≡◌, length, take_while};
-ghost use Rattle.cql_lexer.specs.Scan.{IsPast, is_in};
-ghost use Rattle.cql_lexer.specs.Spelling.{Run};
+ghost use Rattle.cql_lexer.specs.Scan.{after_run, is_in, run_of};
 
 /// The bytes of which runs are read.
 #[derive(Clone, Copy, PartialEq, Eq, Debug)]
@@ -10,6 +9,7 @@ pub(crate) enum ByteClass {
     Blank,
     NamePart,
     Digit,
+    Unquoted,
 }
 
 impl ByteClass {
@@ -22,6 +22,7 @@ impl ByteClass {
                 byte.is_ascii_alphanumeric() || byte == b'_' || byte == b'.' || byte == b':'
             }
             ByteClass::Digit => byte.is_ascii_digit(),
+            ByteClass::Unquoted => byte != b'"',
         }
     }
 
@@ -34,8 +35,8 @@ impl ByteClass {
 
     /// The bytes of the class at the front, and those behind them.
     pub(crate) fn split_run(self, bytes: &[u8]) -> (&[u8], &[u8])
-        ensures run { Run (is_in self) bytes.now result.0.now result.1.now }
-        ensures longest { IsPast (is_in self) result.1.now }
+        ensures run { result.0.now ≡ run_of (is_in self) bytes.now }
+        ensures rest { result.1.now ≡ after_run (is_in self) bytes.now }
     {
         bytes.split_at(self.run_length(bytes))
     }

@@ -1,16 +1,18 @@
-// From a text to its tokens.
+// From a text to its tokens, or its fault.
 
-ghost use Rattle.std.specs.Prelude.{◌≡◌, ℕ, ◌≤◌, [], length};
-ghost use Rattle.cql_lexer.specs.Lexed.{Answers};
-ghost use Rattle.cql_lexer.specs.Scan.{IsPast};
+ghost use Rattle.std.specs.Prelude.{◌≡◌, ℕ, ◌≤◌, [], List, Err, IsOk, length};
+ghost use Rattle.std.specs.Str.{IsUtf8};
+ghost use Rattle.cql_lexer.specs.Lexed.{Answers, HasFault, IsSpelt, OrMemory};
+ghost use Rattle.cql_lexer.specs.Mark.{Mark};
+ghost use Rattle.cql_lexer.specs.Scan.{IsPast, no_token_fault};
 ghost use Rattle.cql_lexer.specs.Spelling.{Leads, is_blank};
-ghost use Rattle.cql_lexer.specs.declared.lex.LexFault.TheVariants.{Memory};
+ghost use Rattle.cql_lexer.specs.declared.fault.LexFault.{LexFault};
 
 use crate::class::ByteClass;
+use crate::fault::LexFault;
 use crate::scan::token_at;
 use crate::token::{Token, Tokens};
-use std::alloc::{AllocError, AllocFailed, Global};
-use thiserror::Error;
+use std::alloc::Global;
 
 // The most bytes of a text that is read.
 const MOST_BYTES: usize = 8192;
@@ -18,56 +20,39 @@ const MOST_BYTES: usize = 8192;
 // The most tokens that a text may have.
 const MOST_TOKENS: usize = 2000;
 
-/// Why a text gave no tokens.
-#[derive(Clone, Copy, PartialEq, Eq, Debug, Error)]
-pub enum LexFault {
-    /// Some bytes begin no token, or there are too many bytes or tokens.
-    #[error("the text is not made of tokens, or is too long")]
-    Refused,
-    /// Memory ran out, whatever the text is.
-    #[error("out of memory")]
-    Memory,
-}
-
-impl From<AllocError> for LexFault {
-    ghost from_gives = { λ _ e. e ≡ Memory };
-
-    fn from(_: AllocError) -> LexFault {
-        LexFault::Memory
-    }
-}
-
-impl From<AllocFailed<Token>> for LexFault {
-    ghost from_gives = { λ _ e. e ≡ Memory };
-
-    fn from(_: AllocFailed<Token>) -> LexFault {
-        LexFault::Memory
-    }
-}
-
-/// The tokens of a filter's text in their order, each at the byte where it begins.
+/// The tokens of a filter's text in their order, each at the byte where it begins, or the text's one fault.
 ///
-/// The text has at most 8,192 bytes and 2,000 tokens.
+/// A text has at most 8,192 bytes and 2,000 tokens. `TooLong` is looked for first; else the fault
+/// is the one at the least place.
 pub fn tokens(alloc: Global, text: &str) -> Result<Tokens, LexFault>
+    ensures answer { Answers text.now result }
+    ensures accepted { (list : List Mark) → IsSpelt text.now list → OrMemory result (IsOk result) }
+    ensures refused { (fault : LexFault) → HasFault text.now fault
+        → OrMemory result (result ≡ Err fault) }
+{
+    read_tokens(alloc, text)
+}
+
+fn read_tokens(alloc: Global, text: &str) -> Result<Tokens, LexFault>
     ensures { Answers text.now result }
 {
     let bytes = text.as_bytes();
     let end = bytes.len();
     if end > MOST_BYTES {
-        return Err(LexFault::Refused);
+        return Err(LexFault::TooLong { place: MOST_BYTES });
     }
     let mut list = Vec::new(alloc);
     let mut rest = skip_blanks(bytes);
     while !rest.is_empty() {
         let place = end - rest.len();
-        let Some((kind, after)) = token_at(alloc, rest)? else {
-            return Err(LexFault::Refused);
+        let Some((kind, behind)) = token_at(alloc, rest)? else {
+            return Err(no_token(place, rest));
         };
         if list.len() == MOST_TOKENS {
-            return Err(LexFault::Refused);
+            return Err(LexFault::TooMany { place });
         }
         list.push(Token { place, kind })?;
-        rest = skip_blanks(after);
+        rest = skip_blanks(behind);
     }
     Ok(Tokens { list, end })
 }
@@ -77,7 +62,18 @@ fn skip_blanks(bytes: &[u8]) -> &[u8]
     ensures skips { (size : ℕ) → Leads size bytes.now [] result.now }
     ensures all { IsPast is_blank result.now }
     ensures shorter { length result.now ≤ length bytes.now }
+    ensures utf8 { IsUtf8 bytes.now → IsUtf8 result.now }
 {
     let (_, rest) = ByteClass::Blank.split_run(bytes);
     rest
+}
+
+// Why no token begins with these bytes.
+fn no_token(place: usize, bytes: &[u8]) -> LexFault
+    ensures { result ≡ no_token_fault place bytes.now }
+{
+    match bytes {
+        [b'\'' | b'"', ..] => LexFault::Unterminated { place },
+        _ => LexFault::StrangeCharacter { place },
+    }
 }

@@ -1,16 +1,28 @@
 //! From the text of a CQL2 filter to its tokens, each with the byte at which it begins.
 //!
-//! The part of the language that is read: bare names, the keywords AND, OR and NOT, whole numbers,
-//! the six comparisons, the signs + and -, and parentheses.
+//! `tokens(alloc, "area >= 1.5e3")` gives `Name("area")` at 0, `Compare(AtLeast)` at 5 and
+//! `Number("1.5e3")` at 8, with 13 as the text's end. `tokens(alloc, "area > 'x")` gives
+//! `LexFault::Unterminated { place: 7 }`.
+//!
+//! - `tokens`: the tokens of a text, or its one fault.
+//! - `Tokens`, `Token`, `Kind`: what a token is, and where it begins. `Keyword`, `Comparison` and
+//!   `SpatialRelation` name the fixed ones.
+//! - `LexFault`: why a text has no tokens, with the place.
+//! - `laws`: what holds of every text: it has one list of tokens or one fault, and never both.
 #![tactic(auto)]
 
 mod class;
+mod fault;
+mod keyword;
 pub mod laws;
 mod lex;
+mod name;
+mod number;
 mod scan;
-#[cfg(test)]
-mod tests;
+mod symbol;
+mod text;
 mod token;
 
-pub use lex::{LexFault, tokens};
+pub use fault::LexFault;
+pub use lex::tokens;
 pub use token::{Comparison, Keyword, Kind, SpatialRelation, Token, Tokens};

@@ -1,0 +1,86 @@
+// Why a text has no tokens.
+
+ghost use Rattle.std.specs.Prelude.{◌≡◌};
+ghost use Rattle.cql_lexer.specs.Faults.{label_of};
+ghost use Rattle.cql_lexer.specs.declared.fault.LexFault.TheVariants.{Memory};
+
+use crate::token::Token;
+use std::alloc::{AllocError, AllocFailed};
+use thiserror::Error;
+
+/// Why a text gave no tokens. A place is a byte of the text.
+#[derive(Clone, Copy, PartialEq, Eq, Debug, Error)]
+pub enum LexFault {
+    /// The quote at the place is never closed.
+    #[error("the quote at byte {place} is never closed")]
+    Unterminated { place: usize },
+    /// The character at the place begins no token.
+    #[error("the character at byte {place} begins no token")]
+    StrangeCharacter { place: usize },
+    /// The text has more than 8,192 bytes: the place is 8,192.
+    #[error("the text goes on at byte {place}, and no more are read")]
+    TooLong { place: usize },
+    /// The text has more than 2,000 tokens: the place is that of the next one.
+    #[error("a token begins at byte {place}, and no more are read")]
+    TooMany { place: usize },
+    /// Memory ran out, whatever the text is.
+    #[error("out of memory")]
+    Memory,
+}
+
+impl LexFault {
+    /// The number by which programs tell the fault.
+    pub fn number(&self) -> u8
+        ensures { result ≡ (label_of self.now).number }
+    {
+        match self {
+            LexFault::Unterminated { .. } => 1,
+            LexFault::StrangeCharacter { .. } => 2,
+            LexFault::TooLong { .. } => 3,
+            LexFault::TooMany { .. } => 4,
+            LexFault::Memory => 5,
+        }
+    }
+
+    /// The name that programs print.
+    pub fn name(&self) -> &'static str
+        ensures { result.now ≡ (label_of self.now).name }
+    {
+        match self {
+            LexFault::Unterminated { .. } => "Unterminated",
+            LexFault::StrangeCharacter { .. } => "StrangeCharacter",
+            LexFault::TooLong { .. } => "TooLong",
+            LexFault::TooMany { .. } => "TooMany",
+            LexFault::Memory => "Memory",
+        }
+    }
+
+    /// The byte of the text at which the fault stands, or `None` where memory ran out.
+    pub fn place(&self) -> Option<usize>
+        ensures { result ≡ (label_of self.now).place }
+    {
+        match self {
+            LexFault::Unterminated { place }
+            | LexFault::StrangeCharacter { place }
+            | LexFault::TooLong { place }
+            | LexFault::TooMany { place } => Some(*place),
+            LexFault::Memory => None,
+        }
+    }
+}
+
+impl From<AllocError> for LexFault {
+    ghost from_gives = { λ _ e. e ≡ Memory };
+
+    fn from(_: AllocError) -> LexFault {
+        LexFault::Memory
+    }
+}
+
+impl From<AllocFailed<Token>> for LexFault {
+    ghost from_gives = { λ _ e. e ≡ Memory };
+
+    fn from(_: AllocFailed<Token>) -> LexFault {
+        LexFault::Memory
+    }
+}
