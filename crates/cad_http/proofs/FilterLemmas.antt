@@ -2,7 +2,10 @@
 use Rattle.std.proofs.Common.{◌≡◌, ℕ, List, Result, Ok, Err, IsErrAnd, refl, subst}
 use Rattle.cql_lexer.specs.Mark.{Mark}
 use Rattle.cql_lexer.specs.Lexed.{IsSpelt}
-use Rattle.cql_lexer.specs.Laws.{HasOneSpelling}
+use Rattle.cql_lexer.specs.Lexed as lexer
+use Rattle.cql_lexer.specs.Laws.{HasFaultOrTokens, HasOneSpelling}
+use Rattle.cql_lexer.specs.declared.fault.LexFault.{LexFault}
+use Rattle.cql_lexer.specs.declared.fault.LexFault.TheVariants as lex
 use Rattle.cql_parser.specs.Syntax.{Syntax}
 use Rattle.cql_parser.specs.Grammar.{Reads}
 use Rattle.cql_parser.specs.Answer.{IsParsed, IsReading}
@@ -15,12 +18,21 @@ use Rattle.cql_meaning.specs.declared.filter.Filter.{Filter}
 use Rattle.cql_meaning.specs.declared.schema.Collection.{Collection}
 use Rattle.cql_meaning.specs.Kinds.{IsCondition}
 use Rattle.cql_meaning.specs.Accepted.{IsAccepted}
-use Rattle.cad_http.specs.FilterFaults.{of_parser, of_types}
+use Rattle.cad_http.specs.FilterFaults.{of_lexer, of_parser, of_types}
 use Rattle.cad_http.specs.declared.filter.FilterFault.TheVariants.{Refused}
 
 -- a text has one list of tokens
 same_tokens : HasOneSpelling → (c : Collection) (text : List ℕ) (tokens : List Mark) (filter : Filter) → IsSpelt text tokens → (a : IsAccepted c text filter) → a.tokens ≡ tokens
 same_tokens one c text tokens filter spelt a = one text a.tokens tokens a.spelt.spells spelt.spells
+
+-- a refusal of the lexer
+pub lexer_refusal : HasFaultOrTokens → (c : Collection) (text : List ℕ) (filter : Filter) (why : LexFault) → lexer.Answers text (Err why)
+    → of_lexer why ≡ Refused → ¬ (IsAccepted c text filter)
+lexer_refusal law c text filter (lex.Unterminated place) fault same a = law text (lex.Unterminated place) a.tokens fault a.spelt
+lexer_refusal law c text filter (lex.StrangeCharacter place) fault same a = law text (lex.StrangeCharacter place) a.tokens fault a.spelt
+lexer_refusal law c text filter (lex.TooLong place) fault same a = law text (lex.TooLong place) a.tokens fault a.spelt
+lexer_refusal law c text filter (lex.TooMany place) fault same a = law text (lex.TooMany place) a.tokens fault a.spelt
+lexer_refusal law c text filter lex.Memory fault same a = absurd cc
 
 -- where the tokens have no tree
 pub no_tree_no_filter : HasOneSpelling → (c : Collection) (text : List ℕ) (tokens : List Mark) (filter : Filter) → IsSpelt text tokens

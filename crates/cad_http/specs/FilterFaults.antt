@@ -1,6 +1,6 @@
 -- A filter is refused where its tokens, its tree or its kinds are.
-use Rattle.cql_lexer.specs.declared.lex.LexFault.{LexFault}
-use Rattle.cql_lexer.specs.declared.lex.LexFault.TheVariants as lex
+use Rattle.cql_lexer.specs.declared.fault.LexFault.{LexFault}
+use Rattle.cql_lexer.specs.declared.fault.LexFault.TheVariants as lex
 use Rattle.cql_parser.specs.declared.fault.ParseFault.{ParseFault}
 use Rattle.cql_parser.specs.declared.fault.ParseFault.TheVariants as parse
 use Rattle.cql_meaning.specs.declared.check.TypeFault.{TypeFault}
@@ -9,7 +9,10 @@ use Rattle.cad_http.specs.declared.filter.FilterFault.{FilterFault}
 use Rattle.cad_http.specs.declared.filter.FilterFault.TheVariants.{Refused, Memory}
 
 abbrev pub of_lexer : LexFault → FilterFault
-of_lexer lex.Refused = Refused
+of_lexer (lex.Unterminated place) = Refused
+of_lexer (lex.StrangeCharacter place) = Refused
+of_lexer (lex.TooLong place) = Refused
+of_lexer (lex.TooMany place) = Refused
 of_lexer lex.Memory = Memory
 
 abbrev pub of_parser : ParseFault → FilterFault

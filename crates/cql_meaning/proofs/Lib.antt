@@ -7,3 +7,4 @@ pub mod Orders
 pub mod Parts
 pub mod Fits
 pub mod Checking
+pub mod Others

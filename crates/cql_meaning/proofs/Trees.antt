@@ -1,13 +1,14 @@
 -- The views of a tree's nodes.
-use Rattle.std.proofs.Common.{◌≡◌, ℕ, Bool, refl, ap, ◌∙◌}
+use Rattle.std.proofs.Common.{◌≡◌, ℕ, refl, ap, ◌∙◌}
 use Rattle.std.specs.String.{string_bytes}
 use Rattle.std.specs.declared.alloc.Global.{Global}
 use Rattle.std.specs.declared.boxed.Box.{Box}
 use Rattle.std.specs.declared.string.String.{String}
 use Rattle.std.specs.declared.vec.Vec.{Vec}
 use Rattle.cql_lexer.specs.declared.token.Comparison.{Comparison}
-use Rattle.cql_parser.specs.Syntax.{name_node, number_node, or_node, and_node, not_node, compare_node, part, parts_of}
+use Rattle.cql_parser.specs.Syntax.{node, or_op, and_op, name_node, number_node, not_node, compare_node, part, parts_of}
 use Rattle.cql_parser.specs.Views.{syntax_of, parts_in, syntaxes_of}
+use Rattle.cql_parser.specs.declared.tree.Number.{Number as NumberOf}
 use Rattle.cql_parser.specs.declared.tree.Tree.{Tree, Row_of-Tree, end_of-Tree, more_of-Tree, items-the_row-Tree, items_hidden-the_row-Tree-0}
 use Rattle.cql_parser.specs.declared.tree.Tree.TheBlock.{hidden-the_row-Tree-0}
 use Rattle.cql_parser.specs.declared.tree.Tree.TheVariants.{Name, Number, Or, And, Not, Compare}
@@ -25,9 +26,9 @@ pub syntax_of-Name : (p : ℕ) (s : String Global) → syntax_of (Name p s) ≡ 
 unfolding syntax_of
 syntax_of-Name p s = refl
 
-pub syntax_of-Number : (p : ℕ) (n : Bool) (s : String Global) → syntax_of (Number p n s) ≡ number_node p n (string_bytes s)
+pub syntax_of-Number : (n : NumberOf) → syntax_of (Number n) ≡ number_node n.place n.is_negative (string_bytes n.digits)
 unfolding syntax_of
-syntax_of-Number p n s = refl
+syntax_of-Number n = refl
 
 pub syntax_of-Compare : (by : Comparison) (a b : Box Tree Global) → syntax_of (Compare by a b) ≡ compare_node by (syntax_of a.value) (syntax_of b.value)
 unfolding syntax_of
@@ -37,10 +38,10 @@ pub syntax_of-Not : (p : ℕ) (t : Box Tree Global) → syntax_of (Not p t) ≡ 
 unfolding syntax_of
 syntax_of-Not p t = refl
 
-pub syntax_of-And : (t : Box Tree Global) (ts : Vec Tree Global) → syntax_of (And t ts) ≡ and_node (syntax_of t.value) (parts_of (syntaxes_of ts.items))
+pub syntax_of-And : (t : Box Tree Global) (ts : Vec Tree Global) → syntax_of (And t ts) ≡ node and_op (part (syntax_of t.value) (parts_of (syntaxes_of ts.items)))
 unfolding syntax_of
-syntax_of-And t ts = ap (and_node (syntax_of t.value)) (vec_parts ts)
+syntax_of-And t ts = ap (λ ps. node and_op (part (syntax_of t.value) ps)) (vec_parts ts)
 
-pub syntax_of-Or : (t : Box Tree Global) (ts : Vec Tree Global) → syntax_of (Or t ts) ≡ or_node (syntax_of t.value) (parts_of (syntaxes_of ts.items))
+pub syntax_of-Or : (t : Box Tree Global) (ts : Vec Tree Global) → syntax_of (Or t ts) ≡ node or_op (part (syntax_of t.value) (parts_of (syntaxes_of ts.items)))
 unfolding syntax_of
-syntax_of-Or t ts = ap (or_node (syntax_of t.value)) (vec_parts ts)
+syntax_of-Or t ts = ap (λ ps. node or_op (part (syntax_of t.value) ps)) (vec_parts ts)

@@ -1,5 +1,5 @@
 -- What the parts of a typed tree are.
-use Rattle.std.proofs.Common.{◌≡◌, ◌≢◌, refl, ◌⊎◌, inl, inr, ℕ, ℤ, Bool, List, Some, subst, ap, sym, ◌∙◌, Global}
+use Rattle.std.proofs.Common.{◌≡◌, ◌≢◌, refl, ℕ, ℤ, Bool, List, Some, subst, ap, sym, ◌∙◌, Global}
 use Rattle.std.specs.Prelude.{FitsSigned}
 use Rattle.std.specs.Int.{w64, cast_signed, cast_unsigned}
 use Rattle.std.proofs.lemmas.Int.{to_z-of_z}
@@ -9,9 +9,9 @@ use Rattle.cql_lexer.specs.declared.token.Comparison.{Comparison}
 use Rattle.std.specs.declared.string.String.{String}
 use Rattle.cql_parser.specs.Views.{syntax_of}
 use Rattle.cql_parser.specs.declared.tree.Tree.{Tree}
-use Rattle.cql_parser.specs.declared.tree.Tree.TheVariants.{Name, Number, Or', And', Not', Compare'}
-use Rattle.cql_meaning.proofs.Trees.{syntax_of-Name, syntax_of-Number}
-use Rattle.cql_parser.specs.Syntax.{Syntax, Parts, part, name_node, number_node, or_node, and_node, not_node, compare_node}
+use Rattle.cql_parser.specs.declared.tree.Number.{Number as NumberOf}
+use Rattle.cql_parser.specs.declared.tree.Tree.TheVariants.{Name, Number, Text, Truth, Or', And', Not', Compare', Like', Between', In', IsNull', Sum', Product', Casei', Date, Interval, Point, Polygon, Bbox, Spatial', Temporal'}
+use Rattle.cql_parser.specs.Syntax.{Syntax, Parts, part, node, or_op, and_op, name_node, number_node, not_node, compare_node}
 use Rattle.cql_meaning.specs.Kinds.{IsWhole, IsCondition, AreConditions, number_of, property, number, by_comparison, by_not, by_and, by_or, one_more}
 use Rattle.cql_meaning.specs.Schema.{schema_of}
 use Rattle.cql_meaning.specs.declared.filter.WholeTerm.{WholeTerm}
@@ -39,11 +39,11 @@ compared_right (by_comparison {b = b} left right) = (b, right)
 pub negated : {c : Collection} {p : ℕ} {t : Syntax} {f : Filter} → IsCondition c (not_node p t) f → (g : Filter) × IsCondition c t g
 negated (by_not g h) = (g.value, h)
 
-pub all_joined : {c : Collection} {t : Syntax} {ts : Parts} {f : Filter} → IsCondition c (and_node t ts) f →
+pub all_joined : {c : Collection} {t : Syntax} {ts : Parts} {f : Filter} → IsCondition c (node and_op (part t ts)) f →
     (fs : List Filter) × AreConditions c (part t ts) fs
 all_joined (by_and fs h) = (fs.items, h)
 
-pub some_joined : {c : Collection} {t : Syntax} {ts : Parts} {f : Filter} → IsCondition c (or_node t ts) f →
+pub some_joined : {c : Collection} {t : Syntax} {ts : Parts} {f : Filter} → IsCondition c (node or_op (part t ts)) f →
     (fs : List Filter) × AreConditions c (part t ts) fs
 some_joined (by_or fs h) = (fs.items, h)
 
@@ -67,28 +67,31 @@ whole_constant {c = c} {p = p} {n = n} {s = s} h e =
 -- nothing but a name or a number is an operand
 pub no_other_whole : {c : Collection} (tree : Tree) →
     ((p : ℕ) (s : String Global) → tree ≢ Name p s) →
-    ((p : ℕ) (n : Bool) (s : String Global) → tree ≢ Number p n s) →
+    ((n : NumberOf) → tree ≢ Number n) →
     (a : WholeTerm) → ¬ IsWhole c (syntax_of tree) a
 unfolding syntax_of
 no_other_whole (Name p s) no_name no_number a h = no_name p s refl
-no_other_whole (Number p n s) no_name no_number a h = no_number p n s refl
+no_other_whole (Number n) no_name no_number a h = no_number n refl
+no_other_whole (Text p s) no_name no_number a h = elim h [ ]
+no_other_whole (Truth p b) no_name no_number a h = elim h [ ]
 no_other_whole (Or' p f shape all) no_name no_number a h = elim h [ ]
 no_other_whole (And' p f shape all) no_name no_number a h = elim h [ ]
 no_other_whole (Not' place p t) no_name no_number a h = elim h [ ]
 no_other_whole (Compare' by p l q r) no_name no_number a h = elim h [ ]
-
-no_condition_name : {c : Collection} {p : ℕ} {s : List ℕ} {f : Filter} → IsCondition c (name_node p s) f → ⊥
-no_condition_name h = elim h [ ]
-
-no_condition_number : {c : Collection} {p : ℕ} {n : Bool} {s : List ℕ} {f : Filter} → IsCondition c (number_node p n s) f → ⊥
-no_condition_number h = elim h [ ]
-
--- neither a name nor a number is a condition
-pub no_other_condition : {c : Collection} {tree : Tree} →
-    ((p : ℕ) × (s : String Global) × (tree ≡ Name p s)) ⊎ ((p : ℕ) × (n : Bool) × (s : String Global) × (tree ≡ Number p n s)) →
-    (f : Filter) → IsCondition c (syntax_of tree) f → ⊥
-no_other_condition (inl (p, s, is)) f h = no_condition_name (rw (is, syntax_of-Name) at h)
-no_other_condition (inr (p, n, s, is)) f h = no_condition_number (rw (is, syntax_of-Number) at h)
+no_other_whole (Like' n p l q r) no_name no_number a h = elim h [ ]
+no_other_whole (Between' n p l q m r u) no_name no_number a h = elim h [ ]
+no_other_whole (In' n p l q f shape all) no_name no_number a h = elim h [ ]
+no_other_whole (IsNull' n p l) no_name no_number a h = elim h [ ]
+no_other_whole (Sum' p f shape all) no_name no_number a h = elim h [ ]
+no_other_whole (Product' p f shape all) no_name no_number a h = elim h [ ]
+no_other_whole (Casei' place p t) no_name no_number a h = elim h [ ]
+no_other_whole (Date p q s) no_name no_number a h = elim h [ ]
+no_other_whole (Interval p l r) no_name no_number a h = elim h [ ]
+no_other_whole (Point p l) no_name no_number a h = elim h [ ]
+no_other_whole (Polygon p rs) no_name no_number a h = elim h [ ]
+no_other_whole (Bbox p l r) no_name no_number a h = elim h [ ]
+no_other_whole (Spatial' place by p l q r) no_name no_number a h = elim h [ ]
+no_other_whole (Temporal' place by p l q r) no_name no_number a h = elim h [ ]
 
 -- the property at the place of a term is of kind Whole
 pub property_place : {c : Collection} {t : Syntax} {place : ℕ} → IsWhole c t (Property place) →

@@ -5,7 +5,7 @@ use Rattle.std.specs.Int.{w64}
 use Rattle.std.specs.Str.Parse.{IsNumeral, digits_value}
 use Rattle.std.specs.declared.alloc.Global.{Global}
 use Rattle.cql_lexer.specs.declared.token.Comparison.{Comparison}
-use Rattle.cql_parser.specs.Syntax.{Syntax, Parts, none, part, name_node, number_node, or_node, and_node, not_node, compare_node}
+use Rattle.cql_parser.specs.Syntax.{Syntax, Parts, none, part, node, or_op, and_op, name_node, number_node, not_node, compare_node}
 use Rattle.cql_meaning.specs.declared.filter.WholeTerm.{WholeTerm}
 use Rattle.cql_meaning.specs.declared.filter.WholeTerm.TheVariants.{Constant, Property}
 use Rattle.cql_meaning.specs.declared.filter.Filter.{Filter}
@@ -34,9 +34,9 @@ mutual
     by_not : {token : ℕ} {negated : Syntax} (f : Box Filter Global) → IsCondition c negated f.value →
         IsCondition c (not_node token negated) (filter.Not f)
     by_and : {first : Syntax} {others : Parts} (fs : Vec Filter Global) → AreConditions c (part first others) fs.items →
-        IsCondition c (and_node first others) (filter.And fs)
+        IsCondition c (node and_op (part first others)) (filter.And fs)
     by_or : {first : Syntax} {others : Parts} (fs : Vec Filter Global) → AreConditions c (part first others) fs.items →
-        IsCondition c (or_node first others) (filter.Or fs)
+        IsCondition c (node or_op (part first others)) (filter.Or fs)
 
   -- each part a condition, in the order of the parts
   pub data AreConditions (c : Collection) : Parts → List Filter → Type 0 where

@@ -49,22 +49,39 @@ pub fn check(alloc: Global, tree: &Tree, collection: Collection) -> Result<Filte
     ensures refused { IsErrOf result TypeFault.Refused → IsNoCondition collection (syntax_of tree.now) }
 {
     match tree {
-        Tree::Compare(comparison, left, right) => {
-            compare(*comparison, left, right, collection).ok_or(TypeFault::Refused)
+        Tree::Compare { by, left, right } => {
+            compare(*by, left, right, collection).ok_or(TypeFault::Refused)
         }
-        Tree::Not(_, negated) => {
-            let negated = check(alloc, negated, collection)?;
+        Tree::Not { part, .. } => {
+            let negated = check(alloc, part, collection)?;
             Ok(Filter::Not(Box::new(alloc, negated)?))
         }
-        Tree::And(first, others) => {
+        Tree::And { first, others } => {
             let first = check(alloc, first, collection)?;
             Ok(Filter::And(check_others(alloc, others, first, collection)?))
         }
-        Tree::Or(first, others) => {
+        Tree::Or { first, others } => {
             let first = check(alloc, first, collection)?;
             Ok(Filter::Or(check_others(alloc, others, first, collection)?))
         }
-        Tree::Name(_, _) | Tree::Number(_, _, _) => Err(TypeFault::Refused),
+        Tree::Name { .. }
+        | Tree::Number(_)
+        | Tree::Text { .. }
+        | Tree::Truth { .. }
+        | Tree::Like { .. }
+        | Tree::Between { .. }
+        | Tree::In { .. }
+        | Tree::IsNull { .. }
+        | Tree::Sum { .. }
+        | Tree::Product { .. }
+        | Tree::Casei { .. }
+        | Tree::Date { .. }
+        | Tree::Interval { .. }
+        | Tree::Point { .. }
+        | Tree::Polygon { .. }
+        | Tree::Bbox { .. }
+        | Tree::Spatial { .. }
+        | Tree::Temporal { .. } => Err(TypeFault::Refused),
     }
 }
 
@@ -107,9 +124,9 @@ fn whole_term(tree: &Tree, collection: Collection) -> Option<WholeTerm>
     ensures { Finds (IsWhole collection (syntax_of tree.now)) result }
 {
     match tree {
-        Tree::Name(_, name) => Some(WholeTerm::Property(whole_property(name, collection)?)),
-        Tree::Number(_, negative, digits) => {
-            Some(WholeTerm::Constant(constant(*negative, digits)?))
+        Tree::Name { name, .. } => Some(WholeTerm::Property(whole_property(name, collection)?)),
+        Tree::Number(number) => {
+            Some(WholeTerm::Constant(constant(number.is_negative, &number.digits)?))
         }
         _ => None,
     }

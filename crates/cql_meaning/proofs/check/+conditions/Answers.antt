@@ -1,7 +1,8 @@
 use Rattle.std.proofs.lemmas.Result.{err_from_is_err_and}
 use Rattle.cql_meaning.proofs.Trees.{syntax_of-Compare, syntax_of-Not, syntax_of-And, syntax_of-Or}
 use Rattle.cql_meaning.proofs.Checking.{parts_from, completes_more, completes_all, negation_in_box, ok_or_fits, ok_or_refused, same_error}
-use Rattle.cql_meaning.proofs.Typing.{negated, all_joined, some_joined, first_part, other_parts, no_other_condition}
+use Rattle.cql_meaning.proofs.Typing.{negated, all_joined, some_joined, first_part, other_parts}
+use Rattle.cql_meaning.proofs.Others.{no_other_condition}
 use Rattle.cql_meaning.specs.Kinds.{by_and, by_or, one_more}
 use Rattle.cql_meaning.proofs.check.+conditions.Goals as goal
 
