@@ -48,9 +48,11 @@ no_kind_no_filter one c text tokens tree filter spelt reading none a =
     none filter (subst (λ (t : Syntax). IsCondition c t filter) same a.fits)
 
 -- a refusal of the parser
-pub parser_refusal : HasOneSpelling → (c : Collection) (text : List ℕ) (tokens : List Mark) (filter : Filter) (why : ParseFault) → IsSpelt text tokens → parser.Answers tokens (Err why)
+pub parser_refusal : HasOneSpelling → (c : Collection) (text : List ℕ) (tokens : List Mark) (filter : Filter) (why : ParseFault) → IsSpelt text tokens → parser.Refuses tokens why
     → of_parser why ≡ Refused → ¬ (IsAccepted c text filter)
-parser_refusal one c text tokens filter parse.Refused spelt none same = no_tree_no_filter one c text tokens filter spelt none
+parser_refusal one c text tokens filter (parse.TooDeep place) spelt none same = no_tree_no_filter one c text tokens filter spelt none
+parser_refusal one c text tokens filter (parse.NotExpected place) spelt none same = no_tree_no_filter one c text tokens filter spelt none
+parser_refusal one c text tokens filter (parse.EndOfFilter place) spelt none same = no_tree_no_filter one c text tokens filter spelt none
 parser_refusal one c text tokens filter parse.Memory spelt none same = absurd cc
 
 -- a refusal of the kinds

@@ -16,7 +16,9 @@ of_lexer (lex.TooMany place) = Refused
 of_lexer lex.Memory = Memory
 
 abbrev pub of_parser : ParseFault → FilterFault
-of_parser parse.Refused = Refused
+of_parser (parse.TooDeep place) = Refused
+of_parser (parse.NotExpected place) = Refused
+of_parser (parse.EndOfFilter place) = Refused
 of_parser parse.Memory = Memory
 
 abbrev pub of_types : TypeFault → FilterFault

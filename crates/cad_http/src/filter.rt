@@ -44,7 +44,9 @@ impl From<ParseFault> for FilterFault {
 
     fn from(fault: ParseFault) -> FilterFault {
         match fault {
-            ParseFault::Refused => FilterFault::Refused,
+            ParseFault::TooDeep { .. }
+            | ParseFault::NotExpected { .. }
+            | ParseFault::EndOfFilter { .. } => FilterFault::Refused,
             ParseFault::Memory => FilterFault::Memory,
         }
     }
