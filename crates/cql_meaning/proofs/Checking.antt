@@ -2,7 +2,8 @@
 use Rattle.std.proofs.Common.{◌≡◌, ◌≤◌, drop_of_length-le, append-nil, Option, None, Result, Ok, Err, IfOk, IsErrOf, ok_or, ◌+◌, ◌<◌, ◌++◌, [], length, get_or, drop, drop-cons, add-one, append_assoc, ℕ, List, ◌∷◌, Some, ap, sym, ◌∙◌, Box, Global}
 use Rattle.cql_parser.specs.Views.{syntax_of, syntaxes_of}
 use Rattle.cql_parser.specs.declared.tree.Tree.{Tree}
-use Rattle.cql_parser.specs.Syntax.{Syntax, Parts, part, parts_of, not_node}
+use Rattle.cql_parser.specs.Syntax.{Syntax, Parts, part, parts_of}
+use Rattle.cql_meaning.specs.Conditions.{not_node}
 use Rattle.cql_meaning.specs.Finds.{Finds}
 use Rattle.cql_meaning.specs.Kinds.{IsCondition, IsNoCondition, AreConditions, by_not, no_more, one_more}
 use Rattle.cql_meaning.specs.declared.check.TypeFault.{TypeFault}

@@ -6,7 +6,8 @@ use Rattle.std.specs.declared.boxed.Box.{Box}
 use Rattle.std.specs.declared.string.String.{String}
 use Rattle.std.specs.declared.vec.Vec.{Vec}
 use Rattle.cql_lexer.specs.declared.token.Comparison.{Comparison}
-use Rattle.cql_parser.specs.Syntax.{node, or_op, and_op, name_node, number_node, not_node, compare_node, part, parts_of}
+use Rattle.cql_parser.specs.Syntax.{node, or_op, and_op, part, parts_of}
+use Rattle.cql_meaning.specs.Conditions.{name_node, number_node, not_node, compare_node}
 use Rattle.cql_parser.specs.Views.{syntax_of, parts_in, syntaxes_of}
 use Rattle.cql_parser.specs.declared.tree.Number.{Number as NumberOf}
 use Rattle.cql_parser.specs.declared.tree.Tree.{Tree, Row_of-Tree, end_of-Tree, more_of-Tree, items-the_row-Tree, items_hidden-the_row-Tree-0}

@@ -11,7 +11,8 @@ use Rattle.cql_parser.specs.Views.{syntax_of}
 use Rattle.cql_parser.specs.declared.tree.Tree.{Tree}
 use Rattle.cql_parser.specs.declared.tree.Number.{Number as NumberOf}
 use Rattle.cql_parser.specs.declared.tree.Tree.TheVariants.{Name, Number, Text, Truth, Or', And', Not', Compare', Like', Between', In', IsNull', Sum', Product', Casei', Date, Interval, Point, Polygon, Bbox, Spatial', Temporal'}
-use Rattle.cql_parser.specs.Syntax.{Syntax, Parts, part, node, or_op, and_op, name_node, number_node, not_node, compare_node}
+use Rattle.cql_parser.specs.Syntax.{Syntax, Parts, part, node, or_op, and_op}
+use Rattle.cql_meaning.specs.Conditions.{name_node, number_node, not_node, compare_node}
 use Rattle.cql_meaning.specs.Kinds.{IsWhole, IsCondition, AreConditions, number_of, property, number, by_comparison, by_not, by_and, by_or, one_more}
 use Rattle.cql_meaning.specs.Schema.{schema_of}
 use Rattle.cql_meaning.specs.declared.filter.WholeTerm.{WholeTerm}

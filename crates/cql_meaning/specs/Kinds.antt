@@ -5,7 +5,8 @@ use Rattle.std.specs.Int.{w64}
 use Rattle.std.specs.Str.Parse.{IsNumeral, digits_value}
 use Rattle.std.specs.declared.alloc.Global.{Global}
 use Rattle.cql_lexer.specs.declared.token.Comparison.{Comparison}
-use Rattle.cql_parser.specs.Syntax.{Syntax, Parts, none, part, node, or_op, and_op, name_node, number_node, not_node, compare_node}
+use Rattle.cql_parser.specs.Syntax.{Syntax, Parts, none, part, node, or_op, and_op}
+use Rattle.cql_meaning.specs.Conditions.{name_node, number_node, not_node, compare_node}
 use Rattle.cql_meaning.specs.declared.filter.WholeTerm.{WholeTerm}
 use Rattle.cql_meaning.specs.declared.filter.WholeTerm.TheVariants.{Constant, Property}
 use Rattle.cql_meaning.specs.declared.filter.Filter.{Filter}

@@ -4,6 +4,7 @@ pub mod Values
 pub mod Sides
 pub mod Said
 pub mod Finds
+pub mod Conditions
 pub mod Kinds
 pub mod Answer
 pub mod Accepted

@@ -1,8 +1,9 @@
 //! From a tree to a filter whose kinds fit.
 
 ghost use Rattle.std.specs.Prelude.{◌≡◌, ◌↔◌, Some, IfOk, IsErrOf, IsTrue, slice_get};
-ghost use Rattle.cql_parser.specs.Syntax.{Syntax, compare_node, part, parts_of};
+ghost use Rattle.cql_parser.specs.Syntax.{Syntax, part, parts_of};
 ghost use Rattle.cql_parser.specs.Views.{syntax_of, syntaxes_of};
+ghost use Rattle.cql_meaning.specs.Conditions.{compare_node};
 ghost use Rattle.cql_meaning.specs.Finds.{Finds};
 ghost use Rattle.cql_meaning.specs.Kinds.{AreConditions, AreNoConditions, IsCondition, IsNoCondition, IsWhole};
 ghost use Rattle.cql_meaning.specs.Schema.{property_of, schema_of};
