@@ -92,7 +92,7 @@ fn tell_points(rt: &HostRuntime) -> Result<()> {
 }
 
 /// Prints what making rings, meeting and looking for points take.
-pub fn tell_times(rt: &HostRuntime) -> Result<()> {
+pub(crate) fn tell_times(rt: &HostRuntime) -> Result<()> {
     let alloc = rt.alloc();
     tell_ring(rt, "a slope", slope(alloc, 10, 0)?.as_slice(), 100_000)?;
     tell_ring(rt, "a slope", slope(alloc, 100, 0)?.as_slice(), 10_000)?;

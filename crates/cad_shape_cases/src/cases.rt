@@ -123,7 +123,7 @@ fn shapes_answer(alloc: Global, text: &str) -> Result<Option<String>, AllocError
 }
 
 /// Appends the answer to the case of this line.
-pub fn put_answer(alloc: Global, line: &str, answer: &mut String) -> Result<(), AllocError> {
+pub(crate) fn put_answer(alloc: Global, line: &str, answer: &mut String) -> Result<(), AllocError> {
     let (question, rest) = line.split_once(' ').unwrap_or((line, ""));
     let found = match question {
         "ring" => ring_answer(alloc, rest)?,
