@@ -1,7 +1,7 @@
 -- The places of a tree ascend where those of its tokens do.
 use Rattle.std.proofs.Common.{◌≡◌, ℕ, ◌+◌, ◌<◌, ◌≤◌, Bool, List, [], ◌∷◌, refl, arith}
-use Rattle.cql_lexer.specs.Mark.{Mark, at, closing, comma, opening, word}
-use Rattle.cql_parser.specs.Syntax.{Syntax, Parts, none, part, parts_of, joined, leaf, node, Op, or_op, and_op, not_op, compare_op, like_op, between_op, in_op, is_null_op, sum_op, product_op, casei_op, date_op, interval_op, point_op, polygon_op, ring_op, bbox_op, spatial_op, temporal_op, keyed, place_of, place_in}
+use Rattle.cql_lexer.specs.Mark.{Mark, at}
+use Rattle.cql_parser.specs.Syntax.{Syntax, Parts, part, parts_of, joined, node, Op, or_op, and_op, not_op, compare_op, like_op, between_op, in_op, is_null_op, sum_op, product_op, casei_op, date_op, interval_op, point_op, polygon_op, ring_op, bbox_op, spatial_op, temporal_op, keyed, place_of}
 use Rattle.cql_parser.specs.Grammar.{IsWhole, number_rule, plus_rule, minus_rule, IsBound, text_bound, name_bound, IsCornersRest, corners_end, corners_more, IsRing, ring_rule, IsNegation, plain, negated, IsOr, or_rule, IsOrRest, or_end, or_more, IsAnd, and_rule, IsAndRest, and_end, and_more, IsNot, not_rule, plain_rule, IsPredicate, predicate_rule, IsTail, no_tail, compare_tail, like_tail, between_tail, in_tail, null_tail, IsItemsRest, items_end, items_more, IsSum, sum_rule, IsSumRest, sum_end, sum_more, IsProduct, product_rule, IsProductRest, product_end, product_more, IsPrimary, paren_rule, name_rule, text_rule, whole_rule, true_rule, false_rule, casei_rule, date_rule, interval_rule, point_rule, polygon_rule, bbox_rule, spatial_rule, temporal_rule}
 use Rattle.cql_parser.specs.declared.tree.Addition.{Addition}
 use Rattle.cql_parser.specs.declared.tree.Multiplication.{Multiplication}
@@ -154,24 +154,33 @@ mutual
   tail_orders from middle o no_tail h = (middle, o, h)
   tail_orders from middle o (compare_tail {p} {c} b) h =
       let e = h.0 in
-      let f = sum_orders (p + 1) b h.1 in
-      (f.0, node_orders (compare_op c) (λ n. refl) o
-          (one_part (earlier middle (omega (arith, e)) f.1) (no_part (same _))), f.2)
+      let f = sum_orders (p + 1) b h.1 in (
+        f.0,
+        node_orders (compare_op c) (λ n. refl) o
+            (one_part (earlier middle (omega (arith, e)) f.1) (no_part (same _))),
+        f.2,
+      )
   tail_orders from middle o (like_tail {p} {n} neg b) h =
       let g = negation_orders middle neg h in
       let e = g.0 in
-      let f = sum_orders (p + 1) b g.1 in
-      (f.0, node_orders (like_op n) (λ m. refl) o
-          (one_part (earlier middle (omega (arith, e)) f.1) (no_part (same _))), f.2)
+      let f = sum_orders (p + 1) b g.1 in (
+        f.0,
+        node_orders (like_op n) (λ m. refl) o
+            (one_part (earlier middle (omega (arith, e)) f.1) (no_part (same _))),
+        f.2,
+      )
   tail_orders from middle o (between_tail {p} {q} {n} neg b c) h =
       let g = negation_orders middle neg h in
       let e = g.0 in
       let f = sum_orders (p + 1) b g.1 in
       let d = f.2.0 in
-      let k = sum_orders (q + 1) c f.2.1 in
-      (k.0, node_orders (between_op n) (λ m. refl) o
-          (one_part (earlier middle (omega (arith, e)) f.1)
-          (one_part (earlier f.0 (omega (arith, d)) k.1) (no_part (same _)))), k.2)
+      let k = sum_orders (q + 1) c f.2.1 in (
+        k.0,
+        node_orders (between_op n) (λ m. refl) o
+            (one_part (earlier middle (omega (arith, e)) f.1)
+            (one_part (earlier f.0 (omega (arith, d)) k.1) (no_part (same _)))),
+        k.2,
+      )
   tail_orders from middle o (in_tail {p} {q} {n} neg b rest) h =
       let g = negation_orders middle neg h in
       let e = g.0 in
@@ -236,33 +245,48 @@ mutual
   primary_orders from (false_rule {p}) h = (p + 1, leaf_in_order h.0 (omega (arith)), h.1)
   primary_orders from (casei_rule {p} {q} {r} a) h =
       let e = h.1.0 in
-      let f = sum_orders (q + 1) a h.1.1 in
-      (r + 1, keyed_orders (casei_op p) p (λ n. refl) h.0
-          (earlier (p + 1) (omega (arith, e)) (closed_orders f.0 f.1 f.2.0)) (no_part (same _)), f.2.1)
+      let f = sum_orders (q + 1) a h.1.1 in (
+        r + 1,
+        keyed_orders (casei_op p) p (λ n. refl) h.0
+            (earlier (p + 1) (omega (arith, e)) (closed_orders f.0 f.1 f.2.0)) (no_part (same _)),
+        f.2.1,
+      )
   primary_orders from (date_rule {p} {q} {r} {u}) h =
       let e = h.1.0 in
       let d = h.1.1.0 in
-      let c = h.1.1.1.0 in
-      (u + 1, keyed_orders (date_op p) p (λ n. refl) h.0
-          (leaf_in_order (omega (arith, e, d)) (omega (arith, c))) (no_part (same _)), h.1.1.1.1)
+      let c = h.1.1.1.0 in (
+        u + 1,
+        keyed_orders (date_op p) p (λ n. refl) h.0
+            (leaf_in_order (omega (arith, e, d)) (omega (arith, c))) (no_part (same _)),
+        h.1.1.1.1,
+      )
   primary_orders from (interval_rule {p} {q} {r} {u} a b) h =
       let e = h.1.0 in
       let f = bound_orders (q + 1) a h.1.1 in
       let d = f.2.0 in
-      let g = bound_orders (r + 1) b f.2.1 in
-      (u + 1, keyed_orders (interval_op p) p (λ n. refl) h.0 (earlier (p + 1) (omega (arith, e)) f.1)
-          (one_part (earlier f.0 (omega (arith, d)) (closed_orders g.0 g.1 g.2.0)) (no_part (same _))), g.2.1)
+      let g = bound_orders (r + 1) b f.2.1 in (
+        u + 1,
+        keyed_orders (interval_op p) p (λ n. refl) h.0 (earlier (p + 1) (omega (arith, e)) f.1)
+            (one_part (earlier f.0 (omega (arith, d)) (closed_orders g.0 g.1 g.2.0)) (no_part (same _))),
+        g.2.1,
+      )
   primary_orders from (point_rule {p} {q} {r} a b) h =
       let e = h.1.0 in
       let f = whole_orders (q + 1) a h.1.1 in
-      let g = whole_orders f.0 b f.2 in
-      (r + 1, keyed_orders (point_op p) p (λ n. refl) h.0 (earlier (p + 1) (omega (arith, e)) f.1)
-          (one_part (closed_orders g.0 g.1 g.2.0) (no_part (same _))), g.2.1)
+      let g = whole_orders f.0 b f.2 in (
+        r + 1,
+        keyed_orders (point_op p) p (λ n. refl) h.0 (earlier (p + 1) (omega (arith, e)) f.1)
+            (one_part (closed_orders g.0 g.1 g.2.0) (no_part (same _))),
+        g.2.1,
+      )
   primary_orders from (polygon_rule {p} {q} {r} a) h =
       let e = h.1.0 in
-      let f = ring_orders (q + 1) a h.1.1 in
-      (r + 1, keyed_orders (polygon_op p) p (λ n. refl) h.0
-          (earlier (p + 1) (omega (arith, e)) (closed_orders f.0 f.1 f.2.0)) (no_part (same _)), f.2.1)
+      let f = ring_orders (q + 1) a h.1.1 in (
+        r + 1,
+        keyed_orders (polygon_op p) p (λ n. refl) h.0
+            (earlier (p + 1) (omega (arith, e)) (closed_orders f.0 f.1 f.2.0)) (no_part (same _)),
+        f.2.1,
+      )
   primary_orders from (bbox_rule {p} {q} {r} {u} {v} {w} a b c d) h =
       let e = h.1.0 in
       let f = whole_orders (q + 1) a h.1.1 in
@@ -271,25 +295,34 @@ mutual
       let g' = g.2.0 in
       let k = whole_orders (u + 1) c g.2.1 in
       let k' = k.2.0 in
-      let l = whole_orders (v + 1) d k.2.1 in
-      (w + 1, keyed_orders (bbox_op p) p (λ n. refl) h.0 (earlier (p + 1) (omega (arith, e)) f.1)
-          (one_part (earlier f.0 (omega (arith, f')) g.1)
-          (one_part (earlier g.0 (omega (arith, g')) k.1)
-          (one_part (earlier k.0 (omega (arith, k')) (closed_orders l.0 l.1 l.2.0)) (no_part (same _))))), l.2.1)
+      let l = whole_orders (v + 1) d k.2.1 in (
+        w + 1,
+        keyed_orders (bbox_op p) p (λ n. refl) h.0 (earlier (p + 1) (omega (arith, e)) f.1)
+            (one_part (earlier f.0 (omega (arith, f')) g.1)
+            (one_part (earlier g.0 (omega (arith, g')) k.1)
+            (one_part (earlier k.0 (omega (arith, k')) (closed_orders l.0 l.1 l.2.0)) (no_part (same _))))),
+        l.2.1,
+      )
   primary_orders from (spatial_rule {p} {q} {r} {u} {c} a b) h =
       let e = h.1.0 in
       let f = sum_orders (q + 1) a h.1.1 in
       let d = f.2.0 in
-      let g = sum_orders (r + 1) b f.2.1 in
-      (u + 1, keyed_orders (spatial_op p c) p (λ n. refl) h.0 (earlier (p + 1) (omega (arith, e)) f.1)
-          (one_part (earlier f.0 (omega (arith, d)) (closed_orders g.0 g.1 g.2.0)) (no_part (same _))), g.2.1)
+      let g = sum_orders (r + 1) b f.2.1 in (
+        u + 1,
+        keyed_orders (spatial_op p c) p (λ n. refl) h.0 (earlier (p + 1) (omega (arith, e)) f.1)
+            (one_part (earlier f.0 (omega (arith, d)) (closed_orders g.0 g.1 g.2.0)) (no_part (same _))),
+        g.2.1,
+      )
   primary_orders from (temporal_rule {p} {q} {r} {u} {c} a b) h =
       let e = h.1.0 in
       let f = sum_orders (q + 1) a h.1.1 in
       let d = f.2.0 in
-      let g = sum_orders (r + 1) b f.2.1 in
-      (u + 1, keyed_orders (temporal_op p c) p (λ n. refl) h.0 (earlier (p + 1) (omega (arith, e)) f.1)
-          (one_part (earlier f.0 (omega (arith, d)) (closed_orders g.0 g.1 g.2.0)) (no_part (same _))), g.2.1)
+      let g = sum_orders (r + 1) b f.2.1 in (
+        u + 1,
+        keyed_orders (temporal_op p c) p (λ n. refl) h.0 (earlier (p + 1) (omega (arith, e)) f.1)
+            (one_part (earlier f.0 (omega (arith, d)) (closed_orders g.0 g.1 g.2.0)) (no_part (same _))),
+        g.2.1,
+      )
 
 -- a tree that is read from tokens whose places ascend
 pub is_ordered : (xs ys : List Mark) (t : Syntax) → IsOr xs t ys → Ascend 0 xs → IsOrdered t

@@ -1,18 +1,17 @@
 -- What completes each state, and that one step keeps it.
 use Rattle.std.proofs.Common.{◌≡◌, ℕ, Bool, true, false, List, [], ◌∷◌, ◌++◌, append_assoc, append-nil}
 use Rattle.cad_day.specs.declared.relation.Relation.{Relation}
-use Rattle.cql_lexer.specs.Mark.{Sort, Mark, at, opening, closing, comma, plus, minus, times, modulo, compare, word, name, text, number}
-use Rattle.cql_lexer.specs.declared.token.Comparison.{Comparison}
+use Rattle.cql_lexer.specs.Mark.{Mark, at, opening, closing, comma, plus, minus, times, modulo, compare, word, name, text, number}
 use Rattle.cql_lexer.specs.declared.token.SpatialRelation.{SpatialRelation}
 use Rattle.cql_lexer.specs.declared.token.Keyword.TheVariants.{And, Or, Not, Like, Between, In, Is, Null, True, False, Div, Casei, Date, Interval, Point, Polygon, Bbox, Spatial, Temporal}
 use Rattle.cql_parser.specs.declared.tree.Addition.{Addition}
 use Rattle.cql_parser.specs.declared.tree.Addition.TheVariants.{Plus, Minus}
 use Rattle.cql_parser.specs.declared.tree.Multiplication.{Multiplication}
 use Rattle.cql_parser.specs.declared.tree.Multiplication.TheVariants as by
-use Rattle.cql_parser.specs.Syntax.{Syntax, parts_of, joined, leaf, node, name_leaf, number_leaf, text_leaf, truth_leaf, day_leaf, bound_leaf, Op, or_op, and_op, sum_op, product_op, casei_op, date_op, interval_op, point_op, polygon_op, bbox_op, spatial_op, temporal_op}
+use Rattle.cql_parser.specs.Syntax.{Syntax, joined, leaf, name_leaf, number_leaf, day_leaf, bound_leaf, Op, or_op, and_op, sum_op, product_op, casei_op, date_op, interval_op, point_op, polygon_op, bbox_op, spatial_op, temporal_op}
 use Rattle.cql_parser.specs.Grammar.{IsWhole, number_rule, plus_rule, minus_rule, IsBound, text_bound, name_bound, IsCornersRest, corners_end, corners_more, ring_rule, IsNegation, negated, IsOr, or_rule, IsOrRest, or_end, or_more, IsAnd, and_rule, IsAndRest, and_end, and_more, IsNot, not_rule, plain_rule, IsPredicate, predicate_rule, IsTail, no_tail, compare_tail, like_tail, between_tail, in_tail, null_tail, IsItemsRest, items_end, items_more, IsSum, sum_rule, IsSumRest, sum_end, sum_more, IsProduct, product_rule, IsProductRest, product_end, product_more, IsPrimary, paren_rule, name_rule, text_rule, whole_rule, true_rule, false_rule, casei_rule, date_rule, interval_rule, point_rule, polygon_rule, bbox_rule, spatial_rule, temporal_rule}
 use Rattle.cql_parser.specs.Grammar as grammar
-use Rattle.cql_parser.specs.Machine.{Sign, comma_sign, close_sign, Slot, open_slot, sign_slot, text_slot, bound_slot, whole_slot, corners_slot, sum_slot, ForOr, whole, in_paren, ForAnd, or_part, ForNot, and_part, ForPredicate, plain, under_not, ForSum, left, right, pattern, low, high, item, argument, ForProduct, sum_part, ForPrimary, product_part, ForWhole, as_primary, as_slot, State, want_not, want_primary, after_sign, after_not, after_in, after_is, want_null, want_slot, have_factors, have_terms, have_sum, have_items, have_ands, have_ors, have_or, want_product, want_sum, want_predicate, want_and, want_or, have_primary, have_predicate, have_whole, want_slots, not_node, compare_node, like_node, between_node, in_node, null_node, filled, Tail, Inner, tails, adds, multiplies, Role, closes, parts, joins_or, joins_and, inner, role_of, Step, refuse, whole_tree, go_on, or_step, ors_step, and_step, ands_step, not_step, predicate_step, left_step, low_step, item_step, sign_step, sum_step, terms_step, product_step, factors_step, two_sums, date_slots, interval_slots, point_slots, polygon_slots, bbox_slots, begin_digits, begin_whole, begin_primary, begin_not, begin_negated, begin_items, begin_null, begin_is, slot_step, on_first, step}
+use Rattle.cql_parser.specs.Machine.{Sign, comma_sign, close_sign, Slot, open_slot, sign_slot, text_slot, bound_slot, whole_slot, corners_slot, sum_slot, ForOr, whole, in_paren, ForAnd, or_part, ForNot, and_part, ForPredicate, plain, under_not, ForSum, left, right, pattern, low, high, item, argument, ForProduct, sum_part, ForPrimary, product_part, ForWhole, as_primary, as_slot, State, want_not, want_primary, after_sign, after_not, after_in, after_is, want_null, want_slot, have_factors, have_terms, have_sum, have_items, have_ands, have_ors, have_or, want_product, want_sum, want_predicate, want_and, want_or, have_primary, have_predicate, have_whole, want_slots, not_node, compare_node, like_node, between_node, in_node, null_node, filled, Inner, tails, adds, multiplies, Role, joins_or, joins_and, inner, role_of, Step, refuse, whole_tree, go_on, or_step, ors_step, and_step, ands_step, not_step, predicate_step, left_step, low_step, item_step, sign_step, sum_step, terms_step, product_step, factors_step, two_sums, date_slots, interval_slots, point_slots, polygon_slots, bbox_slots, begin_digits, begin_whole, begin_primary, begin_not, begin_negated, begin_items, begin_null, begin_is, slot_step, on_first, step}
 
 -- ---- the parts of a rule that no line of the grammar names
 
@@ -553,16 +552,28 @@ terms_to k js us xs tree h = terms_go k js us tree h.3 h.4
 terms_from : (k : ForSum) (js : List Addition) (us : List Syntax) (xs : List Mark) (tree : Syntax) →
     Follows (terms_step (role_of xs) k js us) xs tree → Completes (have_terms k js us) xs tree
 terms_from k js us (at p plus ∷ xs) tree h =
-    let w = want_product_from (sum_part (js ++ Plus ∷ []) us k) xs tree h in
-    (Plus ∷ w.3.0, w.0 ∷ w.3.1, w.3.2, sum_more {a = Plus} w.2 w.3.3,
-        sum_ungroups k js w.3.0 Plus us w.3.1 w.0 w.3.2 tree w.3.4)
+    let w = want_product_from (sum_part (js ++ Plus ∷ []) us k) xs tree h in (
+      Plus ∷ w.3.0,
+      w.0 ∷ w.3.1,
+      w.3.2,
+      sum_more {a = Plus} w.2 w.3.3,
+      sum_ungroups k js w.3.0 Plus us w.3.1 w.0 w.3.2 tree w.3.4,
+    )
 terms_from k js us (at p minus ∷ xs) tree h =
-    let w = want_product_from (sum_part (js ++ Minus ∷ []) us k) xs tree h in
-    (Minus ∷ w.3.0, w.0 ∷ w.3.1, w.3.2, sum_more {a = Minus} w.2 w.3.3,
-        sum_ungroups k js w.3.0 Minus us w.3.1 w.0 w.3.2 tree w.3.4)
-terms_from k js us (at p (word And) ∷ xs) tree h =
-    ([], [], at p (word And) ∷ xs, sum_end,
-        rw (append-nil js, append-nil us) (sum_from k (joined (sum_op js) us) (at p (word And) ∷ xs) tree h))
+    let w = want_product_from (sum_part (js ++ Minus ∷ []) us k) xs tree h in (
+      Minus ∷ w.3.0,
+      w.0 ∷ w.3.1,
+      w.3.2,
+      sum_more {a = Minus} w.2 w.3.3,
+      sum_ungroups k js w.3.0 Minus us w.3.1 w.0 w.3.2 tree w.3.4,
+    )
+terms_from k js us (at p (word And) ∷ xs) tree h = (
+  [],
+  [],
+  at p (word And) ∷ xs,
+  sum_end,
+  rw (append-nil js, append-nil us) (sum_from k (joined (sum_op js) us) (at p (word And) ∷ xs) tree h),
+)
 terms_from k js us xs tree h =
     ([], [], xs, sum_end, rw (append-nil js, append-nil us) (sum_from k (joined (sum_op js) us) xs tree h))
 
@@ -624,15 +635,27 @@ factors_to k ms us xs tree h = factors_go k ms us tree h.3 h.4
 
 factors_from : (k : ForProduct) (ms : List Multiplication) (us : List Syntax) (xs : List Mark) (tree : Syntax) →
     Follows (factors_step (role_of xs) k ms us) xs tree → Completes (have_factors k ms us) xs tree
-factors_from k ms us (at p times ∷ xs) tree h =
-    (by.Times ∷ h.3.0, h.0 ∷ h.3.1, h.3.2, product_more {m = by.Times} h.2 h.3.3,
-        product_ungroups k ms h.3.0 by.Times us h.3.1 h.0 h.3.2 tree h.3.4)
-factors_from k ms us (at p (word Div) ∷ xs) tree h =
-    (by.Div ∷ h.3.0, h.0 ∷ h.3.1, h.3.2, product_more {m = by.Div} h.2 h.3.3,
-        product_ungroups k ms h.3.0 by.Div us h.3.1 h.0 h.3.2 tree h.3.4)
-factors_from k ms us (at p modulo ∷ xs) tree h =
-    (by.Modulo ∷ h.3.0, h.0 ∷ h.3.1, h.3.2, product_more {m = by.Modulo} h.2 h.3.3,
-        product_ungroups k ms h.3.0 by.Modulo us h.3.1 h.0 h.3.2 tree h.3.4)
+factors_from k ms us (at p times ∷ xs) tree h = (
+  by.Times ∷ h.3.0,
+  h.0 ∷ h.3.1,
+  h.3.2,
+  product_more {m = by.Times} h.2 h.3.3,
+  product_ungroups k ms h.3.0 by.Times us h.3.1 h.0 h.3.2 tree h.3.4,
+)
+factors_from k ms us (at p (word Div) ∷ xs) tree h = (
+  by.Div ∷ h.3.0,
+  h.0 ∷ h.3.1,
+  h.3.2,
+  product_more {m = by.Div} h.2 h.3.3,
+  product_ungroups k ms h.3.0 by.Div us h.3.1 h.0 h.3.2 tree h.3.4,
+)
+factors_from k ms us (at p modulo ∷ xs) tree h = (
+  by.Modulo ∷ h.3.0,
+  h.0 ∷ h.3.1,
+  h.3.2,
+  product_more {m = by.Modulo} h.2 h.3.3,
+  product_ungroups k ms h.3.0 by.Modulo us h.3.1 h.0 h.3.2 tree h.3.4,
+)
 factors_from k ms us xs tree h =
     ([], [], xs, product_end, rw (append-nil ms, append-nil us) (product_from k (joined (product_op ms) us) xs tree h))
 
@@ -736,9 +759,13 @@ primary_begins k tree (interval_rule a b) g =
 primary_begins k tree (point_rule x y) g = (_, _, fill_open (fill_whole x (fill_whole y (fill_sign closed fill_end))), g)
 primary_begins k tree (polygon_rule (ring_rule x y rest)) g =
     (_, _, fill_open (fill_open (fill_whole x (fill_whole y (corners_fill rest)))), g)
-primary_begins k tree (bbox_rule a b c d) g =
-    (_, _, fill_open (fill_whole a (fill_sign parted (fill_whole b (fill_sign parted (fill_whole c (fill_sign parted
-        (fill_whole d (fill_sign closed fill_end)))))))), g)
+primary_begins k tree (bbox_rule a b c d) g = (
+  _,
+  _,
+  fill_open (fill_whole a (fill_sign parted (fill_whole b (fill_sign parted (fill_whole c (fill_sign parted
+      (fill_whole d (fill_sign closed fill_end)))))))),
+  g,
+)
 primary_begins k tree (spatial_rule a b) g = (_, _, fill_open (fill_sum a parted (fill_sum b closed fill_end)), g)
 primary_begins k tree (temporal_rule a b) g = (_, _, fill_open (fill_sum a parted (fill_sum b closed fill_end)), g)
 
@@ -793,7 +820,7 @@ not_began k (at p (word Not) ∷ xs) tree h =
     (_, _, not_rule w.2, w.3)
 not_began k (at p s ∷ xs) tree h =
     let w = want_predicate_from (plain k) (at p s ∷ xs) tree
-        (primary_began (product_part [] [] (sum_part [] [] (left (plain k)))) (at p s ∷ xs) tree h) in
+    (primary_began (product_part [] [] (sum_part [] [] (left (plain k)))) (at p s ∷ xs) tree h) in
     (_, _, plain_rule w.2, w.3)
 
 -- ---- behind a tail's words
@@ -897,7 +924,7 @@ slot_from corners_slot ss op ts k (at p closing ∷ xs) tree h =
 slot_from corners_slot ss op ts k (at p comma ∷ xs) tree h = (h.0, h.1, fill_corner h.2, h.3)
 slot_from (sum_slot s) ss op ts k (at p q ∷ xs) tree h =
     let w = want_sum_from (argument s ss op ts k) (at p q ∷ xs) tree
-        (primary_began (product_part [] [] (sum_part [] [] (argument s ss op ts k))) (at p q ∷ xs) tree h) in
+    (primary_began (product_part [] [] (sum_part [] [] (argument s ss op ts k))) (at p q ∷ xs) tree h) in
     (w.0 ∷ w.3.2, w.3.3, fill_sum w.2 w.3.1 w.3.4, rw (append_assoc ts (w.0 ∷ []) w.3.2) at w.3.5)
 slot_from s ss op ts k (at p q ∷ xs) tree h = absurd h
 

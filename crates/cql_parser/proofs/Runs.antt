@@ -1,5 +1,5 @@
 -- What a run over tokens says of them.
-use Rattle.std.proofs.Common.{◌≡◌, ℕ, Bool, true, false, List, [], ◌∷◌, ◌++◌, refl, sym, subst, ap}
+use Rattle.std.proofs.Common.{◌≡◌, ℕ, true, false, List, [], ◌∷◌, ◌++◌, refl, subst, ap}
 use Rattle.cql_lexer.specs.Mark.{Sort, Mark, at, opening, closing, comma, word, text, number}
 use Rattle.cql_lexer.specs.declared.token.Keyword.TheVariants.{And, Like, Null}
 use Rattle.cql_parser.specs.Syntax.{Syntax, leaf, number_leaf, day_leaf, bound_leaf, joined, or_op, and_op, sum_op, product_op}
@@ -87,9 +87,11 @@ mutual
       let c = closes_predicate k (in_node n a ((us ++ t ∷ []) ++ [])) in
       (at 0 closing ∷ c.0, c.1, ([], c.0, items_end, c.2))
   closes_sum (argument s ss op us k) t =
-      let c = closes_primary k (filled op ((us ++ t ∷ []) ++ parts_for ss)) in
-      (sign_mark s ∷ marks_for ss c.0, c.1,
-          (marks_for ss c.0, takes s (marks_for ss c.0), parts_for ss, c.0, fills ss c.0, c.2))
+      let c = closes_primary k (filled op ((us ++ t ∷ []) ++ parts_for ss)) in (
+        sign_mark s ∷ marks_for ss c.0,
+        c.1,
+        (marks_for ss c.0, takes s (marks_for ss c.0), parts_for ss, c.0, fills ss c.0, c.2),
+      )
 
   closes_product : (k : ForProduct) (t : Syntax) → (more : List Mark) × (tree : Syntax) × GetsProduct k t more tree
   closes_product (sum_part js us k) t =
@@ -227,7 +229,7 @@ run_says s [] = ended_says s (step s []) (λ tree h. step_to s [] tree h) (λ tr
 run_says s (at p k ∷ xs) =
     continued_says s (at p k) xs (step s (at p k ∷ xs)) (λ n. run n xs)
     (λ more tree h.
-        subst (λ (c : Step). Follows c (at p k ∷ more) tree) (step_first s p k more xs) (step_to s (at p k ∷ more) tree h))
+    subst (λ (c : Step). Follows c (at p k ∷ more) tree) (step_first s p k more xs) (step_to s (at p k ∷ more) tree h))
     (λ more tree h.
-        step_from s (at p k ∷ more) tree (subst (λ (c : Step). Follows c (at p k ∷ more) tree) (step_first s p k xs more) h))
+    step_from s (at p k ∷ more) tree (subst (λ (c : Step). Follows c (at p k ∷ more) tree) (step_first s p k xs more) h))
     (λ n. run_says n xs)

@@ -1,5 +1,5 @@
 -- What a run does at the turns of the rules.
-use Rattle.std.proofs.Common.{◌≡◌, ℕ, Bool, true, false, List, [], ◌∷◌, ◌++◌, if◌then◌else◌, refl, sym, ◌∙◌, ap, length, ◌==◌, ◌+◌, add-one, arith, append_assoc}
+use Rattle.std.proofs.Common.{◌≡◌, ℕ, Bool, true, false, List, [], ◌∷◌, ◌++◌, if◌then◌else◌, refl, ◌∙◌, ap, length, ◌==◌, ◌+◌, add-one, arith, append_assoc}
 use Rattle.std.proofs.lemmas.Bool.Decides.{nat_tests}
 use Rattle.std.specs.Prelude.{Result, Ok, Err, MatchResult}
 use Rattle.cql_lexer.specs.Mark.{Sort, Mark, at, opening, closing, comma, plus, minus, times, modulo, compare, word, name, text, number, marks, mark_of}
@@ -15,14 +15,14 @@ use Rattle.cql_parser.specs.declared.tree.Corner.{Corner}
 use Rattle.cql_parser.specs.declared.start.Pairing.{Pairing}
 use Rattle.cql_parser.specs.declared.start.Pairing.TheVariants as pairing
 use Rattle.cql_parser.specs.Grammar.{addition_sort, multiplication_sort}
-use Rattle.cql_parser.specs.Syntax.{Syntax, Op, joined, leaf, name_leaf, text_leaf, number_leaf, day_leaf, bound_leaf, truth_leaf, or_op, and_op, sum_op, product_op, polygon_op}
+use Rattle.cql_parser.specs.Syntax.{Syntax, Op, joined, leaf, name_leaf, number_leaf, day_leaf, bound_leaf, truth_leaf, or_op, and_op, sum_op, product_op, polygon_op}
 use Rattle.cql_parser.specs.Descent.{Begins, BeginsNo, Parses, IsStopped, ForSlot, for_slot, want_here, pass_here, have_here, want_corner, want_pair, have_corner, ForRing, for_ring, want_ring, have_corners, have_ring}
 use Rattle.cql_parser.specs.Starts.{IsNoTail, IsNoNegated, BeginsNegated, IsNoCall, IsNoLiteral, word_of, pair_op}
 use Rattle.cql_parser.specs.Views.{syntax_of, number_of, numbers_of}
 use Rattle.cql_parser.specs.declared.stop.Stop.{Stop}
 use Rattle.cql_parser.specs.declared.stop.Stop.TheVariants.{Memory, At}
 use Rattle.cql_parser.specs.declared.stop.Parsed.{Parsed}
-use Rattle.cql_parser.specs.Machine.{Sign, comma_sign, close_sign, Slot, open_slot, sign_slot, text_slot, bound_slot, whole_slot, corners_slot, ForOr, whole, in_paren, ForAnd, or_part, ForNot, and_part, ForPredicate, plain, under_not, ForSum, left, right, pattern, low, high, item, argument, ForProduct, sum_part, ForPrimary, product_part, ForWhole, as_primary, as_slot, State, want_not, want_primary, after_sign, after_not, after_in, after_is, want_null, want_slot, have_factors, have_terms, have_sum, have_items, have_ands, have_ors, have_or, want_product, want_sum, want_predicate, want_and, want_or, have_primary, have_product, have_predicate, have_and, have_whole, want_slots, compare_node, like_node, between_node, Step, refuse, go_on, role_of, predicate_step, step, Outcome, spells, stops, ended, continued, run, two_sums}
+use Rattle.cql_parser.specs.Machine.{Sign, comma_sign, close_sign, Slot, open_slot, sign_slot, text_slot, bound_slot, whole_slot, corners_slot, ForOr, whole, in_paren, ForAnd, or_part, ForNot, and_part, ForPredicate, plain, under_not, ForSum, left, right, pattern, low, high, item, argument, ForProduct, sum_part, ForPrimary, product_part, ForWhole, as_primary, as_slot, State, want_not, want_primary, after_sign, after_not, after_in, after_is, want_null, want_slot, have_factors, have_terms, have_sum, have_items, have_ands, have_ors, have_or, want_product, want_predicate, have_primary, have_product, have_predicate, have_and, have_whole, want_slots, compare_node, like_node, between_node, refuse, go_on, role_of, predicate_step, step, Outcome, spells, stops, ended, continued, run, two_sums}
 
 -- ---- one step of a run
 

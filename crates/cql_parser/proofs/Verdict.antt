@@ -5,7 +5,7 @@ use Rattle.cql_lexer.specs.Mark.{Sort, Mark, at}
 use Rattle.cql_parser.specs.Syntax.{Syntax}
 use Rattle.cql_parser.specs.Grammar.{Reads, IsViable, IsOr}
 use Rattle.cql_parser.specs.Faults.{deep_at, IsUnexpected, IsUnfinished}
-use Rattle.cql_parser.specs.Answer.{IsReading, IsParsed, Answers, Refuses, fault_of}
+use Rattle.cql_parser.specs.Answer.{IsReading, Answers, Refuses, fault_of}
 use Rattle.cql_parser.specs.Order.{Ascend, IsOrdered}
 use Rattle.cql_parser.specs.Views.{syntax_of}
 use Rattle.cql_parser.specs.declared.tree.Tree.{Tree}
@@ -78,9 +78,11 @@ answers_at xs ys rest end f same is d e =
 
 unexpected_unread : (xs : List Mark) (p : ℕ) (tree : Syntax) → IsUnexpected xs p → Reads xs tree → ⊥
 unexpected_unread xs p tree u h =
-    u.dead
-    (u.after, tree,
-        subst (λ (ys : List Mark). Reads ys tree) (u.is_all ∙ sym (append_assoc u.before (at p u.sort ∷ []) u.after)) h)
+    u.dead (
+      u.after,
+      tree,
+      subst (λ (ys : List Mark). Reads ys tree) (u.is_all ∙ sym (append_assoc u.before (at p u.sort ∷ []) u.after)) h,
+    )
 
 -- what is refused is no filter
 pub refuses_of : (xs : List Mark) (end : ℕ) (r : Result Tree ParseFault) → Answers xs end r → IfErr r (Refuses xs)

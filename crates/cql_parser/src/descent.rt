@@ -317,11 +317,7 @@ fn parse_paren<'a>(alloc: Global, tokens: &'a [Token]) -> Result<Parsed<'a>, Sto
 
 // "(" sum ")", behind CASEI
 #[cycle(rules)]
-fn parse_casei<'a>(
-    alloc: Global,
-    place: usize,
-    tokens: &'a [Token],
-) -> Result<Parsed<'a>, Stop<'a>>
+fn parse_casei<'a>(alloc: Global, place: usize, tokens: &'a [Token]) -> Result<Parsed<'a>, Stop<'a>>
     ensures parses { Parses (want_slot open_slot (sum_slot close_sign ∷ []) (casei_op place) []) have_primary
         (marks tokens.now) result }
     ensures shorter { IfOk result (λ r. length r.rest.now < length tokens.now) }

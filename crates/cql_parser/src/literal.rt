@@ -66,11 +66,7 @@ fn parse_digits<'a>(
 }
 
 // DATE "(" text ")"
-fn parse_date<'a>(
-    alloc: Global,
-    place: usize,
-    tokens: &'a [Token],
-) -> Result<Parsed<'a>, Stop<'a>>
+fn parse_date<'a>(alloc: Global, place: usize, tokens: &'a [Token]) -> Result<Parsed<'a>, Stop<'a>>
     ensures parses { Parses (want_slots date_slots (date_op place) []) have_primary (marks tokens.now) result }
     ensures shorter { IfOk result (λ r. length r.rest.now < length tokens.now) }
 {
@@ -100,11 +96,7 @@ fn parse_interval<'a>(
 }
 
 // POINT "(" whole whole ")"
-fn parse_point<'a>(
-    alloc: Global,
-    place: usize,
-    tokens: &'a [Token],
-) -> Result<Parsed<'a>, Stop<'a>>
+fn parse_point<'a>(alloc: Global, place: usize, tokens: &'a [Token]) -> Result<Parsed<'a>, Stop<'a>>
     ensures parses { Parses (want_slots point_slots (point_op place) []) have_primary (marks tokens.now) result }
     ensures shorter { IfOk result (λ r. length r.rest.now < length tokens.now) }
 {
@@ -135,7 +127,7 @@ fn parse_polygon<'a>(
 fn parse_ring(alloc: Global, tokens: &[Token]) -> Result<(Ring, &[Token]), Stop<'_>>
     ensures parses { MatchResult result
         (λ r. (k : ForRing) → run (want_ring k) (marks tokens.now) ≡
-            run (have_ring (numbers_of r.0.corners.items) k) (marks r.1.now))
+        run (have_ring (numbers_of r.0.corners.items) k) (marks r.1.now))
         (IsStopped want_ring (marks tokens.now)) }
     ensures shorter { IfOk result (λ r. length r.1.now < length tokens.now) }
 {
@@ -155,11 +147,7 @@ fn parse_ring(alloc: Global, tokens: &[Token]) -> Result<(Ring, &[Token]), Stop<
 }
 
 // BBOX "(" whole "," whole "," whole "," whole ")"
-fn parse_bbox<'a>(
-    alloc: Global,
-    place: usize,
-    tokens: &'a [Token],
-) -> Result<Parsed<'a>, Stop<'a>>
+fn parse_bbox<'a>(alloc: Global, place: usize, tokens: &'a [Token]) -> Result<Parsed<'a>, Stop<'a>>
     ensures parses { Parses (want_slots bbox_slots (bbox_op place) []) have_primary (marks tokens.now) result }
     ensures shorter { IfOk result (λ r. length r.rest.now < length tokens.now) }
 {

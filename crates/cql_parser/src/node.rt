@@ -13,11 +13,7 @@ use cql_lexer::{Comparison, SpatialRelation};
 use std::alloc::{AllocError, Global};
 
 /// The parts joined by OR; one part alone is that part.
-pub fn or_tree(
-    alloc: Global,
-    first: Box<Tree>,
-    others: Vec<Tree>,
-) -> Result<Box<Tree>, AllocError>
+pub fn or_tree(alloc: Global, first: Box<Tree>, others: Vec<Tree>) -> Result<Box<Tree>, AllocError>
     ensures { IfOk result (λ t. syntax_of t.value ≡ joined or_op (syntax_of first.value ∷ syntaxes_of others.items)) }
 {
     if others.is_empty() {
@@ -27,11 +23,7 @@ pub fn or_tree(
 }
 
 /// The parts joined by AND; one part alone is that part.
-pub fn and_tree(
-    alloc: Global,
-    first: Box<Tree>,
-    others: Vec<Tree>,
-) -> Result<Box<Tree>, AllocError>
+pub fn and_tree(alloc: Global, first: Box<Tree>, others: Vec<Tree>) -> Result<Box<Tree>, AllocError>
     ensures { IfOk result (λ t. syntax_of t.value ≡ joined and_op (syntax_of first.value ∷ syntaxes_of others.items)) }
 {
     if others.is_empty() {
@@ -41,11 +33,7 @@ pub fn and_tree(
 }
 
 /// The parts added and taken off; one part alone is that part.
-pub fn sum_tree(
-    alloc: Global,
-    first: Box<Tree>,
-    others: Vec<Term>,
-) -> Result<Box<Tree>, AllocError>
+pub fn sum_tree(alloc: Global, first: Box<Tree>, others: Vec<Term>) -> Result<Box<Tree>, AllocError>
     ensures { IfOk result (λ t. syntax_of t.value ≡
         joined (sum_op (additions_of others.items)) (syntax_of first.value ∷ terms_of others.items)) }
 {
@@ -152,11 +140,7 @@ pub fn in_tree(
 
 /// A value that is asked for.
 #[tactic(auto, unfolding(crate::specs::Views::syntax_of))]
-pub fn null_tree(
-    alloc: Global,
-    is_negated: bool,
-    value: Box<Tree>,
-) -> Result<Box<Tree>, AllocError>
+pub fn null_tree(alloc: Global, is_negated: bool, value: Box<Tree>) -> Result<Box<Tree>, AllocError>
     ensures { IfOk result (λ t. syntax_of t.value ≡ null_node is_negated (syntax_of value.value)) }
 {
     Ok(Box::new(alloc, Tree::IsNull { is_negated, value })?)

@@ -32,7 +32,7 @@ pub fn pass_open(tokens: &[Token]) -> Result<&[Token], Stop<'_>>
 pub fn pass_close(tokens: &[Token]) -> Result<&[Token], Stop<'_>>
     ensures passes { MatchResult result
         (λ rest. (a : ForSlot) →
-            run (want_here (sign_slot close_sign) a) (marks tokens.now) ≡ run (pass_here a) (marks rest.now))
+        run (want_here (sign_slot close_sign) a) (marks tokens.now) ≡ run (pass_here a) (marks rest.now))
         (IsStopped (want_here (sign_slot close_sign)) (marks tokens.now)) }
     ensures shorter { IfOk result (λ rest. length rest.now < length tokens.now) }
 {
@@ -46,7 +46,7 @@ pub fn pass_close(tokens: &[Token]) -> Result<&[Token], Stop<'_>>
 pub fn pass_comma(tokens: &[Token]) -> Result<&[Token], Stop<'_>>
     ensures passes { MatchResult result
         (λ rest. (a : ForSlot) →
-            run (want_here (sign_slot comma_sign) a) (marks tokens.now) ≡ run (pass_here a) (marks rest.now))
+        run (want_here (sign_slot comma_sign) a) (marks tokens.now) ≡ run (pass_here a) (marks rest.now))
         (IsStopped (want_here (sign_slot comma_sign)) (marks tokens.now)) }
     ensures shorter { IfOk result (λ rest. length rest.now < length tokens.now) }
 {
@@ -60,7 +60,7 @@ pub fn pass_comma(tokens: &[Token]) -> Result<&[Token], Stop<'_>>
 pub fn take_text(tokens: &[Token]) -> Result<(usize, &String, &[Token]), Stop<'_>>
     ensures takes { MatchResult result
         (λ r. (a : ForSlot) → run (want_here text_slot a) (marks tokens.now) ≡
-            run (have_here a (leaf r.0 (day_leaf (string_bytes r.1.now)))) (marks r.2.now))
+        run (have_here a (leaf r.0 (day_leaf (string_bytes r.1.now)))) (marks r.2.now))
         (IsStopped (want_here text_slot) (marks tokens.now)) }
     ensures shorter { IfOk result (λ r. length r.2.now < length tokens.now) }
 {
@@ -74,7 +74,7 @@ pub fn take_text(tokens: &[Token]) -> Result<(usize, &String, &[Token]), Stop<'_
 pub fn take_bound(tokens: &[Token]) -> Result<(Bound, &[Token]), Stop<'_>>
     ensures takes { MatchResult result
         (λ r. (a : ForSlot) → run (want_here bound_slot a) (marks tokens.now) ≡
-            run (have_here a (bound_of r.0)) (marks r.1.now))
+        run (have_here a (bound_of r.0)) (marks r.1.now))
         (IsStopped (want_here bound_slot) (marks tokens.now)) }
     ensures shorter { IfOk result (λ r. length r.1.now < length tokens.now) }
 {
@@ -95,7 +95,7 @@ pub fn take_bound(tokens: &[Token]) -> Result<(Bound, &[Token]), Stop<'_>>
 pub fn take_digits(is_negative: bool, tokens: &[Token]) -> Result<(Number, &[Token]), Stop<'_>>
     ensures takes { MatchResult result
         (λ r. (k : ForWhole) → run (after_sign is_negative k) (marks tokens.now) ≡
-            run (have_whole k (number_of r.0)) (marks r.1.now))
+        run (have_whole k (number_of r.0)) (marks r.1.now))
         (IsStopped (after_sign is_negative) (marks tokens.now)) }
     ensures shorter { IfOk result (λ r. length r.1.now < length tokens.now) }
 {
@@ -112,7 +112,7 @@ pub fn take_digits(is_negative: bool, tokens: &[Token]) -> Result<(Number, &[Tok
 pub fn take_whole(tokens: &[Token]) -> Result<(Number, &[Token]), Stop<'_>>
     ensures takes { MatchResult result
         (λ r. (a : ForSlot) → run (want_here whole_slot a) (marks tokens.now) ≡
-            run (have_here a (number_of r.0)) (marks r.1.now))
+        run (have_here a (number_of r.0)) (marks r.1.now))
         (IsStopped (want_here whole_slot) (marks tokens.now)) }
     ensures shorter { IfOk result (λ r. length r.1.now < length tokens.now) }
 {

@@ -5,7 +5,7 @@ use Rattle.cql_lexer.specs.Mark.{marks, opening, closing, comma, word}
 use Rattle.cql_lexer.specs.declared.token.Keyword.TheVariants.{And, Or, Not, Like, Between, In, Is, Casei}
 use Rattle.cql_lexer.specs.Mark.{compare}
 use Rattle.cql_parser.specs.Syntax.{casei_op}
-use Rattle.cql_parser.specs.Machine.{open_slot, sign_slot, sum_slot, comma_sign, close_sign, two_sums, left, right, pattern, low, high, item, argument, in_paren, plain, under_not, or_part, and_part, sum_part, product_part, want_or, want_and, want_not, want_predicate, want_sum, want_product, want_primary, want_slot, want_slots, want_null, after_in, after_is, have_or, have_and, have_not, have_predicate, have_sum, have_product, have_primary, have_ors, have_ands, have_items}
+use Rattle.cql_parser.specs.Machine.{open_slot, sign_slot, sum_slot, comma_sign, close_sign, two_sums, left, right, pattern, low, high, item, argument, in_paren, plain, under_not, or_part, and_part, sum_part, product_part, want_or, want_and, want_not, want_predicate, want_sum, want_product, want_primary, want_slot, want_slots, after_in, after_is, have_or, have_not, have_predicate, have_sum, have_primary, have_ors, have_ands, have_items}
 use Rattle.cql_parser.specs.Starts.{pair_op}
 use Rattle.cql_parser.specs.Views.{syntax_of, syntaxes_of, term_of, terms_of, additions_of, factor_of, factors_of, multiplications_of}
 use Rattle.cql_parser.specs.Descent.{for_slot, want_here}
@@ -262,8 +262,8 @@ parse_primary-returns-in-Folded-clause-parses t c =
     parses_from want_primary (want_slot open_slot (sum_slot close_sign ∷ []) (casei_op c.in-Folded.place) []) have_primary have_primary
     (marks c.args.tokens.now) (marks c.in-Folded.after.now) c.parse_casei.result (λ k. k)
     (λ k.
-        goes_at (want_primary k) (want_slot open_slot (sum_slot close_sign ∷ []) (casei_op c.in-Folded.place) [] k) _ (word Casei) _ _
-        refl c.in-Folded.ensures.starts)
+    goes_at (want_primary k) (want_slot open_slot (sum_slot close_sign ∷ []) (casei_op c.in-Folded.place) [] k) _ (word Casei) _ _
+    refl c.in-Folded.ensures.starts)
     (λ k s zs. refl) c.parse_casei.ensures.parses
 
 pub parse_primary-returns-in-Paired-clause-parses : goal.parse_primary-returns-in-Paired-clause-parses

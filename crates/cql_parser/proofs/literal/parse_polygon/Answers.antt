@@ -1,9 +1,9 @@
-use Rattle.std.proofs.Common.{◌≡◌, [], ◌∷◌, ◌++◌, refl, ◌∙◌}
+use Rattle.std.proofs.Common.{[], ◌∷◌, refl, ◌∙◌}
 use Rattle.std.proofs.lemmas.Result.{err_from_is_err_and}
 use Rattle.cql_lexer.specs.Mark.{marks}
-use Rattle.cql_parser.specs.Machine.{open_slot, sign_slot, comma_sign, close_sign, text_slot, bound_slot, whole_slot, corners_slot, want_slots, date_slots, interval_slots, point_slots, polygon_slots, bbox_slots}
-use Rattle.cql_parser.specs.Syntax.{date_op, interval_op, point_op, polygon_op, bbox_op}
-use Rattle.cql_parser.specs.Descent.{for_slot, want_here, want_corner, want_pair, for_ring, want_ring}
+use Rattle.cql_parser.specs.Machine.{open_slot, sign_slot, close_sign, whole_slot, corners_slot, want_slots, polygon_slots}
+use Rattle.cql_parser.specs.Syntax.{polygon_op}
+use Rattle.cql_parser.specs.Descent.{for_slot, want_here, for_ring, want_ring}
 use Rattle.cql_parser.proofs.Turns.{stops_from}
 use Rattle.cql_parser.proofs.literal.parse_polygon.Goals as goal
 

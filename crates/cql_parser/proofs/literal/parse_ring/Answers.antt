@@ -1,12 +1,8 @@
-use Rattle.std.proofs.Common.{◌≡◌, [], ◌∷◌, ◌++◌, refl, ◌∙◌, sym, ap, arith, ◌<◌, length}
+use Rattle.std.proofs.Common.{◌∙◌, arith}
 use Rattle.std.proofs.lemmas.Result.{err_from_is_err_and}
 use Rattle.cql_lexer.specs.Mark.{marks}
-use Rattle.cql_parser.specs.Machine.{open_slot, sign_slot, comma_sign, close_sign, text_slot, bound_slot, whole_slot, corners_slot, want_slots, date_slots, interval_slots, point_slots, polygon_slots, bbox_slots}
-use Rattle.cql_parser.specs.Syntax.{date_op, interval_op, point_op, polygon_op, bbox_op}
-use Rattle.cql_parser.specs.Descent.{for_slot, want_here, want_corner, want_pair, for_ring, want_ring}
-use Rattle.cql_parser.specs.Machine.{run}
-use Rattle.cql_parser.specs.Views.{numbers_of}
-use Rattle.cql_parser.specs.Descent.{have_corners}
+use Rattle.cql_parser.specs.Machine.{open_slot}
+use Rattle.cql_parser.specs.Descent.{want_here, want_corner, want_ring}
 use Rattle.cql_parser.proofs.Turns.{ring_begins, ring_first, ring_next, corner_goes, ring_closes, ring_stops, first_corner, ring_open, corner_of, numbers_push, stops_from}
 use Rattle.cql_parser.proofs.literal.parse_ring.Goals as goal
 
