@@ -6,16 +6,11 @@ use Rattle.cql_meaning.specs.declared.filter.Filter.{Filter}
 use Rattle.cql_meaning.specs.declared.schema.Collection.TheVariants.{Parcels}
 use Rattle.cql_meaning.specs.Sides.{Sides, sides, yes}
 use Rattle.cql_meaning.specs.Answer.{answer}
-use Rattle.cql_meaning.specs.Schema.{schema_of}
-use Rattle.cad_json.specs.Tree.{items_data}
-use Rattle.serde_json.specs.Written.{compact_text}
 use Rattle.cql_meaning.specs.Laws.{TextHasOneMeaning}
 use Rattle.cad_head.specs.Heads.{Fits, HasNone, IsHopeless, HaveOneHead, HeadsStay}
 use Rattle.cad_request.specs.Query.{PairText}
 use Rattle.cad_request.specs.Request.{request_of, closes_connection}
 use Rattle.cad_request.specs.Decisions.{Decision, refused, listed, filtered, decision}
-use Rattle.cad_http.specs.declared.reply.Status.TheVariants as status
-use Rattle.cad_http.specs.Replies.{reply_text}
 use Rattle.cad_http.specs.Answers.{page_size, listed_of, listed_reply, IsFilteredReply, IsReplyTo, IsReply}
 use Rattle.cad_http.specs.FirstReplies.{AnswersHead}
 use Rattle.cad_http.specs.Laws.{RequestHasOneReply, BytesHaveOneReply, RepliesStay}

@@ -3,10 +3,10 @@ use Rattle.std.proofs.Common.{◌≡◌, ℕ, List, [], ◌∷◌, All, map, ref
 use Rattle.std.proofs.lemmas.List.Elements.{All-head, All-tail, All-weaker}
 use Rattle.std.proofs.lemmas.Str.{utf8_lossy-IsUtf8}
 use Rattle.std.specs.Str.Lossy.{utf8_lossy}
-use Rattle.form_urlencoded.specs.Form.{raw_pairs, decode, extend_pairs}
+use Rattle.form_urlencoded.specs.Form.{raw_pairs, decode}
 use Rattle.form_urlencoded.proofs.FormLemmas.{IsBytePair, round_trip}
-use Rattle.cad_request.specs.Query.{PairText, pair_of, pairs_of, written}
-use Rattle.cad_request.specs.Laws.{IsText, IsPairOfTexts, PairsAreReadBack}
+use Rattle.cad_request.specs.Query.{PairText, pair_of, written}
+use Rattle.cad_request.specs.Laws.{IsPairOfTexts, PairsAreReadBack}
 
 -- the bytes that a pair stands for, before they are read as text
 abbrev decoded : List ℕ × List ℕ → PairText

@@ -1,4 +1,4 @@
-use Rattle.cad_http.proofs.ServeLemmas.{holds_nothing, goes_on, ended, failed, held_waits, never_spent}
+use Rattle.cad_http.proofs.ServeLemmas.{holds_nothing, goes_on, ended, failed, held_waits}
 use Rattle.cad_http.proofs.connection.serve_first.Goals as goal
 
 pub turn-requires-clause-waits : goal.turn-requires-clause-waits
