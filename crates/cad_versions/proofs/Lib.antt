@@ -1,3 +1,4 @@
+pub mod ListLemmas
 pub mod HistoryLemmas
 pub mod EntryLemmas
 pub mod ShapeLemmas

@@ -10,7 +10,13 @@ pub mod Versions
 pub mod Refusals
 pub mod Histories
 pub mod Entries
+pub mod Sorting
+pub mod Identifiers
 pub mod AsOf
+pub mod Listing
+pub mod Keeping
+pub mod Ledgers
+pub mod LedgerCalls
 pub mod Laws
 pub mod ShapeBytes
 pub mod BodyParts
