@@ -19,8 +19,8 @@ use Rattle.cad_versions.specs.Entries.{Entry, version_in, entries_of, entries_at
 use Rattle.cad_versions.specs.Sorting.{insert_sorted as insert_in_order, sort_by as in_order}
 use Rattle.cad_versions.specs.Identifiers.{by_identifier}
 use Rattle.cad_versions.specs.AsOf.{entry_order, entries_listed}
-use Rattle.cad_versions.proofs.EntryLemmas.{versions_of_entries}
-use Rattle.cad_versions.proofs.HistoryLemmas.{HasHistories}
+use Rattle.cad_versions.specs.EntryLemmas.{versions_of_entries}
+use Rattle.cad_versions.specs.HistoryLemmas.{HasHistories}
 use Rattle.cad_register.specs.Rows.{line_of}
 use Rattle.cad_register.specs.Outlines.{outline}
 

@@ -20,7 +20,7 @@ use Rattle.cad_versions.specs.Versions.{versions}
 use Rattle.cad_versions.specs.Refusals.{class_at, open_since, refuse_if, or_else, refuses_closing, refuses_object, refuses_body, refusal}
 use Rattle.cad_versions.specs.VersionedObject.{VersionedObject}
 use Rattle.cad_versions.specs.AsOf.{as_of, entries_listed}
-use Rattle.cad_versions.proofs.EntryLemmas.{listing_is}
+use Rattle.cad_versions.specs.EntryLemmas.{listing_is}
 use Rattle.cad_versions.specs.declared.command.Command.{Command}
 use Rattle.cad_versions.specs.Entries.{Entry, entries_of, entries_at, seen_at}
 use Rattle.cad_register.specs.Rows.{line_of}

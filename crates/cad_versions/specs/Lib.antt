@@ -20,3 +20,8 @@ pub mod LedgerCalls
 pub mod Laws
 pub mod ShapeBytes
 pub mod BodyParts
+pub mod ListLemmas
+pub mod HistoryLemmas
+pub mod EntryLemmas
+pub mod ShapeLemmas
+pub mod SameLemmas

@@ -10,6 +10,7 @@
 mod body;
 mod body_parts;
 mod command;
+mod copies;
 mod decision;
 mod fault;
 pub mod laws;

@@ -5,7 +5,7 @@ use Rattle.std.proofs.lemmas.Int.{ints}
 use Rattle.std.proofs.lemmas.List.{map-append, length-take-le, take-append-drop}
 use Rattle.std.proofs.lemmas.Bool.Decides.{nat_tests}
 use Rattle.std.proofs.lemmas.List.Elements.{filter-append}
-use Rattle.cad_versions.proofs.ListLemmas.{map-map, map_same, filter-map, filter_same}
+use Rattle.cad_versions.specs.ListLemmas.{map-map, map_same, filter-map, filter_same}
 use Rattle.cad_day.specs.declared.day.Day.{Day}
 use Rattle.cad_versions.specs.declared.object_id.ObjectId.{ObjectId}
 use Rattle.cad_versions.specs.declared.command.Command.{Command}
@@ -14,7 +14,7 @@ use Rattle.cad_versions.specs.VersionedObject.{VersionedObject}
 use Rattle.cad_versions.specs.DayBefore.{day_before}
 use Rattle.cad_versions.specs.Versions.{is_open_of, closed_on, closed_if_open, begun, next_number, after, versions}
 use Rattle.cad_versions.specs.Sorting.{sort_by}
-use Rattle.cad_versions.proofs.ListLemmas.{sort_by-map}
+use Rattle.cad_versions.specs.ListLemmas.{sort_by-map}
 use Rattle.cad_versions.specs.AsOf.{as_of, entries_listed}
 use Rattle.cad_versions.specs.Identifiers.{by_identifier}
 use Rattle.cad_versions.specs.Entries.{Entry, version_in, entered_at, close_entry, entries_after, entries_from, entries_of, entries_at, is_closed_by, seen_at}

@@ -1,5 +1,0 @@
-pub mod ListLemmas
-pub mod HistoryLemmas
-pub mod EntryLemmas
-pub mod ShapeLemmas
-pub mod SameLemmas
