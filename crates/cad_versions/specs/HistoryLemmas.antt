@@ -75,14 +75,14 @@ none_found object (v ∷ vs) e = go (is_of object v) e (none_found object vs)
 pub closed_is_not_open : (object : ObjectId) (v : VersionedObject) (day : Day) → v.last ≡ Some day → is_open_of object v ≡ false
 closed_is_not_open object v day e = ap (λ l. is_of object v && is_none l) e ∙ elim (is_of object v) as (λ t. (t && false) ≡ false) [ true ↦ refl | false ↦ refl ]
 
--- what is closed on a day is followed by what begins after it
+-- what is closed on a day is followed by what begins on the next
 abbrev pub BeginsAfter : Day → List VersionedObject → Type 0
 BeginsAfter day [] = Unit {0}
-BeginsAfter day (v ∷ vs) = number_of day <ℤ number_of v.first
+BeginsAfter day (v ∷ vs) = number_of day ≡ number_of v.first -ℤ pos 1
 
 ends_same : (object : ObjectId) (day : Day) (l : Option Day) (w : VersionedObject) → EndsBefore l w → EndsBefore l (closed_if_open object day w)
 ends_same object day None w h = absurd h
-ends_same object day (Some last) w h = elim (is_open_of object w) as (λ t. number_of last <ℤ number_of (cond t (closed_on day w) w).first) [ true ↦ h | false ↦ h ]
+ends_same object day (Some last) w h = elim (is_open_of object w) as (λ t. number_of last ≡ number_of (cond t (closed_on day w) w).first -ℤ pos 1) [ true ↦ h | false ↦ h ]
 
 joined : (n : ℕ) (v : VersionedObject) (tail : List VersionedObject) (day : Day) → v.number ≡ n → number_of v.first ≤ℤ number_of day → BeginsAfter day tail → IsHistory (n + 1) tail → IsHistory n (closed_on day v ∷ tail)
 joined n v [] day e f later h = (e, f)
@@ -161,9 +161,6 @@ lt_fails a b h = grind (arith, ints)
 pub under : (m n d : ℤ) → m <ℤ n → d ≡ n -ℤ pos 1 → m ≤ℤ d
 under m n d h e = grind (arith, ints)
 
-over : (n d : ℤ) → d ≡ n -ℤ pos 1 → d <ℤ n
-over n d e = grind (arith, ints)
-
 is_of_own : (object : ObjectId) (v : VersionedObject) → v.object ≡ object → is_of object v ≡ true
 is_of_own object v e = let same : object_number v.object ≡ object_number object = ap object_number e in grind (arith, ints)
 
@@ -190,10 +187,9 @@ own vs (Amend object first body) e h =
     let less = le_fails (number_of first) (number_of v.first) a.timely in
     let before = number_of-day_before v.first first less in
     let forward = under (number_of v.first) (number_of first) (number_of day) less before in
-    let later = over (number_of first) (number_of day) before in
     let number : k ≡ 1 + length (history object vs) = omega arith in
     subst (IsHistory 1) (sym (history-push object (map (closed_if_open object day) vs) new true here ∙ ap (λ xs. xs ++ new ∷ []) (history-closed object object day vs)))
-    (history_closing object day vs (new ∷ []) v h a.found forward later (number, tt))
+    (history_closing object day vs (new ∷ []) v h a.found forward before (number, tt))
 own vs (Retire object last) e h =
     let a = retires object last vs e in
     let v = a.standing in

@@ -18,8 +18,6 @@ mod ledger;
 mod object_id;
 mod shape_bytes;
 mod share;
-#[cfg(test)]
-mod tests;
 mod version;
 mod words;
 
