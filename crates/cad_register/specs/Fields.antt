@@ -8,8 +8,7 @@ use Rattle.cad_versions.specs.declared.body.Body.{Body}
 use Rattle.cad_versions.specs.Objects.{object_number}
 use Rattle.cad_versions.specs.Texts.{bytes_of}
 use Rattle.cad_versions.specs.Fractions.{num_of, den_of}
-use Rattle.cad_versions.specs.BodyParts.{name_in, code_in, label_in, area_in, share_in, required_in, spot_in, shape_in}
-use Rattle.cad_versions.specs.Refusals.{unit_named, party_named}
+use Rattle.cad_versions.specs.BodyParts.{name_in, code_in, label_in, area_in, unit_named, party_named, share_in, required_in, spot_in, shape_in}
 use Rattle.cad_register.specs.declared.fields.Fields.{Fields}
 use Rattle.cad_register.specs.Rows.{flag_number, x_of, y_of, bytes_of_ring}
 

@@ -20,7 +20,8 @@ use Rattle.cad_versions.specs.declared.fault.RegisterFault.{RegisterFault}
 use Rattle.cad_versions.specs.declared.fault.RegisterFault.TheVariants as fault
 use Rattle.cad_versions.specs.Objects.{object_number}
 use Rattle.cad_versions.specs.Command.{object_named, body_added}
-use Rattle.cad_versions.specs.Refusals.{unit_named, party_named, most_versions}
+use Rattle.cad_versions.specs.BodyParts.{unit_named, party_named}
+use Rattle.cad_versions.specs.Refusals.{most_versions}
 use Rattle.cad_register.specs.declared.writing.NewEntry.{NewEntry}
 use Rattle.cad_register.specs.Changing.{IsChangeOf, line_written}
 use Rattle.cad_register.specs.Stands.{StandsFor, KeepsWhileOpen}

@@ -1,5 +1,5 @@
 -- What holds of every object's versions (ISO 19152:2012, VersionedObject: lifespans of one object follow one another).
-use Rattle.std.specs.Prelude.{◌≡◌, ℕ, ◌+◌, ◌≤ℤ◌, ◌<ℤ◌, List, [], ◌∷◌, Option, Some, None}
+use Rattle.std.specs.Prelude.{◌≡◌, ℕ, ◌+◌, pos, ◌-ℤ◌, ◌≤ℤ◌, List, [], ◌∷◌, Option, Some, None}
 use Rattle.cad_day.specs.declared.day.Day.{Day}
 use Rattle.cad_day.specs.Days.{number_of}
 use Rattle.cad_versions.specs.VersionedObject.{VersionedObject}
@@ -9,12 +9,12 @@ abbrev pub IsForward : VersionedObject → Option Day → Type 0
 IsForward v None = Unit {0}
 IsForward v (Some last) = number_of v.first ≤ℤ number_of last
 
--- closed before the first day of the next version
+-- closed on the very day before the next version begins
 abbrev pub EndsBefore : Option Day → VersionedObject → Type 0
 EndsBefore None next = ⊥
-EndsBefore (Some last) next = number_of last <ℤ number_of next.first
+EndsBefore (Some last) next = number_of last ≡ number_of next.first -ℤ pos 1
 
--- the numbers count up by one; each version but the last is closed before the next one begins
+-- the numbers count up by one; each version but the last is closed on the very day before the next one begins, so the last alone may be open, or closed for good
 abbrev pub IsHistory : ℕ → List VersionedObject → Type 0
 IsHistory number [] = Unit {0}
 IsHistory number (v ∷ []) = (v.number ≡ number) × IsForward v v.last

@@ -3,13 +3,13 @@ use Rattle.std.specs.Prelude.{◌≡◌, ℕ, int_le, int_lt, nat_le, ◌==◌, 
 use Rattle.cad_day.specs.Days.{number_of}
 use Rattle.cad_versions.specs.declared.object_id.ObjectId.{ObjectId}
 use Rattle.cad_versions.specs.declared.body.Body.{Body}
-use Rattle.cad_versions.specs.declared.body.Body.TheVariants as body
 use Rattle.cad_versions.specs.declared.body.Class.{Class}
 use Rattle.cad_versions.specs.declared.body.Class.TheVariants as class
 use Rattle.cad_versions.specs.declared.command.Command.{Command}
 use Rattle.cad_versions.specs.declared.command.Command.TheVariants.{Enter, Amend, Retire}
 use Rattle.cad_versions.specs.declared.fault.RegisterFault.{RegisterFault}
 use Rattle.cad_versions.specs.declared.fault.RegisterFault.TheVariants as fault
+use Rattle.cad_versions.specs.BodyParts.{unit_named, party_named}
 use Rattle.cad_versions.specs.Class.{class_of, class_number}
 use Rattle.cad_versions.specs.Command.{object_named, body_added}
 use Rattle.cad_versions.specs.VersionedObject.{VersionedObject}
@@ -27,20 +27,6 @@ open_since vs object = option_map (λ v. v.first) (find (is_open_of object) vs)
 abbrev pub is_class : Class → Option Class → Bool
 is_class class None = false
 is_class class (Some other) = class_number class == class_number other
-
-abbrev pub unit_named : Body → Option ObjectId
-unit_named (body.Party name code) = None
-unit_named (body.Unit name) = None
-unit_named (body.Parcel unit label area shape spot) = Some unit
-unit_named (body.Right unit party code share) = Some unit
-unit_named (body.Restriction unit party code share required) = Some unit
-
-abbrev pub party_named : Body → Option ObjectId
-party_named (body.Party name code) = None
-party_named (body.Unit name) = None
-party_named (body.Parcel unit label area shape spot) = None
-party_named (body.Right unit party code share) = party
-party_named (body.Restriction unit party code share required) = party
 
 -- what is named, if anything is, was entered with this class
 abbrev pub is_entered : List VersionedObject → Class → Option ObjectId → Bool

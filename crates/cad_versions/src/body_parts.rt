@@ -2,8 +2,7 @@
 
 ghost use Rattle.std.specs.Prelude.{◌≡◌};
 ghost use Rattle.std.specs.Option.{option_copied};
-ghost use Rattle.cad_versions.specs.BodyParts.{name_in, code_in, label_in, area_in, share_in, required_in, spot_in, shape_in};
-ghost use Rattle.cad_versions.specs.Refusals.{unit_named, party_named};
+ghost use Rattle.cad_versions.specs.BodyParts.{name_in, code_in, label_in, area_in, unit_named, party_named, share_in, required_in, spot_in, shape_in};
 
 use crate::body::Body;
 use crate::object_id::ObjectId;

@@ -5,33 +5,46 @@ ghost use Rattle.cad_versions.specs.Fault.{fault_number, fault_name};
 
 use cad_day::Day;
 use std::alloc::{AllocError, AllocFailed};
+use thiserror::Error;
 
 /// Why a call of the register is refused.
-#[derive(Clone, Copy, Debug, PartialEq, Eq)]
+#[derive(Clone, Copy, Debug, PartialEq, Eq, Error)]
 pub enum RegisterFault {
     /// Enter: the object was entered before.
+    #[error("the object was entered before")]
     KnownObject,
     /// Amend, Retire: the object was never entered.
+    #[error("the object was never entered")]
     UnknownObject,
     /// Amend: the body is of another class than the object.
+    #[error("the body is of another class than the object")]
     OtherClass,
     /// Amend from a day that is not after the first day of the open version, or Retire on a day before it. The day is that first day.
+    #[error("the day comes too early for the open version")]
     DayNotAfter(Day),
     /// Amend, Retire: no version of the object is open.
+    #[error("no version of the object is open")]
     Retired,
     /// The body names a unit or a party that was never entered, or an object of another class.
+    #[error("the body names what was not entered")]
     UnknownReference,
     /// As many versions stand as there may be, 2,147,483,647.
+    #[error("there is no room for one version more")]
     Full,
     /// The stored row of this object and number breaks a rule of its type.
+    #[error("a stored row is no version of the register")]
     Damaged(i64, i64),
     /// The database is no register of this form.
+    #[error("the database is no register of this form")]
     NotARegister,
     /// The database refused a statement for another cause than memory.
+    #[error("the database refused a statement")]
     Store,
     /// A growth was refused.
+    #[error("out of memory")]
     Memory,
     /// The revision is above the one in force.
+    #[error("the revision is above the one in force")]
     UnknownRevision,
 }
 
@@ -58,43 +71,36 @@ impl<T: Drop> From<AllocFailed<T>> for RegisterFault {
 }
 
 impl RegisterFault {
+    fn told(&self) -> (u8, &'static str)
+        ensures { (result.0 ≡ fault_number self.now) × (result.1.now ≡ fault_name self.now) }
+    {
+        match self {
+            RegisterFault::KnownObject => (1, "KnownObject"),
+            RegisterFault::UnknownObject => (2, "UnknownObject"),
+            RegisterFault::OtherClass => (3, "OtherClass"),
+            RegisterFault::DayNotAfter(_) => (4, "DayNotAfter"),
+            RegisterFault::Retired => (5, "Retired"),
+            RegisterFault::UnknownReference => (6, "UnknownReference"),
+            RegisterFault::Full => (7, "Full"),
+            RegisterFault::Damaged(_, _) => (8, "Damaged"),
+            RegisterFault::NotARegister => (9, "NotARegister"),
+            RegisterFault::Store => (10, "Store"),
+            RegisterFault::Memory => (11, "Memory"),
+            RegisterFault::UnknownRevision => (12, "UnknownRevision"),
+        }
+    }
+
     /// The number by which programs tell the fault.
     pub fn number(&self) -> u8
         ensures { result ≡ fault_number self.now }
     {
-        match self {
-            RegisterFault::KnownObject => 1,
-            RegisterFault::UnknownObject => 2,
-            RegisterFault::OtherClass => 3,
-            RegisterFault::DayNotAfter(_) => 4,
-            RegisterFault::Retired => 5,
-            RegisterFault::UnknownReference => 6,
-            RegisterFault::Full => 7,
-            RegisterFault::Damaged(_, _) => 8,
-            RegisterFault::NotARegister => 9,
-            RegisterFault::Store => 10,
-            RegisterFault::Memory => 11,
-            RegisterFault::UnknownRevision => 12,
-        }
+        self.told().0
     }
 
     /// The name that programs print.
     pub fn name(&self) -> &'static str
         ensures { result.now ≡ fault_name self.now }
     {
-        match self {
-            RegisterFault::KnownObject => "KnownObject",
-            RegisterFault::UnknownObject => "UnknownObject",
-            RegisterFault::OtherClass => "OtherClass",
-            RegisterFault::DayNotAfter(_) => "DayNotAfter",
-            RegisterFault::Retired => "Retired",
-            RegisterFault::UnknownReference => "UnknownReference",
-            RegisterFault::Full => "Full",
-            RegisterFault::Damaged(_, _) => "Damaged",
-            RegisterFault::NotARegister => "NotARegister",
-            RegisterFault::Store => "Store",
-            RegisterFault::Memory => "Memory",
-            RegisterFault::UnknownRevision => "UnknownRevision",
-        }
+        self.told().1
     }
 }

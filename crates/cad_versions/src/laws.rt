@@ -2,7 +2,7 @@
 
 ghost use Rattle.cad_versions.specs.Laws.{VersionsAreHistories, RevisionsStay, RevisionsAreSeen};
 
-/// Each object's versions are numbered 1, 2 and so on. At most one is open, and it is the last. Their days do not overlap.
+/// Each object's versions are numbered 1, 2 and so on. Each but the last is closed on the very day before the next one begins.
 pub fn versions_are_histories()
     ensures { VersionsAreHistories }
 {}

@@ -6,7 +6,7 @@ use Rattle.cad_shape.specs.declared.ring.Ring.{Ring}
 use Rattle.cad_shape.specs.Outlines.{IsRing}
 use Rattle.cad_shape.specs.Rings.{corners_of, ring_is}
 use Rattle.cad_versions.specs.ShapeBytes.{corners_bytes, shape_bytes}
-use Rattle.cad_versions.proofs.ShapeLemmas.{shape_parts, corners_same}
+use Rattle.cad_versions.specs.ShapeLemmas.{shape_parts, corners_same}
 use Rattle.cad_versions.proofs.shape_bytes.read_shape.Goals as goal
 
 pub returns-then-as_slice-count : goal.returns-then-as_slice-count

@@ -1,0 +1,53 @@
+-- Values of the same ordinary fields are one value, since their facts have one proof each.
+use Rattle.std.proofs.Common.{◌≡◌, ℕ, ◌≤◌, ℤ, false, ◌==◌, List, length, ap, ap₂, subst}
+use Rattle.std.specs.Coded.{le_prop, Coded-set, coded_bool}
+use Rattle.std.specs.List.{list_any}
+use Rattle.std.specs.Prelude.{IsUtf8}
+use lib.Dec.{T_prop}
+use Rattle.cad_day.specs.declared.day.Day.{Day}
+use Rattle.cad_day.specs.DayNumbers.{IsDayNumber}
+use Rattle.cad_day.specs.Days.{number_of}
+use Rattle.cad_shape.specs.declared.ring.Ring.{Ring}
+use Rattle.cad_shape.specs.Rings.{corners_of, same_ring}
+use Rattle.cad_versions.specs.declared.object_id.ObjectId.{ObjectId}
+use Rattle.cad_versions.specs.declared.words.Words.{Words}
+use Rattle.cad_versions.specs.declared.share.Share.{Share}
+use Rattle.cad_versions.specs.Objects.{object_number}
+use Rattle.cad_versions.specs.Texts.{bytes_of}
+use Rattle.cad_versions.specs.Fractions.{num_of, den_of}
+use Rattle.cad_versions.specs.ShapeBytes.{shape_bytes}
+use Rattle.cad_versions.specs.ShapeLemmas.{shapes_same}
+
+pub same_object : (a b : ObjectId) → object_number a ≡ object_number b → a ≡ b
+same_object a b e =
+    subst (λ n. (p : 1 ≤ n) (q : n ≤ 2147483647) → a ≡ record { number = n; positive = p; small = q }) e
+    (λ p q. ap₂ (λ p q. record { number = a.number; positive = p; small = q }) (le_prop a.positive p) (le_prop a.small q)) b.positive b.small
+
+is_day_prop : (n : ℤ) → IsProp (IsDayNumber n)
+is_day_prop n = hlevel T_prop
+
+pub same_day : (a b : Day) → number_of a ≡ number_of b → a ≡ b
+same_day a b e =
+    subst (λ n. (p : IsDayNumber n) → a ≡ record { number = n; in_range = p }) e
+    (λ p. ap (λ p. record { number = a.number; in_range = p }) (is_day_prop a.number a.in_range p)) b.in_range
+
+pub same_share : (a b : Share) → num_of a ≡ num_of b → den_of a ≡ den_of b → a ≡ b
+same_share a b e f =
+    subst (λ (m : ℕ). (p : 1 ≤ m) (q : m ≤ b.den) → a ≡ record { num = m; den = b.den; some = p; within = q; small = b.small }) e
+    (λ p q. subst (λ (n : ℕ). (q : a.num ≤ n) (r : n ≤ 1000000000) → a ≡ record { num = a.num; den = n; some = p; within = q; small = r }) f
+    (λ q r. ap₂ (λ (p : 1 ≤ a.num) (s : (a.num ≤ a.den) × (a.den ≤ 1000000000)). record { num = a.num; den = a.den; some = p; within = s.0; small = s.1 }) (le_prop a.some p)
+    (ap₂ (λ (q : a.num ≤ a.den) (r : a.den ≤ 1000000000). (q, r)) (le_prop a.within q) (le_prop a.small r))) q b.small) b.some b.within
+
+text_prop : (bytes : List ℕ) → IsProp (list_any (λ b. b == 0) bytes ≡ false)
+text_prop bytes = Coded-set coded_bool _ _
+
+pub same_words : (a b : Words) → bytes_of a ≡ bytes_of b → a ≡ b
+same_words a b e =
+    subst (λ t. (p : 1 ≤ length t) (q : length t ≤ 200) (r : list_any (λ b. b == 0) t ≡ false) (s : ∥ IsUtf8 t ∥₁) → a ≡ record { spelling = t; some = p; few = q; printable = r; utf8 = s }) e
+    (λ p q r s. ap₂ (λ (u : (1 ≤ length a.spelling) × (length a.spelling ≤ 200)) (v : (list_any (λ b. b == 0) a.spelling ≡ false) × ∥ IsUtf8 a.spelling ∥₁).
+    record { spelling = a.spelling; some = u.0; few = u.1; printable = v.0; utf8 = v.1 })
+    (ap₂ (λ (p : 1 ≤ length a.spelling) (q : length a.spelling ≤ 200). (p, q)) (le_prop a.some p) (le_prop a.few q))
+    (ap₂ (λ (r : list_any (λ b. b == 0) a.spelling ≡ false) (s : ∥ IsUtf8 a.spelling ∥₁). (r, s)) (text_prop a.spelling a.printable r) (squash₁ a.utf8 s))) b.some b.few b.printable b.utf8
+
+pub same_shape : (a b : Ring) → shape_bytes (corners_of a) ≡ shape_bytes (corners_of b) → a ≡ b
+same_shape a b e = same_ring a b (shapes_same (corners_of a) (corners_of b) a.not_too_many b.not_too_many e)
