@@ -4,7 +4,7 @@
 //! - `fill`: the ten commands of the sample register.
 //! - `OfficeFault`: why the office stops before its input ends.
 //!
-//! Both work on any `Book`, as a land register.
+//! Both work on any `Ledger`, as a land register.
 #![tactic(auto)]
 
 mod fault;
@@ -16,7 +16,7 @@ mod tests;
 mod turns;
 mod write;
 
-pub use cad_versions::Book;
+pub use cad_versions::Ledger;
 pub use fault::OfficeFault;
 pub use sample::fill;
 pub use turns::office;

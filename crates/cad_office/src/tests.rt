@@ -1,6 +1,6 @@
-use crate::{Book, OfficeFault, fill, office};
+use crate::{Ledger, OfficeFault, fill, office};
 use cad_day::Day;
-use cad_versions::{Command, RegisterFault};
+use cad_versions::{Command, RegisterFault, Version};
 use std::io;
 use std::io::{Cursor, Read, Write};
 use std::process::Abort;
@@ -14,8 +14,32 @@ struct Shelf {
     fault: RegisterFault,
 }
 
-impl Book for Shelf {
-    ghost applies = { λ _ _ _ _. Unit {0} };
+impl Ledger for Shelf {
+    ghost stands_for = { λ _ _. ⊥ };
+
+    ghost counts = { λ _. ⊥ };
+
+    ghost lives = { λ _. ⊥ };
+
+    ghost fails_to_apply = { λ _ _ _. ⊥ };
+
+    ghost fails_to_list = { λ _ _ _. ⊥ };
+
+    ghost refuses_command = { λ _ _ _ _. ⊥ };
+
+    ghost refuses_listing = { λ _ _ _. ⊥ };
+
+    ghost apply_keeps = { λ _ _ _ h. absurd h };
+
+    ghost list_keeps = { λ _ _ _ h. absurd h };
+
+    fn revision(&self) -> u64 {
+        self.revision
+    }
+
+    fn as_of(&mut self, _revision: u64) -> Result<Vec<Version>, RegisterFault> {
+        Err(self.fault)
+    }
 
     fn apply(&mut self, _command: Command) -> Result<u64, RegisterFault> {
         if self.revision >= self.room {

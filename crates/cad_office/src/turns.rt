@@ -3,6 +3,7 @@
 ghost use Rattle.std.specs.Prelude.{◌≡◌, ◌↔◌, ℕ, List, ◌∷◌, [], IsOk, IsTrue};
 ghost use Rattle.std.specs.Io.KnownBytes.{IsAtEnd};
 ghost use Rattle.cad_commands.specs.Instructions.{instruction_of};
+ghost use Rattle.cad_versions.specs.LedgerCalls.{Applies};
 ghost use Rattle.cad_office.specs.Keeping.{Asks, IsKept, IsPiece, Works, Comes, Writes, ReadsAndWrites};
 ghost use Rattle.cad_office.specs.Lines.{line_begun, StandsFor};
 
@@ -10,7 +11,7 @@ use crate::fault::OfficeFault;
 use crate::line::{Fate, Line};
 use crate::print::{Answer, print};
 use cad_commands::{Unread, read_command};
-use cad_versions::{Book, Command, RegisterFault};
+use cad_versions::{Command, Ledger, RegisterFault};
 use std::alloc::Global;
 use std::io::{Read, Write};
 
@@ -19,7 +20,7 @@ const TURNS: u32 = 1_000_000;
 /// Reads lines to their end, applies each command and prints an answer for each line, and says whether no line was refused.
 ///
 /// Each read is of at most 4,096 bytes. It stops where a read or a write fails, after 1,000,000 reads, and where the database refuses a command for another cause than memory. The commands accepted so far stay.
-pub fn office<R: Read, W: Write, B: Book>(
+pub fn office<R: Read, W: Write, B: Ledger>(
     alloc: Global,
     reader: &mut R,
     writer: &mut W,
@@ -27,7 +28,7 @@ pub fn office<R: Read, W: Write, B: Book>(
 ) -> Result<bool, OfficeFault>
     ensures kept { ReadsAndWrites (R.remaining reader.old) (R.remaining reader.new)
         (W.contents writer.old) (W.contents writer.new)
-        (IsKept (Works B.applies book.old book.new) (IsAtEnd (R.remaining reader.new)) result) }
+        (IsKept (Works (Applies B.Ledger) book.old book.new) (IsAtEnd (R.remaining reader.new)) result) }
     ensures all { IsOk result → IsAtEnd (R.remaining reader.new) }
 {
     let mut line = Line::new(alloc);
@@ -49,7 +50,7 @@ pub fn office<R: Read, W: Write, B: Book>(
 }
 
 /// Whether no line that ends in the piece was refused.
-fn take_piece<W: Write, B: Book>(
+fn take_piece<W: Write, B: Ledger>(
     alloc: Global,
     piece: &[u8],
     line: &mut Line,
@@ -57,7 +58,7 @@ fn take_piece<W: Write, B: Book>(
     book: &mut B,
 ) -> Result<bool, OfficeFault>
     ensures { (read : List ℕ) → StandsFor (line_begun read) line.old → Writes (W.contents writer.old) (W.contents writer.new)
-        (IsPiece (Works B.applies book.old book.new) read result line.new piece.now) }
+        (IsPiece (Works (Applies B.Ledger) book.old book.new) read result line.new piece.now) }
 {
     let mut accepted = true;
     for byte in piece {
@@ -67,7 +68,7 @@ fn take_piece<W: Write, B: Book>(
     Ok(accepted)
 }
 
-fn take_byte<W: Write, B: Book>(
+fn take_byte<W: Write, B: Ledger>(
     alloc: Global,
     byte: u8,
     line: &mut Line,
@@ -75,7 +76,7 @@ fn take_byte<W: Write, B: Book>(
     book: &mut B,
 ) -> Result<bool, OfficeFault>
     ensures { (read : List ℕ) → StandsFor (line_begun read) line.old → Writes (W.contents writer.old) (W.contents writer.new)
-        (IsPiece (Works B.applies book.old book.new) read result line.new (byte ∷ [])) }
+        (IsPiece (Works (Applies B.Ledger) book.old book.new) read result line.new (byte ∷ [])) }
 {
     if byte == b'\n' {
         let accepted = end_line(alloc, line, writer, book)?;
@@ -86,14 +87,14 @@ fn take_byte<W: Write, B: Book>(
 }
 
 /// Whether the line was not refused. An empty line asks for nothing.
-fn end_line<W: Write, B: Book>(
+fn end_line<W: Write, B: Ledger>(
     alloc: Global,
     line: &mut Line,
     writer: &mut W,
     book: &mut B,
 ) -> Result<bool, OfficeFault>
     ensures { (read : List ℕ) → StandsFor (line_begun read) line.old → Writes (W.contents writer.old) (W.contents writer.new)
-        (IsPiece (Works B.applies book.old book.new) read result line.new (10 ∷ [])) }
+        (IsPiece (Works (Applies B.Ledger) book.old book.new) read result line.new (10 ∷ [])) }
 {
     if line.is_empty() {
         return Ok(true);
@@ -118,8 +119,8 @@ fn is_store(fault: RegisterFault) -> bool
     matches!(fault, RegisterFault::Store)
 }
 
-fn answer_line<B: Book>(alloc: Global, line: &Line, book: &mut B) -> Answer
-    ensures { (text : List ℕ) → StandsFor text line.now → Comes B.applies text book.old result book.new }
+fn answer_line<B: Ledger>(alloc: Global, line: &Line, book: &mut B) -> Answer
+    ensures { (text : List ℕ) → StandsFor text line.now → Comes (Applies B.Ledger) text book.old result book.new }
 {
     match line.fate() {
         Fate::TooLong => Answer::NotACommand,
@@ -132,8 +133,8 @@ fn answer_line<B: Book>(alloc: Global, line: &Line, book: &mut B) -> Answer
     }
 }
 
-fn apply<B: Book>(book: &mut B, command: Command) -> Answer
-    ensures { (line : List ℕ) → Asks line (instruction_of command) → Comes B.applies line book.old result book.new }
+fn apply<B: Ledger>(book: &mut B, command: Command) -> Answer
+    ensures { (line : List ℕ) → Asks line (instruction_of command) → Comes (Applies B.Ledger) line book.old result book.new }
 {
     match book.apply(command) {
         Ok(revision) => Answer::Entered(revision),

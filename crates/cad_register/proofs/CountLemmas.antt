@@ -2,7 +2,7 @@
 use Rattle.std.proofs.Common.{◌≡◌, ℕ, ◌+◌, ◌≤◌, ◌<◌, true, false, cond, List, [], ◌∷◌, length, map, fold, take, refl, ap, ◌∙◌, arith, is_gt, Ordering, length-append}
 use Rattle.std.proofs.lemmas.List.{length-map}
 use Rattle.std.proofs.lemmas.Bool.Decides.{nat_tests}
-use Rattle.sqlite_keyed.specs.Lists.{sort_by, insert_sorted}
+use Rattle.cad_versions.specs.Sorting.{sort_by, insert_sorted}
 use Rattle.cad_versions.specs.declared.object_id.ObjectId.{ObjectId}
 use Rattle.cad_versions.specs.declared.command.Command.{Command}
 use Rattle.cad_versions.specs.declared.command.Command.TheVariants.{Enter, Amend, Retire}
@@ -10,7 +10,8 @@ use Rattle.cad_versions.specs.VersionedObject.{VersionedObject}
 use Rattle.cad_versions.specs.DayBefore.{day_before}
 use Rattle.cad_versions.specs.Versions.{is_of, history, closed_if_open, begun, next_number, after, versions}
 use Rattle.cad_versions.specs.Refusals.{is_full}
-use Rattle.cad_versions.specs.AsOf.{by_identifier, as_of}
+use Rattle.cad_versions.specs.AsOf.{as_of}
+use Rattle.cad_versions.specs.Identifiers.{by_identifier}
 
 one_more : (vs : List VersionedObject) (c : Command) → length (after vs c) ≤ length vs + 1
 one_more vs (Enter object first body) = omega (arith, length-append vs (begun object 1 first body ∷ []))

@@ -14,8 +14,8 @@ use Rattle.cad_versions.specs.declared.share.Share.{Share}
 use Rattle.cad_versions.specs.Objects.{object_number}
 use Rattle.cad_versions.specs.Texts.{bytes_of}
 use Rattle.cad_versions.specs.Fractions.{num_of, den_of}
-use Rattle.cad_versions.proofs.ShapeLemmas.{same_point}
-use Rattle.cad_versions.proofs.SameLemmas.{same_object, same_day, same_share, same_words, same_shape}
+use Rattle.cad_versions.specs.ShapeLemmas.{same_point}
+use Rattle.cad_versions.specs.SameLemmas.{same_object, same_day, same_share, same_words, same_shape}
 use Rattle.cad_register.specs.declared.fields.Fields.{Fields}
 use Rattle.cad_register.specs.Rows.{flag_number, x_of, y_of, bytes_of_ring}
 use Rattle.cad_register.specs.Fields.{HasFields}

@@ -11,15 +11,12 @@ use Rattle.sqlite_keyed.proofs.ListLemmas.{all-append}
 use Rattle.cad_day.specs.Days.{number_of}
 use Rattle.cad_versions.specs.Objects.{object_number}
 use Rattle.cad_versions.specs.VersionedObject.{VersionedObject, IsVersion}
-use Rattle.cad_versions.specs.AsOf.{by_identifier}
+use Rattle.cad_versions.specs.Identifiers.{identifier_of, by_identifier}
 use Rattle.cad_versions.specs.Entries.{Entry, seen_at, is_closed_by}
 use Rattle.cad_register.specs.Kept.{IsRowOf}
 use Rattle.cad_register.specs.Damage.{number_in, identifier_in, comes_before, comes_after}
 
 -- ---- identifiers
-
-abbrev identifier_of : VersionedObject → ℤ × ℤ
-identifier_of v = (pos (object_number v.object), pos v.number)
 
 less : (u v : VersionedObject) → comes_before (identifier_of u) (identifier_of v) ≡ true → by_identifier u v ≡ Less
 less u v h = grind (arith, ints)

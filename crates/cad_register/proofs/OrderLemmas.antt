@@ -1,5 +1,5 @@
 -- The versions of an object rise by their numbers, so no two rows have one key.
-use Rattle.std.proofs.Common.{◌≡◌, ℕ, ◌+◌, ◌≤◌, ◌<◌, pos, Bool, true, false, cond, List, [], ◌∷◌, map, filter, refl, sym, ap, ◌∙◌, subst, arith, true≢false, is_eq, Ordering, Less, Equal, Greater, int_cmp, int_eq}
+use Rattle.std.proofs.Common.{◌≡◌, ℕ, ◌+◌, ◌≤◌, ◌<◌, pos, Bool, true, false, cond, List, [], ◌∷◌, map, filter, refl, sym, ap, ◌∙◌, subst, arith, true≢false, is_eq, is_gt, Ordering, Less, Equal, Greater, int_cmp, int_eq}
 use Rattle.std.specs.List.{AllByRecursion}
 use Rattle.std.specs.Ordering.{ordering_then}
 use Rattle.std.proofs.lemmas.Int.{ints}
@@ -16,8 +16,11 @@ use Rattle.cad_versions.specs.VersionedObject.{VersionedObject}
 use Rattle.cad_versions.specs.Versions.{is_of, history, versions}
 use Rattle.cad_versions.specs.Histories.{IsHistory}
 use Rattle.cad_versions.specs.Entries.{Entry, version_in, entries_of, entries_at}
-use Rattle.cad_versions.proofs.EntryLemmas.{entry_order, versions_of_entries}
-use Rattle.cad_versions.proofs.HistoryLemmas.{HasHistories}
+use Rattle.cad_versions.specs.Sorting.{insert_sorted as insert_in_order, sort_by as in_order}
+use Rattle.cad_versions.specs.Identifiers.{by_identifier}
+use Rattle.cad_versions.specs.AsOf.{entry_order, entries_listed}
+use Rattle.cad_versions.specs.EntryLemmas.{versions_of_entries}
+use Rattle.cad_versions.specs.HistoryLemmas.{HasHistories}
 use Rattle.cad_register.specs.Rows.{line_of}
 use Rattle.cad_register.specs.Outlines.{outline}
 
@@ -74,9 +77,6 @@ rises_later v vs up object = go (is_of object v) (up object)
 
 -- ---- identifiers
 
-abbrev order : VersionedObject → VersionedObject → Ordering
-order a b = ordering_then (int_cmp (pos (object_number a.object)) (pos (object_number b.object))) (int_cmp (pos a.number) (pos b.number))
-
 unequal : (o p : Ordering) → is_eq o ≡ false → is_eq (ordering_then o p) ≡ false
 unequal Less p h = refl
 unequal Equal p h = absurd (true≢false h)
@@ -93,21 +93,21 @@ cmp_less m n h = grind (arith, ints)
 cmp_unequal : (m n : ℕ) → int_eq (pos n) (pos m) ≡ false → is_eq (int_cmp (pos m) (pos n)) ≡ false
 cmp_unequal m n h = grind (arith, ints)
 
-apart : (a b : VersionedObject) → (is_of a.object b ≡ true → a.number < b.number) → is_eq (order a b) ≡ false
+apart : (a b : VersionedObject) → (is_of a.object b ≡ true → a.number < b.number) → is_eq (by_identifier a b) ≡ false
 apart a b h = go (is_of a.object b) refl
   where
-    go : (t : Bool) → is_of a.object b ≡ t → is_eq (order a b) ≡ false
+    go : (t : Bool) → is_of a.object b ≡ t → is_eq (by_identifier a b) ≡ false
     go true e = rw (cmp_less a.number b.number (h e)) (less_then (int_cmp (pos (object_number a.object)) (pos (object_number b.object))))
     go false e = unequal (int_cmp (pos (object_number a.object)) (pos (object_number b.object))) _ (cmp_unequal (object_number a.object) (object_number b.object) e)
 
 own_object : (v : VersionedObject) → is_of v.object v ≡ true
 own_object v = grind (arith, ints)
 
-no_ties : (vs : List VersionedObject) → Rise vs → IsAscending (λ a b. is_eq (order a b) ≡ false) vs
+no_ties : (vs : List VersionedObject) → Rise vs → IsAscending (λ a b. is_eq (by_identifier a b) ≡ false) vs
 no_ties [] up = tt
 no_ties (v ∷ vs) up =
     let here = (rw (own_object v) at (up v.object)).0 in
-    (all_weaker (λ (b : VersionedObject). is_of v.object b ≡ true → v.number < b.number) (λ b. is_eq (order v b) ≡ false) (λ b k. apart v b k) vs (all_kept (λ (b : VersionedObject). v.number < b.number) (is_of v.object) vs here), no_ties vs (rises_later v vs up))
+    (all_weaker (λ (b : VersionedObject). is_of v.object b ≡ true → v.number < b.number) (λ b. is_eq (by_identifier v b) ≡ false) (λ b k. apart v b k) vs (all_kept (λ (b : VersionedObject). v.number < b.number) (is_of v.object) vs here), no_ties vs (rises_later v vs up))
 
 -- ---- the rows of a revision
 
@@ -120,13 +120,23 @@ rise cs all object = subst (λ vs. IsAscending Below (history object vs)) (sym (
 pub listing_untied : (r : ℕ) (cs : List Command) → HasHistories (versions cs) → HaveNoTies identifier_order (lines_at r (lines_of cs))
 listing_untied r cs all =
     ascending-filter (λ a b. is_eq (identifier_order a b) ≡ false) _ (lines_of cs)
-    (ascending-map (λ a b. is_eq (identifier_order a b) ≡ false) line_of (entries_of cs) (ascending_unmap (λ a b. is_eq (order a b) ≡ false) version_in (entries_of cs) (no_ties _ (rise cs all))))
+    (ascending-map (λ a b. is_eq (identifier_order a b) ≡ false) line_of (entries_of cs) (ascending_unmap (λ a b. is_eq (by_identifier a b) ≡ false) version_in (entries_of cs) (no_ties _ (rise cs all))))
 
-pub listing_rows : (r : ℕ) (cs : List Command) → map cells_of (listing r (lines_of cs)) ≡ map (λ entry. cells_of (line_of entry)) (sort_by entry_order (entries_at r (entries_of cs)))
+-- the database sorts as revisions do
+insert_same : {A : Type 0} (cmp : A → A → Ordering) (x : A) (xs : List A) → insert_sorted cmp x xs ≡ insert_in_order cmp x xs
+insert_same cmp x [] = refl
+insert_same cmp x (y ∷ ys) = ap (λ l. cond (is_gt (cmp x y)) (y ∷ l) (x ∷ (y ∷ ys))) (insert_same cmp x ys)
+
+sorts_same : {A : Type 0} (cmp : A → A → Ordering) (xs : List A) → sort_by cmp xs ≡ in_order cmp xs
+sorts_same cmp [] = refl
+sorts_same cmp (x ∷ xs) = insert_same cmp x (sort_by cmp xs) ∙ ap (insert_in_order cmp x) (sorts_same cmp xs)
+
+pub listing_rows : (r : ℕ) (cs : List Command) → map cells_of (listing r (lines_of cs)) ≡ map (λ entry. cells_of (line_of entry)) (entries_listed r (entries_of cs))
 listing_rows r cs =
     ap (λ ls. map cells_of (sort_by identifier_order ls)) (filter-map _ line_of (entries_of cs))
     ∙ ap (map cells_of) (sort_by-map identifier_order line_of (entries_at r (entries_of cs)))
     ∙ map-map cells_of line_of _
+    ∙ ap (map (λ entry. cells_of (line_of entry))) (sorts_same entry_order (entries_at r (entries_of cs)))
 
 -- ---- the rows of an object
 

@@ -1,7 +1,6 @@
 -- The tables go on standing for the commands.
 use Rattle.std.proofs.Common.{◌≡◌, ◌≤◌, ℕ, Vec, Global, Result, Ok, Err, MatchResult, IfOk, IfErr, List, length, map, subst, sym, ◌∙◌, IsTrue, Option, Some, None, Bool, true, false, inl, inr}
 use Rattle.sqlite_value.specs.Order.{Row}
-use Rattle.sqlite_keyed.specs.Lists.{sort_by}
 use Rattle.sqlite.specs.Effect.{IsDatabase}
 use Rattle.sqlite.specs.State.{State, IsUnchanged}
 use Rattle.sqlite.specs.Held.{Held, state}
@@ -20,8 +19,8 @@ use Rattle.cad_versions.specs.Command.{object_named, body_added}
 use Rattle.cad_versions.specs.Versions.{versions}
 use Rattle.cad_versions.specs.Refusals.{class_at, open_since, refuse_if, or_else, refuses_closing, refuses_object, refuses_body, refusal}
 use Rattle.cad_versions.specs.VersionedObject.{VersionedObject}
-use Rattle.cad_versions.specs.AsOf.{as_of}
-use Rattle.cad_versions.proofs.EntryLemmas.{entry_order, listing_is}
+use Rattle.cad_versions.specs.AsOf.{as_of, entries_listed}
+use Rattle.cad_versions.specs.EntryLemmas.{listing_is}
 use Rattle.cad_versions.specs.declared.command.Command.{Command}
 use Rattle.cad_versions.specs.Entries.{Entry, entries_of, entries_at, seen_at}
 use Rattle.cad_register.specs.Rows.{line_of}
@@ -59,7 +58,7 @@ store_cause revision cs f h = absurd h
 pub listing_told : (revision : ℕ) (cs : List Command) (rows : List Row) (new : State) (r : Result (Vec VersionedObject Global) RegisterFault) → rows ≡ rows_at revision cs → StandsFor new cs
     → IfOk r (λ vs. (entries : List Entry) → rows ≡ map (λ entry. cells_of (line_of entry)) entries → vs.items ≡ map (seen_at revision) entries) → IfErr r (IsCauseIn rows)
     → MatchResult r (λ vs. (revision ≤ length cs → vs.items ≡ as_of revision cs) × StandsFor new cs) (λ f. IsListingFault revision cs f × (IsTrue new.is_open → StandsFor new cs))
-listing_told revision cs rows new (Ok vs) is stands seen cause = (λ h. seen (sort_by entry_order (entries_at revision (entries_of cs))) is ∙ listing_is revision cs h, stands)
+listing_told revision cs rows new (Ok vs) is stands seen cause = (λ h. seen (entries_listed revision (entries_of cs)) is ∙ listing_is revision cs h, stands)
 listing_told revision cs rows new (Err f) is stands seen cause = (listing_cause revision cs f (subst (λ l. IsCauseIn l f) is cause), λ _. stands)
 
 -- causes that the fold never has: its own are others

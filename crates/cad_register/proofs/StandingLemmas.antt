@@ -14,7 +14,7 @@ use Rattle.cad_versions.specs.VersionedObject.{VersionedObject}
 use Rattle.cad_versions.specs.Versions.{is_of, is_open_of, history}
 use Rattle.cad_versions.specs.Refusals.{class_at, open_since}
 use Rattle.cad_versions.specs.Histories.{EndsBefore, IsHistory}
-use Rattle.cad_versions.proofs.HistoryLemmas.{find-filter, closed_is_not_open}
+use Rattle.cad_versions.specs.HistoryLemmas.{find-filter, closed_is_not_open}
 use Rattle.cad_register.specs.Outlines.{outline, class_of_version, class_of_first, if_open, opened_last}
 use Rattle.cad_register.proofs.FieldLemmas.{day_cell}
 

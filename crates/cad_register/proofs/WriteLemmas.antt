@@ -26,8 +26,8 @@ use Rattle.cad_versions.specs.declared.fault.RegisterFault.TheVariants as fault
 use Rattle.cad_versions.specs.Refusals.{is_full, are_entered, refuse_if, refusal, AreAccepted}
 use Rattle.cad_versions.specs.Histories.{EndsBefore, IsHistory}
 use Rattle.cad_versions.specs.Entries.{Entry, version_in, entered_at, close_entry, entries_after, entries_of}
-use Rattle.cad_versions.proofs.HistoryLemmas.{histories, amends, retires, find-filter, closed_is_not_open, le_fails, neither}
-use Rattle.cad_versions.proofs.EntryLemmas.{versions_of_entries, entries_append}
+use Rattle.cad_versions.specs.HistoryLemmas.{histories, amends, retires, find-filter, closed_is_not_open, le_fails, neither}
+use Rattle.cad_versions.specs.EntryLemmas.{versions_of_entries, entries_append}
 use Rattle.cad_register.specs.declared.writing.NewEntry.{NewEntry}
 use Rattle.cad_register.specs.Rows.{line_of}
 use Rattle.cad_register.specs.Changing.{IsNew, IsChangeOf, line_written}

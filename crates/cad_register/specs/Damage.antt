@@ -1,9 +1,10 @@
 -- Which rows make a register (own profile).
-use Rattle.std.specs.Prelude.{◌≡◌, ℕ, ◌+◌, ◌<◌, ℤ, pos, int_lt, ◌||◌, ◌&&◌, Bool, true, List, [], ◌∷◌, Option, Some, None, ◌⊎◌}
-use Rattle.std.specs.Ordering.{int_eq}
+use Rattle.std.specs.Prelude.{◌≡◌, ℕ, ◌+◌, ◌<◌, ℤ, pos, Bool, true, List, [], ◌∷◌, Option, Some, None, ◌⊎◌}
+use Rattle.std.specs.Ordering.{is_lt}
 use Rattle.sqlite_value.specs.declared.value.Value.{Value}
 use Rattle.sqlite_value.specs.declared.value.Value.TheVariants.{Int}
 use Rattle.sqlite_value.specs.Order.{Row, column}
+use Rattle.cad_versions.specs.Identifiers.{identifier_cmp}
 use Rattle.cad_versions.specs.declared.fault.RegisterFault.{RegisterFault}
 use Rattle.cad_versions.specs.declared.fault.RegisterFault.TheVariants as fault
 use Rattle.cad_register.specs.declared.kept.KeptVersion.{KeptVersion}
@@ -17,9 +18,8 @@ number_in other = pos 0
 abbrev pub identifier_in : Row → ℤ × ℤ
 identifier_in row = (number_in (column row 0), number_in (column row 1))
 
--- by object, and then by number
 abbrev pub comes_before : ℤ × ℤ → ℤ × ℤ → Bool
-comes_before a b = int_lt a.0 b.0 || (int_eq a.0 b.0 && int_lt a.1 b.1)
+comes_before a b = is_lt (identifier_cmp a b)
 
 abbrev pub comes_after : Option (ℤ × ℤ) → ℤ × ℤ → Bool
 comes_after None id = true

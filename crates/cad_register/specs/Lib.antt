@@ -3,7 +3,6 @@ pub mod Reading
 pub mod Fields
 pub mod Kept
 pub mod Damage
-pub mod Listed
 pub mod Stands
 pub mod Outlines
 pub mod Changing
@@ -11,3 +10,4 @@ pub mod Refusing
 pub mod Surviving
 pub mod Registers
 pub mod Applying
+pub mod Ledgers

@@ -1,11 +1,10 @@
 -- The tables of a register.
 use Rattle.std.specs.Prelude.{◌≡◌, ℕ, List, length, map, [], IsTrue, Result, MatchResult, ◌⊎◌, ◌≤◌, ◌+◌, ◌++◌, ◌∷◌, Option, Some, None}
 use Rattle.sqlite_value.specs.Order.{Row}
-use Rattle.sqlite_keyed.specs.Lists.{sort_by}
 use Rattle.cad_tables.specs.Line.{cells_of}
 use Rattle.cad_versions.specs.declared.fault.RegisterFault.{RegisterFault}
 use Rattle.cad_versions.specs.declared.fault.RegisterFault.TheVariants as fault
-use Rattle.cad_versions.specs.AsOf.{by_identifier}
+use Rattle.cad_versions.specs.AsOf.{entries_listed}
 use Rattle.cad_register.specs.Damage.{IsCauseIn}
 use Rattle.sqlite.specs.Effect.{IsDatabase}
 use Rattle.sqlite.specs.State.{State}
@@ -15,7 +14,7 @@ use Rattle.cad_versions.specs.declared.command.Command.{Command}
 use Rattle.cad_versions.specs.declared.command.Command.TheVariants.{Amend}
 use Rattle.cad_versions.specs.Versions.{history, versions}
 use Rattle.cad_versions.specs.Refusals.{refusal, AreAccepted}
-use Rattle.cad_versions.specs.Entries.{Entry, version_in, entries_of, entries_at}
+use Rattle.cad_versions.specs.Entries.{entries_of}
 use Rattle.cad_register.specs.Rows.{line_of}
 
 -- the tables stand for the commands: these were accepted one after the other, and their entries are stored and committed in a database that lists its tables and obeys them, as each open connection's does (own profile)
@@ -45,7 +44,7 @@ IsStoreFault other = ⊥
 
 -- the rows that a revision lists
 abbrev pub rows_at : ℕ → List Command → List Row
-rows_at revision commands = map (λ entry. cells_of (line_of entry)) (sort_by (λ (a b : Entry). by_identifier (version_in a) (version_in b)) (entries_at revision (entries_of commands)))
+rows_at revision commands = map (λ entry. cells_of (line_of entry)) (entries_listed revision (entries_of commands))
 
 -- the database refused, or the first row that breaks a rule is named
 abbrev pub IsListingFault : ℕ → List Command → RegisterFault → Type 0

@@ -9,7 +9,7 @@ ghost use Rattle.sqlite.specs.Held.{state};
 ghost use Rattle.cad_versions.specs.declared.command.Command.{Command};
 ghost use Rattle.cad_versions.specs.Versions.{versions};
 ghost use Rattle.cad_versions.specs.AsOf.{as_of};
-ghost use Rattle.cad_register.specs.Listed.{IsListing};
+ghost use Rattle.cad_versions.specs.Listing.{IsListing};
 ghost use Rattle.cad_register.specs.Outlines.{IsStanding};
 ghost use Rattle.cad_register.specs.Stands.{Tells, IsStoreFault, IsListingFault};
 ghost use Rattle.cad_register.specs.Surviving.{KeepsDisk};

@@ -5,13 +5,13 @@
 #![tactic(auto)]
 
 mod asking;
-mod book;
 mod cells;
 mod changing;
 mod columns;
 mod decision;
 mod fields;
 mod kept;
+mod ledger;
 mod listing;
 mod register;
 mod standing;

@@ -7,7 +7,7 @@ ghost use Rattle.cad_register.specs.Kept.{entry_of, IsRowOf};
 ghost use Rattle.cad_register.specs.Rows.{line_of};
 ghost use Rattle.cad_register.specs.Reading.{Reads};
 ghost use Rattle.cad_register.specs.Damage.{identifier_in, damage_of, comes_after as is_after, IsNext, AreSound, IsCauseIn};
-ghost use Rattle.cad_register.specs.Listed.{IsListing};
+ghost use Rattle.cad_versions.specs.Listing.{IsListing};
 
 use crate::columns::{ReadFault, number_or_zero};
 use crate::kept::KeptVersion;

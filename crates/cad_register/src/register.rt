@@ -43,7 +43,7 @@ impl<S: Alter> Register<S> {
     ghost use Rattle.cad_versions.specs.Versions.{versions};
     ghost use Rattle.cad_versions.specs.Refusals.{refusal};
     ghost use Rattle.cad_versions.specs.AsOf.{as_of as register_as_of};
-    ghost use Rattle.cad_register.specs.Listed.{IsListing};
+    ghost use Rattle.cad_versions.specs.Listing.{IsListing};
     ghost use Rattle.cad_register.specs.Stands.{StandsFor, KeepsWhileOpen, IsStoreFault, IsListingFault};
     ghost use Rattle.cad_register.specs.Refusing.{told_as, IsNotForMemory, RefusesDatabase, RefusesToApply};
     ghost use Rattle.cad_tables.specs.Faults.{fault_of};
@@ -223,6 +223,8 @@ impl<S: Alter> Register<S> {
         ensures crash { HasCleanDisk (state_of S.Store self.new) → (commands : List CommandOf) →
             IsRegisterOf S.Store self.old commands →
             Leaves (state_of S.Store self.new) commands }
+        ensures clean { HasCleanDisk (state_of S.Store self.new) →
+            HasCleanDisk (state_of S.Store self.old) }
     {
         if u64::from(self.revision) < revision {
             return Err(RegisterFault::UnknownRevision);
@@ -254,6 +256,8 @@ impl<S: Alter> Register<S> {
         ensures durable { HasCleanDisk (state_of S.Store self.new) →
             OnOk result ((commands : List CommandOf) → IsRegisterOf S.Store self.old commands →
             Leaves (state_of S.Store self.new) (commands ++ command ∷ [])) }
+        ensures clean { HasCleanDisk (state_of S.Store self.new) →
+            HasCleanDisk (state_of S.Store self.old) }
     {
         let count = decide(self.alloc, &mut self.connection, self.revision, &command)?;
         if self.revision >= MOST_REVISION {

@@ -3,6 +3,7 @@
 ghost use Rattle.std.specs.Prelude.{◌≤◌, length};
 
 use crate::Point;
+use std::alloc::{AllocError, Global};
 use std::marker::Model;
 
 // The list of points, so that two rings of one list of corners are one value.
@@ -42,7 +43,7 @@ pub enum RingFault {
 }
 
 impl Ring {
-    ghost use Rattle.std.specs.Prelude.{◌≡◌, MatchResult, Some, None};
+    ghost use Rattle.std.specs.Prelude.{◌≡◌, MatchResult, IfOk, Some, None};
     ghost use Rattle.cad_shape.specs.Rings.{corners_of, ring_fault};
 
     /// The ring through these corners, or its first fault and the corners again.
@@ -67,6 +68,17 @@ impl Ring {
         ensures { result.now ≡ corners_of self.now }
     {
         self.corners.points.as_slice()
+    }
+
+    /// The same ring once more. It is not judged again.
+    pub fn copy(&self, alloc: Global) -> Result<Ring, AllocError>
+        ensures { IfOk result (λ copy. copy ≡ self.now) }
+    {
+        Ok(Ring {
+            corners: Corners {
+                points: Vec::from_slice(alloc, self.corners())?,
+            },
+        })
     }
 }
 

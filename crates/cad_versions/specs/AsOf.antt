@@ -1,17 +1,21 @@
 -- The register at a revision (ISO 19152:2012, VersionedObject; own profile: revisions).
-use Rattle.std.specs.Prelude.{ℕ, pos, List, take}
+use Rattle.std.specs.Prelude.{ℕ, List, take}
 use Rattle.std.specs.declared.cmp.Ordering.{Ordering}
-use Rattle.std.specs.Ordering.{int_cmp, ordering_then}
-use Rattle.sqlite_keyed.specs.Lists.{sort_by}
 use Rattle.cad_versions.specs.declared.command.Command.{Command}
-use Rattle.cad_versions.specs.Objects.{object_number}
 use Rattle.cad_versions.specs.VersionedObject.{VersionedObject}
 use Rattle.cad_versions.specs.Versions.{versions}
-
--- by object, and then by number
-abbrev pub by_identifier : VersionedObject → VersionedObject → Ordering
-by_identifier a b = ordering_then (int_cmp (pos (object_number a.object)) (pos (object_number b.object))) (int_cmp (pos a.number) (pos b.number))
+use Rattle.cad_versions.specs.Entries.{Entry, version_in, entries_at}
+use Rattle.cad_versions.specs.Sorting.{sort_by}
+use Rattle.cad_versions.specs.Identifiers.{by_identifier}
 
 -- what the first commands made, in the order of identifiers
 abbrev pub as_of : ℕ → List Command → List VersionedObject
 as_of revision commands = sort_by by_identifier (versions (take revision commands))
+
+-- by the identifiers of their versions
+abbrev pub entry_order : Entry → Entry → Ordering
+entry_order a b = by_identifier (version_in a) (version_in b)
+
+-- the entries that a revision lists, in the order of identifiers
+abbrev pub entries_listed : ℕ → List Entry → List Entry
+entries_listed revision entries = sort_by entry_order (entries_at revision entries)

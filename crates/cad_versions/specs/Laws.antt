@@ -1,13 +1,12 @@
 -- What holds of every register (ISO 19152:2012, VersionedObject).
 use Rattle.std.specs.Prelude.{◌≡◌, ℕ, ◌≤◌, List, [], ◌++◌, length, map}
-use Rattle.sqlite_keyed.specs.Lists.{sort_by}
 use Rattle.cad_versions.specs.declared.object_id.ObjectId.{ObjectId}
 use Rattle.cad_versions.specs.declared.command.Command.{Command}
 use Rattle.cad_versions.specs.Versions.{history, versions}
 use Rattle.cad_versions.specs.Refusals.{AreAccepted}
 use Rattle.cad_versions.specs.Histories.{IsHistory}
-use Rattle.cad_versions.specs.Entries.{Entry, version_in, entries_of, entries_at, seen_at}
-use Rattle.cad_versions.specs.AsOf.{by_identifier, as_of}
+use Rattle.cad_versions.specs.Entries.{entries_of, seen_at}
+use Rattle.cad_versions.specs.AsOf.{as_of, entries_listed}
 
 abbrev pub VersionsAreHistories : Type 0
 VersionsAreHistories = (commands : List Command) → AreAccepted [] commands → (object : ObjectId) → IsHistory 1 (history object (versions commands))
@@ -17,4 +16,4 @@ RevisionsStay = (commands later : List Command) (revision : ℕ) → revision �
 
 abbrev pub RevisionsAreSeen : Type 0
 RevisionsAreSeen = (commands : List Command) (revision : ℕ) → revision ≤ length commands
-    → map (seen_at revision) (sort_by (λ (a b : Entry). by_identifier (version_in a) (version_in b)) (entries_at revision (entries_of commands))) ≡ as_of revision commands
+    → map (seen_at revision) (entries_listed revision (entries_of commands)) ≡ as_of revision commands

@@ -3,17 +3,18 @@
 //! - `ObjectId`, `Words`, `Share`: values that cannot hold what the register must not.
 //! - `Body`, `Class`, `Version`: one version of a party, a basic administrative unit, a parcel, a right or a restriction.
 //! - `Command`, `RegisterFault`: what the land office asks for, and why it is refused.
-//! - `Book`: what commands are entered into, as a land register.
+//! - `Ledger`: what commands are entered into, and what tells the versions at a revision.
 //! - `laws`: what holds of every register, whatever commands made it.
 #![tactic(auto)]
 
 mod body;
 mod body_parts;
-mod book;
 mod command;
+mod copies;
 mod decision;
 mod fault;
 pub mod laws;
+mod ledger;
 mod object_id;
 mod shape_bytes;
 mod share;
@@ -23,9 +24,9 @@ mod version;
 mod words;
 
 pub use body::{Body, Class};
-pub use book::Book;
 pub use command::Command;
 pub use fault::RegisterFault;
+pub use ledger::Ledger;
 pub use object_id::ObjectId;
 pub use shape_bytes::{read_shape, write_shape};
 pub use share::Share;

@@ -3,6 +3,7 @@
 ghost use Rattle.std.specs.Prelude.{◌≡◌, ◌≤◌, ◌==◌, false, length, IsUtf8};
 ghost use Rattle.std.specs.List.{list_any};
 
+use std::alloc::{AllocError, Global};
 use std::marker::Model;
 
 // The bytes alone, so that two words of one spelling are one value.
@@ -30,7 +31,7 @@ pub struct Words {
 }
 
 impl Words {
-    ghost use Rattle.std.specs.Prelude.{◌≡◌, string_bytes, MatchResult, IsUtf8};
+    ghost use Rattle.std.specs.Prelude.{◌≡◌, string_bytes, MatchResult, IfOk, IsUtf8};
     ghost use Rattle.cad_versions.specs.Texts.{AreWords, bytes_of};
 
     /// The text as words, or the text back where it is none.
@@ -53,5 +54,16 @@ impl Words {
         ensures words { AreWords result.now }
     {
         self.spelling.text.as_str()
+    }
+
+    /// The same words once more. They are not judged again.
+    pub fn copy(&self, alloc: Global) -> Result<Words, AllocError>
+        ensures { IfOk result (λ copy. copy ≡ self.now) }
+    {
+        Ok(Words {
+            spelling: Spelling {
+                text: String::from_str(alloc, self.as_str())?,
+            },
+        })
     }
 }

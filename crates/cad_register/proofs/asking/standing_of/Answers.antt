@@ -4,7 +4,7 @@ use Rattle.cad_tables.specs.Listing.{HaveNoTies, number_order, lines_of_object, 
 use Rattle.cad_versions.specs.Objects.{object_number}
 use Rattle.cad_versions.specs.Versions.{history, versions}
 use Rattle.cad_versions.specs.Entries.{entries_of}
-use Rattle.cad_versions.proofs.HistoryLemmas.{histories}
+use Rattle.cad_versions.specs.HistoryLemmas.{histories}
 use Rattle.cad_register.specs.Rows.{line_of}
 use Rattle.cad_register.proofs.OrderLemmas.{history_untied, history_rows}
 use Rattle.cad_register.proofs.StandingLemmas.{class_stands, opened_stands}

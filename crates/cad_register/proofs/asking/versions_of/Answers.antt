@@ -1,7 +1,7 @@
 use Rattle.std.proofs.Common.{refl, ◌∙◌, length, map, sym, ap}
 use Rattle.sqlite.specs.Held.{state}
 use Rattle.cad_versions.specs.Entries.{entries_of}
-use Rattle.cad_versions.proofs.HistoryLemmas.{histories}
+use Rattle.cad_versions.specs.HistoryLemmas.{histories}
 use Rattle.cad_register.specs.Rows.{line_of}
 use Rattle.cad_register.proofs.OrderLemmas.{listing_untied, listing_rows}
 use Rattle.cad_register.proofs.StandLemmas.{stands_kept, stands_same, store_cause, listing_told}

@@ -1,7 +1,7 @@
 use Rattle.std.proofs.Common.{◌≡◌, sym, ap, ◌∙◌, length}
 use Rattle.cad_shape.specs.Rings.{corners_of}
 use Rattle.cad_versions.specs.ShapeBytes.{corners_bytes}
-use Rattle.cad_versions.proofs.ShapeLemmas.{shape_parts, corners_same}
+use Rattle.cad_versions.specs.ShapeLemmas.{shape_parts, corners_same}
 use Rattle.cad_versions.proofs.shape_bytes.read_shape.Goals as goal
 
 pub returns-then-as_slice-count : goal.returns-then-as_slice-count

@@ -16,7 +16,7 @@ use Rattle.cad_versions.specs.Objects.{object_number}
 use Rattle.cad_versions.specs.Texts.{bytes_of}
 use Rattle.cad_versions.specs.Fractions.{num_of, den_of}
 use Rattle.cad_versions.specs.ShapeBytes.{shape_bytes}
-use Rattle.cad_versions.proofs.ShapeLemmas.{shapes_same}
+use Rattle.cad_versions.specs.ShapeLemmas.{shapes_same}
 
 pub same_object : (a b : ObjectId) → object_number a ≡ object_number b → a ≡ b
 same_object a b e =

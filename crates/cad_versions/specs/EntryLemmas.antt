@@ -1,11 +1,11 @@
 -- The entries that a revision sees are the fold of that many commands.
-use Rattle.std.proofs.Common.{◌≡◌, ℕ, ◌+◌, ◌≤◌, ◌<◌, pos, Bool, true, false, cond, List, [], ◌∷◌, ◌++◌, length, map, fold, take, drop, Option, Some, None, refl, sym, ap, ap₂, ◌∙◌, subst, arith, int_le, nat_le, zero-add, ◌&&◌, is_none, true≢false, IfSome, IfNone, append-nil, Ordering}
+use Rattle.std.proofs.Common.{◌≡◌, ℕ, ◌+◌, ◌≤◌, ◌<◌, pos, Bool, true, false, cond, List, [], ◌∷◌, ◌++◌, length, map, fold, take, drop, Option, Some, None, refl, sym, ap, ap₂, ◌∙◌, subst, arith, int_le, nat_le, zero-add, ◌&&◌, is_none, true≢false, IfSome, IfNone, append-nil}
 use Rattle.std.specs.List.{AllByRecursion}
 use Rattle.std.proofs.lemmas.Int.{ints}
 use Rattle.std.proofs.lemmas.List.{map-append, length-take-le, take-append-drop}
 use Rattle.std.proofs.lemmas.Bool.Decides.{nat_tests}
 use Rattle.std.proofs.lemmas.List.Elements.{filter-append}
-use Rattle.sqlite_keyed.proofs.ListLemmas.{map-map, map_same, filter-map, filter_same}
+use Rattle.cad_versions.specs.ListLemmas.{map-map, map_same, filter-map, filter_same}
 use Rattle.cad_day.specs.declared.day.Day.{Day}
 use Rattle.cad_versions.specs.declared.object_id.ObjectId.{ObjectId}
 use Rattle.cad_versions.specs.declared.command.Command.{Command}
@@ -13,9 +13,10 @@ use Rattle.cad_versions.specs.declared.command.Command.TheVariants.{Enter, Amend
 use Rattle.cad_versions.specs.VersionedObject.{VersionedObject}
 use Rattle.cad_versions.specs.DayBefore.{day_before}
 use Rattle.cad_versions.specs.Versions.{is_open_of, closed_on, closed_if_open, begun, next_number, after, versions}
-use Rattle.sqlite_keyed.specs.Lists.{sort_by}
-use Rattle.sqlite_keyed.proofs.SortLemmas.{sort_by-map}
-use Rattle.cad_versions.specs.AsOf.{by_identifier, as_of}
+use Rattle.cad_versions.specs.Sorting.{sort_by}
+use Rattle.cad_versions.specs.ListLemmas.{sort_by-map}
+use Rattle.cad_versions.specs.AsOf.{as_of, entries_listed}
+use Rattle.cad_versions.specs.Identifiers.{by_identifier}
 use Rattle.cad_versions.specs.Entries.{Entry, version_in, entered_at, close_entry, entries_after, entries_from, entries_of, entries_at, is_closed_by, seen_at}
 
 -- ---- the versions of the entries
@@ -158,11 +159,7 @@ revision_is_fold cs ds =
     ap (seen n) (entries_append 0 [] cs ds ∙ ap (λ m. entries_from m (entries_of cs) ds) (zero-add n)) ∙ all_later_unseen n n (omega arith) (entries_of cs) ds
     ∙ all_seen n (entries_of cs) (subst (λ m. AllByRecursion (IsDated m) (entries_of cs)) (zero-add n) (dated_from 0 [] cs tt)) ∙ versions_of_entries cs
 
--- by the identifiers of their versions
-abbrev pub entry_order : Entry → Entry → Ordering
-entry_order a b = by_identifier (version_in a) (version_in b)
-
-pub listing_is : (r : ℕ) (cs : List Command) → r ≤ length cs → map (seen_at r) (sort_by entry_order (entries_at r (entries_of cs))) ≡ as_of r cs
+pub listing_is : (r : ℕ) (cs : List Command) → r ≤ length cs → map (seen_at r) (entries_listed r (entries_of cs)) ≡ as_of r cs
 listing_is r cs h =
     let n : length (take r cs) ≡ r = length-take-le r cs h in
     sym (sort_by-map by_identifier (seen_at r) (entries_at r (entries_of cs)))

@@ -1,0 +1,63 @@
+-- A land register as a ledger.
+use Rattle.std.specs.Prelude.{◌≡◌, ◌≤◌, ℕ, pos, List, [], ◌∷◌, length, IsTrue, None}
+use Rattle.sqlite_value.specs.declared.value.Value.TheVariants.{Int}
+use Rattle.sqlite_trees.specs.declared.store.Store.{Ghosts}
+use Rattle.sqlite.specs.declared.error.Error.{Error}
+use Rattle.sqlite.specs.State.{FailsToQuery}
+use Rattle.cad_tables.specs.Texts.{listing_text}
+use Rattle.cad_versions.specs.Keeping.{IsOfKeeping}
+use Rattle.cad_versions.specs.declared.command.Command.{Command}
+use Rattle.cad_versions.specs.declared.fault.RegisterFault.{RegisterFault}
+use Rattle.cad_versions.specs.declared.fault.RegisterFault.TheVariants as fault
+use Rattle.cad_versions.specs.Versions.{versions}
+use Rattle.cad_versions.specs.Refusals.{refusal}
+use Rattle.cad_register.specs.declared.register.Register.{Register}
+use Rattle.cad_register.specs.Refusing.{IsNotForMemory, RefusesToApply}
+use Rattle.cad_register.specs.Registers.{connection_of, state_of}
+use Rattle.cad_register.specs.Stands.{IsListingFault}
+
+-- the connection is open
+abbrev pub IsOpen : {S : Type 0} → Ghosts S → Register S → Type 0
+IsOpen g register = IsTrue (state_of g register).is_open
+
+-- why a command is refused that the commands before it allow
+abbrev pub IsCut : List Command → Command → RegisterFault → Type 0
+IsCut commands command fault.NotARegister = (refusal (versions commands) command ≡ None) × (4294967294 ≤ length commands)
+IsCut commands command other = IsListingFault (length commands) commands other
+
+-- what the database refuses of a command
+abbrev pub RefusesCommand : {S : Type 0} → Ghosts S → Register S → Register S → Command → ℕ → Type 0
+RefusesCommand g old new command revision = RefusesToApply g (connection_of old) (connection_of new) command revision
+
+-- what it refuses of a listing
+abbrev pub RefusesListing : {S : Type 0} → Ghosts S → Register S → Register S → ℕ → Type 0
+RefusesListing g old new revision =
+    (e : Error) × IsNotForMemory e × FailsToQuery listing_text (Int (pos revision) ∷ []) (state_of g old) (state_of g new) e
+
+pub listing_keeps : (revision : ℕ) (commands : List Command) (why : RegisterFault) → IsListingFault revision commands why → IsOfKeeping why
+listing_keeps revision commands fault.KnownObject h = absurd h
+listing_keeps revision commands fault.UnknownObject h = absurd h
+listing_keeps revision commands fault.OtherClass h = absurd h
+listing_keeps revision commands (fault.DayNotAfter day) h = absurd h
+listing_keeps revision commands fault.Retired h = absurd h
+listing_keeps revision commands fault.UnknownReference h = absurd h
+listing_keeps revision commands fault.Full h = absurd h
+listing_keeps revision commands (fault.Damaged object number) h = tt
+listing_keeps revision commands fault.NotARegister h = absurd h
+listing_keeps revision commands fault.Store h = tt
+listing_keeps revision commands fault.Memory h = tt
+listing_keeps revision commands fault.UnknownRevision h = absurd h
+
+pub cut_keeps : (commands : List Command) (command : Command) (why : RegisterFault) → IsCut commands command why → IsOfKeeping why
+cut_keeps commands command fault.KnownObject h = absurd h
+cut_keeps commands command fault.UnknownObject h = absurd h
+cut_keeps commands command fault.OtherClass h = absurd h
+cut_keeps commands command (fault.DayNotAfter day) h = absurd h
+cut_keeps commands command fault.Retired h = absurd h
+cut_keeps commands command fault.UnknownReference h = absurd h
+cut_keeps commands command fault.Full h = absurd h
+cut_keeps commands command (fault.Damaged object number) h = tt
+cut_keeps commands command fault.NotARegister h = tt
+cut_keeps commands command fault.Store h = tt
+cut_keeps commands command fault.Memory h = tt
+cut_keeps commands command fault.UnknownRevision h = absurd h

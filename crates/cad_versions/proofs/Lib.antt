@@ -1,4 +1,0 @@
-pub mod HistoryLemmas
-pub mod EntryLemmas
-pub mod ShapeLemmas
-pub mod SameLemmas

@@ -1,0 +1,29 @@
+-- Lemmas on lists that std lacks: `map`, `filter` and `sort_by` together.
+use Rattle.std.proofs.Common.{◌≡◌, Bool, true, false, cond, List, [], ◌∷◌, map, filter, refl, ap, ◌∙◌, is_gt, Ordering}
+use Rattle.cad_versions.specs.Sorting.{insert_sorted, sort_by}
+
+pub map-map : {A B C : Type 0} (g : B → C) (f : A → B) (xs : List A) → map g (map f xs) ≡ map (λ x. g (f x)) xs
+map-map g f [] = refl
+map-map g f (x ∷ xs) = ap (λ l. g (f x) ∷ l) (map-map g f xs)
+
+pub map_same : {X Y : Type 0} (f g : X → Y) → ((x : X) → f x ≡ g x) → (xs : List X) → map f xs ≡ map g xs
+map_same f g same xs = λ i. map (λ x. same x i) xs
+
+pub filter-map : {A B : Type 0} (p : B → Bool) (f : A → B) (xs : List A) → filter p (map f xs) ≡ map f (filter (λ x. p (f x)) xs)
+filter-map p f [] = refl
+filter-map p f (x ∷ xs) =
+    elim (p (f x)) as (λ b. cond b (f x ∷ filter p (map f xs)) (filter p (map f xs)) ≡ map f (cond b (x ∷ filter (λ y. p (f y)) xs) (filter (λ y. p (f y)) xs)))
+    [ true ↦ ap (λ l. f x ∷ l) (filter-map p f xs) | false ↦ filter-map p f xs ]
+
+pub filter_same : {X : Type 0} (p q : X → Bool) → ((x : X) → p x ≡ q x) → (xs : List X) → filter p xs ≡ filter q xs
+filter_same p q same xs = λ i. filter (λ x. same x i) xs
+
+insert_sorted-map : {A B : Type 0} (cmp : B → B → Ordering) (f : A → B) (new : A) (xs : List A) → insert_sorted cmp (f new) (map f xs) ≡ map f (insert_sorted (λ a b. cmp (f a) (f b)) new xs)
+insert_sorted-map cmp f new [] = refl
+insert_sorted-map cmp f new (x ∷ xs) =
+    elim (is_gt (cmp (f new) (f x))) as (λ b. cond b (f x ∷ insert_sorted cmp (f new) (map f xs)) (f new ∷ f x ∷ map f xs) ≡ map f (cond b (x ∷ insert_sorted (λ a c. cmp (f a) (f c)) new xs) (new ∷ x ∷ xs)))
+    [ true ↦ ap (λ l. f x ∷ l) (insert_sorted-map cmp f new xs) | false ↦ refl ]
+
+pub sort_by-map : {A B : Type 0} (cmp : B → B → Ordering) (f : A → B) (xs : List A) → sort_by cmp (map f xs) ≡ map f (sort_by (λ a b. cmp (f a) (f b)) xs)
+sort_by-map cmp f [] = refl
+sort_by-map cmp f (x ∷ xs) = ap (insert_sorted cmp (f x)) (sort_by-map cmp f xs) ∙ insert_sorted-map cmp f x _

@@ -1,0 +1,55 @@
+//! What commands are entered into, and what tells the versions at a revision.
+
+use crate::command::Command;
+use crate::fault::RegisterFault;
+use crate::version::Version;
+
+/// A ledger of commands that were accepted one after the other.
+pub trait Ledger {
+    ghost use Rattle.std.specs.Prelude.{◌≡◌, ℕ, List, length};
+    ghost use Rattle.cad_versions.specs.declared.command.Command.{Command as CommandOf};
+    ghost use Rattle.cad_versions.specs.declared.fault.RegisterFault.{RegisterFault as Fault};
+    ghost use Rattle.cad_versions.specs.Keeping.{IsOfKeeping};
+    ghost use Rattle.cad_versions.specs.Ledgers.{Applied, Listed};
+
+    // It stands for these commands.
+    ghost stands_for: { Self → List CommandOf → Type 0 };
+
+    // What it answered counts, as that of a database whose disk is clean.
+    ghost counts: { Self → Type 0 };
+
+    // It may be asked again, as a database that is open.
+    ghost lives: { Self → Type 0 };
+
+    // Why a command is refused that the commands before it allow.
+    ghost fails_to_apply: { List CommandOf → CommandOf → Fault → Type 0 };
+
+    // Why a revision is not listed that was made.
+    ghost fails_to_list: { ℕ → List CommandOf → Fault → Type 0 };
+
+    // What keeps the ledger itself refuses the command, asked at this revision.
+    ghost refuses_command: { Self → Self → CommandOf → ℕ → Type 0 };
+
+    // What keeps the ledger itself refuses to list the revision.
+    ghost refuses_listing: { Self → Self → ℕ → Type 0 };
+
+    /// How many commands were accepted.
+    fn revision(&self) -> u64
+        ensures { (commands : List CommandOf) → stands_for self.now commands →
+            result ≡ length commands };
+
+    /// Applies the command, and answers the revision since, or refuses it and stays as it was.
+    fn apply(&mut self, command: Command) -> Result<u64, RegisterFault>
+        ensures { Applied stands_for counts lives fails_to_apply refuses_command self.old command result self.new };
+
+    /// The versions at a revision, by object and number. A closing of a later revision is not seen.
+    fn as_of(&mut self, revision: u64) -> Result<Vec<Version>, RegisterFault>
+        ensures { Listed stands_for counts lives fails_to_list refuses_listing self.old revision result self.new };
+
+    // What it fails for beside the commands is a fault of what keeps them.
+    ghost apply_keeps: { (commands : List CommandOf) (command : CommandOf) (fault : Fault) →
+        fails_to_apply commands command fault → IsOfKeeping fault };
+
+    ghost list_keeps: { (revision : ℕ) (commands : List CommandOf) (fault : Fault) →
+        fails_to_list revision commands fault → IsOfKeeping fault };
+}
