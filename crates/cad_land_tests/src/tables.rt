@@ -145,7 +145,7 @@ fn tables_are_made_once(rt: HostRuntime) -> Result<(), Fail> {
     assert_eq!(rt; opened(&mut conn), Some(None));
     assert_eq!(rt; made(&mut conn), Some(Creation::Made));
     assert_eq!(rt; opened(&mut conn), Some(Some(0)));
-    assert_eq!(rt; made(&mut conn), Some(Creation::Standing));
+    assert_eq!(rt; made(&mut conn), Some(Creation::AlreadyExists));
     assert_eq!(rt; told(&mut conn), Some(Some(0)));
     Ok(())
 }
