@@ -8,7 +8,7 @@ use Rattle.sqlite_trees.specs.declared.store.Store.{Ghosts}
 use Rattle.cad_tables.specs.Holding.{Holds}
 use Rattle.cad_tables.specs.Opening.{TellsRegister}
 use Rattle.cad_tables.specs.Steps.{KeepsAll}
-use Rattle.cad_tables.specs.Line.{cells_of}
+use Rattle.cad_tables.specs.VersionRow.{cells_of}
 use Rattle.cad_versions.specs.declared.fault.RegisterFault.{RegisterFault}
 use Rattle.cad_versions.specs.declared.fault.RegisterFault.TheVariants as fault
 use Rattle.cad_day.specs.declared.day.Day.{Day}

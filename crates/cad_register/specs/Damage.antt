@@ -7,7 +7,7 @@ use Rattle.sqlite_value.specs.Order.{Row, column}
 use Rattle.cad_versions.specs.Identifiers.{identifier_cmp}
 use Rattle.cad_versions.specs.declared.fault.RegisterFault.{RegisterFault}
 use Rattle.cad_versions.specs.declared.fault.RegisterFault.TheVariants as fault
-use Rattle.cad_register.specs.declared.kept.KeptVersion.{KeptVersion}
+use Rattle.cad_register.specs.declared.kept.StoredVersion.{StoredVersion}
 use Rattle.cad_versions.specs.VersionedObject.{VersionedObject}
 use Rattle.cad_versions.specs.Entries.{seen_at}
 use Rattle.sqlite.specs.State.{State, HasCleanDisk, Shown}
@@ -32,7 +32,7 @@ comes_after (Some before) id = comes_before before id
 
 -- a version can be made of the row, it comes after the row before it, and there are not too many before it
 pub record IsNext (before : Option (ℤ × ℤ)) (count : ℕ) (row : Row) : Type 0 where
-  pub shows : (kept : KeptVersion) × IsRowOf row (entry_of kept)
+  pub shows : (kept : StoredVersion) × IsRowOf row (entry_of kept)
   pub later : comes_after before (identifier_in row) ≡ true
   pub room : count < 2147483647
 
@@ -58,7 +58,7 @@ damage_of row = fault.Damaged (number_in (column row 0)) (number_in (column row 
 -- each version is what its row shows at the revision
 abbrev pub AreSeenAt : ℕ → List Row → List VersionedObject → Type 0
 AreSeenAt revision [] [] = Unit {0}
-AreSeenAt revision (row ∷ rows) (v ∷ vs) = ((kept : KeptVersion) × IsRowOf row (entry_of kept) × (v ≡ seen_at revision (entry_of kept))) × AreSeenAt revision rows vs
+AreSeenAt revision (row ∷ rows) (v ∷ vs) = ((kept : StoredVersion) × IsRowOf row (entry_of kept) × (v ≡ seen_at revision (entry_of kept))) × AreSeenAt revision rows vs
 AreSeenAt revision rows vs = ⊥
 
 -- the database shows these rows for the revision, by its own account

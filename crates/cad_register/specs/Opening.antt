@@ -14,7 +14,7 @@ use Rattle.cad_versions.specs.declared.fault.RegisterFault.{RegisterFault}
 use Rattle.cad_versions.specs.declared.fault.RegisterFault.TheVariants.{NotARegister}
 use Rattle.cad_register.specs.declared.register.Register.{Register}
 use Rattle.cad_register.specs.Leaving.{IsAsBefore, AsksOnly}
-use Rattle.cad_register.specs.Refusing.{told_as}
+use Rattle.cad_register.specs.Refusing.{register_fault_of}
 use Rattle.cad_register.specs.Registers.{connection_of, revision_of, IsRegisterOf}
 use Rattle.cad_register.specs.Stands.{StandsFor, KeepsWhileOpen, IsStoreFault}
 use Rattle.cad_register.specs.Surviving.{IsOpenedOn, Leaves, LeavesOrMakes}
@@ -46,7 +46,7 @@ module _ {S : Type 0} (g : Ghosts S) (lent : Held S) (result : Outcome S) where
     pub free : IsClean → IfOk result (λ register. is_standing lent.schema ≡ false)
     pub taken : IsClean → IfErr result (λ refused. refused.0 ≡ NotARegister → (is_standing lent.schema ≡ true) × IsSettled g lent refused.1)
     pub cause : IfErr result (λ refused. refused.0 ≢ NotARegister → IsStoreFault refused.0)
-    pub store : IsClean → IfErr result (λ refused. refused.0 ≢ NotARegister → (e : Error) × (refused.0 ≡ told_as (fault_of e)) × RefusesTables g lent refused.1 e)
+    pub store : IsClean → IfErr result (λ refused. refused.0 ≢ NotARegister → (e : Error) × (refused.0 ≡ register_fault_of (fault_of e)) × RefusesTables g lent refused.1 e)
     pub unchanged : IsClean → IfErr result (λ refused. KeepsWhileOpen (state g lent) (state g refused.1))
     pub clean : IsClean → HasCleanDisk (state g lent)
     pub crash : IsClean → LeavesOrMakes (state g lent) (state g (connection_in result))
@@ -56,7 +56,7 @@ module _ {S : Type 0} (g : Ghosts S) (lent : Held S) (result : Outcome S) where
     pub found : IsClean → IfOk result (λ register. TellsRegister g lent (connection_of register) (Some (revision_of register)))
     pub missing : IsClean → IfErr result (λ refused. refused.0 ≡ NotARegister → TellsRegister g lent refused.1 None)
     pub cause : IfErr result (λ refused. refused.0 ≢ NotARegister → IsStoreFault refused.0)
-    pub store : IsClean → IfErr result (λ refused. refused.0 ≢ NotARegister → (fault : TableFault) × (refused.0 ≡ told_as fault) × RefusesRegister g lent refused.1 fault)
+    pub store : IsClean → IfErr result (λ refused. refused.0 ≢ NotARegister → (fault : TableFault) × (refused.0 ≡ register_fault_of fault) × RefusesRegister g lent refused.1 fault)
     pub stands : IsClean → (commands : List Command) → StandsFor (state g lent) commands → length commands ≤ most_revision → IsFoundAs g commands result
     pub recovered : IsClean → (commands : List Command) → IsOpenedOn commands (state g lent) → length commands ≤ most_revision → IsFoundAs g commands result
     pub leaves : AsksOnly (state g lent) (state g (connection_in result)) (without_connection result)
@@ -73,7 +73,7 @@ module _ {S : Type 0} (g : Ghosts S) (lent : Held S) (result : Outcome S) where
     pub missing : IsClean → IfErr result (λ refused. refused.0 ≡ NotARegister → IsOpenedLater (λ mid. TellsRegister g mid refused.1 None))
     pub cause : IfErr result (λ refused. refused.0 ≢ NotARegister → IsStoreFault refused.0)
     pub store : IsClean → IfErr result (λ refused. refused.0 ≢ NotARegister →
-        ((e : Error) × (refused.0 ≡ told_as (fault_of e)) × RefusesTables g lent refused.1 e) ⊎ IsOpenedLater (λ mid. (fault : TableFault) × (refused.0 ≡ told_as fault) × RefusesRegister g mid refused.1 fault))
+        ((e : Error) × (refused.0 ≡ register_fault_of (fault_of e)) × RefusesTables g lent refused.1 e) ⊎ IsOpenedLater (λ mid. (fault : TableFault) × (refused.0 ≡ register_fault_of fault) × RefusesRegister g mid refused.1 fault))
     pub stands : IsClean → (commands : List Command) → StandsFor (state g lent) commands → length commands ≤ most_revision → IsFoundAs g commands result
     pub recovered : IsClean → (commands : List Command) → IsOpenedOn commands (state g lent) → length commands ≤ most_revision → IsFoundAs g commands result
     pub same : IsClean → IfErr result (λ refused. refused.0 ≡ NotARegister → IsAsBefore (state g lent) (state g refused.1))

@@ -25,9 +25,9 @@ use Rattle.cad_register.specs.Changing.{IsChangeOf, line_written}
 use Rattle.cad_register.specs.Stands.{StandsFor}
 
 -- want of memory is told as such, and every other refusal of the database as its own (own profile)
-abbrev pub told_as : TableFault → RegisterFault
-told_as Memory = fault.Memory
-told_as (Store e) = fault.Store
+abbrev pub register_fault_of : TableFault → RegisterFault
+register_fault_of Memory = fault.Memory
+register_fault_of (Store e) = fault.Store
 
 -- SQLite, Result and Error Codes, SQLITE_NOMEM: the cause is another than want of memory
 abbrev pub IsNotForMemory : Error → Type 0

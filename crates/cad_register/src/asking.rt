@@ -14,11 +14,11 @@ ghost use Rattle.cad_register.specs.Outlines.{IsStanding};
 ghost use Rattle.cad_register.specs.Stands.{Tells, IsStoreFault, IsListingFault, IsReadingFault};
 ghost use Rattle.cad_register.specs.Damage.{ReadsRows};
 ghost use Rattle.cad_register.specs.Leaving.{AsksOnly};
-ghost use Rattle.cad_register.specs.Refusing.{Asks, IsForObject, IsForLines, IsNotForMemory, told_as};
+ghost use Rattle.cad_register.specs.Refusing.{Asks, IsForObject, IsForLines, IsNotForMemory, register_fault_of};
 
 use crate::columns::ReadFault;
 use crate::listing::versions_at;
-use crate::standing::{Standing, damaged_number};
+use crate::standing::{ObjectState, damaged_number};
 use cad_tables::TableFault;
 use cad_versions::{ObjectId, RegisterFault, Version};
 use sqlite::{Alter, Connection};
@@ -26,7 +26,7 @@ use std::alloc::Global;
 
 pub(crate) fn store_fault(fault: TableFault) -> RegisterFault
     ensures cause { IsStoreFault result }
-    ensures told { result ≡ told_as fault }
+    ensures told { result ≡ register_fault_of fault }
 {
     match fault {
         TableFault::Memory => RegisterFault::Memory,
@@ -38,7 +38,7 @@ pub(crate) fn store_fault(fault: TableFault) -> RegisterFault
 pub(crate) fn standing_of<S: Alter>(
     connection: &mut Connection<S>,
     object: ObjectId,
-) -> Result<Standing, RegisterFault>
+) -> Result<ObjectState, RegisterFault>
     ensures told { HasCleanDisk (state S.Store connection.new) →
         Tells (state S.Store connection.old) (state S.Store connection.new) result
         (λ commands standing. IsStanding (versions commands) object standing) (λ commands fault.
@@ -52,7 +52,7 @@ pub(crate) fn standing_of<S: Alter>(
         Ok(rows) => rows,
         Err(fault) => return Err(store_fault(fault)),
     };
-    match Standing::read(&rows) {
+    match ObjectState::read(&rows) {
         Ok(standing) => Ok(standing),
         Err(ReadFault::Memory) => Err(RegisterFault::Memory),
         Err(ReadFault::Damaged) => Err(RegisterFault::Damaged(

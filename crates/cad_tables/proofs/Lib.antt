@@ -14,5 +14,4 @@ pub mod RefusalLemmas
 pub mod OpeningLemmas
 pub mod NameLemmas
 pub mod StandingLemmas
-pub mod SchemaLemmas
 pub mod LawLemmas

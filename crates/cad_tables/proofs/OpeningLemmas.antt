@@ -22,7 +22,7 @@ use Rattle.sqlite.specs.Listing.{understood}
 use Rattle.sqlite.specs.State.{State, store_error, IsNoStatement, IsNotRun, IsUnchanged, FailsToQuery, QueriesRow, HasCleanDisk, Survives, CommitsShowing}
 use Rattle.sqlite.proofs.StateLemmas.{survives_then}
 use Rattle.sqlite.proofs.Callers.{command_of, unchanged_then}
-use Rattle.cad_tables.specs.Line.{Line}
+use Rattle.cad_tables.specs.VersionRow.{VersionRow}
 use Rattle.cad_tables.specs.Tables.{register_schema}
 use Rattle.sqlite.specs.declared.error.Error.TheVariants.{SqlInputError, QueryReturnedNoRows}
 use Rattle.cad_tables.specs.Texts.{revision_text, listing_text}
@@ -70,7 +70,7 @@ reads_stand limit (Select q names) db params e (inr (inr h)) = rw h.0
 reads_stand limit (Rows values width names) db params e h = rw h.0
 reads_stand limit _ db params e h = rw h
 
-module _ (old new : State) (n : ℕ) (lines : List Line) (has : Holds n lines old.now) where
+module _ (old new : State) (n : ℕ) (lines : List VersionRow) (has : Holds n lines old.now) where
   is_here : command_of (understood old.now.schema revision_text) ≡ command_of (understood register_schema revision_text)
   is_here = ap (λ s. command_of (understood s revision_text)) has.schema
 
@@ -114,7 +114,7 @@ module _ (old new : State) (sql : List ℕ) (params : Row) (e : Error) where
   not_understood (inl (inr (c, known, inr (inr h)), same)) lacks = absurd (let no = rw h.1 at lacks in cc)
   not_understood (inr h) lacks = absurd (let stands = store_stands h.0 in let no = rw h.1 at lacks in cc)
 
-pub no_columns_lacking : (n : ℕ) (lines : List Line) (db : Database) → Holds n lines db → ¬ LacksColumns db.schema
+pub no_columns_lacking : (n : ℕ) (lines : List VersionRow) (db : Database) → Holds n lines db → ¬ LacksColumns db.schema
 no_columns_lacking n lines db has h = absurd (let e = sym (ap (λ s. command_of (understood s listing_text)) has.schema) ∙ ap command_of h.1 in let is = listing_is.0 in cc)
 
 -- ---- what the question for the revision leaves

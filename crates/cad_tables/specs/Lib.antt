@@ -1,4 +1,4 @@
-pub mod Line
+pub mod VersionRow
 pub mod Tables
 pub mod Texts
 pub mod Faults
@@ -10,3 +10,4 @@ pub mod Steps
 pub mod Asking
 pub mod Listing
 pub mod Opening
+pub mod SchemaLemmas

@@ -4,7 +4,7 @@ ghost use Rattle.std.specs.Prelude.{◌≡◌, ◌≤◌, ℕ, false, true, List
 ghost use Rattle.sqlite_value.specs.Order.{column};
 ghost use Rattle.sqlite.specs.State.{HasCleanDisk};
 ghost use Rattle.sqlite.specs.Held.{state};
-ghost use Rattle.cad_tables.specs.Line.{Line};
+ghost use Rattle.cad_tables.specs.VersionRow.{VersionRow};
 ghost use Rattle.cad_tables.specs.Holding.{Holds};
 ghost use Rattle.cad_tables.specs.Asking.{OnlyReads};
 ghost use Rattle.cad_tables.specs.Opening.{most_revision, count_in, revision_in, is_lacking as lacks};
@@ -56,7 +56,7 @@ fn stored_revision(row: &Row) -> Result<Option<u32>, TableFault>
 
 /// The revision that the table `state` tells; none where it is not a register's.
 pub fn revision<S: Alter>(conn: &mut Connection<S>) -> Result<Option<u32>, TableFault>
-    ensures stands { HasCleanDisk (state S.Store conn.new) → IfOk result (λ found. (n : ℕ) (lines : List Line)
+    ensures stands { HasCleanDisk (state S.Store conn.new) → IfOk result (λ found. (n : ℕ) (lines : List VersionRow)
         → Holds n lines (state S.Store conn.old).now → n ≤ most_revision → found ≡ Some n) }
     ensures found { HasCleanDisk (state S.Store conn.new)
         → IfOk result (TellsRevision (state S.Store conn.old) (state S.Store conn.new)) }
@@ -103,7 +103,7 @@ fn has_columns<S: Alter>(conn: &mut Connection<S>) -> Result<bool, TableFault>
 /// The revision of the register that the database holds; none where it lacks one of the tables, a column or
 /// the row of `state`, or tells another format or a revision that is never stored.
 pub fn open<S: Alter>(conn: &mut Connection<S>) -> Result<Option<u32>, TableFault>
-    ensures stands { HasCleanDisk (state S.Store conn.new) → IfOk result (λ found. (n : ℕ) (lines : List Line)
+    ensures stands { HasCleanDisk (state S.Store conn.new) → IfOk result (λ found. (n : ℕ) (lines : List VersionRow)
         → Holds n lines (state S.Store conn.old).now → n ≤ most_revision → found ≡ Some n) }
     ensures found { HasCleanDisk (state S.Store conn.new) → IfOk result (TellsRegister S.Store conn.old conn.new) }
     ensures refused { HasCleanDisk (state S.Store conn.new) → IfErr result (RefusesRegister S.Store conn.old conn.new) }

@@ -6,7 +6,7 @@ ghost use Rattle.sqlite.specs.State.{HasCleanDisk, Shown, FailsToQuery};
 ghost use Rattle.sqlite.specs.Held.{state};
 ghost use Rattle.sqlite.specs.declared.error.Error.{Error};
 ghost use Rattle.cad_tables.specs.Faults.{fault_of};
-ghost use Rattle.cad_tables.specs.Line.{Line, cells_of};
+ghost use Rattle.cad_tables.specs.VersionRow.{VersionRow, cells_of};
 ghost use Rattle.cad_tables.specs.Holding.{Holds};
 ghost use Rattle.cad_tables.specs.Texts.{history_text, listing_text};
 ghost use Rattle.sqlite_resolve.specs.Compile.{first};
@@ -39,7 +39,7 @@ fn selected<S: Alter>(
 ///
 /// They are found by the table's key.
 pub fn history<S: Alter>(conn: &mut Connection<S>, object: u32) -> Result<Vec<Row>, TableFault>
-    ensures rows { HasCleanDisk (state S.Store conn.new) → IfOk result (λ rows. (n : ℕ) (lines : List Line)
+    ensures rows { HasCleanDisk (state S.Store conn.new) → IfOk result (λ rows. (n : ℕ) (lines : List VersionRow)
         → Holds n lines (state S.Store conn.old).now → HaveNoTies number_order (lines_of_object object lines)
         → rows.items ≡ map outline_of (known object lines)) }
     ensures shown { HasCleanDisk (state S.Store conn.new) → IfOk result (λ rows.
@@ -57,7 +57,7 @@ pub fn history<S: Alter>(conn: &mut Connection<S>, object: u32) -> Result<Vec<Ro
 
 /// The rows that were entered up to a revision, by object and number, with all nineteen columns.
 pub fn listing<S: Alter>(conn: &mut Connection<S>, revision: u32) -> Result<Vec<Row>, TableFault>
-    ensures rows { HasCleanDisk (state S.Store conn.new) → IfOk result (λ rows. (n : ℕ) (lines : List Line)
+    ensures rows { HasCleanDisk (state S.Store conn.new) → IfOk result (λ rows. (n : ℕ) (lines : List VersionRow)
         → Holds n lines (state S.Store conn.old).now → HaveNoTies identifier_order (lines_at revision lines)
         → rows.items ≡ map cells_of (listed revision lines)) }
     ensures shown { HasCleanDisk (state S.Store conn.new) → IfOk result (λ rows.

@@ -12,7 +12,7 @@ use Rattle.cad_register.proofs.StandLemmas.{stands_kept, stands_same}
 use Rattle.cad_tables.specs.Texts.{history_text}
 use Rattle.cad_register.proofs.RefusingLemmas.{settled_here, settled_by, not_for_memory}
 use Rattle.cad_tables.specs.Faults.{fault_of}
-use Rattle.cad_register.specs.Refusing.{asking, told_as}
+use Rattle.cad_register.specs.Refusing.{asking, register_fault_of}
 use Rattle.cad_register.proofs.LeavingLemmas.{asks_answered, asks_refused}
 use Rattle.cad_register.proofs.asking.standing_of.Goals as goal
 
@@ -48,7 +48,7 @@ returns-in-Err-clause-asked g c clean cs stands e =
       question = asking history_text c.number.result;
       asked = ap (asking history_text) c.number.ensures.value;
       cause = told.0;
-      told = not_for_memory (fault_of told.0) (ap told_as (sym told.1) ∙ sym c.store_fault.ensures.told ∙ e);
+      told = not_for_memory (fault_of told.0) (ap register_fault_of (sym told.1) ∙ sym c.store_fault.ensures.told ∙ e);
       fails = told.2;
     }
 

@@ -8,7 +8,7 @@ use Rattle.cad_register.proofs.StandLemmas.{stands_kept, stands_same, store_caus
 use Rattle.cad_tables.specs.Texts.{listing_text}
 use Rattle.cad_register.proofs.RefusingLemmas.{settled_here, not_for_memory}
 use Rattle.cad_tables.specs.Faults.{fault_of}
-use Rattle.cad_register.specs.Refusing.{asking, told_as}
+use Rattle.cad_register.specs.Refusing.{asking, register_fault_of}
 use Rattle.cad_register.proofs.LeavingLemmas.{asks_answered, asks_refused, store_reading, rows_reading, rows_read, store_reads}
 use Rattle.std.proofs.lemmas.Result.{IfErr-weaker}
 use Rattle.cad_register.proofs.asking.versions_of.Goals as goal
@@ -32,7 +32,7 @@ returns-in-Err-clause-asked g c clean cs stands e =
       question = asking listing_text c.args.revision;
       asked = refl;
       cause = told.0;
-      told = not_for_memory (fault_of told.0) (ap told_as (sym told.1) ∙ sym c.store_fault.ensures.told ∙ e);
+      told = not_for_memory (fault_of told.0) (ap register_fault_of (sym told.1) ∙ sym c.store_fault.ensures.told ∙ e);
       fails = told.2;
     }
 

@@ -1,5 +1,5 @@
 use Rattle.std.proofs.Common.{◌≡◌, ◌≤◌, ℤ, List, None, length, map, take, drop, vec_len}
-use Rattle.cad_tables.specs.Line.{cells_of}
+use Rattle.cad_tables.specs.VersionRow.{cells_of}
 use Rattle.cad_versions.specs.Entries.{Entry, seen_at}
 use Rattle.cad_register.specs.Rows.{line_of}
 use Rattle.cad_register.specs.Damage.{AreSound, IsFirstDamaged, AreSeenAt}
