@@ -20,7 +20,7 @@ struct Unit {
 
 impl Stored for Unit {
     ghost use Rattle.std.specs.Prelude.{None};
-    ghost use Rattle.cad_tables.specs.Line.{Line};
+    ghost use Rattle.cad_tables.specs.VersionRow.{VersionRow};
 
     ghost line = { λ u. record {
       object = u.object;
@@ -145,7 +145,7 @@ fn tables_are_made_once(rt: HostRuntime) -> Result<(), Fail> {
     assert_eq!(rt; opened(&mut conn), Some(None));
     assert_eq!(rt; made(&mut conn), Some(Creation::Made));
     assert_eq!(rt; opened(&mut conn), Some(Some(0)));
-    assert_eq!(rt; made(&mut conn), Some(Creation::Standing));
+    assert_eq!(rt; made(&mut conn), Some(Creation::AlreadyExists));
     assert_eq!(rt; told(&mut conn), Some(Some(0)));
     Ok(())
 }

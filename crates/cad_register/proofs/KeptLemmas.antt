@@ -1,7 +1,7 @@
 -- A row is that of one entry.
 use Rattle.std.proofs.Common.{◌≡◌, ℕ, pos, Option, Some, None, refl, sym, ap, ap₂, ◌∙◌, option_map}
 use Rattle.sqlite_value.specs.Order.{Row, column}
-use Rattle.cad_tables.specs.Line.{cells_of}
+use Rattle.cad_tables.specs.VersionRow.{cells_of}
 use Rattle.cad_versions.specs.declared.body.Body.{Body}
 use Rattle.cad_versions.specs.declared.body.Body.TheVariants as body
 use Rattle.cad_versions.specs.declared.body.Class.{Class}

@@ -7,7 +7,7 @@ use Rattle.sqlite_trees.specs.Tree.{IsAscending}
 use Rattle.sqlite_keyed.specs.Lists.{sort_by, insert_sorted}
 use Rattle.sqlite_keyed.proofs.ListLemmas.{map-map, filter-map, all_kept, all_weaker, all-filter}
 use Rattle.sqlite_keyed.proofs.SortLemmas.{sort_by-map}
-use Rattle.cad_tables.specs.Line.{Line, cells_of}
+use Rattle.cad_tables.specs.VersionRow.{VersionRow, cells_of}
 use Rattle.cad_tables.specs.Listing.{identifier_order, number_order, HaveNoTies, lines_at, listing, lines_of_object, history as known, outline_of}
 use Rattle.cad_versions.specs.declared.object_id.ObjectId.{ObjectId}
 use Rattle.cad_versions.specs.declared.command.Command.{Command}
@@ -111,7 +111,7 @@ no_ties (v ∷ vs) up =
 
 -- ---- the rows of a revision
 
-abbrev lines_of : List Command → List Line
+abbrev lines_of : List Command → List VersionRow
 lines_of cs = map line_of (entries_of cs)
 
 rise : (cs : List Command) → HasHistories (versions cs) → Rise (map version_in (entries_of cs))

@@ -8,7 +8,7 @@ use Rattle.cad_versions.specs.declared.fault.RegisterFault.TheVariants as fault
 use Rattle.cad_tables.specs.Refusals.{Statement}
 use Rattle.cad_tables.specs.declared.faults.TableFault.{TableFault}
 use Rattle.cad_tables.specs.declared.faults.TableFault.TheVariants.{Memory, Store}
-use Rattle.cad_register.specs.Refusing.{RefusesQuestion, told_as}
+use Rattle.cad_register.specs.Refusing.{RefusesQuestion, register_fault_of}
 
 unchanged_then : (a b c : State) → IsUnchanged a b → IsUnchanged b c → IsUnchanged a c
 unchanged_then a b c p q = (
@@ -63,6 +63,6 @@ module _ {S : Type 0} (g : Ghosts S) where
     fails = q.fails;
   }
 
-pub not_for_memory : (f : TableFault) → told_as f ≡ fault.Store → f ≢ Memory
+pub not_for_memory : (f : TableFault) → register_fault_of f ≡ fault.Store → f ≢ Memory
 not_for_memory Memory e = absurd cc
 not_for_memory (Store e) is = λ h. cc

@@ -4,7 +4,7 @@ use Rattle.sqlite_trees.specs.Tree.{Trees}
 use Rattle.sqlite.specs.State.{State, HasCleanDisk, Survives}
 use Rattle.sqlite.specs.Effect.{Database, IsDatabase}
 use Rattle.cad_tables.specs.Tables.{register_schema}
-use Rattle.cad_tables.proofs.SchemaLemmas.{register_schema_only}
+use Rattle.cad_tables.specs.SchemaLemmas.{register_schema_only}
 use Rattle.cad_tables.specs.Holding.{Holds}
 use Rattle.cad_tables.specs.Opening.{most_revision}
 use Rattle.cad_tables.specs.Steps.{CommitsTo, CreatesTo}

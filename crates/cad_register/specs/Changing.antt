@@ -9,7 +9,7 @@ use Rattle.cad_versions.specs.Objects.{object_number}
 use Rattle.cad_versions.specs.VersionedObject.{VersionedObject}
 use Rattle.cad_versions.specs.Versions.{begun}
 use Rattle.cad_versions.specs.Entries.{entered_at}
-use Rattle.cad_tables.specs.Line.{Line}
+use Rattle.cad_tables.specs.VersionRow.{VersionRow}
 use Rattle.cad_register.specs.Rows.{line_of}
 use Rattle.cad_register.specs.declared.writing.NewEntry.{NewEntry}
 
@@ -25,5 +25,5 @@ IsChangeOf (Retire object last) number revision (change.Retire closing) = (closi
 IsChangeOf command number revision other = ⊥
 
 -- the line of a new entry
-abbrev pub line_written : NewEntry → Line
+abbrev pub line_written : NewEntry → VersionRow
 line_written n = line_of (entered_at n.entered n.version)

@@ -9,7 +9,7 @@ use Rattle.cad_versions.specs.Objects.{object_number}
 use Rattle.cad_versions.specs.Class.{class_of, class_number}
 use Rattle.cad_versions.specs.VersionedObject.{IsVersion}
 use Rattle.cad_versions.specs.Entries.{Entry}
-use Rattle.cad_register.specs.declared.kept.KeptVersion.{KeptVersion}
+use Rattle.cad_register.specs.declared.kept.StoredVersion.{StoredVersion}
 use Rattle.cad_register.specs.Fields.{HasFields, fields_of}
 
 -- the row has the entry in its nineteen columns, and the entry is one that a register may hold
@@ -24,5 +24,5 @@ pub record IsRowOf (row : Row) (e : Entry) : Type 0 where
   pub fields : HasFields row (fields_of e.version.body)
   pub version : IsVersion e.version
 
-abbrev pub entry_of : KeptVersion → Entry
+abbrev pub entry_of : StoredVersion → Entry
 entry_of kept = record { version = kept.version; entered = kept.entered; closed = kept.closed }

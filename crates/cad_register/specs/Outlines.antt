@@ -12,7 +12,7 @@ use Rattle.cad_versions.specs.Class.{class_of, class_number}
 use Rattle.cad_versions.specs.VersionedObject.{VersionedObject}
 use Rattle.cad_versions.specs.Versions.{history}
 use Rattle.cad_versions.specs.Refusals.{class_at, open_since}
-use Rattle.cad_register.specs.declared.standing.Standing.{Standing}
+use Rattle.cad_register.specs.declared.standing.ObjectState.{ObjectState}
 
 -- number, class, first and last day
 abbrev pub outline : VersionedObject → Row
@@ -31,7 +31,7 @@ abbrev pub opened_last : List VersionedObject → Option Day
 opened_last vs = option_and_then if_open (slice_get vs (length vs - 1))
 
 -- what stands of an object
-pub record IsStanding (vs : List VersionedObject) (object : ObjectId) (s : Standing) : Type 0 where
+pub record IsStanding (vs : List VersionedObject) (object : ObjectId) (s : ObjectState) : Type 0 where
   pub class : s.class ≡ class_at vs object
   pub open_since : s.open_since ≡ open_since vs object
   pub count : s.count ≡ length (history object vs)

@@ -5,7 +5,7 @@ use Rattle.cad_day.specs.Days.{number_of}
 use Rattle.cad_shape.specs.declared.point.Point.{Point}
 use Rattle.cad_shape.specs.declared.ring.Ring.{Ring}
 use Rattle.cad_shape.specs.Rings.{corners_of}
-use Rattle.cad_tables.specs.Line.{Line}
+use Rattle.cad_tables.specs.VersionRow.{VersionRow}
 use Rattle.cad_versions.specs.Objects.{object_number}
 use Rattle.cad_versions.specs.Texts.{bytes_of}
 use Rattle.cad_versions.specs.Fractions.{num_of, den_of}
@@ -27,7 +27,7 @@ y_of point = point.y
 abbrev pub bytes_of_ring : Ring → List ℕ
 bytes_of_ring ring = shape_bytes (corners_of ring)
 
-abbrev pub line_of : Entry → Line
+abbrev pub line_of : Entry → VersionRow
 line_of entry = record {
   object = object_number entry.version.object;
   number = entry.version.number;

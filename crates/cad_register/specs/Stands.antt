@@ -1,7 +1,7 @@
 -- The tables of a register.
 use Rattle.std.specs.Prelude.{◌≡◌, ℕ, List, length, map, [], IsTrue, Result, MatchResult, ◌⊎◌, ◌≤◌, ◌+◌, ◌++◌, ◌∷◌, Option, Some, None}
 use Rattle.sqlite_value.specs.Order.{Row}
-use Rattle.cad_tables.specs.Line.{cells_of}
+use Rattle.cad_tables.specs.VersionRow.{cells_of}
 use Rattle.cad_versions.specs.declared.fault.RegisterFault.{RegisterFault}
 use Rattle.cad_versions.specs.declared.fault.RegisterFault.TheVariants as fault
 use Rattle.cad_versions.specs.AsOf.{entries_listed}
@@ -17,7 +17,7 @@ use Rattle.cad_versions.specs.Refusals.{refusal, AreAccepted}
 use Rattle.cad_versions.specs.Entries.{entries_of}
 use Rattle.cad_register.specs.Rows.{line_of}
 
--- the tables stand for the commands: these were accepted one after the other, and their entries are stored and committed in a database that lists its tables and obeys them, as each open connection's does (own profile)
+-- the tables stand for the commands: these were accepted one after the other, and their entries are stored and committed in a database whose catalog lists its tables and whose rows keep their constraints, as each open connection's does (own profile)
 pub record StandsFor (s : State) (commands : List Command) : Type 0 where
   pub accepted : AreAccepted [] commands
   pub holds : Holds (length commands) (map line_of (entries_of commands)) s.now
@@ -41,6 +41,13 @@ abbrev pub IsStoreFault : RegisterFault → Type 0
 IsStoreFault fault.Store = Unit {0}
 IsStoreFault fault.Memory = Unit {0}
 IsStoreFault other = ⊥
+
+-- why a revision that was made is not listed, whatever the disk returns
+abbrev pub IsReadingFault : RegisterFault → Type 0
+IsReadingFault (fault.Damaged object number) = Unit {0}
+IsReadingFault fault.Store = Unit {0}
+IsReadingFault fault.Memory = Unit {0}
+IsReadingFault other = ⊥
 
 -- the rows that a revision lists
 abbrev pub rows_at : ℕ → List Command → List Row

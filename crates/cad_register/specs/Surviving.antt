@@ -16,7 +16,7 @@ use Rattle.cad_register.specs.Stands.{StandsFor, IsNumbered}
 abbrev pub database_of : Trees → Database
 database_of trees = record { schema = register_schema; trees = trees }
 
--- the trees of the disk list the register's tables and obey them, and hold what the commands made; these were accepted one after the other
+-- the catalog on the disk lists the register's tables and the rows keep their constraints, and the trees hold what the commands made; these were accepted one after the other
 pub record IsDiskOf (commands : List Command) (trees : Trees) : Type 0 where
   pub accepted : AreAccepted [] commands
   pub holds : Holds (length commands) (map line_of (entries_of commands)) (database_of trees)

@@ -63,14 +63,14 @@ fn version_of(
 
 /// A version, the revision that entered it, and the one that closed it.
 #[derive(Debug, Drop)]
-pub(crate) struct KeptVersion {
+pub(crate) struct StoredVersion {
     version: Version,
     entered: u32,
     closed: Option<u32>,
 }
 
-impl KeptVersion {
-    pub(crate) fn read(alloc: Global, row: &Row) -> Result<KeptVersion, ReadFault>
+impl StoredVersion {
+    pub(crate) fn read(alloc: Global, row: &Row) -> Result<StoredVersion, ReadFault>
         ensures { Reads result (λ kept. IsRowOf row.now (entry_of kept)) }
     {
         let object = object_at(row, 0)?;
@@ -84,7 +84,7 @@ impl KeptVersion {
         let Some(version) = version_of(object, number, first, last, body) else {
             return Err(ReadFault::Damaged);
         };
-        Ok(KeptVersion {
+        Ok(StoredVersion {
             version,
             entered,
             closed,
@@ -95,7 +95,7 @@ impl KeptVersion {
     pub(crate) fn seen_at(self, revision: u32) -> Version
         ensures { result ≡ seen_at revision (entry_of self) }
     {
-        let KeptVersion {
+        let StoredVersion {
             version,
             closed,
             ..

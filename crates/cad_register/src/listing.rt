@@ -1,16 +1,16 @@
 //! The rows of a revision as versions.
 
 ghost use Rattle.std.specs.Prelude.{◌≡◌, ◌<◌, ◌↔◌, List, IsTrue, IfOk, IfErr, true, map};
-ghost use Rattle.cad_tables.specs.Line.{cells_of};
+ghost use Rattle.cad_tables.specs.VersionRow.{cells_of};
 ghost use Rattle.cad_versions.specs.Entries.{Entry, seen_at};
 ghost use Rattle.cad_register.specs.Kept.{entry_of, IsRowOf};
 ghost use Rattle.cad_register.specs.Rows.{line_of};
 ghost use Rattle.cad_register.specs.Reading.{Reads};
-ghost use Rattle.cad_register.specs.Damage.{identifier_in, damage_of, comes_after as is_after, IsNext, AreSound, IsCauseIn};
+ghost use Rattle.cad_register.specs.Damage.{identifier_in, damage_of, comes_after as is_after, IsNext, AreSound, AreSeenAt, IsCauseIn};
 ghost use Rattle.cad_versions.specs.Listing.{IsListing};
 
 use crate::columns::{ReadFault, number_or_zero};
-use crate::kept::KeptVersion;
+use crate::kept::StoredVersion;
 use cad_versions::{RegisterFault, Version};
 use sqlite::Row;
 use std::alloc::Global;
@@ -47,11 +47,11 @@ fn next_version(
     row: &Row,
     before: Option<(i64, i64)>,
     count: usize,
-) -> Result<KeptVersion, ReadFault>
+) -> Result<StoredVersion, ReadFault>
     ensures { Reads result (λ kept. IsRowOf row.now (entry_of kept) ×
         (is_after before (identifier_in row.now) ≡ true) × (count < 2147483647)) }
 {
-    let kept = KeptVersion::read(alloc, row)?;
+    let kept = StoredVersion::read(alloc, row)?;
     if count < MOST_VERSIONS && comes_after(before, identifier(row)) {
         Ok(kept)
     } else {
@@ -66,6 +66,7 @@ pub(crate) fn versions_at(
     revision: u32,
 ) -> Result<Vec<Version>, RegisterFault>
     ensures sound { IfOk result (λ _. AreSound None 0 rows.now) }
+    ensures shown { IfOk result (λ versions. AreSeenAt revision rows.now versions.items) }
     ensures listed { IfOk result (λ versions. IsListing versions.items) }
     ensures seen { IfOk result (λ versions. (entries : List Entry) → rows.now ≡ map
         (λ entry. cells_of (line_of entry)) entries →

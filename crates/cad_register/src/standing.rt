@@ -11,7 +11,7 @@ use sqlite::Row;
 
 /// What stands of an object: its class, where it was entered, the first day of its open version, where one is open, and how many versions it has.
 #[derive(Clone, Copy, Debug)]
-pub(crate) struct Standing {
+pub(crate) struct ObjectState {
     pub(crate) class: Option<Class>,
     pub(crate) open_since: Option<Day>,
     pub(crate) count: usize,
@@ -71,9 +71,9 @@ fn last_opened(rows: &[Row]) -> Result<Option<Day>, ReadFault>
     }
 }
 
-impl Standing {
+impl ObjectState {
     /// What the rows of an object tell of it.
-    pub(crate) fn read(rows: &[Row]) -> Result<Standing, ReadFault>
+    pub(crate) fn read(rows: &[Row]) -> Result<ObjectState, ReadFault>
         ensures known { IfOk result (λ s. (vs : List VersionedObject) → rows.now ≡ map outline vs →
             (s.class ≡ class_of_first vs) × (s.open_since ≡ opened_last vs) ×
             (s.count ≡ length vs)) }
@@ -82,7 +82,7 @@ impl Standing {
     {
         let class = first_class(rows)?;
         let open_since = last_opened(rows)?;
-        Ok(Standing {
+        Ok(ObjectState {
             class,
             open_since,
             count: rows.len(),

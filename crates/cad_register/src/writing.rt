@@ -3,7 +3,7 @@
 ghost use Rattle.std.specs.Prelude.{◌≡◌, [], ◌∷◌, IfOk, IfErr};
 ghost use Rattle.std.specs.Option.{option_map};
 ghost use Rattle.sqlite.specs.Values.{bound};
-ghost use Rattle.cad_tables.specs.Line.{cells_of};
+ghost use Rattle.cad_tables.specs.VersionRow.{cells_of};
 ghost use Rattle.cad_versions.specs.BodyParts.{shape_in};
 ghost use Rattle.cad_versions.specs.Entries.{entered_at};
 ghost use Rattle.cad_register.specs.Rows.{bytes_of_ring, items_of, line_of};
@@ -43,7 +43,7 @@ impl NewEntry {
 }
 
 impl Stored for NewEntry {
-    ghost use Rattle.cad_tables.specs.Line.{Line};
+    ghost use Rattle.cad_tables.specs.VersionRow.{VersionRow};
     ghost use Rattle.cad_versions.specs.Entries.{entered_at};
     ghost use Rattle.cad_register.specs.Rows.{line_of};
 

@@ -6,7 +6,7 @@ use Rattle.sqlite_schema.specs.declared.schema.Kind.TheVariants.{Integer, Text a
 use Rattle.sqlite_sql.specs.Ops.{unary}
 use Rattle.sqlite_rules.specs.Cast.{cast, cast_all}
 use Rattle.sqlite_typed.specs.Columns.{or_null}
-use Rattle.cad_tables.specs.Line.{Line, cells_of}
+use Rattle.cad_tables.specs.VersionRow.{VersionRow, cells_of}
 use Rattle.cad_tables.specs.Tables.{version_table}
 
 either : (b : Bool) (x : Value) → cond b x x ≡ x
@@ -37,7 +37,7 @@ cast_bytes : (o : Option (List ℕ)) → cast Bytes (or_null Blob o) ≡ or_null
 cast_bytes None = refl
 cast_bytes (Some t) = refl
 
-pub typed : (l : Line) → cast_all version_table.columns (cells_of l) ≡ cells_of l
+pub typed : (l : VersionRow) → cast_all version_table.columns (cells_of l) ≡ cells_of l
 typed l =
     ap₂ ◌∷◌ (cast_int (pos l.object)) (ap₂ ◌∷◌ (cast_int (pos l.number)) (ap₂ ◌∷◌ (cast_int (pos l.class)) (ap₂ ◌∷◌ (cast_int l.first) (ap₂ ◌∷◌ (cast_day l.last)
     (ap₂ ◌∷◌ (cast_int (pos l.entered)) (ap₂ ◌∷◌ (cast_count l.closed) (ap₂ ◌∷◌ (cast_words l.name) (ap₂ ◌∷◌ (cast_words l.code) (ap₂ ◌∷◌ (cast_words l.label)

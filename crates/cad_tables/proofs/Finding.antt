@@ -13,7 +13,7 @@ use Rattle.sqlite_keyed.proofs.ListLemmas.{filter-map, filter_same, map-map, map
 use Rattle.sqlite_keyed.proofs.SortLemmas.{sorted_is-sort_by, sort_by-map}
 use Rattle.sqlite_sql.proofs.QueryLemmas.{output_cmp_total}
 use Rattle.cad_tables.specs.Holding.{row_of, rows_of}
-use Rattle.cad_tables.specs.Line.{Line}
+use Rattle.cad_tables.specs.VersionRow.{VersionRow}
 use Rattle.cad_tables.specs.Listing.{HaveNoTies}
 use Rattle.cad_tables.proofs.Places.{place, lines_keyed}
 
@@ -27,44 +27,44 @@ one_answer q db params env rows no_group no_distinct found a =
     let ordered = one_permutation (output q env) a.ordered (subst (λ k. IsPermutation k a.ordered) all a.same) in
     a.shown ∙ ap (λ xs. page q params (map (λ (p : Output). p.1) xs)) ordered
 
-module _ (db : Trees) (tree : ℕ) (xs : List Line) (stored : db tree ≡ rows_of xs) where
-  abbrev pub the_table : Source db (inner tree end) (ℕ × Line)
+module _ (db : Trees) (tree : ℕ) (xs : List VersionRow) (stored : db tree ≡ rows_of xs) where
+  abbrev pub the_table : Source db (inner tree end) (ℕ × VersionRow)
   the_table = last_table db tree (row_of) place (enumerate_from 1 xs) stored (lines_keyed 1 xs) (at_end db)
 
   -- what WHERE finds, by a test on the lines
-  pub finds : (terms : List Term) (params : Row) (p : ℕ × Line → Bool) → ((line : ℕ × Line) → list_all (holds (params ∷ row_of line ∷ [])) terms ≡ p line)
+  pub finds : (terms : List Term) (params : Row) (p : ℕ × VersionRow → Bool) → ((line : ℕ × VersionRow) → list_all (holds (params ∷ row_of line ∷ [])) terms ≡ p line)
       → matches db terms (inner tree end) (params ∷ []) ≡ map (λ line. params ∷ row_of line ∷ []) (filter p (enumerate_from 1 xs))
   finds terms params p tests = the_table.covers terms (params ∷ []) ∙ filter-map _ _ (enumerate_from 1 xs) ∙ ap (map (λ line. params ∷ row_of line ∷ [])) (filter_same _ p tests (enumerate_from 1 xs))
 
 -- A query in an order that leaves no ties among the rows that it finds.
-module _ (db : Trees) (tree : ℕ) (xs : List Line) (stored : db tree ≡ rows_of xs)
+module _ (db : Trees) (tree : ℕ) (xs : List VersionRow) (stored : db tree ≡ rows_of xs)
     (q : Query) (from_it : q.from ≡ inner tree end) (no_group : q.group ≡ None) (no_distinct : q.distinct ≡ false) (params : Row)
-    (test : Line → Bool) (tests : (line : ℕ × Line) → list_all (holds (params ∷ row_of line ∷ [])) q.filter ≡ test line.1)
-    (order : Line → Line → Ordering) (orders : (a b : ℕ × Line) → output_cmp q (output q (params ∷ row_of a ∷ [])) (output q (params ∷ row_of b ∷ [])) ≡ order a.1 b.1)
-    (show : Line → Row) (shows : (a : ℕ × Line) → eval_all q.project (params ∷ row_of a ∷ []) ≡ show a.1) where
-  abbrev shown_line : ℕ × Line → Output
+    (test : VersionRow → Bool) (tests : (line : ℕ × VersionRow) → list_all (holds (params ∷ row_of line ∷ [])) q.filter ≡ test line.1)
+    (order : VersionRow → VersionRow → Ordering) (orders : (a b : ℕ × VersionRow) → output_cmp q (output q (params ∷ row_of a ∷ [])) (output q (params ∷ row_of b ∷ [])) ≡ order a.1 b.1)
+    (show : VersionRow → Row) (shows : (a : ℕ × VersionRow) → eval_all q.project (params ∷ row_of a ∷ []) ≡ show a.1) where
+  abbrev shown_line : ℕ × VersionRow → Output
   shown_line line = output q (params ∷ row_of line ∷ [])
 
-  tests_kept : (n : ℕ) (ys : List Line) → map (λ (line : ℕ × Line). line.1) (filter (λ (line : ℕ × Line). test line.1) (enumerate_from n ys)) ≡ filter test ys
+  tests_kept : (n : ℕ) (ys : List VersionRow) → map (λ (line : ℕ × VersionRow). line.1) (filter (λ (line : ℕ × VersionRow). test line.1) (enumerate_from n ys)) ≡ filter test ys
   tests_kept n [] = refl
-  tests_kept n (y ∷ ys) = elim (test y) as (λ b. map (λ (line : ℕ × Line). line.1) (cond b ((n, y) ∷ filter (λ (line : ℕ × Line). test line.1) (enumerate_from (n + 1) ys)) (filter (λ (line : ℕ × Line). test line.1) (enumerate_from (n + 1) ys))) ≡ cond b (y ∷ filter test ys) (filter test ys))
+  tests_kept n (y ∷ ys) = elim (test y) as (λ b. map (λ (line : ℕ × VersionRow). line.1) (cond b ((n, y) ∷ filter (λ (line : ℕ × VersionRow). test line.1) (enumerate_from (n + 1) ys)) (filter (λ (line : ℕ × VersionRow). test line.1) (enumerate_from (n + 1) ys))) ≡ cond b (y ∷ filter test ys) (filter test ys))
       [ true ↦ ap (λ l. y ∷ l) (tests_kept (n + 1) ys) | false ↦ tests_kept (n + 1) ys ]
 
   pub in_order : (rows : List Row) → HaveNoTies order (filter test xs) → IsAnswer q db params rows → rows ≡ page q params (map show (sort_by order (filter test xs)))
   in_order rows apart a =
-      let lines = filter (λ (line : ℕ × Line). test line.1) (enumerate_from 1 xs) in
+      let lines = filter (λ (line : ℕ × VersionRow). test line.1) (enumerate_from 1 xs) in
       let found = subst (λ f. matches db q.filter f (params ∷ []) ≡ map (λ line. params ∷ row_of line ∷ []) lines) (sym from_it) (finds db tree xs stored q.filter params (λ line. test line.1) tests) in
       let staged = subst (λ g. IsGrouped g params (matches db q.filter q.from (params ∷ [])) a.staged) no_group a.grouped in
       let kept = subst (λ d. IsKept d q.collations (map (output q) a.staged) a.kept) no_distinct a.distinct in
       let all : a.kept ≡ map shown_line lines = kept ∙ ap (map (output q)) (staged ∙ found) ∙ map-map (output q) _ lines in
-      let untied : HaveNoTies order (map (λ (line : ℕ × Line). line.1) lines) = subst (HaveNoTies order) (sym (tests_kept 1 xs)) apart in
+      let untied : HaveNoTies order (map (λ (line : ℕ × VersionRow). line.1) lines) = subst (HaveNoTies order) (sym (tests_kept 1 xs)) apart in
       let apart_lines = ascending-map (λ x y. is_eq (output_cmp q x y) ≡ false) shown_line lines
       (ascending_weaker _ (λ x y. is_eq (output_cmp q (shown_line x) (shown_line y)) ≡ false) (λ x y h. ap is_eq (orders x y) ∙ h) lines
-      (ascending_from_map (λ x y. is_eq (order x y) ≡ false) (λ (line : ℕ × Line). line.1) lines untied)) in
+      (ascending_from_map (λ x y. is_eq (order x y) ≡ false) (λ (line : ℕ × VersionRow). line.1) lines untied)) in
       let ordered = sorted_is-sort_by (output_cmp q) (output_cmp_total q) _ a.ordered apart_lines (subst (λ k. IsPermutation k a.ordered) all a.same) a.sorted
       ∙ sort_by-map (output_cmp q) shown_line lines ∙ (λ i. map shown_line (sort_by (λ x y. orders x y i) lines)) in
-      let sorted_lines = sort_by (λ (x y : ℕ × Line). order x.1 y.1) lines in
+      let sorted_lines = sort_by (λ (x y : ℕ × VersionRow). order x.1 y.1) lines in
       let all_shown : map (λ (o : Output). o.1) (map shown_line sorted_lines) ≡ map show (sort_by order (filter test xs)) =
-      map-map (λ (o : Output). o.1) shown_line sorted_lines ∙ map_same _ (λ (line : ℕ × Line). show line.1) shows sorted_lines ∙ sym (map-map show (λ (line : ℕ × Line). line.1) sorted_lines)
-      ∙ ap (map show) (sym (sort_by-map order (λ (line : ℕ × Line). line.1) lines) ∙ ap (sort_by order) (tests_kept 1 xs)) in
+      map-map (λ (o : Output). o.1) shown_line sorted_lines ∙ map_same _ (λ (line : ℕ × VersionRow). show line.1) shows sorted_lines ∙ sym (map-map show (λ (line : ℕ × VersionRow). line.1) sorted_lines)
+      ∙ ap (map show) (sym (sort_by-map order (λ (line : ℕ × VersionRow). line.1) lines) ∙ ap (sort_by order) (tests_kept 1 xs)) in
       a.shown ∙ ap (λ l. page q params (map (λ (o : Output). o.1) l)) ordered ∙ ap (page q params) all_shown

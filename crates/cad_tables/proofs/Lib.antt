@@ -1,4 +1,5 @@
 pub mod Queries
+pub mod QueryTexts
 pub mod Parse
 pub mod Places
 pub mod Finding
@@ -13,5 +14,4 @@ pub mod RefusalLemmas
 pub mod OpeningLemmas
 pub mod NameLemmas
 pub mod StandingLemmas
-pub mod SchemaLemmas
 pub mod LawLemmas

@@ -8,7 +8,7 @@ use Rattle.sqlite_keyed.specs.Keyed.{IsKeyedBy, insert_by}
 use Rattle.sqlite_keyed.specs.Lists.{without_key}
 use Rattle.sqlite_typed.proofs.RowLemmas.{puts-map}
 use Rattle.cad_tables.specs.Holding.{row_of, rows_of}
-use Rattle.cad_tables.specs.Line.{Line}
+use Rattle.cad_tables.specs.VersionRow.{VersionRow}
 
 abbrev pub place : {A : Type 0} → ℕ × A → ℤ
 place line = pos line.0
@@ -68,9 +68,9 @@ module _ {A : Type 0} where
   one_of test n (y ∷ front) back x before here after = rw before.0 (one_of test (n + 1) front back x before.1 here after ∙ ap (λ m. (m, x) ∷ []) (omega arith))
 
 -- ---- the rows of the lines
-pub next_is : (n : ℕ) (xs : List Line) → fold (λ _ r. id_in (rowid r) +ℤ pos 1) (pos n) (map (row_of) (enumerate_from n xs)) ≡ pos (n + length xs)
+pub next_is : (n : ℕ) (xs : List VersionRow) → fold (λ _ r. id_in (rowid r) +ℤ pos 1) (pos n) (map (row_of) (enumerate_from n xs)) ≡ pos (n + length xs)
 next_is n [] = ap pos (omega arith)
 next_is n (x ∷ xs) = ap (λ z. fold (λ _ r. id_in (rowid r) +ℤ pos 1) z (map (row_of) (enumerate_from (n + 1) xs))) (omega (arith, ints)) ∙ next_is (n + 1) xs ∙ ap pos (omega arith)
 
-pub put_last : (xs : List Line) (x : Line) → put_row (row_of (1 + length xs, x)) (rows_of xs) ≡ rows_of (xs ++ x ∷ [])
+pub put_last : (xs : List VersionRow) (x : VersionRow) → put_row (row_of (1 + length xs, x)) (rows_of xs) ≡ rows_of (xs ++ x ∷ [])
 put_last xs x = puts-map place (row_of) (λ _. refl) ((1 + length xs, x) ∷ []) (enumerate_from 1 xs) ∙ ap (map (row_of)) (insert_last 1 xs x)

@@ -25,7 +25,7 @@ use Rattle.sqlite.proofs.Callers.{statement_of, runs_as, reads_as, first_as, one
 use Rattle.cad_tables.specs.Texts.{state_text, version_text, begin_text, count_text, listing_text, history_text, revision_text}
 use Rattle.cad_tables.specs.Tables.{no_schema, state_schema, register_schema, version_made, state_table}
 use Rattle.cad_tables.specs.Holding.{state_row, Holds}
-use Rattle.cad_tables.specs.Line.{Line, cells_of}
+use Rattle.cad_tables.specs.VersionRow.{VersionRow, cells_of}
 use Rattle.cad_tables.proofs.Queries.{begin_terms, count_query, listing_query, history_query, revision_query}
 use Rattle.cad_tables.proofs.Parse.{register_schema_is, state_is, state_plain, version_is, version_plain, begin_is, begin_plain, count_is, count_plain, listing_is, listing_plain, history_is, history_plain, revision_is, revision_plain}
 use Rattle.cad_tables.proofs.Finding.{one_answer, in_order}
@@ -33,7 +33,7 @@ use Rattle.cad_tables.proofs.Writes.{went, same_value}
 use Rattle.cad_tables.proofs.CellLemmas.{cast_null, cast_int}
 use Rattle.cad_tables.specs.Listing.{HaveNoTies, identifier_order, number_order, lines_at, listing, lines_of_object, history, outline_of}
 
-pub counts : (old new : State) (n m : ℕ) (xs : List Line) (count : ℕ) → Holds n xs old.now → Executes count_text (Int (pos m) ∷ []) old new (Ok count) → Holds m xs new.now
+pub counts : (old new : State) (n m : ℕ) (xs : List VersionRow) (count : ℕ) → Holds n xs old.now → Executes count_text (Int (pos m) ∷ []) old new (Ok count) → Holds m xs new.now
 counts old new n m xs count has h =
     let params = Int (pos m) ∷ [] in
     let db = old.now.trees in
@@ -58,26 +58,26 @@ counts old new n m xs count has h =
     }
 
 -- what it leaves is sound
-pub counts_sound : (old new : State) (n m : ℕ) (xs : List Line) (count : ℕ) → Holds n xs old.now → Executes count_text (Int (pos m) ∷ []) old new (Ok count) → IsDatabase new.now
+pub counts_sound : (old new : State) (n m : ℕ) (xs : List VersionRow) (count : ℕ) → Holds n xs old.now → Executes count_text (Int (pos m) ∷ []) old new (Ok count) → IsDatabase new.now
 counts_sound old new n m xs count has h =
     let command = Update 0 (record { lets = []; body = count_query }) in
     (runs_as count_text (Int (pos m) ∷ []) old new register_schema has.schema command count_is count_plain count h).sound
 
-pub reads_revision : (old new : State) (n : ℕ) (xs : List Line) (row : Row) → Holds n xs old.now → QueriesRow revision_text [] old new (Ok row) → row ≡ Int (pos 1) ∷ Int (pos n) ∷ []
+pub reads_revision : (old new : State) (n : ℕ) (xs : List VersionRow) (row : Row) → Holds n xs old.now → QueriesRow revision_text [] old new (Ok row) → row ≡ Int (pos 1) ∷ Int (pos n) ∷ []
 reads_revision old new n xs row has h =
     let got = (first_as revision_text [] old new register_schema has.schema _ revision_is.0 revision_plain revision_is.1 row h).1 in
     let one : matches (overlay old.now.trees []) revision_query.filter revision_query.from ([] ∷ []) ≡ ([] ∷ state_row n ∷ []) ∷ [] = rw (has.state, at_ints false Eq (pos 1) (pos 1)) in
     let rows = one_answer revision_query (overlay old.now.trees []) [] ([] ∷ state_row n ∷ []) (row ∷ got.0) refl refl one (got.1 Null) in
     cc
 
-pub shows_revision : (old new : State) (n : ℕ) (xs : List Line) (rows : List Row) → Holds n xs old.now → Shown revision_text [] old new rows → rows ≡ (Int (pos 1) ∷ Int (pos n) ∷ []) ∷ []
+pub shows_revision : (old new : State) (n : ℕ) (xs : List VersionRow) (rows : List Row) → Holds n xs old.now → Shown revision_text [] old new rows → rows ≡ (Int (pos 1) ∷ Int (pos n) ∷ []) ∷ []
 shows_revision old new n xs rows has h =
     let read = reads_as revision_text [] old new register_schema has.schema _ revision_is.0 revision_plain revision_is.1 rows h in
     let one : matches (overlay old.now.trees []) revision_query.filter revision_query.from ([] ∷ []) ≡ ([] ∷ state_row n ∷ []) ∷ [] = rw (has.state, at_ints false Eq (pos 1) (pos 1)) in
     one_answer revision_query (overlay old.now.trees []) [] ([] ∷ state_row n ∷ []) rows refl refl one (read.answer Null)
 
 -- ---- the lines of one object, and all lines
-pub lists : (old new : State) (n r : ℕ) (xs : List Line) (rows : List Row) → Holds n xs old.now → HaveNoTies identifier_order (lines_at r xs)
+pub lists : (old new : State) (n r : ℕ) (xs : List VersionRow) (rows : List Row) → Holds n xs old.now → HaveNoTies identifier_order (lines_at r xs)
     → Shown listing_text (Int (pos r) ∷ []) old new rows → rows ≡ map cells_of (listing r xs)
 lists old new n r xs rows has apart h =
     let params = Int (pos r) ∷ [] in
@@ -87,7 +87,7 @@ lists old new n r xs rows has apart h =
     identifier_order (λ a b. then_key (value_cmp-Int _ _) (last_key (value_cmp-Int _ _)))
     cells_of (λ a. refl) rows apart (read.answer Null)
 
-pub outlines : (old new : State) (n o : ℕ) (xs : List Line) (rows : List Row) → Holds n xs old.now → HaveNoTies number_order (lines_of_object o xs)
+pub outlines : (old new : State) (n o : ℕ) (xs : List VersionRow) (rows : List Row) → Holds n xs old.now → HaveNoTies number_order (lines_of_object o xs)
     → Shown history_text (Int (pos o) ∷ []) old new rows → rows ≡ map outline_of (history o xs)
 outlines old new n o xs rows has apart h =
     let params = Int (pos o) ∷ [] in

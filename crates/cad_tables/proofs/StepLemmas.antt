@@ -1,7 +1,7 @@
 -- Steps after one another.
 use Rattle.std.proofs.Common.{ℕ, Result, Ok, Err, OnOk, refl, ◌∙◌}
 use Rattle.sqlite.specs.State.{State}
-use Rattle.cad_tables.specs.Line.{Line}
+use Rattle.cad_tables.specs.VersionRow.{VersionRow}
 use Rattle.cad_tables.specs.declared.changes.Closing.{Closing}
 use Rattle.cad_tables.specs.declared.changes.Change.{Change}
 use Rattle.cad_tables.specs.declared.changes.Change.TheVariants.{Enter, Amend, Retire}
@@ -14,7 +14,7 @@ on_ok_then (Err e) h f = tt
 pub inside_then : (a b c : State) → IsInside a b → IsInside b c → IsInside a c
 inside_then a b c p q = record { was_open = p.was_open; is_open = q.is_open; now_is = refl; committed_is = q.committed_is ∙ p.committed_is; mode = q.mode }
 
-module _ {L : Type 0} (line_of : L → Line) (r : ℕ) (a : State) where
+module _ {L : Type 0} (line_of : L → VersionRow) (r : ℕ) (a : State) where
   pub entered : (line : L) (b : State) → Adds (line_of line) a b → Changes line_of (Enter line) r a b
   entered line b h = record { holds = λ n lines fits has. h.holds n lines has; inside = h.inside }
 

@@ -12,7 +12,7 @@ use Rattle.sqlite.specs.declared.error.Error.{Error}
 use Rattle.cad_tables.specs.Refusals.{Statement, RanAll, OneIsRefused, RefusesTransaction}
 use Rattle.cad_tables.proofs.RefusalLemmas.{later}
 use Rattle.cad_tables.specs.Holding.{Holds}
-use Rattle.cad_tables.specs.Line.{Line}
+use Rattle.cad_tables.specs.VersionRow.{VersionRow}
 use Rattle.cad_tables.specs.declared.changes.Change.{Change}
 use Rattle.cad_tables.specs.Steps.{MakesTables, Creates, CreatesTo, Commands, Commits, CommitsTo, IsWrittenTo}
 
@@ -22,7 +22,7 @@ module _ {S : Type 0} (g : Ghosts S) (old begun last ended : Held S) (begins : b
   crash_through made inside after =
       survives_then (state g old) (state g last) (state g ended) _ _ P (λ _ db none. absurd none) (λ clean db is. subst P (sym is) (made (omega (arith, after.clean)))) (survives_begin g old (state g last) _ (rw begins at inside)) after
 
-module _ {S L : Type 0} (g : Ghosts S) (line_of : L → Line) (old begun last ended : Held S) (change : Change L) (revision : ℕ) (begins : begun ≡ record old { in_transaction = true }) where
+module _ {S L : Type 0} (g : Ghosts S) (line_of : L → VersionRow) (old begun last ended : Held S) (change : Change L) (revision : ℕ) (begins : begun ≡ record old { in_transaction = true }) where
   pub commits : Commands line_of change revision (state g begun) (state g last) → Shows (state g last) (state g ended) (state g last).now (state g last).now false
       → Commits line_of change revision (state g old) (state g ended)
   commits made shown =

@@ -19,7 +19,7 @@ use Rattle.sqlite.proofs.Callers.{statement_of, runs_as, one_step}
 use Rattle.cad_tables.specs.Texts.{enter_text, close_text}
 use Rattle.cad_tables.specs.Tables.{register_schema, version_table}
 use Rattle.cad_tables.specs.Holding.{row_of, rows_of, Holds}
-use Rattle.cad_tables.specs.Line.{Line, cells_of}
+use Rattle.cad_tables.specs.VersionRow.{VersionRow, cells_of}
 use Rattle.cad_tables.proofs.Queries.{enter_terms, close_query}
 use Rattle.cad_tables.proofs.CellLemmas.{cast_null, cast_int, typed}
 use Rattle.cad_tables.proofs.Parse.{enter_is, enter_plain, close_is, close_plain}
@@ -36,7 +36,7 @@ went (inr on) = on
 pub same_value : {B E : Type 0} {a b : B} → ◌≡◌ {A = Result B E} (Ok a) (Ok b) → a ≡ b
 same_value e = cc
 
-pub adds : (old new : State) (n : ℕ) (xs : List Line) (x : Line) (count : ℕ) → Holds n xs old.now → Executes enter_text (cells_of x) old new (Ok count)
+pub adds : (old new : State) (n : ℕ) (xs : List VersionRow) (x : VersionRow) (count : ℕ) → Holds n xs old.now → Executes enter_text (cells_of x) old new (Ok count)
     → Holds n (xs ++ x ∷ []) new.now
 adds old new n xs x count has h =
     let params = cells_of x in
@@ -61,8 +61,8 @@ adds old new n xs x count has h =
       versions = ap (λ (t : Trees). t 1) whole ∙ applied.rows ∙ edit;
     }
 
-pub closes : (old new : State) (n : ℕ) (front back : List Line) (x y : Line) (params : Row) (count : ℕ) → Holds n (front ++ x ∷ back) old.now
-    → (test : Line → Bool) → ((line : ℕ × Line) → list_all (holds (params ∷ row_of line ∷ [])) close_query.filter ≡ test line.1)
+pub closes : (old new : State) (n : ℕ) (front back : List VersionRow) (x y : VersionRow) (params : Row) (count : ℕ) → Holds n (front ++ x ∷ back) old.now
+    → (test : VersionRow → Bool) → ((line : ℕ × VersionRow) → list_all (holds (params ∷ row_of line ∷ [])) close_query.filter ≡ test line.1)
     → AllByRecursion (λ z. test z ≡ false) front → test x ≡ true → AllByRecursion (λ z. test z ≡ false) back
     → ((k : ℕ) → eval_all close_query.project (params ∷ row_of (k, x) ∷ []) ≡ Int (pos k) ∷ Int (pos k) ∷ cells_of y)
     → Executes close_text params old new (Ok count) → Holds n (front ++ y ∷ back) new.now
@@ -79,7 +79,7 @@ closes old new n front back x y params count has test tests before here after sh
     let wrote = went found.2 in
     let trees : done.0.trees ≡ wrote.0 = ap (λ (it : Written). it.trees) (same_value wrote.2) in
     let one = finds (overlay db []) 1 xs has.versions close_query.filter params (λ line. test line.1) tests
-    ∙ ap (map (λ (line : ℕ × Line). params ∷ row_of line ∷ [])) (one_of test 1 front back x before here after) in
+    ∙ ap (map (λ (line : ℕ × VersionRow). params ∷ row_of line ∷ [])) (one_of test 1 front back x before here after) in
     let rows : found.0 ≡ (Int (pos k) ∷ Int (pos k) ∷ cells_of y) ∷ [] = one_answer close_query (overlay db []) params (params ∷ row_of (k, x) ∷ []) found.0 refl refl one (found.1.answer Null) ∙ ap (λ (r : Row). r ∷ []) (shown k) in
     let applied = one_step register_schema _ db wrote.0 (edit_of db version_table (ids_of found.0) Given 1 found.0) refl wrote.1 in
     let edit : edited db (edit_of db version_table (ids_of found.0) Given 1 found.0) ≡ rows_of (front ++ y ∷ back) =

@@ -1,14 +1,14 @@
 -- What a change leaves alone.
 use Rattle.std.specs.Prelude.{◌≡◌, ℕ, List, length, map, take, None}
-use Rattle.cad_tables.specs.Line.{Line}
+use Rattle.cad_tables.specs.VersionRow.{VersionRow}
 use Rattle.cad_tables.specs.Changes.{changed}
 use Rattle.cad_tables.specs.declared.changes.Change.{Change}
 
 -- own profile: all of a line but whether and when it was closed
-abbrev pub unclosed : Line → Line
+abbrev pub unclosed : VersionRow → VersionRow
 unclosed line = record line { last = None; closed = None }
 
 -- ISO 19152, VersionedObject: a change takes no line out, moves none, and of those that were there alters the closing alone
-abbrev pub KeepsLines : {L : Type 0} → (L → Line) → Type 0
+abbrev pub KeepsLines : {L : Type 0} → (L → VersionRow) → Type 0
 KeepsLines {L} line_of =
-    (change : Change L) (revision : ℕ) (lines : List Line) → map unclosed (take (length lines) (changed line_of change revision lines)) ≡ map unclosed lines
+    (change : Change L) (revision : ℕ) (lines : List VersionRow) → map unclosed (take (length lines) (changed line_of change revision lines)) ≡ map unclosed lines

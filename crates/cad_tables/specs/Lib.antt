@@ -1,4 +1,4 @@
-pub mod Line
+pub mod VersionRow
 pub mod Tables
 pub mod Texts
 pub mod Faults
@@ -7,5 +7,7 @@ pub mod Refusals
 pub mod Changes
 pub mod Laws
 pub mod Steps
+pub mod Asking
 pub mod Listing
 pub mod Opening
+pub mod SchemaLemmas

@@ -10,7 +10,7 @@ use Rattle.sqlite.specs.State.{ExecutesInside}
 use Rattle.sqlite.specs.Steps.{FailsToCommit}
 use Rattle.sqlite.specs.Held.{Held, state}
 use Rattle.cad_tables.specs.Texts.{state_text, version_text, begin_text, enter_text, close_text, count_text}
-use Rattle.cad_tables.specs.Line.{Line, cells_of}
+use Rattle.cad_tables.specs.VersionRow.{VersionRow, cells_of}
 use Rattle.cad_tables.specs.declared.changes.Closing.{Closing}
 use Rattle.cad_tables.specs.declared.changes.Change.{Change}
 use Rattle.cad_tables.specs.declared.changes.Change.TheVariants.{Enter, Amend, Retire}
@@ -20,7 +20,7 @@ pub record Statement : Type 0 where
   pub text : List ℕ
   pub params : Row
 
-abbrev pub entering : Line → Statement
+abbrev pub entering : VersionRow → Statement
 entering line = record { text = enter_text; params = cells_of line }
 
 abbrev pub closing : Closing → ℕ → Statement
@@ -30,13 +30,13 @@ abbrev pub counting : ℕ → Statement
 counting revision = record { text = count_text; params = Int (pos revision) ∷ [] }
 
 -- own profile: the statements of a change
-abbrev pub statements_of : {L : Type 0} → (L → Line) → Change L → ℕ → List Statement
+abbrev pub statements_of : {L : Type 0} → (L → VersionRow) → Change L → ℕ → List Statement
 statements_of line_of (Enter line) revision = entering (line_of line) ∷ []
 statements_of line_of (Amend c line) revision = closing c revision ∷ entering (line_of line) ∷ []
 statements_of line_of (Retire c) revision = closing c revision ∷ []
 
 -- own profile: those, and then the one that counts: at most three
-abbrev pub all_statements_of : {L : Type 0} → (L → Line) → Change L → ℕ → List Statement
+abbrev pub all_statements_of : {L : Type 0} → (L → VersionRow) → Change L → ℕ → List Statement
 all_statements_of line_of change revision = statements_of line_of change revision ++ counting revision ∷ []
 
 abbrev pub making_state : Statement

@@ -3,7 +3,7 @@ use Rattle.std.specs.Prelude.{◌≡◌, ℕ, true, false, IsTrue, List, [], ◌
 use Rattle.sqlite_trees.specs.Tree.{Trees}
 use Rattle.sqlite.specs.Effect.{Database, IsDatabase}
 use Rattle.sqlite.specs.State.{State, Shows}
-use Rattle.cad_tables.specs.Line.{Line}
+use Rattle.cad_tables.specs.VersionRow.{VersionRow}
 use Rattle.cad_tables.specs.Tables.{no_schema, is_standing}
 use Rattle.cad_tables.specs.Holding.{Holds}
 use Rattle.cad_tables.specs.Changes.{closed_if, changed, NamesOne, Fits}
@@ -19,18 +19,18 @@ abbrev pub KeepsAll : State → State → Type 0
 KeepsAll old new = (new.now ≡ old.now) × (new.committed ≡ old.committed)
 
 -- own profile: the line is added at the end
-pub record Adds (line : Line) (old new : State) : Type 0 where
-  pub holds : (n : ℕ) (lines : List Line) → Holds n lines old.now → Holds n (lines ++ line ∷ []) new.now
+pub record Adds (line : VersionRow) (old new : State) : Type 0 where
+  pub holds : (n : ℕ) (lines : List VersionRow) → Holds n lines old.now → Holds n (lines ++ line ∷ []) new.now
   pub inside : IsInside old new
 
--- own profile: the revision is this, in a database that lists its tables and obeys them
+-- own profile: the revision is this, in a database whose catalog lists its tables and whose rows keep their constraints
 pub record Counts (revision : ℕ) (old new : State) : Type 0 where
-  pub holds : (n : ℕ) (lines : List Line) → Holds n lines old.now → Holds revision lines new.now × IsDatabase new.now
+  pub holds : (n : ℕ) (lines : List VersionRow) → Holds n lines old.now → Holds revision lines new.now × IsDatabase new.now
   pub inside : IsInside old new
 
 -- own profile: the open line of the object is closed
 pub record Closes (c : Closing) (revision : ℕ) (old new : State) : Type 0 where
-  pub holds : (n : ℕ) (lines : List Line) → NamesOne c lines → Holds n lines old.now → Holds n (map (closed_if c revision) lines) new.now
+  pub holds : (n : ℕ) (lines : List VersionRow) → NamesOne c lines → Holds n lines old.now → Holds n (map (closed_if c revision) lines) new.now
   pub inside : IsInside old new
 
 -- own profile: neither name was in use, and an empty database has the two tables, at revision 0 and with no lines
@@ -39,15 +39,15 @@ pub record MakesTables (old new : State) : Type 0 where
   pub holds : old.now.schema ≡ no_schema → Holds 0 [] new.now × IsDatabase new.now
   pub inside : IsInside old new
 
-module _ {L : Type 0} (line_of : L → Line) (change : Change L) (revision : ℕ) (old : State) where
+module _ {L : Type 0} (line_of : L → VersionRow) (change : Change L) (revision : ℕ) (old : State) where
   -- own profile: the lines are changed, and the revision is as it was
   pub record Changes (new : State) : Type 0 where
-    pub holds : (n : ℕ) (lines : List Line) → Fits change lines → Holds n lines old.now → Holds n (changed line_of change revision lines) new.now
+    pub holds : (n : ℕ) (lines : List VersionRow) → Fits change lines → Holds n lines old.now → Holds n (changed line_of change revision lines) new.now
     pub inside : IsInside old new
 
-  -- own profile: the lines are changed, and the revision is this, in a database that lists its tables and obeys them
+  -- own profile: the lines are changed, and the revision is this, in a database whose catalog lists its tables and whose rows keep their constraints
   abbrev pub IsWrittenTo : Database → Type 0
-  IsWrittenTo db = (n : ℕ) (lines : List Line) → Fits change lines → Holds n lines old.now → Holds revision (changed line_of change revision lines) db × IsDatabase db
+  IsWrittenTo db = (n : ℕ) (lines : List VersionRow) → Fits change lines → Holds n lines old.now → Holds revision (changed line_of change revision lines) db × IsDatabase db
 
   -- own profile: so it is inside the transaction
   pub record Commands (new : State) : Type 0 where

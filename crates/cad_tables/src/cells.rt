@@ -3,14 +3,14 @@
 ghost use Rattle.std.specs.Prelude.{◌≡◌, [], ◌∷◌, pos};
 ghost use Rattle.sqlite_value.specs.declared.value.Value.TheVariants.{Int};
 ghost use Rattle.sqlite.specs.Values.{bound};
-ghost use Rattle.cad_tables.specs.Line.{Line, cells_of};
+ghost use Rattle.cad_tables.specs.VersionRow.{VersionRow, cells_of};
 
 use crate::changes::Closing;
 use sqlite::types::ValueRef;
 
 /// A version as a row of the table `version`.
 pub trait Stored {
-    ghost line: { Self → Line };
+    ghost line: { Self → VersionRow };
 
     /// The cells in the order of the columns: object, number, class, first, last, entered, closed, name, code,
     /// label, area, unit, party, share_num, share_den, required, spot_x, spot_y, shape.

@@ -7,7 +7,7 @@ use Rattle.sqlite_value.proofs.OrderLemmas.{value_cmp-Null}
 use Rattle.sqlite.specs.Held.{state}
 use Rattle.cad_tables.specs.Holding.{Holds}
 use Rattle.cad_tables.proofs.Writes.{closes}
-use Rattle.cad_tables.specs.Line.{Line}
+use Rattle.cad_tables.specs.VersionRow.{VersionRow}
 use Rattle.cad_tables.specs.Changes.{is_open_of, closed_line}
 use Rattle.cad_tables.proofs.LineLemmas.{cut_at, map_cut}
 use Rattle.std.proofs.Common.{inl}
@@ -22,7 +22,7 @@ returns-clause-closes g c clean inside =
     let ran = c.in_ok-execute.ensures.runs clean inside in
     let k = c.args.closing in
     let params : Row = Int (pos k.object) ∷ Int k.last ∷ Int (pos c.args.revision) ∷ [] in
-    let test = λ (l : Line). is_open_of k.object l in
+    let test = λ (l : VersionRow). is_open_of k.object l in
     record {
       holds = λ n lines one has.
           let cut = cut_at test lines one.0 one.1 in

@@ -5,7 +5,7 @@ use Rattle.sqlite_value.specs.Order.{Row}
 use Rattle.sqlite_typed.specs.Columns.{or_null}
 
 -- own profile: one version of an object (ISO 19152, VersionedObject), with the revision that entered it and the one that closed it; a field that the class of the object has not is absent
-pub record Line : Type 0 where
+pub record VersionRow : Type 0 where
   pub object : ℕ
   pub number : ℕ
   pub class : ℕ
@@ -27,7 +27,7 @@ pub record Line : Type 0 where
   pub shape : Option (List ℕ)
 
 -- the nineteen cells of the row, in the order of the columns (SQLite, Datatypes, section 2: storage classes)
-abbrev pub cells_of : Line → Row
+abbrev pub cells_of : VersionRow → Row
 cells_of l =
     Int (pos l.object) ∷ Int (pos l.number) ∷ Int (pos l.class) ∷ Int l.first ∷ or_null Int l.last
     ∷ Int (pos l.entered) ∷ or_null (λ n. Int (pos n)) l.closed
