@@ -10,5 +10,6 @@ pub mod CountLemmas
 pub mod DecisionLemmas
 pub mod WriteLemmas
 pub mod SurvivingLemmas
+pub mod LeavingLemmas
 pub mod RefusingLemmas
 pub mod OpeningLemmas

@@ -1,5 +1,5 @@
 -- One version more of a listing.
-use Rattle.std.proofs.Common.{◌≡◌, ℕ, ℤ, ◌≤ℤ◌, pos, true, false, cond, List, [], ◌∷◌, ◌++◌, Option, Some, None, Less, refl, sym, ap, subst, arith}
+use Rattle.std.proofs.Common.{◌≡◌, ℕ, ℤ, ◌≤ℤ◌, true, false, cond, List, [], ◌∷◌, ◌++◌, Option, Some, None, Less, refl, sym, ap, subst, arith}
 use Rattle.std.specs.List.{All, AllByRecursion}
 use Rattle.std.specs.List.Sorted.{IsStrictlySortedBy}
 use Rattle.std.specs.Option.{ForSome}
@@ -9,7 +9,6 @@ use Rattle.std.proofs.lemmas.List.Elements.{All-push}
 use Rattle.sqlite_value.specs.Order.{Row}
 use Rattle.sqlite_keyed.proofs.ListLemmas.{all-append}
 use Rattle.cad_day.specs.Days.{number_of}
-use Rattle.cad_versions.specs.Objects.{object_number}
 use Rattle.cad_versions.specs.VersionedObject.{VersionedObject, IsVersion}
 use Rattle.cad_versions.specs.Identifiers.{identifier_of, by_identifier}
 use Rattle.cad_versions.specs.Entries.{Entry, seen_at, is_closed_by}

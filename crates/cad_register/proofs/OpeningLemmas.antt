@@ -1,47 +1,89 @@
 -- A database in which no register could be made, since one stands there.
-use Rattle.std.proofs.Common.{◌≡◌, ◌≤◌, List, length, refl, true, false, true≢false, IsTrue, Result, Ok, Err, IfOk, IfErr, MatchResult, inr, sym, ap, ◌∙◌}
-use Rattle.std.specs.Prelude.{◌≢◌}
+use Rattle.std.proofs.Common.{◌≡◌, List, refl, true, false, true≢false, Ok, Err, inl, inr, sym, ap, subst, ◌∙◌}
 use Rattle.sqlite_trees.specs.declared.store.Store.{Ghosts}
 use Rattle.sqlite_schema.specs.Names.{same_name}
 use Rattle.sqlite.specs.State.{State, HasCleanDisk}
 use Rattle.sqlite.specs.Held.{Held, state}
-use Rattle.cad_tables.specs.Steps.{KeepsAll}
-use Rattle.cad_tables.specs.Opening.{RefusesRegister}
-use Rattle.cad_tables.specs.Tables.{is_standing, register_schema}
-use Rattle.cad_tables.specs.declared.faults.TableFault.{TableFault}
+use Rattle.cad_tables.specs.Opening.{IsSettled}
+use Rattle.cad_tables.specs.Tables.{is_standing, register_schema, no_schema}
 use Rattle.cad_versions.specs.declared.command.Command.{Command}
 use Rattle.cad_versions.specs.declared.fault.RegisterFault.{RegisterFault}
 use Rattle.cad_versions.specs.declared.fault.RegisterFault.TheVariants.{NotARegister}
-use Rattle.cad_register.specs.Refusing.{told_as, RefusesDatabase}
+use Rattle.cad_register.specs.Leaving.{IsOfTheRegister}
+use Rattle.cad_register.specs.Opening.{Outcome, Created, Opened, OpenedOrCreated}
 use Rattle.cad_register.specs.declared.register.Register.{Register}
-use Rattle.cad_register.specs.Registers.{state_of, IsRegisterOf}
-use Rattle.cad_register.specs.Stands.{StandsFor, KeepsWhileOpen}
-use Rattle.cad_register.proofs.StandLemmas.{stands_kept}
+use Rattle.cad_register.specs.Stands.{StandsFor}
+use Rattle.cad_register.proofs.StandLemmas.{stands_same}
+use Rattle.cad_register.proofs.SurvivingLemmas.{stands_opened}
+use Rattle.cad_register.proofs.LeavingLemmas.{as_before, before_then}
 
 register_stands : is_standing register_schema ≡ true
 unfolding same_name
 register_stands = refl
 
+nothing_stands : is_standing no_schema ≡ false
+nothing_stands = refl
+
+of_register : (cause : RegisterFault) → cause ≡ NotARegister → IsOfTheRegister cause
+of_register cause is = subst IsOfTheRegister (sym is) tt
+
 -- where neither table stands, they stand for nothing
-pub stands_free : (s : State) (cs : List Command) → StandsFor s cs → is_standing s.now.schema ≡ false → ⊥
+stands_free : (s : State) (cs : List Command) → StandsFor s cs → is_standing s.now.schema ≡ false → ⊥
 stands_free s cs stands free = true≢false (sym (ap is_standing stands.holds.schema ∙ register_stands) ∙ free)
 
--- what is opened after that is the register that stood before
-pub found_after : {S : Type 0} (g : Ghosts S) (old mid : Held S) (result : Result (Register S) (RegisterFault × Held S)) → (HasCleanDisk (state g mid) → IsTrue (state g mid).is_open → KeepsAll (state g old) (state g mid))
-    → IfOk result (λ register. HasCleanDisk (state_of g register) → (cs : List Command) → StandsFor (state g mid) cs → length cs ≤ 4294967294 → IsRegisterOf g register cs)
-    → IfOk result (λ register. HasCleanDisk (state_of g register) → IsTrue (state g mid).is_open)
-    → MatchResult result (λ register. HasCleanDisk (state_of g register) → HasCleanDisk (state g mid)) (λ refused. HasCleanDisk (state g refused.1) → HasCleanDisk (state g mid))
-    → IfOk result (λ register. HasCleanDisk (state_of g register) → (cs : List Command) → StandsFor (state g old) cs → length cs ≤ 4294967294 → IsRegisterOf g register cs)
-found_after g old mid (Ok register) kept found live settled = λ clean cs stands low.
-    found clean cs (stands_kept (state g old) (state g mid) cs (kept (settled clean) (live clean)) (live clean) stands) low
-found_after g old mid (Err refused) kept found live settled = tt
+module _ {S : Type 0} (g : Ghosts S) (lent : Held S) where
+  -- the register is made
+  pub created_here : (register : Register S) → Created g lent (Ok register) → OpenedOrCreated g lent (Ok register)
+  created_here register it = record {
+    made = it.made;
+    found = λ clean. inl (it.free clean);
+    missing = λ clean. tt;
+    cause = tt;
+    store = λ clean. tt;
+    stands = λ clean cs stands low. absurd (stands_free (state g lent) cs stands (it.free clean));
+    recovered = λ clean cs opened low. absurd (stands_free (state g lent) cs (stands_opened (state g lent) cs opened) (it.free clean));
+    same = λ clean. tt;
+    kept = λ clean. tt;
+    clean = it.clean;
+    crash = it.crash;
+  }
 
--- what is refused after that is a question for that register
-pub refused_after : {S : Type 0} (g : Ghosts S) (old mid : Held S) (result : Result (Register S) (RegisterFault × Held S)) → (HasCleanDisk (state g mid) → is_standing (state g old).now.schema ≡ true) → (HasCleanDisk (state g mid) → KeepsWhileOpen (state g old) (state g mid))
-    → IfErr result (λ refused. HasCleanDisk (state g refused.1) → refused.0 ≢ NotARegister → (cause : TableFault) × (refused.0 ≡ told_as cause) × RefusesRegister g mid refused.1 cause)
-    → MatchResult result (λ register. HasCleanDisk (state_of g register) → HasCleanDisk (state g mid)) (λ refused. HasCleanDisk (state g refused.1) → HasCleanDisk (state g mid))
-    → IfErr result (λ refused. HasCleanDisk (state g refused.1) → refused.0 ≢ NotARegister → RefusesDatabase g old refused.1 refused.0)
-refused_after g old mid (Ok register) standing kept store settled = tt
-refused_after g old mid (Err refused) standing kept store settled = λ clean other.
-    let told = store clean other in
-    inr (mid, told.0, standing (settled clean), kept (settled clean), told.1, told.2)
+  -- a name is in use, and what stands there is opened
+  module _ (mid : Held S) (created : Created g lent (Err (NotARegister, mid))) where
+    standing : (clean : HasCleanDisk (state g mid)) → (is_standing lent.schema ≡ true) × IsSettled g lent mid
+    standing clean = created.taken clean refl
+
+    pub opened_later : (result : Outcome S) → Opened g mid result → OpenedOrCreated g lent result
+    opened_later (Ok register) it =
+        let early = it.leaves.clean in
+        record {
+          made = λ clean none. absurd (true≢false (sym (standing (early clean)).0 ∙ ap is_standing none ∙ nothing_stands));
+          found = λ clean. let stood = standing (early clean) in inr (stood.0, mid, stood.1, it.found clean);
+          missing = λ clean. tt;
+          cause = tt;
+          store = λ clean. tt;
+          stands = λ clean cs stands low. it.stands clean cs (stands_same (state g lent) (state g mid) cs (standing (early clean)).1.same stands) low;
+          recovered = λ clean cs opened low. it.stands clean cs (stands_same (state g lent) (state g mid) cs (standing (early clean)).1.same (stands_opened (state g lent) cs opened)) low;
+          same = λ clean. tt;
+          kept = λ clean. tt;
+          clean = λ clean. created.clean (early clean);
+          crash = λ clean trees h. created.crash (early clean) trees (it.leaves.left clean trees h);
+        }
+    opened_later (Err refused) it =
+        let early = it.leaves.clean in
+        record {
+          made = λ clean. tt;
+          found = λ clean. tt;
+          missing = λ clean is. let stood = standing (early clean) in (stood.0, mid, stood.1, it.missing clean is);
+          cause = it.cause;
+          store = λ clean other. let stood = standing (early clean) in inr (stood.0, mid, stood.1, it.store clean other);
+          stands = λ clean cs stands low. it.stands clean cs (stands_same (state g lent) (state g mid) cs (standing (early clean)).1.same stands) low;
+          recovered = λ clean cs opened low. it.stands clean cs (stands_same (state g lent) (state g mid) cs (standing (early clean)).1.same (stands_opened (state g lent) cs opened)) low;
+          same = λ clean is. before_then (state g lent) (state g mid) (state g refused.1) (as_before (state g lent) (state g mid) (standing (early clean)).1.same) (it.leaves.same clean (of_register refused.0 is));
+          kept = λ clean still settled.
+              let same = (standing (early clean)).1.same in
+              let later = it.leaves.kept clean still (same.0.committed_is ∙ settled ∙ sym same.0.now_is) in
+              (later.0 ∙ same.0.now_is, later.1 ∙ same.0.committed_is);
+          clean = λ clean. created.clean (early clean);
+          crash = λ clean trees h. created.crash (early clean) trees (it.leaves.left clean trees h);
+        }

@@ -22,7 +22,7 @@ use Rattle.cad_versions.specs.VersionedObject.{VersionedObject}
 use Rattle.cad_versions.specs.AsOf.{as_of, entries_listed}
 use Rattle.cad_versions.specs.EntryLemmas.{listing_is}
 use Rattle.cad_versions.specs.declared.command.Command.{Command}
-use Rattle.cad_versions.specs.Entries.{Entry, entries_of, entries_at, seen_at}
+use Rattle.cad_versions.specs.Entries.{Entry, entries_of, seen_at}
 use Rattle.cad_register.specs.Rows.{line_of}
 use Rattle.cad_register.specs.Damage.{IsCauseIn}
 use Rattle.cad_register.specs.Stands.{StandsFor, IsStoreFault, IsListingFault, IsRefusal, rows_at}
@@ -43,7 +43,7 @@ stands_same old new cs same stands = stands_kept old new cs (same.0.now_is, same
 -- a database that tells a revision was open
 pub told_while_open : {S : Type 0} (g : Ghosts S) (old new : Held S) (revision : ℕ) → TellsRegister g old new (Some revision) → IsTrue (state g old).is_open
 told_while_open g old new revision (inl lacking) = absurd (cc lacking.1)
-told_while_open g old new revision (inr told) = told.1.same.0.was_open
+told_while_open g old new revision (inr told) = told.2.same.0.was_open
 
 listing_cause : (revision : ℕ) (cs : List Command) (f : RegisterFault) → IsCauseIn (rows_at revision cs) f → IsListingFault revision cs f
 listing_cause revision cs fault.Store h = tt

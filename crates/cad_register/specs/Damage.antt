@@ -1,5 +1,5 @@
 -- Which rows make a register (own profile).
-use Rattle.std.specs.Prelude.{◌≡◌, ℕ, ◌+◌, ◌<◌, ℤ, pos, Bool, true, List, [], ◌∷◌, Option, Some, None, ◌⊎◌}
+use Rattle.std.specs.Prelude.{◌≡◌, ℕ, ◌+◌, ◌<◌, ℤ, pos, Bool, true, List, [], ◌∷◌, Option, Some, None, ◌⊎◌, Vec, Result, Ok, Err}
 use Rattle.std.specs.Ordering.{is_lt}
 use Rattle.sqlite_value.specs.declared.value.Value.{Value}
 use Rattle.sqlite_value.specs.declared.value.Value.TheVariants.{Int}
@@ -8,6 +8,11 @@ use Rattle.cad_versions.specs.Identifiers.{identifier_cmp}
 use Rattle.cad_versions.specs.declared.fault.RegisterFault.{RegisterFault}
 use Rattle.cad_versions.specs.declared.fault.RegisterFault.TheVariants as fault
 use Rattle.cad_register.specs.declared.kept.KeptVersion.{KeptVersion}
+use Rattle.cad_versions.specs.VersionedObject.{VersionedObject}
+use Rattle.cad_versions.specs.Entries.{seen_at}
+use Rattle.sqlite.specs.State.{State, HasCleanDisk, Shown}
+use Rattle.cad_tables.specs.Texts.{listing_text}
+use Rattle.std.specs.Global.{Global}
 use Rattle.cad_register.specs.Kept.{IsRowOf, entry_of}
 
 abbrev pub number_in : Value → ℤ
@@ -49,3 +54,19 @@ IsCauseIn rows other = ⊥
 
 abbrev pub damage_of : Row → RegisterFault
 damage_of row = fault.Damaged (number_in (column row 0)) (number_in (column row 1))
+
+-- each version is what its row shows at the revision
+abbrev pub AreSeenAt : ℕ → List Row → List VersionedObject → Type 0
+AreSeenAt revision [] [] = Unit {0}
+AreSeenAt revision (row ∷ rows) (v ∷ vs) = ((kept : KeptVersion) × IsRowOf row (entry_of kept) × (v ≡ seen_at revision (entry_of kept))) × AreSeenAt revision rows vs
+AreSeenAt revision rows vs = ⊥
+
+-- the database shows these rows for the revision, by its own account
+abbrev pub AreShown : State → State → ℕ → List Row → Type 0
+AreShown old new revision rows = HasCleanDisk new → Shown listing_text (Int (pos revision) ∷ []) old new rows
+
+-- whatever the disk returns, versions are listed of sound rows alone, and the damaged row is the first that breaks a rule, of the rows that the database shows
+abbrev pub ReadsRows : State → State → ℕ → Result (Vec VersionedObject Global) RegisterFault → Type 0
+ReadsRows old new revision (Ok found) = (rows : List Row) × AreShown old new revision rows × AreSound None 0 rows × AreSeenAt revision rows found.items
+ReadsRows old new revision (Err (fault.Damaged object number)) = (rows : List Row) × AreShown old new revision rows × IsFirstDamaged (object, number) None 0 rows
+ReadsRows old new revision (Err other) = Unit {0}

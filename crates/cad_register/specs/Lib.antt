@@ -8,6 +8,8 @@ pub mod Outlines
 pub mod Changing
 pub mod Refusing
 pub mod Surviving
+pub mod Leaving
 pub mod Registers
+pub mod Opening
 pub mod Applying
 pub mod Ledgers

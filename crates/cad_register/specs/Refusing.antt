@@ -1,5 +1,5 @@
 -- What the database refuses of a command, by its own account.
-use Rattle.std.specs.Prelude.{◌≡◌, ◌≢◌, ◌⊎◌, ◌≤◌, ℕ, ◌+◌, pos, true, List, [], ◌∷◌, Option, Some, None, Result, MatchResult}
+use Rattle.std.specs.Prelude.{◌≡◌, ◌≢◌, ◌⊎◌, ◌≤◌, ℕ, ◌+◌, pos, List, [], ◌∷◌, Option, Some, None, Result, MatchResult}
 use Rattle.sqlite_value.specs.declared.value.Value.TheVariants.{Int}
 use Rattle.sqlite_trees.specs.declared.store.Store.{Ghosts}
 use Rattle.sqlite.specs.declared.error.Error.{Error}
@@ -7,9 +7,8 @@ use Rattle.sqlite.specs.State.{FailsToQuery}
 use Rattle.sqlite.specs.Held.{Held, state}
 use Rattle.cad_tables.specs.Texts.{history_text, listing_text}
 use Rattle.cad_tables.specs.Faults.{fault_of}
-use Rattle.cad_tables.specs.Opening.{IsSettled, RefusesRegister}
-use Rattle.cad_tables.specs.Tables.{is_standing}
-use Rattle.cad_tables.specs.Refusals.{Statement, RefusesTransaction, creating, all_statements_of}
+use Rattle.cad_tables.specs.Opening.{IsSettled}
+use Rattle.cad_tables.specs.Refusals.{Statement, RefusesTransaction, all_statements_of}
 use Rattle.cad_tables.specs.declared.changes.Change.{Change}
 use Rattle.cad_tables.specs.declared.faults.TableFault.{TableFault}
 use Rattle.cad_tables.specs.declared.faults.TableFault.TheVariants.{Memory, Store}
@@ -23,7 +22,7 @@ use Rattle.cad_versions.specs.Command.{object_named, body_added}
 use Rattle.cad_versions.specs.Refusals.{unit_named, party_named, most_versions}
 use Rattle.cad_register.specs.declared.writing.NewEntry.{NewEntry}
 use Rattle.cad_register.specs.Changing.{IsChangeOf, line_written}
-use Rattle.cad_register.specs.Stands.{StandsFor, KeepsWhileOpen}
+use Rattle.cad_register.specs.Stands.{StandsFor}
 
 -- want of memory is told as such, and every other refusal of the database as its own (own profile)
 abbrev pub told_as : TableFault → RegisterFault
@@ -70,12 +69,6 @@ abbrev pub IsForCommand : Command → ℕ → Statement → Type 0
 IsForCommand command revision question = IsForObject (object_named command) question ⊎ IsForAddition (body_added command) revision question
 
 -- ---- what is refused (own profile)
-
--- the database refuses to make the tables, or, since one stands there, a question for the register
-abbrev pub RefusesDatabase : {S : Type 0} → Ghosts S → Held S → Held S → RegisterFault → Type 0
-RefusesDatabase g old new fault =
-    ((e : Error) × (fault ≡ told_as (fault_of e)) × RefusesTransaction g creating e old new)
-    ⊎ ((mid : Held _) × (cause : TableFault) × (is_standing (state g old).now.schema ≡ true) × KeepsWhileOpen (state g old) (state g mid) × (fault ≡ told_as cause) × RefusesRegister g mid new cause)
 
 module _ {S : Type 0} (g : Ghosts S) (old new : Held S) where
   -- with the database as it was, it refuses one of these questions, and not for want of memory

@@ -9,6 +9,7 @@ use Rattle.cad_versions.specs.declared.fault.RegisterFault.TheVariants as fault
 use Rattle.cad_versions.specs.Versions.{versions}
 use Rattle.cad_versions.specs.Refusals.{refusal}
 use Rattle.cad_register.specs.declared.register.Register.{Register}
+use Rattle.cad_register.specs.Leaving.{IsAsBefore}
 use Rattle.cad_register.specs.Stands.{StandsFor, IsRefusal}
 
 -- the connection that the register holds
@@ -26,6 +27,10 @@ revision_of register = register.revision
 pub record IsRegisterOf {S : Type 0} (g : Ghosts S) (register : Register S) (commands : List Command) : Type 0 where
   pub stands : StandsFor (state_of g register) commands
   pub counted : revision_of register ≡ length commands
+
+-- it shows what it showed, and counts as many commands
+abbrev pub IsStill : {S : Type 0} → Ghosts S → Register S → Register S → Type 0
+IsStill g old new = IsAsBefore (state_of g old) (state_of g new) × (revision_of new ≡ revision_of old)
 
 -- why apply refuses a command: the cause of the fold, what a listing may fail for, or a revision beyond which none is stored, where the fold has no cause
 abbrev pub IsRefused : List Command → Command → RegisterFault → Type 0

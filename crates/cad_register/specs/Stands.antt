@@ -42,6 +42,13 @@ IsStoreFault fault.Store = Unit {0}
 IsStoreFault fault.Memory = Unit {0}
 IsStoreFault other = ⊥
 
+-- why a revision that was made is not listed, whatever the disk returns
+abbrev pub IsReadingFault : RegisterFault → Type 0
+IsReadingFault (fault.Damaged object number) = Unit {0}
+IsReadingFault fault.Store = Unit {0}
+IsReadingFault fault.Memory = Unit {0}
+IsReadingFault other = ⊥
+
 -- the rows that a revision lists
 abbrev pub rows_at : ℕ → List Command → List Row
 rows_at revision commands = map (λ entry. cells_of (line_of entry)) (entries_listed revision (entries_of commands))

@@ -11,8 +11,9 @@ ghost use Rattle.cad_versions.specs.Versions.{versions};
 ghost use Rattle.cad_versions.specs.AsOf.{as_of};
 ghost use Rattle.cad_versions.specs.Listing.{IsListing};
 ghost use Rattle.cad_register.specs.Outlines.{IsStanding};
-ghost use Rattle.cad_register.specs.Stands.{Tells, IsStoreFault, IsListingFault};
-ghost use Rattle.cad_register.specs.Surviving.{KeepsDisk};
+ghost use Rattle.cad_register.specs.Stands.{Tells, IsStoreFault, IsListingFault, IsReadingFault};
+ghost use Rattle.cad_register.specs.Damage.{ReadsRows};
+ghost use Rattle.cad_register.specs.Leaving.{AsksOnly};
 ghost use Rattle.cad_register.specs.Refusing.{Asks, IsForObject, IsForLines, IsNotForMemory, told_as};
 
 use crate::columns::ReadFault;
@@ -44,10 +45,8 @@ pub(crate) fn standing_of<S: Alter>(
         IsStoreFault fault) }
     ensures asked { HasCleanDisk (state S.Store connection.new) →
         Asks S.Store connection.old connection.new (IsForObject object) result }
-    ensures left { HasCleanDisk (state S.Store connection.new) →
-        KeepsDisk (state S.Store connection.old) (state S.Store connection.new) }
-    ensures clean { HasCleanDisk (state S.Store connection.new) →
-        HasCleanDisk (state S.Store connection.old) }
+    ensures leaves { AsksOnly (state S.Store connection.old) (state S.Store connection.new) result }
+    ensures known { IfErr result (λ fault. fault ≢ RegisterFault.UnknownRevision) }
 {
     let rows = match cad_tables::history(connection, object.number()) {
         Ok(rows) => rows,
@@ -74,16 +73,14 @@ pub(crate) fn versions_of<S: Alter>(
         (λ commands found. revision ≤ length commands → found.items ≡ as_of revision commands)
         (λ commands fault. IsListingFault revision commands fault) }
     ensures listed { IfOk result (λ found. IsListing found.items) }
-    ensures known { IfErr result (λ fault. fault ≢ RegisterFault.UnknownRevision) }
     ensures store { HasCleanDisk (state S.Store connection.new) → result ≡ Err RegisterFault.Store →
         (e : Error) × IsNotForMemory e ×
         FailsToQuery listing_text (Int (pos revision) ∷ []) (state S.Store connection.old) (state S.Store connection.new) e }
     ensures asked { HasCleanDisk (state S.Store connection.new) →
         Asks S.Store connection.old connection.new (IsForLines revision) result }
-    ensures left { HasCleanDisk (state S.Store connection.new) →
-        KeepsDisk (state S.Store connection.old) (state S.Store connection.new) }
-    ensures clean { HasCleanDisk (state S.Store connection.new) →
-        HasCleanDisk (state S.Store connection.old) }
+    ensures leaves { AsksOnly (state S.Store connection.old) (state S.Store connection.new) result }
+    ensures cause { IfErr result IsReadingFault }
+    ensures read { ReadsRows (state S.Store connection.old) (state S.Store connection.new) revision result }
 {
     match cad_tables::listing(connection, revision) {
         Ok(rows) => versions_at(alloc, &rows, revision),

@@ -1,6 +1,6 @@
 //! Whether a command is accepted, by the rows of the objects that it names.
 
-ghost use Rattle.std.specs.Prelude.{◌≡◌, ◌≤◌, ◌<◌, ◌+◌, List, length, Some, None};
+ghost use Rattle.std.specs.Prelude.{IfErr, ◌≢◌, ◌≡◌, ◌≤◌, ◌<◌, ◌+◌, List, length, Some, None};
 ghost use Rattle.sqlite.specs.State.{HasCleanDisk};
 ghost use Rattle.sqlite.specs.Held.{state};
 ghost use Rattle.cad_versions.specs.declared.command.Command.{Command as CommandOf};
@@ -8,7 +8,7 @@ ghost use Rattle.cad_versions.specs.Command.{object_named};
 ghost use Rattle.cad_versions.specs.Versions.{history, versions};
 ghost use Rattle.cad_versions.specs.Refusals.{is_entered as entered, are_entered as all_entered, is_full as filled, refuses_body, refusal};
 ghost use Rattle.cad_register.specs.Stands.{Tells, IsStoreFault, IsListingFault, IsRefusal};
-ghost use Rattle.cad_register.specs.Surviving.{KeepsDisk};
+ghost use Rattle.cad_register.specs.Leaving.{AsksOnly};
 ghost use Rattle.cad_register.specs.Refusing.{Asks, IsForNamed, IsForBody, IsForRoom, IsForAddition, IsForCommand};
 
 use crate::asking::{standing_of, versions_of};
@@ -30,10 +30,8 @@ fn is_entered<S: Alter>(
         IsStoreFault fault) }
     ensures asked { HasCleanDisk (state S.Store connection.new) →
         Asks S.Store connection.old connection.new (IsForNamed object) result }
-    ensures left { HasCleanDisk (state S.Store connection.new) →
-        KeepsDisk (state S.Store connection.old) (state S.Store connection.new) }
-    ensures clean { HasCleanDisk (state S.Store connection.new) →
-        HasCleanDisk (state S.Store connection.old) }
+    ensures leaves { AsksOnly (state S.Store connection.old) (state S.Store connection.new) result }
+    ensures known { IfErr result (λ fault. fault ≢ RegisterFault.UnknownRevision) }
 {
     match object {
         None => Ok(true),
@@ -55,10 +53,8 @@ fn are_entered<S: Alter>(connection: &mut Connection<S>, body: &Body) -> Result<
         IsStoreFault fault) }
     ensures asked { HasCleanDisk (state S.Store connection.new) →
         Asks S.Store connection.old connection.new (IsForBody body.now) result }
-    ensures left { HasCleanDisk (state S.Store connection.new) →
-        KeepsDisk (state S.Store connection.old) (state S.Store connection.new) }
-    ensures clean { HasCleanDisk (state S.Store connection.new) →
-        HasCleanDisk (state S.Store connection.old) }
+    ensures leaves { AsksOnly (state S.Store connection.old) (state S.Store connection.new) result }
+    ensures known { IfErr result (λ fault. fault ≢ RegisterFault.UnknownRevision) }
 {
     if is_entered(connection, Class::Unit, body.unit())? {
         let known = is_entered(connection, Class::Party, body.party())?;
@@ -80,10 +76,8 @@ fn is_full<S: Alter>(
         revision ≡ length commands → IsListingFault (length commands) commands fault) }
     ensures asked { HasCleanDisk (state S.Store connection.new) →
         Asks S.Store connection.old connection.new (IsForRoom revision) result }
-    ensures left { HasCleanDisk (state S.Store connection.new) →
-        KeepsDisk (state S.Store connection.old) (state S.Store connection.new) }
-    ensures clean { HasCleanDisk (state S.Store connection.new) →
-        HasCleanDisk (state S.Store connection.old) }
+    ensures leaves { AsksOnly (state S.Store connection.old) (state S.Store connection.new) result }
+    ensures known { IfErr result (λ fault. fault ≢ RegisterFault.UnknownRevision) }
 {
     if revision < MOST_VERSIONS {
         return Ok(false);
@@ -106,10 +100,8 @@ fn check_addition<S: Alter>(
         IsRefusal (refuses_body (versions commands) (Some body.now)) commands fault) }
     ensures asked { HasCleanDisk (state S.Store connection.new) →
         Asks S.Store connection.old connection.new (IsForAddition (Some body.now) revision) result }
-    ensures left { HasCleanDisk (state S.Store connection.new) →
-        KeepsDisk (state S.Store connection.old) (state S.Store connection.new) }
-    ensures clean { HasCleanDisk (state S.Store connection.new) →
-        HasCleanDisk (state S.Store connection.old) }
+    ensures leaves { AsksOnly (state S.Store connection.old) (state S.Store connection.new) result }
+    ensures known { IfErr result (λ fault. fault ≢ RegisterFault.UnknownRevision) }
 {
     if !are_entered(connection, body)? {
         return Err(RegisterFault::UnknownReference);
@@ -136,10 +128,8 @@ pub(crate) fn decide<S: Alter>(
         IsRefusal (refusal (versions commands) command.now) commands fault) }
     ensures asked { HasCleanDisk (state S.Store connection.new) →
         Asks S.Store connection.old connection.new (IsForCommand command.now revision) result }
-    ensures left { HasCleanDisk (state S.Store connection.new) →
-        KeepsDisk (state S.Store connection.old) (state S.Store connection.new) }
-    ensures clean { HasCleanDisk (state S.Store connection.new) →
-        HasCleanDisk (state S.Store connection.old) }
+    ensures leaves { AsksOnly (state S.Store connection.old) (state S.Store connection.new) result }
+    ensures known { IfErr result (λ fault. fault ≢ RegisterFault.UnknownRevision) }
 {
     let standing = standing_of(connection, command.object())?;
     if let Some(fault) = command.refused_by_object(standing.class, standing.open_since) {

@@ -29,26 +29,23 @@ impl<S: Alter + Drop> Drop for Register<S> {
 }
 
 impl<S: Alter> Register<S> {
-    ghost use Rattle.std.specs.Prelude.{◌≡◌, ◌≢◌, ◌≤◌, ◌<◌, ◌+◌, ◌++◌, Err, None, ◌∷◌, [], List, length, pos, true, false, IfOk, IfErr, OnErr, OnOk, MatchResult, IsTrue};
+    ghost use Rattle.std.specs.Prelude.{◌≡◌, ◌≢◌, ◌≤◌, ◌<◌, ◌+◌, ◌++◌, Err, None, ◌∷◌, [], List, length, pos, IfOk, IfErr, OnErr, OnOk, IsTrue};
     ghost use Rattle.sqlite.specs.State.{HasCleanDisk, FailsToQuery};
     ghost use Rattle.sqlite.specs.declared.error.Error.{Error};
     ghost use Rattle.sqlite_value.specs.declared.value.Value.TheVariants.{Int};
     ghost use Rattle.cad_tables.specs.Texts.{listing_text};
-    ghost use Rattle.cad_tables.specs.Opening.{RefusesRegister};
-    ghost use Rattle.cad_tables.specs.Refusals.{RefusesTransaction, creating};
-    ghost use Rattle.cad_tables.specs.declared.faults.TableFault.{TableFault as Fault};
-    ghost use Rattle.sqlite.specs.Held.{state};
-    ghost use Rattle.cad_tables.specs.Tables.{no_schema, is_standing};
     ghost use Rattle.cad_versions.specs.declared.command.Command.{Command as CommandOf};
     ghost use Rattle.cad_versions.specs.Versions.{versions};
     ghost use Rattle.cad_versions.specs.Refusals.{refusal};
     ghost use Rattle.cad_versions.specs.AsOf.{as_of as register_as_of};
     ghost use Rattle.cad_versions.specs.Listing.{IsListing};
-    ghost use Rattle.cad_register.specs.Stands.{StandsFor, KeepsWhileOpen, IsStoreFault, IsListingFault};
-    ghost use Rattle.cad_register.specs.Refusing.{told_as, IsNotForMemory, RefusesDatabase, RefusesToApply};
-    ghost use Rattle.cad_tables.specs.Faults.{fault_of};
-    ghost use Rattle.cad_register.specs.Surviving.{IsOpenedOn, Leaves, LeavesEither, LeavesOrMakes};
-    ghost use Rattle.cad_register.specs.Registers.{connection_of, state_of, revision_of, IsRegisterOf, IsRefused};
+    ghost use Rattle.cad_register.specs.Damage.{ReadsRows};
+    ghost use Rattle.cad_register.specs.Leaving.{IsAnswered, IsOfTheRegister};
+    ghost use Rattle.cad_register.specs.Opening.{Created, Opened, OpenedOrCreated};
+    ghost use Rattle.cad_register.specs.Stands.{IsListingFault, IsReadingFault};
+    ghost use Rattle.cad_register.specs.Refusing.{IsNotForMemory, RefusesToApply};
+    ghost use Rattle.cad_register.specs.Surviving.{Leaves, LeavesEither};
+    ghost use Rattle.cad_register.specs.Registers.{connection_of, state_of, revision_of, IsRegisterOf, IsStill, IsRefused};
 
     /// Gives the connection back.
     pub fn release(self) -> Connection<S>
@@ -74,27 +71,7 @@ impl<S: Alter> Register<S> {
         alloc: Global,
         connection: Connection<S>,
     ) -> Result<Register<S>, (RegisterFault, Connection<S>)>
-        ensures made { IfOk result (λ register. HasCleanDisk (state_of S.Store register) →
-            (state S.Store connection).now.schema ≡ no_schema → IsRegisterOf S.Store register []) }
-        ensures free { IfOk result (λ register. HasCleanDisk (state_of S.Store register) →
-            is_standing (state S.Store connection).now.schema ≡ false) }
-        ensures taken { IfErr result (λ refused. HasCleanDisk (state S.Store refused.1) →
-            refused.0 ≡ RegisterFault.NotARegister →
-            is_standing (state S.Store connection).now.schema ≡ true) }
-        ensures cause { IfErr result (λ refused. refused.0 ≢ RegisterFault.NotARegister →
-            IsStoreFault refused.0) }
-        // What the database itself refused, a statement that makes the tables or the commit.
-        ensures store { IfErr result (λ refused. HasCleanDisk (state S.Store refused.1) →
-            refused.0 ≢ RegisterFault.NotARegister →
-            (e : Error) × (refused.0 ≡ told_as (fault_of e)) ×
-            RefusesTransaction S.Store creating e connection refused.1) }
-        ensures unchanged { IfErr result (λ refused. HasCleanDisk (state S.Store refused.1) →
-            KeepsWhileOpen (state S.Store connection) (state S.Store refused.1)) }
-        // What an open after a crash may find, at every exit.
-        ensures crash { MatchResult result (λ register. HasCleanDisk (state_of S.Store register) →
-            LeavesOrMakes (state S.Store connection) (state_of S.Store register)) (λ refused.
-            HasCleanDisk (state S.Store refused.1) →
-            LeavesOrMakes (state S.Store connection) (state S.Store refused.1)) }
+        ensures { Created S.Store connection result }
     {
         let mut connection = connection;
         match cad_tables::create(&mut connection) {
@@ -103,7 +80,7 @@ impl<S: Alter> Register<S> {
                 revision: 0,
                 alloc,
             }),
-            Ok(Creation::Standing) => Err((RegisterFault::NotARegister, connection)),
+            Ok(Creation::AlreadyExists) => Err((RegisterFault::NotARegister, connection)),
             Err(fault) => Err((store_fault(fault), connection)),
         }
     }
@@ -113,44 +90,7 @@ impl<S: Alter> Register<S> {
         alloc: Global,
         connection: Connection<S>,
     ) -> Result<Register<S>, (RegisterFault, Connection<S>)>
-        ensures found { IfOk result (λ register. HasCleanDisk (state_of S.Store register) →
-            (commands : List CommandOf) → StandsFor (state S.Store connection) commands →
-            length commands ≤ 4294967294 → IsRegisterOf S.Store register commands) }
-        // What a crash left of a register opens as that register.
-        ensures recovered { MatchResult result (λ register.
-            HasCleanDisk (state_of S.Store register) → (commands : List CommandOf) →
-            IsOpenedOn commands (state S.Store connection) → length commands ≤ 4294967294 →
-            IsRegisterOf S.Store register commands) (λ refused.
-            HasCleanDisk (state S.Store refused.1) → (commands : List CommandOf) →
-            IsOpenedOn commands (state S.Store connection) → length commands ≤ 4294967294 →
-            refused.0 ≢ RegisterFault.NotARegister) }
-        // What is opened was open.
-        ensures live { IfOk result (λ register. HasCleanDisk (state_of S.Store register) →
-            IsTrue (state S.Store connection).is_open) }
-        ensures clean { MatchResult result (λ register. HasCleanDisk (state_of S.Store register) →
-            HasCleanDisk (state S.Store connection)) (λ refused.
-            HasCleanDisk (state S.Store refused.1) → HasCleanDisk (state S.Store connection)) }
-        ensures known { IfErr result (λ refused. HasCleanDisk (state S.Store refused.1) →
-            (commands : List CommandOf) → StandsFor (state S.Store connection) commands →
-            length commands ≤ 4294967294 → refused.0 ≢ RegisterFault.NotARegister) }
-        ensures cause { IfErr result (λ refused. refused.0 ≢ RegisterFault.NotARegister →
-            IsStoreFault refused.0) }
-        // What the database itself refused, of the two questions for the columns and the row of `state`.
-        ensures store { IfErr result (λ refused. HasCleanDisk (state S.Store refused.1) →
-            refused.0 ≢ RegisterFault.NotARegister →
-            (fault : Fault) × (refused.0 ≡ told_as fault) ×
-            RefusesRegister S.Store connection refused.1 fault) }
-        ensures unchanged { IfErr result (λ refused. HasCleanDisk (state S.Store refused.1) →
-            IsTrue (state S.Store refused.1).is_open → (commands : List CommandOf) →
-            StandsFor (state S.Store connection) commands →
-            StandsFor (state S.Store refused.1) commands) }
-        // What an open after a crash may find, at every exit.
-        ensures crash { MatchResult result (λ register. HasCleanDisk (state_of S.Store register) →
-            (commands : List CommandOf) → StandsFor (state S.Store connection) commands →
-            Leaves (state_of S.Store register) commands) (λ refused.
-            HasCleanDisk (state S.Store refused.1) → (commands : List CommandOf) →
-            StandsFor (state S.Store connection) commands →
-            Leaves (state S.Store refused.1) commands) }
+        ensures { Opened S.Store connection result }
     {
         let mut connection = connection;
         match cad_tables::open(&mut connection) {
@@ -169,30 +109,14 @@ impl<S: Alter> Register<S> {
         alloc: Global,
         connection: Connection<S>,
     ) -> Result<Register<S>, (RegisterFault, Connection<S>)>
-        ensures made { IfOk result (λ register. HasCleanDisk (state_of S.Store register) →
-            (state S.Store connection).now.schema ≡ no_schema → IsRegisterOf S.Store register []) }
-        ensures found { IfOk result (λ register. HasCleanDisk (state_of S.Store register) →
-            (commands : List CommandOf) → StandsFor (state S.Store connection) commands →
-            length commands ≤ 4294967294 → IsRegisterOf S.Store register commands) }
-        // What a crash left of a register opens as that register.
-        ensures recovered { IfOk result (λ register. HasCleanDisk (state_of S.Store register) →
-            (commands : List CommandOf) → IsOpenedOn commands (state S.Store connection) →
-            length commands ≤ 4294967294 → IsRegisterOf S.Store register commands) }
-        ensures cause { IfErr result (λ refused. refused.0 ≢ RegisterFault.NotARegister →
-            IsStoreFault refused.0) }
-        // What the database itself refused, a statement that makes the tables, the commit, or a question for the register that stands there.
-        ensures store { IfErr result (λ refused. HasCleanDisk (state S.Store refused.1) →
-            refused.0 ≢ RegisterFault.NotARegister →
-            RefusesDatabase S.Store connection refused.1 refused.0) }
-        // Only of a database with one of the tables.
-        ensures taken { IfErr result (λ refused. HasCleanDisk (state S.Store refused.1) →
-            refused.0 ≡ RegisterFault.NotARegister →
-            is_standing (state S.Store connection).now.schema ≡ true) }
+        ensures { OpenedOrCreated S.Store connection result }
     {
         match Register::create(alloc, connection) {
             Ok(register) => Ok(register),
-            Err((RegisterFault::NotARegister, connection)) => Register::open(alloc, connection),
-            Err(refused) => Err(refused),
+            Err((fault, connection)) => match fault {
+                RegisterFault::NotARegister => Register::open(alloc, connection),
+                fault => Err((fault, connection)),
+            },
         }
     }
 
@@ -210,6 +134,14 @@ impl<S: Alter> Register<S> {
         ensures cause { HasCleanDisk (state_of S.Store self.new) → IfErr result (λ fault.
             (commands : List CommandOf) → IsRegisterOf S.Store self.old commands →
             revision ≤ length commands → IsListingFault revision commands fault) }
+        // Whatever the disk returns.
+        ensures named { IfErr result (λ fault. fault ≢ RegisterFault.UnknownRevision →
+            IsReadingFault fault) }
+        // Whatever the disk returns, only sound rows are listed, and the damaged row is the first that breaks a rule.
+        ensures read { ReadsRows (state_of S.Store self.old) (state_of S.Store self.new) revision result }
+        // Answered, or refused by neither the database nor want of memory.
+        ensures same { HasCleanDisk (state_of S.Store self.new) → IsAnswered result →
+            IsStill S.Store self.old self.new }
         ensures store { HasCleanDisk (state_of S.Store self.new) →
             result ≡ Err RegisterFault.Store → (e : Error) × IsNotForMemory e ×
             FailsToQuery listing_text (Int (pos revision) ∷ []) (state_of S.Store self.old) (state_of S.Store self.new) e }
@@ -241,6 +173,11 @@ impl<S: Alter> Register<S> {
         ensures refused { HasCleanDisk (state_of S.Store self.new) → IfErr result (λ fault.
             (commands : List CommandOf) → IsRegisterOf S.Store self.old commands →
             IsRefused commands command fault) }
+        // Whatever the disk returns.
+        ensures named { result ≢ Err RegisterFault.UnknownRevision }
+        // Refused by neither the database nor want of memory.
+        ensures same { HasCleanDisk (state_of S.Store self.new) → IfErr result (λ fault.
+            IsOfTheRegister fault → IsStill S.Store self.old self.new) }
         // What the database itself refused, a question for what stands, a statement of the change or its commit.
         ensures store { HasCleanDisk (state_of S.Store self.new) →
             result ≡ Err RegisterFault.Store → (commands : List CommandOf) →

@@ -1,4 +1,5 @@
 pub mod Queries
+pub mod QueryTexts
 pub mod Parse
 pub mod Places
 pub mod Finding

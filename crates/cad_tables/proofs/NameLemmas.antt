@@ -65,6 +65,18 @@ free_exists false same true h = inr refl
 free_exists false true false h = inl refl
 free_exists false false false h = absurd cc
 
+outcome_new : (attached : Bool) (is_new : Checked Bool) (table : Checked Table) (fits : Table → Bool) (c : Command) → is_new ≢ Ok false → outcome attached is_new table fits ≡ Ok c → is_new ≡ Ok true
+outcome_new true is_new table fits c never h = absurd cc
+outcome_new false (Err e) table fits c never h = absurd cc
+outcome_new false (Ok false) table fits c never h = absurd (never refl)
+outcome_new false (Ok true) table fits c never h = refl
+
+free_new : (reserved same other : Bool) → free reserved same other ≡ Ok true → (same ≡ false) × (other ≡ false)
+free_new true same other h = absurd cc
+free_new false same true h = absurd cc
+free_new false true false h = absurd cc
+free_new false false false h = (refl, refl)
+
 abbrev made_of : Parsed → Checked Command → Checked Compiled
 made_of p r = and_then (and_then (and_then r (λ c. Ok (c, None))) (λ found. Ok ([], found))) (λ plan. Ok (with_command p plan))
 
@@ -86,6 +98,12 @@ by_parts None (Some y) d h = refl
 by_parts None None (Some z) h = refl
 by_parts None None None (inl h) = absurd cc
 by_parts None None None (inr h) = absurd cc
+
+none_by_parts : (a b d : Option ℕ) → is_some (option_or a d) ≡ false → is_some b ≡ false → (is_some a || is_some b || is_some d) ≡ false
+none_by_parts (Some x) b d h k = absurd cc
+none_by_parts None (Some y) d h k = absurd cc
+none_by_parts None None (Some z) h k = absurd cc
+none_by_parts None None None h k = refl
 
 -- ---- a text that makes a table
 
@@ -129,6 +147,13 @@ module _ (sql : List ℕ) (p : Parsed) (def : CreateTable) (t : Table) (makes : 
       used : (s : Schema) → (is_some (option_or (table_named s def.name) (view_named s def.name)) ≡ true) ⊎ (is_some (index_named s def.name) ≡ true) → is_used s def.name ≡ true
       used s h = by_parts (table_named s def.name) (index_named s def.name) (view_named s def.name) h
 
+  compiled_free : (s : Schema) (c : Compiled) → compiled s sql ≡ Ok c → is_used s def.name ≡ false
+  compiled_free s c h =
+      let it = create_is s in
+      let made = made_ok p (create_table s p.formats def) c (sym (compiled_is s) ∙ h) in
+      let none = free_new _ _ _ (outcome_new (is_attached s def.name) (is_new s) (Ok t) it.0 made.0 (free_always _ _ _) (sym it.1 ∙ made.1)) in
+      none_by_parts (table_named s def.name) (index_named s def.name) (view_named s def.name) none.0 none.1
+
   unlisted : (s : Schema) → if_select (compiled listing_schema sql) ≡ Err NoSuchTable
   unlisted s = no_select _ (λ c h. ap (λ (c : Compiled). c.command) (compiled_ok listing_schema c h))
 
@@ -144,6 +169,13 @@ module _ (sql : List ℕ) (p : Parsed) (def : CreateTable) (t : Table) (makes : 
   understood_exists s h = elim (cases_Bool (reads_listing s sql)) [
     | inl lists ↦ absurd (let e = sym (unlisted s) ∙ rw lists at h in cc)
     | inr plain ↦ rw makes.named (compiled_exists s (rw plain at h))
+  ]
+
+  pub understood_free : (s : Schema) (c : Compiled) → understood s sql ≡ Ok c → is_used s t.name ≡ false
+  unfolding understood
+  understood_free s c h = elim (cases_Bool (reads_listing s sql)) [
+    | inl lists ↦ absurd (let e = sym (unlisted s) ∙ rw lists at h in cc)
+    | inr plain ↦ rw makes.named (compiled_free s c (rw plain at h))
   ]
 
 -- ---- the texts that make the two tables

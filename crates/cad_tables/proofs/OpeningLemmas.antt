@@ -1,5 +1,5 @@
 -- What a register's database answers to the question for its revision.
-use Rattle.std.proofs.Common.{◌≡◌, ◌≤◌, ◌^◌, inl, inr, ℕ, List, [], IsTrue, true, false, nat_lt, nat_le, Option, Some, Ok, Err, Result, refl, sym, ap, subst, ◌∙◌, arith}
+use Rattle.std.proofs.Common.{◌≡◌, ◌≤◌, ◌^◌, inl, inr, ℕ, List, [], IsTrue, true, false, nat_lt, nat_le, Option, Some, Ok, Err, IfOk, IsOk, OnOk, Result, refl, sym, ap, ◌∙◌, arith, subst, true≢false, Bool}
 use Rattle.std.proofs.lemmas.Bool.Decides.{nat_tests}
 use Rattle.sqlite_value.specs.Order.{Row}
 use Rattle.sqlite_trees.specs.declared.error.StoreError.{StoreError}
@@ -8,21 +8,34 @@ use Rattle.sqlite_schema.specs.declared.command.Command.{Command}
 use Rattle.sqlite_schema.specs.declared.command.Command.TheVariants.{Select, Rows}
 use Rattle.sqlite_schema.specs.declared.program.Program.{Program}
 use Rattle.sqlite_resolve.specs.declared.error.CompileError.{CompileError}
+use Rattle.sqlite_resolve.specs.declared.compiled.Compiled.{Compiled}
+use Rattle.sqlite_resolve.specs.declared.error.CompileError.TheVariants.{Exists}
+use Rattle.sqlite_schema.specs.declared.schema.Schema.{Schema}
+use Rattle.sqlite.specs.Steps.{Outlines}
+use Rattle.sqlite.specs.Outline.{Outline}
+use Rattle.cad_tables.specs.Faults.{is_name_taken}
+use Rattle.cad_tables.specs.Opening.{Finds}
 use Rattle.sqlite.specs.declared.error.Error.{Error}
 use Rattle.sqlite.specs.Effect.{Database, RefusesToRead}
 use Rattle.sqlite.specs.Clock.{timed}
 use Rattle.sqlite.specs.Listing.{understood}
-use Rattle.sqlite.specs.State.{State, store_error, IsNoStatement, IsNotRun, IsUnchanged, FailsToQuery, QueriesRow}
-use Rattle.sqlite.proofs.Callers.{IsPlain, command_of}
+use Rattle.sqlite.specs.State.{State, store_error, IsNoStatement, IsNotRun, IsUnchanged, FailsToQuery, QueriesRow, HasCleanDisk, Survives, CommitsShowing}
+use Rattle.sqlite.proofs.StateLemmas.{survives_then}
+use Rattle.sqlite.proofs.Callers.{command_of, unchanged_then}
 use Rattle.cad_tables.specs.Line.{Line}
 use Rattle.cad_tables.specs.Tables.{register_schema}
-use Rattle.sqlite.specs.declared.error.Error.TheVariants.{SqlInputError}
+use Rattle.sqlite.specs.declared.error.Error.TheVariants.{SqlInputError, QueryReturnedNoRows}
 use Rattle.cad_tables.specs.Texts.{revision_text, listing_text}
 use Rattle.cad_tables.specs.Holding.{Holds}
 use Rattle.cad_tables.specs.Steps.{KeepsAll}
 use Rattle.cad_tables.specs.Opening.{most_revision, revision_in, is_lacking, TellsRevision, LacksColumns}
-use Rattle.cad_tables.proofs.Parse.{revision_is, revision_plain, listing_is}
-use Rattle.cad_tables.proofs.Quiet.{shown_same, keeps_shown, keeps_failed}
+use Rattle.cad_tables.proofs.Parse.{revision_is, listing_is}
+use Rattle.cad_tables.proofs.QueryTexts.{revision_asks, query_plain}
+use Rattle.sqlite_trees.specs.declared.store.Store.{Ghosts}
+use Rattle.sqlite.specs.Held.{Held, state}
+use Rattle.cad_tables.specs.Opening.{IsSettled}
+use Rattle.cad_tables.specs.Asking.{OnlyReads}
+use Rattle.cad_tables.proofs.Quiet.{shown_same, keeps_shown, keeps_failed, survives_quiet, failed_open}
 use Rattle.cad_tables.proofs.Statements.{reads_revision, shows_revision}
 
 store_stands : (cause : StoreError) → is_lacking (store_error cause) ≡ false
@@ -61,14 +74,11 @@ module _ (old new : State) (n : ℕ) (lines : List Line) (has : Holds n lines ol
   is_here : command_of (understood old.now.schema revision_text) ≡ command_of (understood register_schema revision_text)
   is_here = ap (λ s. command_of (understood s revision_text)) has.schema
 
-  plain_here : IsPlain (understood old.now.schema revision_text)
-  plain_here = subst (λ s. IsPlain (understood s revision_text)) (sym has.schema) revision_plain
-
   asks_stand : (e : Error) → FailsToQuery revision_text [] old new e → is_lacking e ≡ false
   unfolding FailsToQuery
   asks_stand e (inl h) = run_stands old revision_text _ _ (is_here ∙ revision_is.0) new [] e h
   asks_stand e (inr h) =
-      let none = (subst IsPlain h.1.is plain_here).0 in
+      let none = query_plain old.now.schema revision_text revision_asks h.0 h.1.is in
       let shown = rw none at h.2 in
       reads_stand old.step_limit h.0.command shown.0 (timed [] h.0.formats h.1.now) e shown.2
 
@@ -84,28 +94,17 @@ module _ (old new : State) (n : ℕ) (lines : List Line) (has : Holds n lines ol
       is ∙ ap revision_in (reads_revision old new n lines row has asked) ∙ rw (below, stored)
   tells low found (inr (e, asked, lacks, is)) = absurd (never_lacks e asked lacks)
 
-  pub keeps : (r : Result Row Error) → QueriesRow revision_text [] old new r → IsTrue new.is_open → old.committed ≡ old.now → KeepsAll old new
-  unfolding QueriesRow
-  keeps (Ok row) (inl h) still settled = (h.1.0.now_is, h.1.0.committed_is)
-  keeps (Ok row) (inr h) still settled = keeps_shown revision_text [] old new register_schema has.schema revision_plain h.0 h.1
-  keeps (Err e) (inl h) still settled = keeps_failed revision_text [] old new register_schema has.schema revision_plain e h still settled
-  keeps (Err e) (inr h) still settled = keeps_shown revision_text [] old new register_schema has.schema revision_plain [] h.1
-
-  same_row : (row : Row) → QueriesRow revision_text [] old new (Ok row) → IsUnchanged old new
-  unfolding QueriesRow
-  same_row row (inl h) = h.1
-  same_row row (inr h) = shown_same revision_text [] old new register_schema has.schema revision_plain h.0 h.1
-
-  pub lives : (found : Option ℕ) → TellsRevision old new found → IsTrue new.is_open
-  lives found (inl (row, asked, is)) = (same_row row asked).0.is_open
-  lives found (inr (e, asked, lacks, is)) = absurd (never_lacks e asked lacks)
-
 -- ---- the text that names the columns of `version`
 module _ (old new : State) (sql : List ℕ) (params : Row) (e : Error) where
   pub keeps_not_run : IsNotRun old new sql params e → IsTrue new.is_open → old.committed ≡ old.now → KeepsAll old new
   unfolding IsNotRun
   keeps_not_run (inl h) still settled = (h.1.0.now_is, h.1.0.committed_is)
   keeps_not_run (inr h) still settled = let undone = h.3.undone still in (undone.0 ∙ settled, undone.1)
+
+  pub not_run_open : IsNotRun old new sql params e → IsTrue new.is_open → IsTrue old.is_open
+  unfolding IsNotRun
+  not_run_open (inl h) still = h.1.0.was_open
+  not_run_open (inr h) still = h.3.was_open still
 
   pub not_understood : IsNotRun old new sql params e → is_lacking e ≡ true → (fault : CompileError) × (understood old.now.schema sql ≡ Err fault) × (is_lacking (SqlInputError fault) ≡ true)
   unfolding IsNotRun
@@ -117,3 +116,146 @@ module _ (old new : State) (sql : List ℕ) (params : Row) (e : Error) where
 
 pub no_columns_lacking : (n : ℕ) (lines : List Line) (db : Database) → Holds n lines db → ¬ LacksColumns db.schema
 no_columns_lacking n lines db has h = absurd (let e = sym (ap (λ s. command_of (understood s listing_text)) has.schema) ∙ ap command_of h.1 in let is = listing_is.0 in cc)
+
+-- ---- what the question for the revision leaves
+module _ (old new : State) where
+  row_same : (row : Row) → QueriesRow revision_text [] old new (Ok row) → IsUnchanged old new
+  unfolding QueriesRow
+  row_same row (inl h) = h.1
+  row_same row (inr h) = shown_same revision_text [] old new revision_asks h.0 h.1
+
+  -- a store that failed says so, and not that a name is missing
+  lacking_same : (e : Error) → QueriesRow revision_text [] old new (Err e) → is_lacking e ≡ true → IsUnchanged old new
+  unfolding QueriesRow FailsToQuery IsNotRun
+  lacking_same e (inl (inl (inl h))) lacks = h.1
+  lacking_same e (inl (inl (inr h))) lacks = absurd (let stands = store_stands h.0 in let no = rw h.1 at lacks in cc)
+  lacking_same e (inl (inr h)) lacks = let none = query_plain old.now.schema revision_text revision_asks h.0 h.1.is in (rw none at h.2).3
+  lacking_same e (inr h) lacks = shown_same revision_text [] old new revision_asks [] h.1
+
+  pub told_same : (found : Option ℕ) → TellsRevision old new found → IsUnchanged old new
+  told_same found (inl (row, asked, is)) = row_same row asked
+  told_same found (inr (e, asked, lacks, is)) = lacking_same e asked lacks
+
+  asked_keeps : (r : Result Row Error) → QueriesRow revision_text [] old new r → IsTrue new.is_open → old.committed ≡ old.now → KeepsAll old new
+  unfolding QueriesRow
+  asked_keeps (Ok row) h still settled = let same = row_same row h in (same.0.now_is, same.0.committed_is)
+  asked_keeps (Err e) (inl h) still settled = keeps_failed revision_text [] old new revision_asks e h still settled
+  asked_keeps (Err e) (inr h) still settled = keeps_shown revision_text [] old new revision_asks [] h.1
+
+  asked_open : (r : Result Row Error) → QueriesRow revision_text [] old new r → IsTrue new.is_open → IsTrue old.is_open
+  unfolding QueriesRow
+  asked_open (Ok row) h still = (row_same row h).0.was_open
+  asked_open (Err e) (inl h) still = failed_open revision_text [] old new revision_asks e h still
+  asked_open (Err e) (inr h) still = (shown_same revision_text [] old new revision_asks [] h.1).0.was_open
+
+  pub revision_reads : {F : Type 0} (r : Result (Option ℕ) F) → (HasCleanDisk new → (answer : Result Row Error) × QueriesRow revision_text [] old new answer) → (HasCleanDisk new → IfOk r (TellsRevision old new))
+      → (old.in_transaction ≡ false → new.in_transaction ≡ false) → Survives old new (CommitsShowing revision_text [] old) → OnlyReads old new r
+  revision_reads r asked found mode survives = record {
+    same = λ clean. on_found r (found clean);
+    kept = λ clean still settled. let it = asked clean in asked_keeps it.0 it.1 still settled;
+    was_open = λ clean still. let it = asked clean in asked_open it.0 it.1 still;
+    clean = λ clean. omega (arith, survives.clean);
+    mode = mode;
+    survives = survives_quiet revision_text [] old new revision_asks survives;
+  }
+    where
+      on_found : {F : Type 0} (r : Result (Option ℕ) F) → IfOk r (TellsRevision old new) → OnOk r (IsUnchanged old new)
+      on_found (Ok found) h = told_same found h
+      on_found (Err e) h = tt
+
+-- ---- what compiling leaves
+
+taken_exists : (fault : CompileError) → is_name_taken (SqlInputError fault) ≡ true → fault ≡ Exists
+taken_exists Exists h = refl
+taken_exists fault h = absurd (true≢false (sym h))
+
+-- an answer of the database itself, and not of its store
+abbrev is_told : Error → Bool
+is_told (SqlInputError fault) = true
+is_told QueryReturnedNoRows = true
+is_told e = false
+
+store_untold : (cause : StoreError) → is_told (store_error cause) ≡ false
+store_untold OutOfMemory = refl
+store_untold Io = refl
+store_untold Corrupt = refl
+store_untold Full = refl
+store_untold Broken = refl
+store_untold Unstorable = refl
+
+pub lacking_told : (e : Error) → is_lacking e ≡ true → is_told e ≡ true
+lacking_told (SqlInputError fault) h = refl
+lacking_told QueryReturnedNoRows h = refl
+lacking_told e h = absurd (true≢false (sym h))
+
+pub taken_told : (e : Error) → is_name_taken e ≡ true → is_told e ≡ true
+taken_told (SqlInputError fault) h = refl
+taken_told e h = absurd (true≢false (sym h))
+
+module _ (sql : List ℕ) (old new : State) {X F : Type 0} (r : Result X F) (e : Error) where
+  not_run_same : IsNotRun old new sql [] e → is_told e ≡ true → IsUnchanged old new
+  unfolding IsNotRun
+  not_run_same (inl h) told = h.1
+  not_run_same (inr h) told = absurd (let stands = store_untold h.0 in let no = rw h.1 at told in cc)
+
+  on_told : (IsOk r → is_told e ≡ true) → IsNotRun old new sql [] e → OnOk r (IsUnchanged old new)
+  on_told told h = go r told
+    where
+      go : {X F : Type 0} (r : Result X F) → (IsOk r → is_told e ≡ true) → OnOk r (IsUnchanged old new)
+      go (Ok x) told = not_run_same h (told refl)
+      go (Err f) told = tt
+
+  pub prepare_reads : (HasCleanDisk new → IsNotRun old new sql [] e) → (IsOk r → is_told e ≡ true) → (old.in_transaction ≡ false → new.in_transaction ≡ false) → Survives old new (λ _. ⊥) → OnlyReads old new r
+  prepare_reads not_run told mode survives = record {
+    same = λ clean. on_told told (not_run clean);
+    kept = λ clean still settled. keeps_not_run old new sql [] e (not_run clean) still settled;
+    was_open = λ clean still. not_run_open old new sql [] e (not_run clean) still;
+    clean = λ clean. omega (arith, survives.clean);
+    mode = mode;
+    survives = survives;
+  }
+
+-- a text whose name is taken, or that compiles
+pub exists_found : (old new : State) (sql : List ℕ) (e : Error) → IsNotRun old new sql [] e → is_name_taken e ≡ true → Finds (understood old.now.schema sql) true
+unfolding IsNotRun
+exists_found old new sql e (inl (inl h, same)) taken = subst (λ r. Finds r true) (sym h.1) (taken_exists h.0 (ap is_name_taken (sym h.2) ∙ taken), refl)
+exists_found old new sql e (inl (inr (c, known, inl h), same)) taken = absurd (let no = rw h.1 at taken in cc)
+exists_found old new sql e (inl (inr (c, known, inr (inl h)), same)) taken = absurd (let no = rw h.1 at taken in cc)
+exists_found old new sql e (inl (inr (c, known, inr (inr h)), same)) taken = absurd (let no = rw h.1 at taken in cc)
+exists_found old new sql e (inr h) taken = absurd (let told = taken_told e taken in let stands = store_untold h.0 in let no = rw h.1 at told in cc)
+
+pub outline_found : (schema : Schema) (sql : List ℕ) (s : Outline) → Outlines (understood schema sql) s → Finds (understood schema sql) false
+outline_found schema sql s h = go (understood schema sql) h
+  where
+    go : (r : Result Compiled CompileError) → Outlines r s → Finds r false
+    go (Ok c) h = refl
+    go (Err fault) h = absurd h
+
+-- ---- one question after another
+on_ok_then : {X F : Type 0} (P Q : Type 0) (r : Result X F) → (P → Q) → OnOk r P → OnOk r Q
+on_ok_then P Q (Ok x) f h = f h
+on_ok_then P Q (Err e) f h = tt
+
+-- the same, where the first is a step on the way
+pub settled_by : {S X F : Type 0} (g : Ghosts S) (old new : Held S) (x : X) → OnlyReads {X = X} {F = F} (state g old) (state g new) (Ok x) → HasCleanDisk (state g new) → IsSettled g old new
+settled_by g old new x reads clean = record { same = reads.same clean; limit = reads.survives.limit; faults = reads.survives.counts }
+
+pub settled_start : {S : Type 0} (g : Ghosts S) (old : Held S) → IsTrue (state g old).is_open → IsSettled g old old
+settled_start g old live = record {
+  same = (record { was_open = live; is_open = live; now_is = refl; committed_is = refl; mode = refl }, record { changes = refl; last_rowid = refl }, refl);
+  limit = refl;
+  faults = omega arith;
+}
+
+pub reads_then : {X Y F G : Type 0} (old mid new : State) (x : X) (r : Result Y G) → OnlyReads {X = X} {F = F} old mid (Ok x) → OnlyReads mid new r → OnlyReads old new r
+reads_then old mid new x r first second = record {
+  same = λ clean. on_ok_then _ _ r (unchanged_then old mid new (first.same (second.clean clean))) (second.same clean);
+  kept = λ clean still settled.
+      let same = first.same (second.clean clean) in
+      let later = second.kept clean still (same.0.committed_is ∙ settled ∙ sym same.0.now_is) in
+      (later.0 ∙ same.0.now_is, later.1 ∙ same.0.committed_is);
+  was_open = λ clean still. first.was_open (second.clean clean) (second.was_open clean still);
+  clean = λ clean. first.clean (second.clean clean);
+  mode = λ outside. second.mode (first.mode outside);
+  survives = survives_then old mid new _ _ (λ _. ⊥) (λ _ db none. none) (λ _ db none. none) first.survives second.survives;
+}

@@ -7,5 +7,6 @@ pub mod Refusals
 pub mod Changes
 pub mod Laws
 pub mod Steps
+pub mod Asking
 pub mod Listing
 pub mod Opening

@@ -1,5 +1,5 @@
 -- Whether a database is a register's, and at which revision.
-use Rattle.std.specs.Prelude.{◌≡◌, ◌⊎◌, ◌==◌, ◌^◌, ◌≤◌, ℕ, pos, nat_le, nat_lt, Bool, true, false, if◌then◌else◌, [], Ok, Err, Option, Some, None}
+use Rattle.std.specs.Prelude.{◌≡◌, ◌⊎◌, ◌==◌, ◌^◌, ◌≤◌, ℕ, pos, nat_le, nat_lt, Bool, true, false, if◌then◌else◌, [], Ok, Err, Option, Some, None, Result, IsTrue}
 use Rattle.std.specs.Option.{option_and_then}
 use Rattle.sqlite_value.specs.declared.value.Value.{Value}
 use Rattle.sqlite_value.specs.declared.value.Value.TheVariants.{Int}
@@ -7,16 +7,20 @@ use Rattle.sqlite_value.specs.Order.{Row, column}
 use Rattle.sqlite_trees.specs.declared.store.Store.{Ghosts}
 use Rattle.sqlite_schema.specs.declared.schema.Schema.{Schema}
 use Rattle.sqlite_resolve.specs.declared.error.CompileError.{CompileError}
-use Rattle.sqlite_resolve.specs.declared.error.CompileError.TheVariants.{NoSuchTable, NoSuchColumn}
+use Rattle.sqlite_resolve.specs.declared.error.CompileError.TheVariants.{NoSuchTable, NoSuchColumn, Exists}
+use Rattle.sqlite_resolve.specs.declared.compiled.Compiled.{Compiled}
 use Rattle.sqlite.specs.declared.error.Error.{Error}
-use Rattle.sqlite.specs.declared.error.Error.TheVariants.{SqlInputError, QueryReturnedNoRows}
+use Rattle.sqlite.specs.declared.error.Error.TheVariants.{SqliteFailure, SqlInputError, QueryReturnedNoRows}
+use Rattle.sqlite.specs.declared.error.ErrorCode.TheVariants.{TransactionState}
 use Rattle.sqlite.specs.State.{State, QueriesRow, IsUnchanged, IsNotRun}
 use Rattle.sqlite.specs.Listing.{understood}
 use Rattle.sqlite.specs.Held.{Held, state}
-use Rattle.cad_tables.specs.Faults.{fault_of}
+use Rattle.cad_tables.specs.Faults.{fault_of, is_name_taken}
+use Rattle.cad_tables.specs.Refusals.{RefusesTransaction, creating}
+use Rattle.cad_tables.specs.Tables.{is_standing}
 use Rattle.cad_tables.specs.declared.faults.TableFault.{TableFault}
 use Rattle.cad_tables.specs.declared.faults.TableFault.TheVariants.{Memory}
-use Rattle.cad_tables.specs.Texts.{revision_text, listing_text}
+use Rattle.cad_tables.specs.Texts.{revision_text, listing_text, state_text, version_text}
 
 -- own profile: the greatest revision that is ever stored
 abbrev pub most_revision : ℕ
@@ -64,10 +68,10 @@ pub record IsSettled {S : Type 0} (g : Ghosts S) (old mid : Held S) : Type 0 whe
   pub limit : mid.step_limit ≡ old.step_limit
   pub faults : (state g old).faults ≤ (state g mid).faults
 
--- own profile: `version` lacks a column, or else `state` tells the revision
+-- own profile: `version` lacks a column and nothing is told, or it has them all and `state` tells the revision
 abbrev pub TellsRegister : {S : Type 0} → Ghosts S → Held S → Held S → Option ℕ → Type 0
 TellsRegister g old new found =
-    (LacksColumns old.schema × (found ≡ None)) ⊎ ((mid : Held _) × IsSettled g old mid × TellsRevision (state g mid) (state g new) found)
+    (LacksColumns old.schema × (found ≡ None)) ⊎ ((mid : Held _) × ¬ LacksColumns old.schema × IsSettled g old mid × TellsRevision (state g mid) (state g new) found)
 
 -- own profile: no memory for what the row says, or what the database says of the question for it
 abbrev pub RefusesToTell : State → State → TableFault → Type 0
@@ -82,3 +86,22 @@ RefusesColumns old new fault = (e : Error) × (fault ≡ fault_of e) × (is_lack
 abbrev pub RefusesRegister : {S : Type 0} → Ghosts S → Held S → Held S → TableFault → Type 0
 RefusesRegister g old new fault =
     RefusesColumns (state g old) (state g new) fault ⊎ ((mid : Held _) × IsSettled g old mid × RefusesToTell (state g mid) (state g new) fault)
+
+-- ---- whether the tables can be made
+
+-- SQLite, CREATE TABLE: a text that makes a table compiles, or its name is that of a table, an index or a view
+abbrev pub Finds : Result Compiled CompileError → Bool → Type 0
+Finds (Ok c) used = used ≡ false
+Finds (Err fault) used = (fault ≡ Exists) × (used ≡ true)
+
+-- own profile: what the database says of one of the texts that make the tables, other than that its name is in use
+abbrev pub RefusesNames : {S : Type 0} → Ghosts S → Held S → Held S → Error → Type 0
+RefusesNames g old new e =
+    (is_name_taken e ≡ false)
+    × (IsNotRun (state g old) (state g new) state_text [] e ⊎ ((mid : Held _) × IsSettled g old mid × IsNotRun (state g mid) (state g new) version_text [] e))
+
+-- own profile: a transaction was open already, or the database refuses a text that makes the tables, or, since neither name is in use, a statement that makes them or the commit
+abbrev pub RefusesTables : {S : Type 0} → Ghosts S → Held S → Held S → Error → Type 0
+RefusesTables g old new e =
+    (IsTrue old.in_transaction × (e ≡ SqliteFailure TransactionState))
+    ⊎ (RefusesNames g old new e ⊎ ((mid : Held _) × (is_standing old.schema ≡ false) × IsSettled g old mid × RefusesTransaction g creating e mid new))

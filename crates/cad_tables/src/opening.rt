@@ -1,13 +1,12 @@
 //! Whether a database is a register's, and at which revision.
 
-ghost use Rattle.std.specs.Prelude.{◌≡◌, ◌≤◌, ℕ, false, true, List, [], IsTrue, IfOk, IfErr, OnOk};
+ghost use Rattle.std.specs.Prelude.{◌≡◌, ◌≤◌, ℕ, false, true, List, IfOk, IfErr};
 ghost use Rattle.sqlite_value.specs.Order.{column};
-ghost use Rattle.sqlite.specs.State.{HasCleanDisk, Survives, IsUnchanged, QueriesRow, CommitsShowing};
+ghost use Rattle.sqlite.specs.State.{HasCleanDisk};
 ghost use Rattle.sqlite.specs.Held.{state};
 ghost use Rattle.cad_tables.specs.Line.{Line};
 ghost use Rattle.cad_tables.specs.Holding.{Holds};
-ghost use Rattle.cad_tables.specs.Texts.{revision_text};
-ghost use Rattle.cad_tables.specs.Steps.{KeepsAll};
+ghost use Rattle.cad_tables.specs.Asking.{OnlyReads};
 ghost use Rattle.cad_tables.specs.Opening.{most_revision, count_in, revision_in, is_lacking as lacks};
 ghost use Rattle.cad_tables.specs.Opening.{TellsRevision, TellsRegister, LacksColumns};
 ghost use Rattle.cad_tables.specs.Opening.{RefusesToTell, RefusesColumns, RefusesRegister};
@@ -55,17 +54,15 @@ fn stored_revision(row: &Row) -> Result<Option<u32>, TableFault>
     }
 }
 
-/// What the row of `state` tells, by the database's own account.
-fn told_revision<S: Alter>(conn: &mut Connection<S>) -> Result<Option<u32>, TableFault>
-    ensures asked { HasCleanDisk (state S.Store conn.new)
-        → (answer : _) × QueriesRow revision_text [] (state S.Store conn.old) (state S.Store conn.new) answer }
+/// The revision that the table `state` tells; none where it is not a register's.
+pub fn revision<S: Alter>(conn: &mut Connection<S>) -> Result<Option<u32>, TableFault>
+    ensures stands { HasCleanDisk (state S.Store conn.new) → IfOk result (λ found. (n : ℕ) (lines : List Line)
+        → Holds n lines (state S.Store conn.old).now → n ≤ most_revision → found ≡ Some n) }
     ensures found { HasCleanDisk (state S.Store conn.new)
         → IfOk result (TellsRevision (state S.Store conn.old) (state S.Store conn.new)) }
     ensures refused { HasCleanDisk (state S.Store conn.new)
         → IfErr result (RefusesToTell (state S.Store conn.old) (state S.Store conn.new)) }
-    ensures mode { (state S.Store conn.old).in_transaction ≡ false → (state S.Store conn.new).in_transaction ≡ false }
-    ensures survives { Survives (state S.Store conn.old) (state S.Store conn.new)
-        (CommitsShowing revision_text [] (state S.Store conn.old)) }
+    ensures reads { OnlyReads (state S.Store conn.old) (state S.Store conn.new) result }
 {
     match conn.query_row("SELECT format, revision FROM state WHERE one = 1", &[]) {
         Ok(row) => stored_revision(&row),
@@ -79,38 +76,15 @@ fn told_revision<S: Alter>(conn: &mut Connection<S>) -> Result<Option<u32>, Tabl
     }
 }
 
-/// The revision that the table `state` tells; none where it is not a register's.
-pub fn revision<S: Alter>(conn: &mut Connection<S>) -> Result<Option<u32>, TableFault>
-    ensures stands { HasCleanDisk (state S.Store conn.new) → IfOk result (λ found. (n : ℕ) (lines : List Line)
-        → Holds n lines (state S.Store conn.old).now → n ≤ most_revision → found ≡ Some n) }
-    ensures found { HasCleanDisk (state S.Store conn.new)
-        → IfOk result (TellsRevision (state S.Store conn.old) (state S.Store conn.new)) }
-    ensures refused { HasCleanDisk (state S.Store conn.new)
-        → IfErr result (RefusesToTell (state S.Store conn.old) (state S.Store conn.new)) }
-    ensures kept { HasCleanDisk (state S.Store conn.new) → IsTrue (state S.Store conn.new).is_open
-        → (n : ℕ) (lines : List Line) → Holds n lines (state S.Store conn.old).now
-        → (state S.Store conn.old).committed ≡ (state S.Store conn.old).now
-        → KeepsAll (state S.Store conn.old) (state S.Store conn.new) }
-    ensures mode { (state S.Store conn.old).in_transaction ≡ false → (state S.Store conn.new).in_transaction ≡ false }
-    ensures crash { (n : ℕ) (lines : List Line) → Holds n lines (state S.Store conn.old).now
-        → Survives (state S.Store conn.old) (state S.Store conn.new) (λ _. ⊥) }
-{
-    told_revision(conn)
-}
-
 /// Whether the table `version` has all its columns.
 fn has_columns<S: Alter>(conn: &mut Connection<S>) -> Result<bool, TableFault>
     ensures known { HasCleanDisk (state S.Store conn.new)
-        → IfOk result (λ known. known ≡ true → IsUnchanged (state S.Store conn.old) (state S.Store conn.new)) }
+        → IfOk result (λ known. known ≡ true → ¬ LacksColumns (state S.Store conn.old).now.schema) }
     ensures lacks { HasCleanDisk (state S.Store conn.new)
         → IfOk result (λ known. known ≡ false → LacksColumns (state S.Store conn.old).now.schema) }
     ensures refused { HasCleanDisk (state S.Store conn.new)
         → IfErr result (RefusesColumns (state S.Store conn.old) (state S.Store conn.new)) }
-    ensures kept { HasCleanDisk (state S.Store conn.new) → IsTrue (state S.Store conn.new).is_open
-        → (state S.Store conn.old).committed ≡ (state S.Store conn.old).now
-        → KeepsAll (state S.Store conn.old) (state S.Store conn.new) }
-    ensures mode { (state S.Store conn.old).in_transaction ≡ false → (state S.Store conn.new).in_transaction ≡ false }
-    ensures survives { Survives (state S.Store conn.old) (state S.Store conn.new) (λ _. ⊥) }
+    ensures reads { OnlyReads (state S.Store conn.old) (state S.Store conn.new) result }
 {
     let Err(error) = conn.prepare(
         "SELECT object, number, class, first, last, entered, closed, name, code, label, area, unit, party, \
@@ -133,19 +107,10 @@ pub fn open<S: Alter>(conn: &mut Connection<S>) -> Result<Option<u32>, TableFaul
         → Holds n lines (state S.Store conn.old).now → n ≤ most_revision → found ≡ Some n) }
     ensures found { HasCleanDisk (state S.Store conn.new) → IfOk result (TellsRegister S.Store conn.old conn.new) }
     ensures refused { HasCleanDisk (state S.Store conn.new) → IfErr result (RefusesRegister S.Store conn.old conn.new) }
-    ensures clean { HasCleanDisk (state S.Store conn.new) → HasCleanDisk (state S.Store conn.old) }
-    ensures live { HasCleanDisk (state S.Store conn.new) → (n : ℕ) (lines : List Line) → Holds n lines (state S.Store conn.old).now
-        → OnOk result (IsTrue (state S.Store conn.new).is_open) }
-    ensures kept { HasCleanDisk (state S.Store conn.new) → IsTrue (state S.Store conn.new).is_open
-        → (n : ℕ) (lines : List Line) → Holds n lines (state S.Store conn.old).now
-        → (state S.Store conn.old).committed ≡ (state S.Store conn.old).now
-        → KeepsAll (state S.Store conn.old) (state S.Store conn.new) }
-    ensures mode { (state S.Store conn.old).in_transaction ≡ false → (state S.Store conn.new).in_transaction ≡ false }
-    ensures crash { (n : ℕ) (lines : List Line) → Holds n lines (state S.Store conn.old).now
-        → Survives (state S.Store conn.old) (state S.Store conn.new) (λ _. ⊥) }
+    ensures reads { OnlyReads (state S.Store conn.old) (state S.Store conn.new) result }
 {
     if has_columns(conn)? {
-        told_revision(conn)
+        revision(conn)
     } else {
         Ok(None)
     }

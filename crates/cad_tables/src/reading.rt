@@ -1,15 +1,16 @@
 //! Reading lines back.
 
-ghost use Rattle.std.specs.Prelude.{◌≡◌, ℕ, pos, false, List, [], ◌∷◌, IsTrue, IfOk, IfErr, OnOk, map};
+ghost use Rattle.std.specs.Prelude.{◌≡◌, ℕ, pos, List, [], ◌∷◌, IfOk, IfErr, map};
 ghost use Rattle.sqlite_value.specs.declared.value.Value.TheVariants.{Int};
-ghost use Rattle.sqlite.specs.State.{HasCleanDisk, Survives, Shown, IsUnchanged, FailsToQuery, CommitsShowing};
+ghost use Rattle.sqlite.specs.State.{HasCleanDisk, Shown, FailsToQuery};
 ghost use Rattle.sqlite.specs.Held.{state};
 ghost use Rattle.sqlite.specs.declared.error.Error.{Error};
 ghost use Rattle.cad_tables.specs.Faults.{fault_of};
 ghost use Rattle.cad_tables.specs.Line.{Line, cells_of};
 ghost use Rattle.cad_tables.specs.Holding.{Holds};
 ghost use Rattle.cad_tables.specs.Texts.{history_text, listing_text};
-ghost use Rattle.cad_tables.specs.Steps.{KeepsAll};
+ghost use Rattle.sqlite_resolve.specs.Compile.{first};
+ghost use Rattle.cad_tables.specs.Asking.{IsQuery, OnlyReads};
 ghost use Rattle.cad_tables.specs.Listing.{HaveNoTies, identifier_order, lines_at, listing as listed};
 ghost use Rattle.cad_tables.specs.Listing.{number_order, lines_of_object, history as known, outline_of};
 
@@ -23,13 +24,12 @@ fn selected<S: Alter>(
     sql: &str,
     parameter: u32,
 ) -> Result<Vec<Row>, TableFault>
-    ensures rows { HasCleanDisk (state S.Store conn.new) → IfOk result (λ rows.
+    requires { IsQuery (first sql.now) }
+    ensures shown { HasCleanDisk (state S.Store conn.new) → IfOk result (λ rows.
         Shown sql.now (Int (pos parameter) ∷ []) (state S.Store conn.old) (state S.Store conn.new) rows.items) }
     ensures refused { HasCleanDisk (state S.Store conn.new) → IfErr result (λ fault. (e : Error) × (fault ≡ fault_of e)
         × FailsToQuery sql.now (Int (pos parameter) ∷ []) (state S.Store conn.old) (state S.Store conn.new) e) }
-    ensures mode { (state S.Store conn.old).in_transaction ≡ false → (state S.Store conn.new).in_transaction ≡ false }
-    ensures survives { Survives (state S.Store conn.old) (state S.Store conn.new)
-        (CommitsShowing sql.now (Int (pos parameter) ∷ []) (state S.Store conn.old)) }
+    ensures reads { OnlyReads (state S.Store conn.old) (state S.Store conn.new) result }
 {
     let rows = conn.query_all(sql, &one_cell(parameter))?;
     Ok(rows)
@@ -42,18 +42,11 @@ pub fn history<S: Alter>(conn: &mut Connection<S>, object: u32) -> Result<Vec<Ro
     ensures rows { HasCleanDisk (state S.Store conn.new) → IfOk result (λ rows. (n : ℕ) (lines : List Line)
         → Holds n lines (state S.Store conn.old).now → HaveNoTies number_order (lines_of_object object lines)
         → rows.items ≡ map outline_of (known object lines)) }
+    ensures shown { HasCleanDisk (state S.Store conn.new) → IfOk result (λ rows.
+        Shown history_text (Int (pos object) ∷ []) (state S.Store conn.old) (state S.Store conn.new) rows.items) }
     ensures refused { HasCleanDisk (state S.Store conn.new) → IfErr result (λ fault. (e : Error) × (fault ≡ fault_of e)
         × FailsToQuery history_text (Int (pos object) ∷ []) (state S.Store conn.old) (state S.Store conn.new) e) }
-    ensures same { HasCleanDisk (state S.Store conn.new) → (n : ℕ) (lines : List Line) → Holds n lines (state S.Store conn.old).now
-        → OnOk result (IsUnchanged (state S.Store conn.old) (state S.Store conn.new)) }
-    ensures clean { HasCleanDisk (state S.Store conn.new) → HasCleanDisk (state S.Store conn.old) }
-    ensures kept { HasCleanDisk (state S.Store conn.new) → IsTrue (state S.Store conn.new).is_open
-        → (n : ℕ) (lines : List Line) → Holds n lines (state S.Store conn.old).now
-        → (state S.Store conn.old).committed ≡ (state S.Store conn.old).now
-        → KeepsAll (state S.Store conn.old) (state S.Store conn.new) }
-    ensures mode { (state S.Store conn.old).in_transaction ≡ false → (state S.Store conn.new).in_transaction ≡ false }
-    ensures crash { (n : ℕ) (lines : List Line) → Holds n lines (state S.Store conn.old).now
-        → Survives (state S.Store conn.old) (state S.Store conn.new) (λ _. ⊥) }
+    ensures reads { OnlyReads (state S.Store conn.old) (state S.Store conn.new) result }
 {
     selected(
         conn,
@@ -67,18 +60,11 @@ pub fn listing<S: Alter>(conn: &mut Connection<S>, revision: u32) -> Result<Vec<
     ensures rows { HasCleanDisk (state S.Store conn.new) → IfOk result (λ rows. (n : ℕ) (lines : List Line)
         → Holds n lines (state S.Store conn.old).now → HaveNoTies identifier_order (lines_at revision lines)
         → rows.items ≡ map cells_of (listed revision lines)) }
+    ensures shown { HasCleanDisk (state S.Store conn.new) → IfOk result (λ rows.
+        Shown listing_text (Int (pos revision) ∷ []) (state S.Store conn.old) (state S.Store conn.new) rows.items) }
     ensures refused { HasCleanDisk (state S.Store conn.new) → IfErr result (λ fault. (e : Error) × (fault ≡ fault_of e)
         × FailsToQuery listing_text (Int (pos revision) ∷ []) (state S.Store conn.old) (state S.Store conn.new) e) }
-    ensures same { HasCleanDisk (state S.Store conn.new) → (n : ℕ) (lines : List Line) → Holds n lines (state S.Store conn.old).now
-        → OnOk result (IsUnchanged (state S.Store conn.old) (state S.Store conn.new)) }
-    ensures clean { HasCleanDisk (state S.Store conn.new) → HasCleanDisk (state S.Store conn.old) }
-    ensures kept { HasCleanDisk (state S.Store conn.new) → IsTrue (state S.Store conn.new).is_open
-        → (n : ℕ) (lines : List Line) → Holds n lines (state S.Store conn.old).now
-        → (state S.Store conn.old).committed ≡ (state S.Store conn.old).now
-        → KeepsAll (state S.Store conn.old) (state S.Store conn.new) }
-    ensures mode { (state S.Store conn.old).in_transaction ≡ false → (state S.Store conn.new).in_transaction ≡ false }
-    ensures crash { (n : ℕ) (lines : List Line) → Holds n lines (state S.Store conn.old).now
-        → Survives (state S.Store conn.old) (state S.Store conn.new) (λ _. ⊥) }
+    ensures reads { OnlyReads (state S.Store conn.old) (state S.Store conn.new) result }
 {
     selected(
         conn,

@@ -13,6 +13,7 @@ use Rattle.cad_tables.specs.Texts.{history_text}
 use Rattle.cad_register.proofs.RefusingLemmas.{settled_here, settled_by, not_for_memory}
 use Rattle.cad_tables.specs.Faults.{fault_of}
 use Rattle.cad_register.specs.Refusing.{asking, told_as}
+use Rattle.cad_register.proofs.LeavingLemmas.{asks_answered, asks_refused}
 use Rattle.cad_register.proofs.asking.standing_of.Goals as goal
 
 pub returns-in-Ok-read-clause-told : goal.returns-in-Ok-read-clause-told
@@ -25,7 +26,7 @@ returns-in-Ok-read-clause-told g c clean cs stands =
     let rows = c.in-Ok.ensures.rows clean (length cs) lines stands.holds untied ∙ ap (λ n. map outline_of (known n lines)) n ∙ history_rows object cs all in
     let told = c.in-Ok-read.ensures.known (history object (versions cs)) (c.deref.ensures.value ∙ rows) in (
       record { class = told.0 ∙ class_stands (versions cs) object; open_since = told.1 ∙ opened_stands (versions cs) object (all object); count = told.2 },
-      stands_same (state g.S.Store c.args.connection.now) (state g.S.Store c.history.new.conn) cs (c.in-Ok.ensures.same clean (length cs) lines stands.holds) stands,
+      stands_same (state g.S.Store c.args.connection.now) (state g.S.Store c.history.new.conn) cs (c.in-Ok.ensures.reads.same clean) stands,
     )
 
 pub returns-clause-told : goal.returns-clause-told
@@ -54,14 +55,26 @@ returns-in-Err-clause-asked g c clean cs stands e =
 pub returns-in-Ok-read-clause-asked : goal.returns-in-Ok-read-clause-asked
 returns-in-Ok-read-clause-asked g c clean cs stands =
     let lines = map line_of (entries_of cs) in
-    settled_by g.S.Store c.args.connection.now c.history.new.conn _ (c.in-Ok.ensures.same clean (length cs) lines stands.holds) (c.history.ensures.crash (length cs) lines stands.holds)
+    settled_by g.S.Store c.args.connection.now c.history.new.conn _ (c.in-Ok.ensures.reads.same clean) c.history.ensures.reads.survives
 
 pub returns-in-Err-clause-told : goal.returns-in-Err-clause-told
 returns-in-Err-clause-told g c clean cs stands = (
   c.store_fault.ensures.cause,
-  λ live. stands_kept (state g.S.Store c.args.connection.now) (state g.S.Store c.history.new.conn) cs (c.in-Err.ensures.kept clean live (length cs) (map line_of (entries_of cs)) stands.holds stands.settled) live stands,
+  λ live. stands_kept (state g.S.Store c.args.connection.now) (state g.S.Store c.history.new.conn) cs (c.in-Err.ensures.reads.kept clean live stands.settled) live stands,
 )
 
 pub returns-in-Err-Memory-clause-told : goal.returns-in-Err-Memory-clause-told
 returns-in-Err-Memory-clause-told g c clean cs stands =
-    (tt, λ live. stands_same (state g.S.Store c.args.connection.now) (state g.S.Store c.history.new.conn) cs (c.in-Ok.ensures.same clean (length cs) (map line_of (entries_of cs)) stands.holds) stands)
+    (tt, λ live. stands_same (state g.S.Store c.args.connection.now) (state g.S.Store c.history.new.conn) cs (c.in-Ok.ensures.reads.same clean) stands)
+
+pub returns-in-Ok-read-clause-leaves : goal.returns-in-Ok-read-clause-leaves
+returns-in-Ok-read-clause-leaves g c = asks_answered (state g.S.Store c.args.connection.now) (state g.S.Store c.history.new.conn) _ _ c.in-Ok.ensures.reads
+
+pub returns-in-Err-clause-leaves : goal.returns-in-Err-clause-leaves
+returns-in-Err-clause-leaves g c = asks_refused (state g.S.Store c.args.connection.now) (state g.S.Store c.history.new.conn) _ c.store_fault.result c.store_fault.ensures.cause c.in-Err.ensures.reads
+
+pub returns-in-Err-Memory-clause-leaves : goal.returns-in-Err-Memory-clause-leaves
+returns-in-Err-Memory-clause-leaves g c = asks_answered (state g.S.Store c.args.connection.now) (state g.S.Store c.history.new.conn) _ _ c.in-Ok.ensures.reads
+
+pub returns-clause-leaves : goal.returns-clause-leaves
+returns-clause-leaves g c = asks_answered (state g.S.Store c.args.connection.now) (state g.S.Store c.history.new.conn) _ _ c.in-Ok.ensures.reads

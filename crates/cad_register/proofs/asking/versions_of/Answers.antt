@@ -9,6 +9,8 @@ use Rattle.cad_tables.specs.Texts.{listing_text}
 use Rattle.cad_register.proofs.RefusingLemmas.{settled_here, not_for_memory}
 use Rattle.cad_tables.specs.Faults.{fault_of}
 use Rattle.cad_register.specs.Refusing.{asking, told_as}
+use Rattle.cad_register.proofs.LeavingLemmas.{asks_answered, asks_refused, store_reading, rows_reading, rows_read, store_reads}
+use Rattle.std.proofs.lemmas.Result.{IfErr-weaker}
 use Rattle.cad_register.proofs.asking.versions_of.Goals as goal
 
 pub returns-in-Ok-clause-told : goal.returns-in-Ok-clause-told
@@ -19,7 +21,7 @@ returns-in-Ok-clause-told g c clean cs stands =
     let rows = c.in-Ok.ensures.rows clean (length cs) lines stands.holds (listing_untied revision cs all) ∙ listing_rows revision cs in
     let new = state g.S.Store c.listing.new.conn in
     listing_told revision cs c.deref.result.now new c.versions_at.result (c.deref.ensures.value ∙ rows)
-    (stands_same (state g.S.Store c.args.connection.now) new cs (c.in-Ok.ensures.same clean (length cs) lines stands.holds) stands) c.versions_at.ensures.seen c.versions_at.ensures.cause
+    (stands_same (state g.S.Store c.args.connection.now) new cs (c.in-Ok.ensures.reads.same clean) stands) c.versions_at.ensures.seen c.versions_at.ensures.cause
 
 pub returns-in-Err-clause-asked : goal.returns-in-Err-clause-asked
 returns-in-Err-clause-asked g c clean cs stands e =
@@ -37,5 +39,24 @@ returns-in-Err-clause-asked g c clean cs stands e =
 pub returns-in-Err-clause-told : goal.returns-in-Err-clause-told
 returns-in-Err-clause-told g c clean cs stands = (
   store_cause c.args.revision cs c.store_fault.result c.store_fault.ensures.cause,
-  λ live. stands_kept (state g.S.Store c.args.connection.now) (state g.S.Store c.listing.new.conn) cs (c.in-Err.ensures.kept clean live (length cs) (map line_of (entries_of cs)) stands.holds stands.settled) live stands,
+  λ live. stands_kept (state g.S.Store c.args.connection.now) (state g.S.Store c.listing.new.conn) cs (c.in-Err.ensures.reads.kept clean live stands.settled) live stands,
 )
+
+pub returns-in-Ok-clause-leaves : goal.returns-in-Ok-clause-leaves
+returns-in-Ok-clause-leaves g c = asks_answered (state g.S.Store c.args.connection.now) (state g.S.Store c.listing.new.conn) _ _ c.in-Ok.ensures.reads
+
+pub returns-in-Err-clause-leaves : goal.returns-in-Err-clause-leaves
+returns-in-Err-clause-leaves g c = asks_refused (state g.S.Store c.args.connection.now) (state g.S.Store c.listing.new.conn) _ c.store_fault.result c.store_fault.ensures.cause c.in-Err.ensures.reads
+
+pub returns-in-Ok-clause-cause : goal.returns-in-Ok-clause-cause
+returns-in-Ok-clause-cause g c = IfErr-weaker c.versions_at.result _ _ (λ cause h. rows_reading c.deref.result.now cause h) c.versions_at.ensures.cause
+
+pub returns-in-Err-clause-cause : goal.returns-in-Err-clause-cause
+returns-in-Err-clause-cause g c = store_reading c.store_fault.result c.store_fault.ensures.cause
+
+pub returns-in-Ok-clause-read : goal.returns-in-Ok-clause-read
+returns-in-Ok-clause-read g c =
+    rows_read (state g.S.Store c.args.connection.now) (state g.S.Store c.listing.new.conn) c.args.revision c.deref.result.now c.versions_at.result (λ clean. rw c.deref.ensures.value (c.in-Ok.ensures.shown clean)) c.versions_at.ensures.sound c.versions_at.ensures.shown c.versions_at.ensures.cause
+
+pub returns-in-Err-clause-read : goal.returns-in-Err-clause-read
+returns-in-Err-clause-read g c = store_reads (state g.S.Store c.args.connection.now) (state g.S.Store c.listing.new.conn) c.args.revision c.store_fault.result c.store_fault.ensures.cause

@@ -1,7 +1,7 @@
-use Rattle.std.proofs.Common.{◌≡◌, ◌<◌, ◌+◌, drop, ◌∷◌, [], ◌++◌, subst, sym, ap, ◌∙◌, Some, length, length-append, arith}
+use Rattle.std.proofs.Common.{refl, take, ◌≡◌, ◌<◌, ◌+◌, drop, ◌∷◌, [], ◌++◌, subst, sym, ap, ◌∙◌, Some, length, length-append, arith}
 use Rattle.cad_register.specs.Kept.{entry_of}
-use Rattle.cad_register.specs.Damage.{IsNext, AreSound, IsFirstDamaged, IsCauseIn, identifier_in}
-use Rattle.cad_register.proofs.DamageLemmas.{sound_step, damaged_step, damaged_here, seen_step}
+use Rattle.cad_register.specs.Damage.{IsNext, AreSound, IsFirstDamaged, IsCauseIn, AreSeenAt, identifier_in}
+use Rattle.cad_register.proofs.DamageLemmas.{sound_step, damaged_step, damaged_here, seen_step, shown_step, shown_all}
 use Rattle.cad_versions.specs.Entries.{seen_at}
 use Rattle.cad_register.proofs.ListedLemmas.{AreListed, none_listed, one_listed}
 use Rattle.cad_register.proofs.listing.versions_at.Goals as goal
@@ -33,6 +33,7 @@ loop-row-preserved c =
       count = c.in_ok-push.ensures.len ∙ ap (λ n. n + 1) c.loop-row.invariant.count;
       sound = λ rest. c.loop-row.invariant.sound (sound_step rows at row before c.loop-row-test.true c.row-item.is next (subst (λ id. AreSound (Some id) (at + 1) (drop (at + 1) rows)) c.identifier.ensures rest));
       damaged = λ id rest. c.loop-row.invariant.damaged id (damaged_step id rows at row before c.loop-row-test.true c.row-item.is next (subst (λ here. IsFirstDamaged id (Some here) (at + 1) (drop (at + 1) rows)) c.identifier.ensures rest));
+      shown = subst (AreSeenAt c.args.revision (take (at + 1) rows)) (sym items) (shown_step c.args.revision rows at row c.in-Ok.kept _ c.loop-row.versions.items c.loop-row-test.true c.row-item.is c.in-Ok.ensures.0 refl c.loop-row.invariant.shown);
       seen = λ entries is. items ∙ seen_step c.args.revision rows entries at row (entry_of c.in-Ok.kept) c.loop-row.versions.items is c.loop-row-test.true c.row-item.is c.in-Ok.ensures.0 (c.loop-row.invariant.seen entries is);
     }
 
@@ -43,5 +44,9 @@ loop-row-init c = record {
   listed = rw c.new-versions.ensures.items none_listed;
   sound = λ rest. rest;
   damaged = λ id rest. rest;
+  shown = rw c.new-versions.ensures.items tt;
   seen = λ entries is. c.new-versions.ensures.items;
 }
+
+pub returns-clause-shown : goal.returns-clause-shown
+returns-clause-shown c = shown_all c.args.revision c.args.rows.now c.loop-row.row-index c.loop-row.versions.items c.loop-row-test.false c.loop-row.invariant.shown

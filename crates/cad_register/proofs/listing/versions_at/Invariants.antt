@@ -2,7 +2,7 @@ use Rattle.std.proofs.Common.{◌≡◌, ◌≤◌, ℤ, List, None, length, map
 use Rattle.cad_tables.specs.Line.{cells_of}
 use Rattle.cad_versions.specs.Entries.{Entry, seen_at}
 use Rattle.cad_register.specs.Rows.{line_of}
-use Rattle.cad_register.specs.Damage.{AreSound, IsFirstDamaged}
+use Rattle.cad_register.specs.Damage.{AreSound, IsFirstDamaged, AreSeenAt}
 use Rattle.cad_register.proofs.ListedLemmas.{AreListed}
 use Rattle.cad_register.proofs.listing.versions_at.Given as goal
 
@@ -13,5 +13,6 @@ invariant-loop-row l = record {
   listed : AreListed l.before l.versions.items;
   sound : AreSound l.before l.row-index (drop l.row-index l.rows) → AreSound None 0 l.rows;
   damaged : (id : ℤ × ℤ) → IsFirstDamaged id l.before l.row-index (drop l.row-index l.rows) → IsFirstDamaged id None 0 l.rows;
+  shown : AreSeenAt l.revision (take l.row-index l.rows) l.versions.items;
   seen : (entries : List Entry) → l.rows ≡ map (λ entry. cells_of (line_of entry)) entries → l.versions.items ≡ map (seen_at l.revision) (take l.row-index entries);
 }

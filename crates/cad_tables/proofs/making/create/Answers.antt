@@ -1,15 +1,11 @@
-use Rattle.std.proofs.Common.{◌≡◌, ◌≤◌, IsTrue, inl, refl, rules, Ok, subst}
-use Rattle.sqlite.specs.State.{HasCleanDisk, Survives}
-use Rattle.sqlite.specs.Steps.{FailsToCommit}
+use Rattle.std.proofs.Common.{◌≡◌, IsTrue, inl, inr, refl, rules, false, sym, ◌∙◌, arith}
+use Rattle.sqlite.specs.State.{HasCleanDisk}
 use Rattle.sqlite.specs.Held.{state}
 use Rattle.sqlite.specs.declared.error.Error.TheVariants.{SqliteFailure}
 use Rattle.sqlite.specs.declared.error.ErrorCode.TheVariants.{TransactionState}
 use Rattle.cad_tables.specs.Faults.{fault_of}
-use Rattle.cad_tables.specs.Refusals.{creating}
-use Rattle.cad_tables.specs.Steps.{CreatesTo}
-use Rattle.cad_tables.specs.declared.making.Creation.TheVariants.{Made}
 use Rattle.cad_tables.proofs.RefusalLemmas.{told}
-use Rattle.cad_tables.proofs.TransactionLemmas.{statement_refused, commit_refused, crashes_creating}
+use Rattle.cad_tables.proofs.OpeningLemmas.{settled_by}
 use Rattle.cad_tables.proofs.making.create.Goals as goal
 
 pub returns-then-not-is_autocommit-clause-refused : goal.returns-then-not-is_autocommit-clause-refused
@@ -17,43 +13,11 @@ returns-then-not-is_autocommit-clause-refused g c clean =
     let within : IsTrue c.args.conn.now.in_transaction = search rules in
     (SqliteFailure TransactionState, refl, inl (within, refl))
 
-pub returns-in_err-make_tables-clause-refused : goal.returns-in_err-make_tables-clause-refused
-returns-in_err-make_tables-clause-refused g c clean =
-    let begun = c.transaction-tx.ensures.begun in
-    let last = c.make_tables.new.tx.conn.now in
-    let ended = c.conn-1.given.0 in
-    let early : HasCleanDisk (state g.S.Store last) = search rules in
-    let up : (state g.S.Store last).faults ≤ (state g.S.Store ended).faults = search rules in
-    let e = c.in_err-make_tables.field-0.0 in
-    told _ c.from_residual.result (fault_of e) c.from_residual.ensures.1
-    (e, refl, statement_refused g.S.Store c.args.conn.now c.transaction-tx.result.conn.now last ended begun e creating (c.in_err-make_tables.ensures.refused early (rw begun)) up)
-
-pub returns-in_err-commit-in-Made-clause-refused : goal.returns-in_err-commit-in-Made-clause-refused
-returns-in_err-commit-in-Made-clause-refused g c clean =
-    let begun = c.transaction-tx.ensures.begun in
-    let last = c.make_tables.new.tx.conn.now in
-    let ended = c.conn-in-Made-1.given.0 in
-    let e = c.in_err-commit-in-Made.field-0.0 in
-    let early : HasCleanDisk (state g.S.Store last) = search rules in
-    let is : c.make_tables.result ≡ Ok Made = search rules in
-    let fails : FailsToCommit (state g.S.Store last) (state g.S.Store ended) e = search rules in
-    told _ c.from_residual-in_err-commit-in-Made.result (fault_of e) c.from_residual-in_err-commit-in-Made.ensures.1
-    (e, refl, commit_refused g.S.Store c.args.conn.now c.transaction-tx.result.conn.now last ended begun e creating (c.make_tables.ensures.ran early (rw begun) is) fails)
-
-pub returns-in_err-commit-in-Made-clause-crash : goal.returns-in_err-commit-in-Made-clause-crash
-returns-in_err-commit-in-Made-clause-crash g c =
-    let begun = c.transaction-tx.ensures.begun in
-    let same : c.commit.new.self.0 ≡ c.conn-in-Made-1.given.0 = search rules in
-    let is : c.make_tables.result ≡ Ok Made = search rules in
-    subst (λ h. Survives (state g.S.Store c.args.conn.now) (state g.S.Store h) (CreatesTo (state g.S.Store c.args.conn.now))) same
-    (crashes_creating g.S.Store c.args.conn.now c.transaction-tx.result.conn.now c.make_tables.new.tx.conn.now c.commit.new.self.0 begun
-    (λ clean. c.make_tables.ensures.makes clean (rw begun) is) c.make_tables.ensures.survives c.commit.ensures.survives)
-
-pub returns-in_ok-commit-in-Made-clause-crash : goal.returns-in_ok-commit-in-Made-clause-crash
-returns-in_ok-commit-in-Made-clause-crash g c =
-    let begun = c.transaction-tx.ensures.begun in
-    let same : c.commit.new.self.0 ≡ c.conn-in-Made-1.given.0 = search rules in
-    let is : c.make_tables.result ≡ Ok Made = search rules in
-    subst (λ h. Survives (state g.S.Store c.args.conn.now) (state g.S.Store h) (CreatesTo (state g.S.Store c.args.conn.now))) same
-    (crashes_creating g.S.Store c.args.conn.now c.transaction-tx.result.conn.now c.make_tables.new.tx.conn.now c.commit.new.self.0 begun
-    (λ clean. c.make_tables.ensures.makes clean (rw begun) is) c.make_tables.ensures.survives c.commit.ensures.survives)
+pub returns-in_err-make-clause-refused : goal.returns-in_err-make-clause-refused
+returns-in_err-make-clause-refused g c clean =
+    let mid = c.is_standing.new.conn in
+    let before : HasCleanDisk (state g.S.Store mid) = omega (arith, c.make.ensures.crash.clean) in
+    let no : c.in_ok-is_standing.field-0 ≡ false = search rules in
+    let e = c.in_err-make.field-0.0 in
+    told _ c.from_residual-in_err-make.result (fault_of e) c.from_residual-in_err-make.ensures.1
+    (e, refl, inr (inr (mid, sym (c.in_ok-is_standing.ensures.known before) ∙ no, settled_by g.S.Store c.args.conn.now mid _ c.in_ok-is_standing.ensures.reads before, c.in_err-make.ensures.refused clean)))

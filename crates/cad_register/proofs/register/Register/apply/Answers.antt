@@ -41,7 +41,7 @@ pub returns-in_err-count-clause-crash : goal.returns-in_err-count-clause-crash
 returns-in_err-count-clause-crash g c clean cs register =
     let old = state g.S.Store c.args.self.now.connection in
     let new = state g.S.Store c.decide.new.connection in
-    leaves_or new cs c.args.command (leaves_then old new cs (c.in_err-count.ensures.left clean cs register.stands) (leaves_standing old cs (g.met.S.Store.settled c.args.self.now.connection.store) register.stands))
+    leaves_or new cs c.args.command (leaves_then old new cs (c.in_err-count.ensures.leaves.left clean) (leaves_standing old cs (g.met.S.Store.settled c.args.self.now.connection.store) register.stands))
 
 pub returns-in_err-enact-clause-crash : goal.returns-in_err-enact-clause-crash
 returns-in_err-enact-clause-crash g c clean cs register =
@@ -52,7 +52,7 @@ returns-in_err-enact-clause-crash g c clean cs register =
     let decided = told.0 register.counted in
     let next : c.args.self.now.revision + 1 ≡ length cs + 1 = ap (λ n. n + 1) register.counted in
     let fits = numbered cs c.args.command c.in_ok-count.count c.next_number.result decided.0 decided.1 c.next_number.ensures.next in
-    let leaves = leaves_then old mid cs (c.in_ok-count.ensures.left early cs register.stands) (leaves_standing old cs (g.met.S.Store.settled c.args.self.now.connection.store) register.stands) in
+    let leaves = leaves_then old mid cs (c.in_ok-count.ensures.leaves.left early) (leaves_standing old cs (g.met.S.Store.settled c.args.self.now.connection.store) register.stands) in
     let room : length cs < most_revision = omega (arith, register.counted) in
     c.in_err-enact.ensures.crash clean cs told.1 leaves decided.0 fits next room
 
@@ -65,7 +65,7 @@ returns-clause-crash g c clean cs register =
     let decided = told.0 register.counted in
     let next : c.args.self.now.revision + 1 ≡ length cs + 1 = ap (λ n. n + 1) register.counted in
     let fits = numbered cs c.args.command c.in_ok-count.count c.next_number.result decided.0 decided.1 c.next_number.ensures.next in
-    let leaves = leaves_then old mid cs (c.in_ok-count.ensures.left early cs register.stands) (leaves_standing old cs (g.met.S.Store.settled c.args.self.now.connection.store) register.stands) in
+    let leaves = leaves_then old mid cs (c.in_ok-count.ensures.leaves.left early) (leaves_standing old cs (g.met.S.Store.settled c.args.self.now.connection.store) register.stands) in
     let room : length cs < most_revision = omega (arith, register.counted) in
     c.in_ok-enact.ensures.crash clean cs told.1 leaves decided.0 fits next room
 

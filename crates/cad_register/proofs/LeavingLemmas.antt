@@ -1,0 +1,103 @@
+-- One question after another leaves what each leaves.
+use Rattle.std.proofs.Common.{◌≡◌, ℕ, Vec, IfOk, None, Result, Ok, Err, IfErr, IsErrAnd, refl, sym, subst, ◌∙◌, List}
+use Rattle.sqlite.specs.State.{State, IsUnchanged}
+use Rattle.cad_tables.specs.Asking.{OnlyReads}
+use Rattle.cad_versions.specs.declared.command.Command.{Command}
+use Rattle.cad_versions.specs.declared.fault.RegisterFault.{RegisterFault}
+use Rattle.cad_versions.specs.declared.fault.RegisterFault.TheVariants as fault
+use Rattle.cad_register.specs.Leaving.{IsAsBefore, IsOfTheRegister, IsAnswered, AsksOnly}
+use Rattle.cad_register.specs.Stands.{StandsFor, IsStoreFault, IsReadingFault}
+use Rattle.cad_register.specs.Damage.{IsCauseIn, AreShown, AreSound, AreSeenAt, ReadsRows}
+use Rattle.cad_versions.specs.VersionedObject.{VersionedObject}
+use Rattle.std.specs.Global.{Global}
+use Rattle.sqlite_value.specs.Order.{Row}
+use Rattle.cad_register.proofs.StandLemmas.{stands_kept}
+use Rattle.cad_register.proofs.SurvivingLemmas.{leaves_no_more}
+
+pub as_before : (old new : State) → IsUnchanged old new → IsAsBefore old new
+as_before old new same = record { now = same.0.now_is; committed = same.0.committed_is; liveness = same.0.is_open ∙ sym same.0.was_open; mode = same.0.mode }
+
+pub before_then : (a b c : State) → IsAsBefore a b → IsAsBefore b c → IsAsBefore a c
+before_then a b c p q = record { now = q.now ∙ p.now; committed = q.committed ∙ p.committed; liveness = q.liveness ∙ p.liveness; mode = q.mode ∙ p.mode }
+
+pub stands_before : (old new : State) (cs : List Command) → IsAsBefore old new → StandsFor old cs → StandsFor new cs
+stands_before old new cs same stands = stands_kept old new cs (same.now, same.committed) (same.liveness ∙ stands.live) stands
+
+-- nothing is asked
+pub asks_nothing : {X : Type 0} (s : State) (r : Result X RegisterFault) → AsksOnly s s r
+asks_nothing s r = record {
+  same = λ clean answered. record { now = refl; committed = refl; liveness = refl; mode = refl };
+  kept = λ clean still settled. (refl, refl);
+  clean = λ clean. clean;
+  left = λ clean trees h. h;
+}
+
+-- one question is answered, and then all is as it was, whatever is made of the answer
+pub asks_answered : {X Y F : Type 0} (old new : State) (x : X) (r : Result Y RegisterFault) → OnlyReads {X = X} {F = F} old new (Ok x) → AsksOnly old new r
+asks_answered old new x r reads = record {
+  same = λ clean answered. as_before old new (reads.same clean);
+  kept = reads.kept;
+  clean = reads.clean;
+  left = λ clean. leaves_no_more old new clean reads.survives;
+}
+
+not_answered : (cause : RegisterFault) → IsStoreFault cause → ¬ IsOfTheRegister cause
+not_answered fault.Store is h = h
+not_answered fault.Memory is h = h
+not_answered cause is h = absurd is
+
+-- the database refuses it
+pub asks_refused : {X Y F : Type 0} (old new : State) (e : F) (cause : RegisterFault) → IsStoreFault cause → OnlyReads {X = X} {F = F} old new (Err e) → AsksOnly {X = Y} old new (Err cause)
+asks_refused old new e cause is reads = record {
+  same = λ clean answered. absurd (not_answered cause is answered);
+  kept = reads.kept;
+  clean = reads.clean;
+  left = λ clean. leaves_no_more old new clean reads.survives;
+}
+
+-- the same outcome, told to the caller
+pub asks_as : {X Y : Type 0} (old new : State) (r : Result X RegisterFault) (s : Result Y RegisterFault) → (IsAnswered s → IsAnswered r) → AsksOnly old new r → AsksOnly old new s
+asks_as old new r s same asks = record { same = λ clean answered. asks.same clean (same answered); kept = asks.kept; clean = asks.clean; left = asks.left }
+
+pub asks_on : {X Y : Type 0} (old new : State) (e : RegisterFault) (s : Result Y RegisterFault) → IsErrAnd s (λ x. x ≡ e) → AsksOnly {X = X} old new (Err e) → AsksOnly old new s
+asks_on old new e (Ok y) is asks = absurd is
+asks_on old new e (Err x) is asks = asks_as old new (Err e) (Err x) (subst IsOfTheRegister is) asks
+
+pub asks_then : {X Y : Type 0} (a b c : State) (x : X) (r : Result Y RegisterFault) → AsksOnly {X = X} a b (Ok x) → AsksOnly b c r → AsksOnly a c r
+asks_then a b c x r first second = record {
+  same = λ clean answered. before_then a b c (first.same (second.clean clean) tt) (second.same clean answered);
+  kept = λ clean still settled.
+      let same = first.same (second.clean clean) tt in
+      let later = second.kept clean still (same.committed ∙ settled ∙ sym same.now) in
+      (later.0 ∙ same.now, later.1 ∙ same.committed);
+  clean = λ clean. first.clean (second.clean clean);
+  left = λ clean trees h. first.left (second.clean clean) trees (second.left clean trees h);
+}
+
+-- what the database refuses is not told as no register
+pub not_as_none : (cause : RegisterFault) → IsStoreFault cause → ¬ (cause ≡ fault.NotARegister)
+not_as_none fault.Store is e = absurd cc
+not_as_none fault.Memory is e = absurd cc
+not_as_none cause is e = absurd is
+
+pub store_reading : (cause : RegisterFault) → IsStoreFault cause → IsReadingFault cause
+store_reading fault.Store is = tt
+store_reading fault.Memory is = tt
+store_reading cause is = absurd is
+
+pub rows_reading : (rows : List Row) (cause : RegisterFault) → IsCauseIn rows cause → IsReadingFault cause
+rows_reading rows (fault.Damaged object number) h = tt
+rows_reading rows fault.Memory h = tt
+rows_reading rows cause h = absurd h
+
+-- what is made of the rows that the database shows
+pub rows_read : (old new : State) (revision : ℕ) (rows : List Row) (r : Result (Vec VersionedObject Global) RegisterFault) → AreShown old new revision rows → IfOk r (λ _. AreSound None 0 rows) → IfOk r (λ vs. AreSeenAt revision rows vs.items) → IfErr r (IsCauseIn rows) → ReadsRows old new revision r
+rows_read old new revision rows (Ok vs) shown sound seen cause = (rows, shown, sound, seen)
+rows_read old new revision rows (Err (fault.Damaged object number)) shown sound seen cause = (rows, shown, cause)
+rows_read old new revision rows (Err fault.Memory) shown sound seen cause = tt
+rows_read old new revision rows (Err other) shown sound seen cause = absurd cause
+
+pub store_reads : (old new : State) (revision : ℕ) (cause : RegisterFault) → IsStoreFault cause → ReadsRows old new revision (Err cause)
+store_reads old new revision fault.Store is = tt
+store_reads old new revision fault.Memory is = tt
+store_reads old new revision cause is = absurd is

@@ -1,0 +1,32 @@
+-- What a call leaves that asks the database alone (SQLite, SELECT and Transaction).
+use Rattle.std.specs.Prelude.{◌≡◌, Result, Ok, Err, IsTrue}
+use Rattle.sqlite.specs.State.{State, HasCleanDisk}
+use Rattle.cad_tables.specs.Steps.{KeepsAll}
+use Rattle.cad_versions.specs.declared.fault.RegisterFault.{RegisterFault}
+use Rattle.cad_versions.specs.declared.fault.RegisterFault.TheVariants as fault
+use Rattle.cad_register.specs.Surviving.{LeavesNoMore}
+
+-- the connection shows what it showed
+pub record IsAsBefore (old new : State) : Type 0 where
+  pub now : new.now ≡ old.now
+  pub committed : new.committed ≡ old.committed
+  pub liveness : new.is_open ≡ old.is_open
+  pub mode : new.in_transaction ≡ old.in_transaction
+
+-- it is refused by neither the database nor want of memory
+abbrev pub IsOfTheRegister : RegisterFault → Type 0
+IsOfTheRegister fault.Store = ⊥
+IsOfTheRegister fault.Memory = ⊥
+IsOfTheRegister other = Unit {0}
+
+-- the database answered, and there was memory
+abbrev pub IsAnswered : {X : Type 0} → Result X RegisterFault → Type 0
+IsAnswered (Ok x) = Unit {0}
+IsAnswered (Err cause) = IsOfTheRegister cause
+
+-- answered, or refused for the register's own cause, all is as it was; refused otherwise, what is seen and committed is, while the connection is open and no transaction had changed it; a crash leaves nothing that it did not leave before
+pub record AsksOnly {X : Type 0} (old new : State) (result : Result X RegisterFault) : Type 0 where
+  pub same : HasCleanDisk new → IsAnswered result → IsAsBefore old new
+  pub kept : HasCleanDisk new → IsTrue new.is_open → old.committed ≡ old.now → KeepsAll old new
+  pub clean : HasCleanDisk new → HasCleanDisk old
+  pub left : HasCleanDisk new → LeavesNoMore old new
