@@ -1,14 +1,19 @@
 -- On heads that fit, and the bytes that hold them.
-use Rattle.std.proofs.Common.{◌≡◌, ℕ, ◌+◌, ◌-◌, ◌<◌, ◌≤◌, List, ◌++◌, length, take, drop, sym, ap, subst, ◌∙◌, append_assoc, arith, length-append}
-use Rattle.std.proofs.Math.Seq.{take-append-add, drop-append_seam}
+use Rattle.std.proofs.Common.{◌≡◌, ℕ, suc, ◌+◌, ◌-◌, ◌<◌, ◌≤◌, ◌==◌, ◌||◌, nat_le, Bool, true, false, List, [], ◌∷◌, ◌++◌, length, take, drop, get_or, inl, inr, refl, sym, ap, subst, ◌∙◌, append_assoc, arith, length-append}
+use Rattle.std.specs.List.{flat_map, list_any}
+use Rattle.std.proofs.Math.Seq.{take-append-add, take-append_seam, drop-append_seam, get_or-append_seam, get_or-append_right}
+use Rattle.std.proofs.lemmas.Bool.{cases_lt}
+use Rattle.std.proofs.lemmas.Bool.Decides.{nat_tests}
 use Rattle.std.proofs.lemmas.List.{length-map, take_all, take-append-drop, take-append-le, length-take}
-use Rattle.httparse.specs.Grammar.{RequestHead, print_request, ReadsRequest, HasNoRequest, MayBecomeRequest}
+use Rattle.std.proofs.lemmas.List.Folds.{list_any_at}
+use Rattle.httparse.specs.Grammar.{RequestHead, LineEnd, crlf, lf, print_end, print_field, print_section, print_request, ReadsRequest, HasNoRequest, MayBecomeRequest}
 use Rattle.httparse.specs.Spans.{RequestOverflows, IsRequestAt}
 use Rattle.httparse.specs.declared.spans.HeaderSpan.{HeaderSpan}
 use Rattle.httparse.specs.declared.spans.RequestSpans.{RequestSpans}
 use Rattle.cad_head.specs.Front.{IsHeadAt}
 use Rattle.httparse.proofs.GrammarLemmas.{request_unique, ReadsRequest-append}
-use Rattle.cad_head.specs.Heads.{front_len, field_room, Fits, HasNone, IsHopeless, MayWait}
+use Rattle.cad_head.specs.Heads.{front_len, field_room, Fits, HasNone, IsHopeless, MayWait, IsIncomplete}
+use Rattle.cad_head.specs.Pieces.{may_settle}
 
 -- the front of a piece that fits in it, and what follows
 take_through : (n : ℕ) (p r : List ℕ) → length p ≤ n → take n (p ++ r) ≡ p ++ take (n - length p) r
@@ -75,3 +80,65 @@ waits bytes short none =
 -- a short front that may become a head is all of the bytes
 pub unfinished : (bytes : List ℕ) → length bytes < front_len → MayBecomeRequest (take front_len bytes) → MayBecomeRequest bytes
 unfinished bytes short may = let all : take front_len bytes ≡ bytes = take_all front_len bytes (omega arith) in subst MayBecomeRequest all may
+
+-- the bytes end with the end of a line
+abbrev EndsLine : List ℕ → Type 0
+EndsLine bytes = (front : List ℕ) × (bytes ≡ front ++ 10 ∷ [])
+
+ends_behind : (a b : List ℕ) → EndsLine b → EndsLine (a ++ b)
+ends_behind a b e = (a ++ e.0, ap (λ (l : List ℕ). a ++ l) e.1 ∙ sym (append_assoc a e.0 (10 ∷ [])))
+
+ends_line_end : (e : LineEnd) → EndsLine (print_end e)
+ends_line_end crlf = (13 ∷ [], refl)
+ends_line_end lf = ([], refl)
+
+-- a head ends with the end of its empty line
+ends_head : (h : RequestHead) → EndsLine (print_request h)
+unfolding print_request
+ends_head h = ends_behind _ (print_section h.fields h.last) (ends_behind (flat_map print_field h.fields) _ (ends_line_end h.last))
+
+-- a line's end that stands behind the first part stands in the second
+end_in_piece : (held piece : List ℕ) (i : ℕ) → length held ≤ i → i < length held + length piece → get_or (held ++ piece) i 0 ≡ 10
+    → list_any (λ b. b == 10) piece ≡ true
+end_in_piece held piece i past within is =
+    let here : get_or piece (i - length held) 0 ≡ 10 = sym (get_or-append_right held piece i 0 past) ∙ is in
+    list_any_at (λ b. b == 10) piece (i - length held) 0 (omega arith) (ap (λ b. b == 10) here)
+
+-- a head that ends within the first part is read from it alone
+reads_first : (held piece : List ℕ) (head : RequestHead) (rest : List ℕ) → ReadsRequest (held ++ piece) head rest
+    → length (print_request head) ≤ length held → ReadsRequest held head (drop (length (print_request head)) held)
+reads_first held piece head rest r within =
+    let n = length (print_request head) in
+    let front : take n held ≡ print_request head =
+    sym (take-append-le n held piece within) ∙ ap (take n) r.1 ∙ take-append_seam (print_request head) rest in
+    (r.0, sym (take-append-drop n held) ∙ ap (λ (l : List ℕ). l ++ drop n held) front)
+
+-- what waits and gets no end of a line begins with no head
+no_head_after : (held piece : List ℕ) → list_any (λ b. b == 10) piece ≡ false → ((head : RequestHead) (rest : List ℕ) → ¬ (ReadsRequest held head rest))
+    → (head : RequestHead) (rest : List ℕ) → ¬ (ReadsRequest (held ++ piece) head rest)
+no_head_after held piece no_end none head rest r =
+    let e = ends_head head in
+    let whole : held ++ piece ≡ e.0 ++ 10 ∷ rest =
+    r.1 ∙ ap (λ (l : List ℕ). l ++ rest) e.1 ∙ append_assoc e.0 (10 ∷ []) rest in
+    let long : length (print_request head) ≡ length e.0 + 1 = ap length e.1 ∙ length-append e.0 (10 ∷ []) in
+    let all : length held + length piece ≡ length e.0 + suc (length rest) =
+    sym (length-append held piece) ∙ ap length whole ∙ length-append e.0 (10 ∷ rest) in
+    elim (cases_lt (length e.0) (length held)) [
+      | inl l ↦ none head (drop (length (print_request head)) held) (reads_first held piece head rest r (omega arith))
+      | inr l ↦ absurd (let found = end_in_piece held piece (length e.0) l (omega arith) (ap (λ (b : List ℕ). get_or b (length e.0) 0) whole ∙ get_or-append_seam e.0 10 rest 0) in
+          let clash : true ≡ false = sym found ∙ no_end in cc)
+    ]
+
+-- a piece that ends no line and leaves room in the front changes nothing
+pub stays_incomplete : (held piece : List ℕ) → may_settle held piece ≡ false → IsIncomplete held → IsIncomplete (held ++ piece)
+stays_incomplete held piece unsettled waits =
+    let parts = neither (list_any (λ b. b == 10) piece) (nat_le front_len (length held + length piece)) unsettled in
+    let none = no_head_after held piece parts.0 waits.1.1 in
+    (λ head rest f. none head rest f.reads, (short held piece parts.1, none))
+  where
+    neither : (a b : Bool) → (a || b) ≡ false → (a ≡ false) × (b ≡ false)
+    neither false b h = (refl, h)
+    neither true b h = absurd (let clash : true ≡ false = h in cc)
+
+    short : (held piece : List ℕ) → nat_le front_len (length held + length piece) ≡ false → length (held ++ piece) < front_len
+    short held piece h = let l = length-append held piece in grind (arith, nat_tests)

@@ -4,9 +4,9 @@ use Rattle.httparse.specs.Grammar.{RequestHead, MayBecomeRequest}
 use Rattle.httparse.specs.Spans.{IsRequestAt, IsRequestWithin}
 use Rattle.httparse.specs.declared.spans.HeaderSpan.{HeaderSpan}
 use Rattle.httparse.specs.declared.spans.RequestSpans.{RequestSpans}
-use Rattle.cad_head.specs.Heads.{front_len, Fits, HasNone, IsHopeless, MayWait}
-use Rattle.cad_head.specs.declared.parsing.Front.{Front}
-use Rattle.cad_head.specs.declared.parsing.Front.TheVariants.{Head, Waiting, Bad}
+use Rattle.cad_head.specs.Heads.{front_len, Fits, HasNone, IsHopeless, IsIncomplete}
+use Rattle.cad_head.specs.declared.parsing.HeadState.{HeadState}
+use Rattle.cad_head.specs.declared.parsing.HeadState.TheVariants.{Complete, Incomplete, Invalid}
 
 -- the bytes that a head may take (own profile)
 abbrev pub front_bytes : List ℕ → List ℕ
@@ -18,25 +18,25 @@ pub record IsHeadAt (bytes : List ℕ) (headers : List HeaderSpan) (spans : Requ
   pub fits : Fits bytes head (drop spans.len bytes)
 
 -- what stands at the front of the bytes
-abbrev pub IsFrontOf : List ℕ → List HeaderSpan → Front → Type 0
-IsFrontOf bytes headers (Head spans) = (head : RequestHead) × IsHeadAt bytes headers spans head
-IsFrontOf bytes headers Waiting = HasNone bytes × MayWait bytes
-IsFrontOf bytes headers Bad = IsHopeless bytes
+abbrev pub IsFrontOf : List ℕ → List HeaderSpan → HeadState → Type 0
+IsFrontOf bytes headers (Complete spans) = (head : RequestHead) × IsHeadAt bytes headers spans head
+IsFrontOf bytes headers Incomplete = IsIncomplete bytes
+IsFrontOf bytes headers Invalid = IsHopeless bytes
 
 -- the places lie in the bytes
-abbrev pub IsFrontWithin : List ℕ → List HeaderSpan → Front → Type 0
-IsFrontWithin bytes headers (Head spans) = IsRequestWithin (front_bytes bytes) headers spans
-IsFrontWithin bytes headers Waiting = ⊤
-IsFrontWithin bytes headers Bad = ⊤
+abbrev pub IsFrontWithin : List ℕ → List HeaderSpan → HeadState → Type 0
+IsFrontWithin bytes headers (Complete spans) = IsRequestWithin (front_bytes bytes) headers spans
+IsFrontWithin bytes headers Incomplete = ⊤
+IsFrontWithin bytes headers Invalid = ⊤
 
 -- what waits may still become a head of the grammar
-abbrev pub IsFrontUnfinished : List ℕ → Front → Type 0
-IsFrontUnfinished bytes (Head spans) = ⊤
-IsFrontUnfinished bytes Waiting = MayBecomeRequest bytes
-IsFrontUnfinished bytes Bad = ⊤
+abbrev pub IsFrontUnfinished : List ℕ → HeadState → Type 0
+IsFrontUnfinished bytes (Complete spans) = ⊤
+IsFrontUnfinished bytes Incomplete = MayBecomeRequest bytes
+IsFrontUnfinished bytes Invalid = ⊤
 
 -- where a head is found, one is there, and the bytes are not hopeless
 abbrev pub HeadsExcludeAll : Type 0
 HeadsExcludeAll =
     (bytes : List ℕ) (headers : List HeaderSpan) (spans : RequestSpans)
-    → IsFrontOf bytes headers (Head spans) → ¬ (HasNone bytes) × ¬ (IsHopeless bytes)
+    → IsFrontOf bytes headers (Complete spans) → ¬ (HasNone bytes) × ¬ (IsHopeless bytes)

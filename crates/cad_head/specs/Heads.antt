@@ -30,6 +30,10 @@ MayWait bytes =
     (length bytes < front_len)
     × ((head : RequestHead) (rest : List ℕ) → ¬ (ReadsRequest bytes head rest))
 
+-- the bytes begin with no head, and may still become one
+abbrev pub IsIncomplete : List ℕ → Type 0
+IsIncomplete bytes = HasNone bytes × MayWait bytes
+
 -- bytes begin with one head at most
 abbrev pub HaveOneHead : Type 0
 HaveOneHead =

@@ -6,15 +6,19 @@
 //!
 //! - `limits`: how long a head may be, and the bytes that it may take
 //! - `parsing`: whether a whole head is there, may still come, or cannot come
+//! - `pieces`: whether a piece that comes can change that
 //! - `laws`: what the definitions say together
+//!
+//! Of the bytes `GET / HTTP/1.1\r\nHost: x\r\n\r\nGET /a`, `front_of` answers `Complete` with a head
+//! of 27 bytes and one field; of their first 26 bytes it answers `Incomplete`, and of `GET\0` it
+//! answers `Invalid`.
 #![tactic(auto)]
 
 pub mod laws;
 mod limits;
 mod parsing;
+mod pieces;
 
 pub use limits::{FIELD_ROOM, FRONT_LEN, front_bytes};
-pub use parsing::{Front, front_of};
-
-#[cfg(test)]
-mod tests;
+pub use parsing::{HeadState, front_of};
+pub use pieces::may_settle;

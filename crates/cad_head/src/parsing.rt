@@ -6,33 +6,33 @@ use crate::limits::{FIELD_ROOM, FRONT_LEN, front_bytes};
 use httparse::Status;
 use httparse::spans::{HeaderSpan, RequestSpans, parse_request};
 
-/// What stands at the front of a connection's bytes.
+/// How far the head at the front of a connection's bytes has come.
 #[derive(Clone, Copy, Debug, PartialEq, Eq)]
-pub enum Front {
+pub enum HeadState {
     /// A whole head, by the places of its parts in `front_bytes`.
-    Head(RequestSpans),
+    Complete(RequestSpans),
     /// No whole head yet.
-    Waiting,
+    Incomplete,
     /// No head, whatever bytes come.
-    Bad,
+    Invalid,
 }
 
 /// What stands at the front of these bytes. The places of a head's fields are written to the
 /// first `headers` entries.
-pub fn front_of(bytes: &[u8], headers: &mut [HeaderSpan; FIELD_ROOM]) -> Front
+pub fn front_of(bytes: &[u8], headers: &mut [HeaderSpan; FIELD_ROOM]) -> HeadState
     ensures front { IsFrontOf bytes.now headers.new result }
     ensures within { IsFrontWithin bytes.now headers.new result }
     ensures unfinished { IsFrontUnfinished bytes.now result }
 {
     match parse_request(front_bytes(bytes), headers) {
-        Ok(Status::Complete(spans)) => Front::Head(spans),
+        Ok(Status::Complete(spans)) => HeadState::Complete(spans),
         Ok(Status::Partial) => {
             if bytes.len() < FRONT_LEN {
-                Front::Waiting
+                HeadState::Incomplete
             } else {
-                Front::Bad
+                HeadState::Invalid
             }
         }
-        Err(_) => Front::Bad,
+        Err(_) => HeadState::Invalid,
     }
 }

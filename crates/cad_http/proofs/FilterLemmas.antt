@@ -2,7 +2,7 @@
 use Rattle.std.proofs.Common.{◌≡◌, ℕ, List, Result, Ok, Err, IsErrAnd, refl, subst}
 use Rattle.cql_lexer.specs.Mark.{Mark}
 use Rattle.cql_lexer.specs.Lexed.{IsSpelt}
-use Rattle.cql_lexer.proofs.Spellings.{one_spelling}
+use Rattle.cql_lexer.specs.Laws.{HasOneSpelling}
 use Rattle.cql_parser.specs.Syntax.{Syntax}
 use Rattle.cql_parser.specs.Grammar.{Reads}
 use Rattle.cql_parser.specs.Answer.{IsParsed, IsReading}
@@ -19,33 +19,33 @@ use Rattle.cad_http.specs.FilterFaults.{of_parser, of_types}
 use Rattle.cad_http.specs.declared.filter.FilterFault.TheVariants.{Refused}
 
 -- a text has one list of tokens
-same_tokens : (c : Collection) (text : List ℕ) (tokens : List Mark) (filter : Filter) → IsSpelt text tokens → (a : IsAccepted c text filter) → a.tokens ≡ tokens
-same_tokens c text tokens filter spelt a = one_spelling text a.tokens tokens a.spelt.spells spelt.spells
+same_tokens : HasOneSpelling → (c : Collection) (text : List ℕ) (tokens : List Mark) (filter : Filter) → IsSpelt text tokens → (a : IsAccepted c text filter) → a.tokens ≡ tokens
+same_tokens one c text tokens filter spelt a = one text a.tokens tokens a.spelt.spells spelt.spells
 
 -- where the tokens have no tree
-pub no_tree_no_filter : (c : Collection) (text : List ℕ) (tokens : List Mark) (filter : Filter) → IsSpelt text tokens
+pub no_tree_no_filter : HasOneSpelling → (c : Collection) (text : List ℕ) (tokens : List Mark) (filter : Filter) → IsSpelt text tokens
     → ((tree : Syntax) → ¬ (IsParsed tokens tree)) → ¬ (IsAccepted c text filter)
-no_tree_no_filter c text tokens filter spelt none a =
-    none a.tree (subst (λ (ts : List Mark). IsParsed ts a.tree) (same_tokens c text tokens filter spelt a) a.parsed)
+no_tree_no_filter one c text tokens filter spelt none a =
+    none a.tree (subst (λ (ts : List Mark). IsParsed ts a.tree) (same_tokens one c text tokens filter spelt a) a.parsed)
 
 -- where the one tree is of no condition
-pub no_kind_no_filter : (c : Collection) (text : List ℕ) (tokens : List Mark) (tree : Syntax) (filter : Filter) → IsSpelt text tokens → IsReading tokens tree
+pub no_kind_no_filter : HasOneSpelling → (c : Collection) (text : List ℕ) (tokens : List Mark) (tree : Syntax) (filter : Filter) → IsSpelt text tokens → IsReading tokens tree
     → ((f : Filter) → ¬ (IsCondition c tree f)) → ¬ (IsAccepted c text filter)
-no_kind_no_filter c text tokens tree filter spelt reading none a =
-    let same : a.tree ≡ tree = reading.only a.tree (subst (λ (ts : List Mark). Reads ts a.tree) (same_tokens c text tokens filter spelt a) a.parsed.reads) in
+no_kind_no_filter one c text tokens tree filter spelt reading none a =
+    let same : a.tree ≡ tree = reading.only a.tree (subst (λ (ts : List Mark). Reads ts a.tree) (same_tokens one c text tokens filter spelt a) a.parsed.reads) in
     none filter (subst (λ (t : Syntax). IsCondition c t filter) same a.fits)
 
 -- a refusal of the parser
-pub parser_refusal : (c : Collection) (text : List ℕ) (tokens : List Mark) (filter : Filter) (why : ParseFault) → IsSpelt text tokens → parser.Answers tokens (Err why)
+pub parser_refusal : HasOneSpelling → (c : Collection) (text : List ℕ) (tokens : List Mark) (filter : Filter) (why : ParseFault) → IsSpelt text tokens → parser.Answers tokens (Err why)
     → of_parser why ≡ Refused → ¬ (IsAccepted c text filter)
-parser_refusal c text tokens filter parse.Refused spelt none same = no_tree_no_filter c text tokens filter spelt none
-parser_refusal c text tokens filter parse.Memory spelt none same = absurd cc
+parser_refusal one c text tokens filter parse.Refused spelt none same = no_tree_no_filter one c text tokens filter spelt none
+parser_refusal one c text tokens filter parse.Memory spelt none same = absurd cc
 
 -- a refusal of the kinds
-pub type_refusal : (c : Collection) (text : List ℕ) (tokens : List Mark) (tree : Syntax) (filter : Filter) (why : TypeFault) → IsSpelt text tokens → IsReading tokens tree
+pub type_refusal : HasOneSpelling → (c : Collection) (text : List ℕ) (tokens : List Mark) (tree : Syntax) (filter : Filter) (why : TypeFault) → IsSpelt text tokens → IsReading tokens tree
     → (why ≡ types.Refused → (f : Filter) → ¬ (IsCondition c tree f)) → of_types why ≡ Refused → ¬ (IsAccepted c text filter)
-type_refusal c text tokens tree filter types.Refused spelt reading none same = no_kind_no_filter c text tokens tree filter spelt reading (none refl)
-type_refusal c text tokens tree filter types.Memory spelt reading none same = absurd cc
+type_refusal one c text tokens tree filter types.Refused spelt reading none same = no_kind_no_filter one c text tokens tree filter spelt reading (none refl)
+type_refusal one c text tokens tree filter types.Memory spelt reading none same = absurd cc
 
 -- the fault that `?` gives
 pub fault_given : {T E : Type 0} (result : Result T E) (given why : E) → IsErrAnd result (λ e. e ≡ given) → result ≡ Err why → given ≡ why

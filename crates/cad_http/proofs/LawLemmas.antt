@@ -1,26 +1,24 @@
 -- On the laws of replies.
-use Rattle.std.proofs.Common.{◌≡◌, ℕ, zero, suc, List, [], ◌∷◌, ◌++◌, Bool, Some, length, take, refl, sym, ap, subst, ◌∙◌, append_assoc, inl, inr}
-use Rattle.std.proofs.lemmas.List.Elements.{All-filter, All-take}
+use Rattle.std.proofs.Common.{◌≡◌, ℕ, List, [], ◌∷◌, ◌++◌, Bool, Some, length, take, refl, sym, ap, subst, ◌∙◌, append_assoc, inl, inr}
 use Rattle.httparse.specs.Grammar.{RequestHead, print_request}
 use Rattle.cql_meaning.specs.declared.feature.Feature.{Feature}
 use Rattle.cql_meaning.specs.declared.filter.Filter.{Filter}
 use Rattle.cql_meaning.specs.declared.schema.Collection.TheVariants.{Parcels}
 use Rattle.cql_meaning.specs.Sides.{Sides, sides, yes}
-use Rattle.cql_meaning.specs.Answer.{answer, is_taken}
-use Rattle.cql_meaning.specs.Features.{IsOf, IsBefore, IsInOrder, AreFeatures}
+use Rattle.cql_meaning.specs.Answer.{answer}
 use Rattle.cql_meaning.specs.Schema.{schema_of}
 use Rattle.cad_json.specs.Tree.{items_data}
 use Rattle.serde_json.specs.Written.{compact_text}
-use Rattle.cql_meaning.specs.Laws.{TextHasOneMeaning, AnswerIsInOrder}
+use Rattle.cql_meaning.specs.Laws.{TextHasOneMeaning}
 use Rattle.cad_head.specs.Heads.{Fits, HasNone, IsHopeless, HaveOneHead, HeadsStay}
 use Rattle.cad_request.specs.Query.{PairText}
-use Rattle.cad_request.specs.Request.{request_of, is_last}
+use Rattle.cad_request.specs.Request.{request_of, closes_connection}
 use Rattle.cad_request.specs.Decisions.{Decision, refused, listed, filtered, decision}
-use Rattle.cad_http.specs.declared.reply.Status.TheVariants.{Good}
+use Rattle.cad_http.specs.declared.reply.Status.TheVariants as status
 use Rattle.cad_http.specs.Replies.{reply_text}
-use Rattle.cad_http.specs.Answers.{page_size, sample_revision, items_target, items_reply, IsFilteredReply, IsReplyTo, IsReply}
+use Rattle.cad_http.specs.Answers.{page_size, listed_of, listed_reply, IsFilteredReply, IsReplyTo, IsReply}
 use Rattle.cad_http.specs.FirstReplies.{AnswersHead}
-use Rattle.cad_http.specs.Laws.{RequestHasOneReply, BytesHaveOneReply, RepliesStay, ListsFeaturesInOrder}
+use Rattle.cad_http.specs.Laws.{RequestHasOneReply, BytesHaveOneReply, RepliesStay}
 
 -- two filters with one meaning have one answer
 same_answer : (f g : Filter) (features : List Feature) → ((x : Feature) → sides x f ≡ sides x g) → answer (Some f) features ≡ answer (Some g) features
@@ -30,9 +28,9 @@ same_answer f g (x ∷ xs) same =
     rw (here, same_answer f g xs same) refl
 
 same_items : (f g : Filter) (features : List Feature) (pairs : List PairText) (ends : Bool) → ((x : Feature) → sides x f ≡ sides x g)
-    → items_reply features pairs (Some f) ends ≡ items_reply features pairs (Some g) ends
+    → listed_reply (listed_of (Some f) features) pairs ends ≡ listed_reply (listed_of (Some g) features) pairs ends
 same_items f g features pairs ends same =
-    ap (λ (found : List Feature). reply_text Good ends (compact_text (items_data (schema_of Parcels) (take page_size found) sample_revision (items_target pairs))))
+    ap (λ (found : List Feature). listed_reply (take page_size found) pairs ends)
     (same_answer f g features same)
 
 same_filtered : TextHasOneMeaning → (features : List Feature) (pairs : List PairText) (text : List ℕ) (ends : Bool) (out other : List ℕ)
@@ -40,7 +38,7 @@ same_filtered : TextHasOneMeaning → (features : List Feature) (pairs : List Pa
 same_filtered one features pairs text ends out other x y =
     elim x [
       | inl a ↦ elim y [
-        | inl b ↦ a.2 ∙ same_items a.0 b.0 features pairs ends (one Parcels text a.0 b.0 a.1 b.1) ∙ sym b.2
+        | inl b ↦ a.2.reply ∙ same_items a.0 b.0 features pairs ends (one Parcels text a.0 b.0 a.1 b.1) ∙ sym b.2.reply
         | inr b ↦ absurd (b.0 a.0 a.1)
       ]
       | inr a ↦ elim y [
@@ -52,11 +50,11 @@ same_filtered one features pairs text ends out other x y =
 same_reply_to : TextHasOneMeaning → (features : List Feature) (d : Decision) (ends : Bool) (out other : List ℕ)
     → IsReplyTo features d ends out → IsReplyTo features d ends other → out ≡ other
 same_reply_to one features (refused fault) ends out other x y = x ∙ sym y
-same_reply_to one features (listed pairs) ends out other x y = x ∙ sym y
+same_reply_to one features (listed pairs) ends out other x y = x.reply ∙ sym y.reply
 same_reply_to one features (filtered pairs text) ends out other x y = same_filtered one features pairs text ends out other x y
 
 pub request_has_one_reply : TextHasOneMeaning → RequestHasOneReply
-request_has_one_reply one features r out other x y = same_reply_to one features (decision r) (is_last r) out other x y
+request_has_one_reply one features r out other x y = same_reply_to one features (decision r) (closes_connection r) out other x y
 
 -- bytes that begin with a head are not hopeless
 head_or_hopeless : HeadsStay → (bytes : List ℕ) (head : RequestHead) (rest : List ℕ) → Fits bytes head rest → ¬ (IsHopeless bytes)
@@ -69,7 +67,7 @@ same_head_reply heads replies features bytes out other used taken ends over x y 
     let reply = subst (λ (h : RequestHead). IsReply features (request_of h) out) same x.reply in (
       replies features (request_of y.head) out other reply y.reply,
       x.used_is ∙ ap (λ (h : RequestHead). length (print_request h)) same ∙ sym y.used_is,
-      x.ends_is ∙ ap (λ (h : RequestHead). is_last (request_of h)) same ∙ sym y.ends_is,
+      x.ends_is ∙ ap (λ (h : RequestHead). closes_connection (request_of h)) same ∙ sym y.ends_is,
     )
 
 pub bytes_have_one_reply : HaveOneHead → HeadsStay → RequestHasOneReply → BytesHaveOneReply
@@ -103,15 +101,3 @@ replies_stay stay features bytes more out used ends x =
         ends_is = b.ends_is;
       })
     ]
-
--- the first features of a list in order
-take_in_order : (n : ℕ) (xs : List Feature) → IsInOrder xs → IsInOrder (take n xs)
-take_in_order zero xs h = tt
-take_in_order (suc n) [] h = tt
-take_in_order (suc n) (x ∷ xs) h = (All-take (IsBefore x) n xs h.0, take_in_order n xs h.1)
-
-pub lists_features_in_order : AnswerIsInOrder → ListsFeaturesInOrder
-lists_features_in_order ordered f features fs = record {
-  fit = All-take (IsOf Parcels) page_size (answer f features) (All-filter (is_taken f) (IsOf Parcels) features fs.fit);
-  in_order = take_in_order page_size (answer f features) (ordered f features fs.in_order);
-}

@@ -2,9 +2,9 @@
 use Rattle.std.specs.Prelude.{◌≡◌, ℕ, List, length, Bool, true, ◌⊎◌}
 use Rattle.httparse.specs.Grammar.{RequestHead, print_request, MayBecomeRequest}
 use Rattle.cql_meaning.specs.declared.feature.Feature.{Feature}
-use Rattle.cad_head.specs.Heads.{Fits, HasNone, IsHopeless, MayWait}
+use Rattle.cad_head.specs.Heads.{Fits, IsHopeless, IsIncomplete}
 use Rattle.cad_request.specs.declared.fault.RequestFault.TheVariants.{BadHead}
-use Rattle.cad_request.specs.Request.{request_of, is_last}
+use Rattle.cad_request.specs.Request.{request_of, closes_connection}
 use Rattle.cad_http.specs.declared.first.First.{First}
 use Rattle.cad_http.specs.declared.first.First.TheVariants.{Waiting, Reply}
 use Rattle.cad_http.specs.Answers.{IsReply, fault_reply}
@@ -16,7 +16,7 @@ pub record AnswersHead (features : List Feature) (bytes out : List ℕ) (used : 
   pub fits : Fits bytes head rest
   pub reply : IsReply features (request_of head) out
   pub used_is : used ≡ length (print_request head)
-  pub ends_is : ends ≡ is_last (request_of head)
+  pub ends_is : ends ≡ closes_connection (request_of head)
 
 -- the bytes begin with no head, whatever follows them, and this is the refusal
 pub record RefusesHead (bytes out : List ℕ) (used : ℕ) (ends : Bool) : Type 0 where
@@ -29,11 +29,7 @@ pub record RefusesHead (bytes out : List ℕ) (used : ℕ) (ends : Bool) : Type 
 abbrev pub IsFirstReply : List Feature → List ℕ → List ℕ → ℕ → Bool → Type 0
 IsFirstReply features bytes out used ends = AnswersHead features bytes out used ends ⊎ RefusesHead bytes out used ends
 
--- no reply is due yet: the bytes begin with no head, and may still become one
-abbrev pub IsWaiting : List ℕ → Type 0
-IsWaiting bytes = HasNone bytes × MayWait bytes
-
--- the first reply, or that it is to be waited for
+-- the first reply, or that none is due yet
 abbrev pub IsFirstOf : List Feature → List ℕ → First → Type 0
-IsFirstOf features bytes Waiting = IsWaiting bytes × MayBecomeRequest bytes
+IsFirstOf features bytes Waiting = IsIncomplete bytes × MayBecomeRequest bytes
 IsFirstOf features bytes (Reply out used ends) = IsFirstReply features bytes out.items used ends

@@ -1,12 +1,8 @@
 -- What holds of all replies.
-use Rattle.std.specs.Prelude.{◌≡◌, ℕ, ◌++◌, List, Bool, Option, take}
+use Rattle.std.specs.Prelude.{◌≡◌, ℕ, ◌++◌, List, Bool}
 use Rattle.cql_meaning.specs.declared.feature.Feature.{Feature}
-use Rattle.cql_meaning.specs.declared.filter.Filter.{Filter}
-use Rattle.cql_meaning.specs.declared.schema.Collection.TheVariants.{Parcels}
-use Rattle.cql_meaning.specs.Features.{AreFeatures}
-use Rattle.cql_meaning.specs.Answer.{answer}
 use Rattle.cad_request.specs.Request.{Request}
-use Rattle.cad_http.specs.Answers.{page_size, IsReply}
+use Rattle.cad_http.specs.Answers.{IsReply}
 use Rattle.cad_http.specs.FirstReplies.{IsFirstReply}
 
 -- a request has one reply
@@ -22,8 +18,3 @@ BytesHaveOneReply = (features : List Feature) (bytes out other : List ℕ) (used
 abbrev pub RepliesStay : Type 0
 RepliesStay = (features : List Feature) (bytes more out : List ℕ) (used : ℕ) (ends : Bool)
     → IsFirstReply features bytes out used ends → IsFirstReply features (bytes ++ more) out used ends
-
--- what a reply lists are features of parcels, each identifier once and in their order
-abbrev pub ListsFeaturesInOrder : Type 0
-ListsFeaturesInOrder = (filter : Option Filter) (features : List Feature)
-    → AreFeatures Parcels features → AreFeatures Parcels (take page_size (answer filter features))

@@ -1,7 +1,7 @@
 -- The bytes of a reply (RFC 9112, section 4: status line; section 5: field syntax).
 use Rattle.std.specs.Prelude.{ℕ, List, [], ◌∷◌, ◌++◌, length, codes, decimal, Bool, if◌then◌else◌}
 use Rattle.cad_http.specs.declared.reply.Status.{Status}
-use Rattle.cad_http.specs.declared.reply.Status.TheVariants.{Good, BadRequest, NotFound, MethodNotAllowed}
+use Rattle.cad_http.specs.declared.reply.Status.TheVariants as status
 
 -- a line and its end
 abbrev pub line : List ℕ → List ℕ
@@ -9,17 +9,17 @@ line text = text ++ 13 ∷ 10 ∷ []
 
 -- the status code and its reason phrase (RFC 9110, section 15)
 abbrev pub status_text : Status → List ℕ
-status_text Good = codes "200 OK"
-status_text BadRequest = codes "400 Bad Request"
-status_text NotFound = codes "404 Not Found"
-status_text MethodNotAllowed = codes "405 Method Not Allowed"
+status_text status.Ok = codes "200 OK"
+status_text status.BadRequest = codes "400 Bad Request"
+status_text status.NotFound = codes "404 Not Found"
+status_text status.MethodNotAllowed = codes "405 Method Not Allowed"
 
 -- the line of the methods that a resource has, which one status needs (RFC 9110, section 15.5.6)
 abbrev pub allow_line : Status → List ℕ
-allow_line Good = []
-allow_line BadRequest = []
-allow_line NotFound = []
-allow_line MethodNotAllowed = line (codes "Allow: GET")
+allow_line status.Ok = []
+allow_line status.BadRequest = []
+allow_line status.NotFound = []
+allow_line status.MethodNotAllowed = line (codes "Allow: GET")
 
 -- the line where the connection ends after the reply (RFC 9112, section 9.6: tear-down)
 abbrev pub close_line : Bool → List ℕ

@@ -4,15 +4,17 @@ ghost use Rattle.std.specs.Prelude.{◌≡◌, All, IfOk, map, take, string_byte
 ghost use Rattle.std.specs.Option.{option_copied};
 ghost use Rattle.httparse.specs.Spans.{IsRequestWithin};
 ghost use Rattle.serde_json.specs.Written.{compact_text};
+ghost use Rattle.cql_meaning.specs.declared.schema.Collection.TheVariants.{Parcels};
+ghost use Rattle.cql_meaning.specs.Features.{AreFeatures};
 ghost use Rattle.cad_request.specs.Query.{pair_text};
-ghost use Rattle.cad_request.specs.Request.{request_at, is_last as is_last_request};
+ghost use Rattle.cad_request.specs.Request.{request_at, closes_connection as closes_connection_of};
 ghost use Rattle.cad_request.specs.Decisions.{decision_of};
-ghost use Rattle.cad_http.specs.Answers.{status_of, fault_reply as fault_reply_of, items_target as items_target_of, items_reply as items_reply_of, IsFilteredReply, IsReplyTo, IsReply};
+ghost use Rattle.cad_http.specs.Answers.{status_of, fault_reply as fault_reply_of, items_target as items_target_of, listed_reply as listed_reply_of, IsItemsReply, IsFilteredReply, IsReplyTo, IsReply};
 
 use crate::filter::{FilterFault, read_filter};
 use crate::reply::{Status, reply_bytes};
 use cad_json::{fault_body, items_body};
-use cad_request::{Asked, Pair, RequestFault, decide, is_last, write_pairs};
+use cad_request::{Asked, Pair, RequestFault, Routes, closes_connection, decide, write_pairs};
 use cql_meaning::feature::Feature;
 use cql_meaning::filter::Filter;
 use cql_meaning::schema::Collection;
@@ -29,7 +31,9 @@ const SAMPLE_REVISION: u64 = 10;
 /// A reply, and whether the connection ends after it.
 #[derive(Debug, Drop)]
 pub struct Answer {
+    /// The reply.
     pub bytes: Vec<u8>,
+    /// Whether the rules end the connection after it.
     pub ends: bool,
 }
 
@@ -65,6 +69,28 @@ fn items_target(alloc: Global, pairs: &[Pair]) -> Result<String, AllocError>
     Ok(target)
 }
 
+/// The reply that lists these features.
+fn listed_reply(
+    alloc: Global,
+    rows: &[&Feature],
+    pairs: &[Pair],
+    ends: bool,
+) -> Result<Vec<u8>, AllocError>
+    ensures { IfOk result (λ bytes. bytes.items
+        ≡ listed_reply_of (map (λ f. f.now) rows.now) (map pair_text pairs.now) ends) }
+{
+    let target = items_target(alloc, pairs)?;
+    let body = items_body(
+        alloc,
+        Collection::Parcels,
+        rows,
+        SAMPLE_REVISION,
+        target.as_str(),
+    )?;
+    reply_bytes(alloc, Status::Ok, ends, body.as_str())
+}
+
+/// The reply that lists the first features of the answer.
 fn items_reply(
     alloc: Global,
     features: &[Feature],
@@ -72,19 +98,11 @@ fn items_reply(
     filter: Option<&Filter>,
     ends: bool,
 ) -> Result<Vec<u8>, AllocError>
-    ensures { IfOk result (λ bytes. bytes.items
-        ≡ items_reply_of features.now (map pair_text pairs.now) (option_copied filter.entry) ends) }
+    requires { AreFeatures Parcels features.now }
+    ensures { IfOk result (λ bytes. IsItemsReply features.now (map pair_text pairs.now) (option_copied filter.entry) ends bytes.items) }
 {
     let rows = select(alloc, filter, features, PAGE_SIZE)?;
-    let target = items_target(alloc, pairs)?;
-    let body = items_body(
-        alloc,
-        Collection::Parcels,
-        &rows,
-        SAMPLE_REVISION,
-        target.as_str(),
-    )?;
-    reply_bytes(alloc, Status::Good, ends, body.as_str())
+    listed_reply(alloc, &rows, pairs, ends)
 }
 
 fn filtered_reply(
@@ -94,6 +112,7 @@ fn filtered_reply(
     text: &str,
     ends: bool,
 ) -> Result<Vec<u8>, AllocError>
+    requires { AreFeatures Parcels features.now }
     ensures { IfOk result (λ bytes. IsFilteredReply features.now (map pair_text pairs.now) text.now ends bytes.items) }
 {
     match read_filter(alloc, text) {
@@ -109,29 +128,32 @@ fn reply_to(
     asked: &Asked,
     ends: bool,
 ) -> Result<Vec<u8>, AllocError>
+    requires { AreFeatures Parcels features.now }
     ensures { IfOk result (λ bytes. IsReplyTo features.now (decision_of asked.now) ends bytes.items) }
 {
     match asked {
         Asked::Refused(fault) => fault_reply(alloc, *fault, ends),
         Asked::Listed(pairs) => items_reply(alloc, features, pairs, None, ends),
-        Asked::Filtered(pairs, text) => filtered_reply(alloc, features, pairs, text, ends),
+        Asked::Filtered { pairs, text } => filtered_reply(alloc, features, pairs, text, ends),
     }
 }
 
 /// The reply to a request, which `spans` show in `bytes`.
 pub fn answer_request(
     alloc: Global,
+    routes: &Routes,
     features: &[Feature],
     bytes: &[u8],
     headers: &[HeaderSpan],
     spans: &RequestSpans,
 ) -> Result<Answer, AllocError>
-    requires { IsRequestWithin bytes.now headers.now spans.now }
+    requires within { IsRequestWithin bytes.now headers.now spans.now }
+    requires features { AreFeatures Parcels features.now }
     ensures reply { IfOk result (λ a. IsReply features.now (request_at bytes.now headers.now spans.now) a.bytes.items) }
-    ensures ends { IfOk result (λ a. a.ends ≡ is_last_request (request_at bytes.now headers.now spans.now)) }
+    ensures ends { IfOk result (λ a. a.ends ≡ closes_connection_of (request_at bytes.now headers.now spans.now)) }
 {
-    let asked = decide(alloc, bytes, headers, spans)?;
-    let ends = is_last(bytes, headers, spans);
+    let asked = decide(alloc, routes, bytes, headers, spans)?;
+    let ends = closes_connection(bytes, headers, spans);
     let reply = reply_to(alloc, features, &asked, ends)?;
     Ok(Answer { bytes: reply, ends })
 }

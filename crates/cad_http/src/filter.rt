@@ -5,6 +5,7 @@ ghost use Rattle.cql_meaning.specs.declared.filter.Filter.{Filter};
 ghost use Rattle.cql_meaning.specs.declared.schema.Collection.TheVariants.{Parcels};
 ghost use Rattle.cql_meaning.specs.Accepted.{IsAccepted};
 
+use cql_lexer::laws::one_spelling;
 use cql_lexer::{LexFault, tokens};
 use cql_meaning::check::{TypeFault, check};
 use cql_meaning::filter::Filter;
@@ -64,6 +65,8 @@ pub fn read_filter(alloc: Global, text: &str) -> Result<Filter, FilterFault>
     ensures accepted { IfOk result (λ filter. IsAccepted Parcels text.now filter) }
     ensures refused { IsErrOf result FilterFault.Refused → (filter : Filter) → ¬ (IsAccepted Parcels text.now filter) }
 {
+    // What the tokens lack no others of the text have.
+    one_spelling();
     let tokens = tokens(alloc, text)?;
     let tree = parse(alloc, &tokens)?;
     let filter = check(alloc, &tree, Collection::Parcels)?;

@@ -7,8 +7,8 @@ ghost use Rattle.cad_http.specs.FirstReplies.{IsFirstOf};
 
 use crate::answer::{answer_request, fault_reply};
 use crate::desk_fault::DeskFault;
-use cad_head::{FIELD_ROOM, Front, front_bytes, front_of};
-use cad_request::RequestFault;
+use cad_head::{FIELD_ROOM, HeadState, front_bytes, front_of};
+use cad_request::{RequestFault, Routes};
 use cql_meaning::feature::Feature;
 use httparse::spans::EMPTY_HEADER_SPAN;
 use std::alloc::Global;
@@ -18,29 +18,54 @@ use std::alloc::Global;
 pub enum First {
     /// No whole head has come.
     Waiting,
-    /// The reply, how many bytes its head has (0 where it has none), and whether the rules end the connection after it.
+    /// The reply is due.
     Reply {
+        /// The reply, head and body.
         bytes: Vec<u8>,
+        /// How many bytes the request's head has, 0 where there is none.
         used: usize,
+        /// Whether the rules end the connection after the reply.
         ends: bool,
     },
 }
 
-/// The reply to the first request of a connection, over the features of parcels.
+/// The reply to the first request of a connection, over the features of parcels. They stand in identifier order,
+/// and so do those that the reply lists.
 pub fn first_reply(alloc: Global, bytes: &[u8], features: &[Feature]) -> Result<First, DeskFault>
+    requires { AreFeatures Parcels features.now }
+    ensures { IfOk result (IsFirstOf features.now bytes.now) }
+{
+    let routes = Routes::new(alloc)?;
+    answer_first(alloc, &routes, bytes, features)
+}
+
+/// The same with the routes at hand.
+pub(crate) fn answer_first(
+    alloc: Global,
+    routes: &Routes,
+    bytes: &[u8],
+    features: &[Feature],
+) -> Result<First, DeskFault>
     requires { AreFeatures Parcels features.now }
     ensures { IfOk result (IsFirstOf features.now bytes.now) }
 {
     let mut headers = [EMPTY_HEADER_SPAN; FIELD_ROOM];
     match front_of(bytes, &mut headers) {
-        Front::Waiting => Ok(First::Waiting),
-        Front::Bad => Ok(First::Reply {
+        HeadState::Incomplete => Ok(First::Waiting),
+        HeadState::Invalid => Ok(First::Reply {
             bytes: fault_reply(alloc, RequestFault::BadHead, true)?,
             used: 0,
             ends: true,
         }),
-        Front::Head(spans) => {
-            let reply = answer_request(alloc, features, front_bytes(bytes), &headers, &spans)?;
+        HeadState::Complete(spans) => {
+            let reply = answer_request(
+                alloc,
+                routes,
+                features,
+                front_bytes(bytes),
+                &headers,
+                &spans,
+            )?;
             Ok(First::Reply {
                 bytes: reply.bytes,
                 used: spans.len,

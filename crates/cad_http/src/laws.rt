@@ -1,9 +1,9 @@
 //! What holds of all replies. Nothing runs here.
 
-ghost use Rattle.cad_http.specs.Laws.{RequestHasOneReply, BytesHaveOneReply, RepliesStay, ListsFeaturesInOrder};
+ghost use Rattle.cad_http.specs.Laws.{RequestHasOneReply, BytesHaveOneReply, RepliesStay};
 
 use cad_head::laws::{bytes_have_one_head, heads_stay};
-use cql_meaning::laws::{answer_is_in_order, text_has_one_meaning};
+use cql_meaning::laws::text_has_one_meaning;
 
 /// A request has one reply, since the text of its filter has one meaning.
 pub fn request_has_one_reply()
@@ -26,11 +26,4 @@ pub fn replies_stay()
     ensures { RepliesStay }
 {
     heads_stay();
-}
-
-/// What a reply lists are features of parcels, each identifier once and in their order.
-pub fn lists_features_in_order()
-    ensures { ListsFeaturesInOrder }
-{
-    answer_is_in_order();
 }

@@ -8,9 +8,13 @@ use std::alloc::{AllocError, Global};
 /// The status of a reply.
 #[derive(Clone, Copy, Debug, PartialEq, Eq)]
 pub enum Status {
-    Good,
+    /// 200: the features are listed.
+    Ok,
+    /// 400: the bytes, the parameters or the filter are refused.
     BadRequest,
+    /// 404: the path names no resource.
     NotFound,
+    /// 405: the resource has no such method.
     MethodNotAllowed,
 }
 
@@ -19,7 +23,7 @@ impl Status {
         ensures { result.now ≡ status_text self }
     {
         match self {
-            Status::Good => "200 OK",
+            Status::Ok => "200 OK",
             Status::BadRequest => "400 Bad Request",
             Status::NotFound => "404 Not Found",
             Status::MethodNotAllowed => "405 Method Not Allowed",
@@ -31,7 +35,7 @@ impl Status {
     {
         match self {
             Status::MethodNotAllowed => "Allow: GET\r\n",
-            Status::Good | Status::BadRequest | Status::NotFound => "",
+            Status::Ok | Status::BadRequest | Status::NotFound => "",
         }
     }
 }

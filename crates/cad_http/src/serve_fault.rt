@@ -5,38 +5,43 @@ use thiserror::Error;
 /// Why serving stops before it ends.
 #[derive(Clone, Copy, Debug, PartialEq, Eq, Error)]
 pub enum ServeFault {
+    /// A read failed.
     #[error("a read failed")]
     Read,
     /// A write failed, or took nothing.
     #[error("a write failed")]
     Write,
-    #[error("no whole request after as many reads as there may be")]
+    /// As many reads were made as there may be.
+    #[error("too many reads")]
     TurnsSpent,
 }
 
 impl ServeFault {
     ghost use Rattle.std.specs.Prelude.{◌≡◌};
-    ghost use Rattle.cad_http.specs.Faults.{serve_fault_number, serve_fault_name};
+    ghost use Rattle.cad_http.specs.Faults.{serve_fault_told, serve_fault_number, serve_fault_name};
+
+    /// The number and the name.
+    fn told(self) -> (u8, &'static str)
+        ensures { (result.0, result.1.now) ≡ serve_fault_told self }
+    {
+        match self {
+            ServeFault::Read => (1, "Read"),
+            ServeFault::Write => (2, "Write"),
+            ServeFault::TurnsSpent => (3, "TurnsSpent"),
+        }
+    }
 
     /// The number that programs print.
     pub fn number(&self) -> u8
         ensures { result ≡ serve_fault_number self.now }
     {
-        match self {
-            ServeFault::Read => 1,
-            ServeFault::Write => 2,
-            ServeFault::TurnsSpent => 3,
-        }
+        self.told().0
     }
 
     /// The name that programs print.
     pub fn name(&self) -> &'static str
         ensures { result.now ≡ serve_fault_name self.now }
     {
-        match self {
-            ServeFault::Read => "Read",
-            ServeFault::Write => "Write",
-            ServeFault::TurnsSpent => "TurnsSpent",
-        }
+        self.told().1
     }
 }

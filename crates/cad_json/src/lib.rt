@@ -7,6 +7,11 @@
 //! - `values`: a feature's values, as its geometry and as its properties
 //! - `bodies`: features, lists of them, and faults
 //! - `laws`: what the trees hold, in terms of the features
+//!
+//! Of no features of parcels at revision 0, asked for by `/collections/parcels/items`, the body is
+//! `{"features":[],"links":[{"href":"/collections/parcels/items","rel":"self","type":"application/json"}],`
+//! `"numberReturned":0,"revision":0,"type":"FeatureCollection"}`; of the fault `bad-head` it is
+//! `{"fault":"bad-head"}`.
 #![tactic(auto)]
 
 mod bodies;
@@ -15,6 +20,3 @@ mod shapes;
 mod values;
 
 pub use bodies::{fault_body, items_body};
-
-#[cfg(test)]
-mod tests;

@@ -1,3 +1,4 @@
 pub mod MemberLemmas
 pub mod RouteLemmas
 pub mod DecisionLemmas
+pub mod PairLemmas

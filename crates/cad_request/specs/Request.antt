@@ -55,9 +55,9 @@ abbrev pub asks_to_close : FieldText → Bool
 asks_to_close field =
     str_eq_ignore_ascii_case field.0 (codes "connection") && list_any is_close (members field.1)
 
--- the connection ends after the reply (RFC 9112, section 9.3: persistence; HTTP/1.0 keeps none: own profile)
-abbrev pub is_last : Request → Bool
-is_last r = r.minor == 0 || list_any asks_to_close r.fields
+-- the connection closes after the reply (RFC 9112, section 9.3: persistence; HTTP/1.0 keeps none: own profile)
+abbrev pub closes_connection : Request → Bool
+closes_connection r = r.minor == 0 || list_any asks_to_close r.fields
 
 -- the target before its first question mark (RFC 9112, section 3.2.1: origin form)
 abbrev pub path : Request → List ℕ

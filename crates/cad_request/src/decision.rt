@@ -9,18 +9,19 @@ ghost use Rattle.cad_request.specs.Decisions.{is_unknown as is_unknown_pair, ask
 
 use crate::fault::RequestFault;
 use crate::query::{Pair, read_pairs};
-use crate::resource::{Resource, resource_at};
+use crate::resource::{Resource, Routes};
 use httparse::spans::{HeaderSpan, RequestSpans};
 use std::alloc::{AllocError, Global};
 
 /// What a request asks for, with the pairs of its query, or why it is refused.
 #[derive(Debug, Drop)]
 pub enum Asked {
+    /// The first check that fails.
     Refused(RequestFault),
     /// All features.
     Listed(Vec<Pair>),
     /// The features for which the filter of this text is true.
-    Filtered(Vec<Pair>, String),
+    Filtered { pairs: Vec<Pair>, text: String },
 }
 
 fn is_unknown(pair: &Pair) -> bool
@@ -53,7 +54,7 @@ fn asked_by(pairs: Vec<Pair>) -> Result<Asked, AllocError>
         return Ok(Asked::Listed(pairs));
     }
     let text = pairs[0].value.clone()?;
-    Ok(Asked::Filtered(pairs, text))
+    Ok(Asked::Filtered { pairs, text })
 }
 
 /// The path and the query of a target.
@@ -70,6 +71,7 @@ fn split_target(target: &[u8]) -> (&[u8], &[u8])
 /// What a request asks for, or the first check that it fails: its path, its method, its parameters.
 pub fn decide(
     alloc: Global,
+    routes: &Routes,
     bytes: &[u8],
     headers: &[HeaderSpan],
     spans: &RequestSpans,
@@ -78,7 +80,7 @@ pub fn decide(
     ensures { IfOk result (λ a. decision_of a ≡ decision (request_at bytes.now headers.now spans.now)) }
 {
     let (path, query) = split_target(spans.path.of(bytes));
-    match resource_at(alloc, path)? {
+    match routes.resource(path) {
         None => Ok(Asked::Refused(RequestFault::NoResource)),
         Some(Resource::ParcelItems) => {
             if spans.method.of(bytes) != b"GET".as_slice() {

@@ -1,10 +1,10 @@
-//! Whether the fields of a request end its connection.
+//! Whether the fields of a request close its connection.
 
 ghost use Rattle.std.specs.Prelude.{◌≡◌, ◌<◌, [], ◌∷◌, length, map, reverse, All, IfSome, MatchOption};
 ghost use Rattle.std.specs.List.{list_any};
 ghost use Rattle.httparse.specs.Grammar.{is_ows, skip_ows, trim_ows};
 ghost use Rattle.httparse.specs.Spans.{IsHeaderWithin, IsRequestWithin, header_bytes};
-ghost use Rattle.cad_request.specs.Request.{members, is_close as is_close_member, asks_to_close as asks_to_close_field, is_last as is_last_request, request_at};
+ghost use Rattle.cad_request.specs.Request.{members, is_close as is_close_member, asks_to_close as asks_to_close_field, closes_connection as closes_connection_of, request_at};
 
 use httparse::spans::{HeaderSpan, RequestSpans};
 
@@ -88,7 +88,7 @@ fn asks_to_close(bytes: &[u8], header: &HeaderSpan) -> bool
     header.name.of(bytes).eq_ignore_ascii_case(b"connection") && has_close(header.value.of(bytes))
 }
 
-fn has_last_field(bytes: &[u8], headers: &[HeaderSpan]) -> bool
+fn has_closing_field(bytes: &[u8], headers: &[HeaderSpan]) -> bool
     requires { All (IsHeaderWithin (length bytes.now)) headers.now }
     ensures { result ≡ list_any asks_to_close_field (map (header_bytes bytes.now) headers.now) }
 {
@@ -99,10 +99,10 @@ fn has_last_field(bytes: &[u8], headers: &[HeaderSpan]) -> bool
     is_found
 }
 
-/// Whether the connection ends after the reply to this request.
-pub fn is_last(bytes: &[u8], headers: &[HeaderSpan], spans: &RequestSpans) -> bool
+/// Whether the connection closes after the reply to this request: an HTTP/1.0 one does, and one that asks for it.
+pub fn closes_connection(bytes: &[u8], headers: &[HeaderSpan], spans: &RequestSpans) -> bool
     requires { IsRequestWithin bytes.now headers.now spans.now }
-    ensures { result ≡ is_last_request (request_at bytes.now headers.now spans.now) }
+    ensures { result ≡ closes_connection_of (request_at bytes.now headers.now spans.now) }
 {
-    spans.version == 0 || has_last_field(bytes, &headers[..spans.headers])
+    spans.version == 0 || has_closing_field(bytes, &headers[..spans.headers])
 }

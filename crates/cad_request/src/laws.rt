@@ -1,6 +1,7 @@
-//! The checks of a request, one after the other. Nothing runs here.
+//! What the definitions of requests say together. Nothing runs here.
 
 ghost use Rattle.cad_request.specs.Laws.{PathIsFirst, MethodIsSecond, NamesAreThird, CountIsFourth, OneFilterIsAsked, AllIsListed};
+ghost use Rattle.cad_request.specs.Laws.{MembersHoldNoComma, MembersMakeTheValue, OldVersionsClose, PairsAreReadBack};
 
 /// Another path names no resource, whatever else is asked.
 pub fn path_is_first()
@@ -30,4 +31,24 @@ pub fn one_filter_is_asked()
 /// Without parameters all is listed.
 pub fn all_is_listed()
     ensures { AllIsListed }
+{}
+
+/// No member of a field's value holds a comma.
+pub fn members_hold_no_comma()
+    ensures { MembersHoldNoComma }
+{}
+
+/// The members of a field's value, joined by commas, are the value.
+pub fn members_make_the_value()
+    ensures { MembersMakeTheValue }
+{}
+
+/// A request of HTTP/1.0 closes its connection, whatever its fields are.
+pub fn old_versions_close()
+    ensures { OldVersionsClose }
+{}
+
+/// Pairs of texts that are written as a query are read again as the same pairs.
+pub fn pairs_are_read_back()
+    ensures { PairsAreReadBack }
 {}

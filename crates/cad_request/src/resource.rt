@@ -2,7 +2,6 @@
 
 ghost use Rattle.std.specs.Prelude.{◌≡◌, IfOk, option_map};
 ghost use Rattle.matchit.specs.Seek.{first};
-ghost use Rattle.cad_request.specs.Resources.{resource_of};
 ghost use Rattle.cad_request.specs.RouteRows.{route_rows};
 
 use matchit::{InsertError, Router};
@@ -22,7 +21,7 @@ fn no_memory(error: InsertError) -> AllocError
     AllocError
 }
 
-fn routes(alloc: Global) -> Result<Router<Resource>, AllocError>
+fn router(alloc: Global) -> Result<Router<Resource>, AllocError>
     ensures { IfOk result (λ router. router ≡ route_rows) }
 {
     let mut router = Router::new(alloc);
@@ -41,12 +40,31 @@ fn routed(router: &Router<Resource>, path: &str) -> Option<Resource>
     }
 }
 
-/// The resource that a path names. A path that is no UTF-8 names none.
-pub(crate) fn resource_at(alloc: Global, path: &[u8]) -> Result<Option<Resource>, AllocError>
-    ensures { IfOk result (λ found. found ≡ resource_of path.now) }
-{
-    match str::from_utf8(path) {
-        Ok(path) => Ok(routed(&routes(alloc)?, path)),
-        Err(_) => Ok(None),
+/// The routes of the server. They are made once, and then asked for each request.
+#[derive(Drop)]
+pub struct Routes {
+    router: Router<Resource>,
+    ghost complete: { router ≡ route_rows },
+}
+
+impl Routes {
+    ghost use Rattle.std.specs.Prelude.{◌≡◌};
+    ghost use Rattle.cad_request.specs.Resources.{resource_of};
+
+    /// All routes. An error is want of memory.
+    pub fn new(alloc: Global) -> Result<Routes, AllocError> {
+        Ok(Routes {
+            router: router(alloc)?,
+        })
+    }
+
+    /// The resource that a path names. A path that is no UTF-8 names none.
+    pub(crate) fn resource(&self, path: &[u8]) -> Option<Resource>
+        ensures { result ≡ resource_of path.now }
+    {
+        match str::from_utf8(path) {
+            Ok(path) => routed(&self.router, path),
+            Err(_) => None,
+        }
     }
 }

@@ -36,6 +36,3 @@ fn main(rt: HostRuntime) -> ExitCode {
     tell(&rt, outcome);
     ExitCode::from(outcome.status())
 }
-
-#[cfg(test)]
-mod tests;

@@ -2,7 +2,7 @@
 
 ghost use Rattle.std.specs.Prelude.{◌≡◌, ◌⊎◌, Ok};
 ghost use Rattle.std.specs.Io.KnownBytes.{IsAtEnd};
-ghost use Rattle.cadastre.specs.Serving.{ServesSample};
+ghost use Rattle.cadastre.specs.Serving.{RefusesUntouched, ServesSample};
 
 use cad_http::{DeskFault, Ending, ServeFault, serve};
 use cad_sample::sample_parcels;
@@ -15,7 +15,8 @@ pub fn serve_sample<R: Read, W: Write>(
     reader: &mut R,
     writer: &mut W,
 ) -> Result<Ending, ServeFault>
-    ensures served { (result ≡ Ok (Ending.Refused DeskFault.Memory)) ⊎ ServesSample
+    ensures served { RefusesUntouched
+        (R.remaining reader.old) (R.remaining reader.new) (W.contents writer.old) (W.contents writer.new) result ⊎ ServesSample
         (R.remaining reader.old) (R.remaining reader.new) (W.contents writer.old) (W.contents writer.new) result }
     ensures all { result ≡ Ok Ending.PeerEnded → IsAtEnd (R.remaining reader.new) }
 {

@@ -4,7 +4,7 @@ use Rattle.cql_parser.specs.Views.{syntax_of, syntaxes_of}
 use Rattle.cql_parser.specs.declared.tree.Tree.{Tree}
 use Rattle.cql_parser.specs.Syntax.{Syntax, Parts, part, parts_of, not_node}
 use Rattle.cql_meaning.specs.Finds.{Finds}
-use Rattle.cql_meaning.specs.Kinds.{IsCondition, IsNoCondition, AreConditions, negation, no_more, one_more}
+use Rattle.cql_meaning.specs.Kinds.{IsCondition, IsNoCondition, AreConditions, by_not, no_more, one_more}
 use Rattle.cql_meaning.specs.declared.check.TypeFault.{TypeFault}
 use Rattle.cql_meaning.specs.declared.check.TypeFault.TheVariants.{Refused}
 use Rattle.cql_meaning.specs.declared.filter.Filter.{Filter}
@@ -35,7 +35,7 @@ completes_all ts i before past so_far =
 -- NOT, in its box
 pub negation_in_box : {c : Collection} {p : ℕ} {t : Syntax} {g : Filter} (f : Box Filter Global) →
     f.value ≡ g → IsCondition c t g → IsCondition c (not_node p t) (filter.Not f)
-negation_in_box f e h = negation f (rw e h)
+negation_in_box f e h = by_not f (rw e h)
 
 -- what was found, or a refusal where there is nothing
 pub ok_or_fits : (c : Collection) (t : Syntax) (o : Option Filter) (r : Result Filter TypeFault) →

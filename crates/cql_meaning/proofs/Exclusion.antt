@@ -4,7 +4,7 @@ use Rattle.cql_meaning.specs.declared.feature.Feature.{Feature}
 use Rattle.cql_meaning.specs.declared.filter.Filter.{Filter}
 use Rattle.cql_meaning.specs.declared.filter.Filter.TheOpen.{Filter-F}
 use Rattle.cql_meaning.specs.declared.filter.Filter.TheFolds.{fold-roll-Filter, ind-Filter, map-Filter}
-use Rattle.cql_meaning.specs.Sides.{Sides, all_of, compared, side_step, sides, some_of, whole_relation}
+use Rattle.cql_meaning.specs.Sides.{Sides, conjunction, compared, side_step, sides, disjunction, whole_relation}
 use Rattle.cql_meaning.specs.Values.{whole_value}
 
 abbrev pub Excludes : Sides → Type 0
@@ -24,11 +24,11 @@ compared_excludes test None b p q = absurd cc
 compared_excludes test (Some a) None p q = absurd cc
 compared_excludes test (Some a) (Some b) p q = let e : not true ≡ true = rw p at q in absurd cc
 
-all_excludes : (x : Feature) (fs : List (Known x)) → Excludes (all_of (map (sides x) (map (λ f. f.0) fs)))
+all_excludes : (x : Feature) (fs : List (Known x)) → Excludes (conjunction (map (sides x) (map (λ f. f.0) fs)))
 all_excludes x [] p q = absurd cc
 all_excludes x (f ∷ fs) p q = apart _ _ _ _ f.1 (all_excludes x fs) p q
 
-some_excludes : (x : Feature) (fs : List (Known x)) → Excludes (some_of (map (sides x) (map (λ f. f.0) fs)))
+some_excludes : (x : Feature) (fs : List (Known x)) → Excludes (disjunction (map (sides x) (map (λ f. f.0) fs)))
 some_excludes x [] p q = absurd cc
 some_excludes x (f ∷ fs) p q = apart _ _ _ _ (λ r s. f.1 s r) (λ r s. some_excludes x fs s r) q p
 

@@ -12,7 +12,7 @@ use Rattle.cql_parser.specs.declared.tree.Tree.{Tree}
 use Rattle.cql_parser.specs.declared.tree.Tree.TheVariants.{Name, Number, Or', And', Not', Compare'}
 use Rattle.cql_meaning.proofs.Trees.{syntax_of-Name, syntax_of-Number}
 use Rattle.cql_parser.specs.Syntax.{Syntax, Parts, part, name_node, number_node, or_node, and_node, not_node, compare_node}
-use Rattle.cql_meaning.specs.Kinds.{IsWhole, IsCondition, AreConditions, number_of, property, number, comparison, negation, conjunction, disjunction, one_more}
+use Rattle.cql_meaning.specs.Kinds.{IsWhole, IsCondition, AreConditions, number_of, property, number, by_comparison, by_not, by_and, by_or, one_more}
 use Rattle.cql_meaning.specs.Schema.{schema_of}
 use Rattle.cql_meaning.specs.declared.filter.WholeTerm.{WholeTerm}
 use Rattle.cql_meaning.specs.declared.filter.WholeTerm.TheVariants.{Constant, Property}
@@ -30,22 +30,22 @@ whole_number (number numeral fits) = (numeral, fits)
 
 pub compared_left : {c : Collection} {by : Comparison} {l r : Syntax} {f : Filter} → IsCondition c (compare_node by l r) f →
     (a : WholeTerm) × IsWhole c l a
-compared_left (comparison {a = a} left right) = (a, left)
+compared_left (by_comparison {a = a} left right) = (a, left)
 
 pub compared_right : {c : Collection} {by : Comparison} {l r : Syntax} {f : Filter} → IsCondition c (compare_node by l r) f →
     (b : WholeTerm) × IsWhole c r b
-compared_right (comparison {b = b} left right) = (b, right)
+compared_right (by_comparison {b = b} left right) = (b, right)
 
 pub negated : {c : Collection} {p : ℕ} {t : Syntax} {f : Filter} → IsCondition c (not_node p t) f → (g : Filter) × IsCondition c t g
-negated (negation g h) = (g.value, h)
+negated (by_not g h) = (g.value, h)
 
 pub all_joined : {c : Collection} {t : Syntax} {ts : Parts} {f : Filter} → IsCondition c (and_node t ts) f →
     (fs : List Filter) × AreConditions c (part t ts) fs
-all_joined (conjunction fs h) = (fs.items, h)
+all_joined (by_and fs h) = (fs.items, h)
 
 pub some_joined : {c : Collection} {t : Syntax} {ts : Parts} {f : Filter} → IsCondition c (or_node t ts) f →
     (fs : List Filter) × AreConditions c (part t ts) fs
-some_joined (disjunction fs h) = (fs.items, h)
+some_joined (by_or fs h) = (fs.items, h)
 
 pub first_part : {c : Collection} {t : Syntax} {ts : Parts} {fs : List Filter} → AreConditions c (part t ts) fs →
     (f : Filter) × IsCondition c t f

@@ -29,13 +29,13 @@ pub data IsWhole (c : Collection) : Syntax → WholeTerm → Type 0 where
 mutual
   -- Conditions, and what they are: a comparison of two whole expressions, and NOT, AND and OR of conditions.
   pub data IsCondition (c : Collection) : Syntax → Filter → Type 0 where
-    comparison : {by : Comparison} {left right : Syntax} {a b : WholeTerm} → IsWhole c left a → IsWhole c right b →
+    by_comparison : {by : Comparison} {left right : Syntax} {a b : WholeTerm} → IsWhole c left a → IsWhole c right b →
         IsCondition c (compare_node by left right) (filter.CompareWhole by a b)
-    negation : {token : ℕ} {negated : Syntax} (f : Box Filter Global) → IsCondition c negated f.value →
+    by_not : {token : ℕ} {negated : Syntax} (f : Box Filter Global) → IsCondition c negated f.value →
         IsCondition c (not_node token negated) (filter.Not f)
-    conjunction : {first : Syntax} {others : Parts} (fs : Vec Filter Global) → AreConditions c (part first others) fs.items →
+    by_and : {first : Syntax} {others : Parts} (fs : Vec Filter Global) → AreConditions c (part first others) fs.items →
         IsCondition c (and_node first others) (filter.And fs)
-    disjunction : {first : Syntax} {others : Parts} (fs : Vec Filter Global) → AreConditions c (part first others) fs.items →
+    by_or : {first : Syntax} {others : Parts} (fs : Vec Filter Global) → AreConditions c (part first others) fs.items →
         IsCondition c (or_node first others) (filter.Or fs)
 
   -- each part a condition, in the order of the parts

@@ -41,23 +41,23 @@ abbrev pub compared : {A : Type 0} → (A → A → Bool) → Option A → Optio
 compared test a b = record { yes = holds_of test a b; no = fails_of test a b }
 
 -- NOT
-abbrev pub turned : Sides → Sides
-turned s = record { yes = s.no; no = s.yes }
+abbrev pub negation : Sides → Sides
+negation s = record { yes = s.no; no = s.yes }
 
 -- AND
-abbrev pub all_of : List Sides → Sides
-all_of parts = record { yes = list_all (λ s. s.yes) parts; no = list_any (λ s. s.no) parts }
+abbrev pub conjunction : List Sides → Sides
+conjunction parts = record { yes = list_all (λ s. s.yes) parts; no = list_any (λ s. s.no) parts }
 
 -- OR
-abbrev pub some_of : List Sides → Sides
-some_of parts = record { yes = list_any (λ s. s.yes) parts; no = list_all (λ s. s.no) parts }
+abbrev pub disjunction : List Sides → Sides
+disjunction parts = record { yes = list_any (λ s. s.yes) parts; no = list_all (λ s. s.no) parts }
 
 -- one condition, with the sides of each part in the part's place
 abbrev pub side_step : Feature → Filter-F Sides → Sides
 side_step x (Filter-F.CompareWhole c a b) = compared (whole_relation c) (whole_value x a) (whole_value x b)
-side_step x (Filter-F.Not f) = turned f.value
-side_step x (Filter-F.And fs) = all_of fs.items
-side_step x (Filter-F.Or fs) = some_of fs.items
+side_step x (Filter-F.Not f) = negation f.value
+side_step x (Filter-F.And fs) = conjunction fs.items
+side_step x (Filter-F.Or fs) = disjunction fs.items
 
 abbrev pub sides : Feature → Filter → Sides
 sides x = fold-Filter Sides (side_step x)

@@ -3,6 +3,8 @@
 ghost use Rattle.std.specs.Prelude.{◌≡◌, IfOk, map, take};
 ghost use Rattle.std.specs.Option.{option_copied};
 ghost use Rattle.cql_meaning.specs.Answer.{answer, is_taken as is_taken_by};
+ghost use Rattle.cql_meaning.specs.Features.{AreFeatures};
+ghost use Rattle.cql_meaning.specs.declared.schema.Collection.{Collection};
 
 use crate::decide::truth;
 use crate::feature::Feature;
@@ -18,8 +20,12 @@ pub fn select<'a>(
     features: &'a [Feature],
     limit: usize,
 ) -> Result<Vec<&'a Feature>, AllocError>
-    ensures { let first = take limit (answer (option_copied filter.entry) features.now) in
+    ensures first { let first = take limit (answer (option_copied filter.entry) features.now) in
         IfOk result (λ selected. map (λ x. x.now) selected.items ≡ first) }
+
+    // Of features in identifier order those that are selected are in that order too.
+    ensures in_order { (collection : Collection) → AreFeatures collection features.now →
+        IfOk result (λ selected. AreFeatures collection (map (λ x. x.now) selected.items)) }
 {
     let mut selected = Vec::new(alloc);
     for feature in features {

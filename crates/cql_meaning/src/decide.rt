@@ -1,7 +1,7 @@
 // Whether a filter is true or false of a feature, or neither.
 
-ghost use Rattle.std.specs.Prelude.{◌≡◌, [], ◌∷◌, IfOk};
-ghost use Rattle.cql_meaning.specs.Sides.{all_of, compared as compared_of, sides, some_of, turned as turned_of, whole_relation};
+ghost use Rattle.std.specs.Prelude.{◌≡◌, [], ◌∷◌, IfOk, IsOk};
+ghost use Rattle.cql_meaning.specs.Sides.{compared as compared_of, conjunction, disjunction, negation as negation_of, sides, whole_relation};
 ghost use Rattle.cql_meaning.specs.Said.{said};
 
 use crate::feature::Feature;
@@ -11,15 +11,16 @@ use crate::verdict::Truth;
 use cql_lexer::Comparison;
 use std::alloc::AllocError;
 
-/// What the filter says of the feature, or an error where memory runs out.
+/// What the filter says of the feature. No part of a filter grows anything, so that it answers always.
 pub fn truth(filter: &Filter, feature: &Feature) -> Result<Truth, AllocError>
-    ensures { IfOk result (λ t. said t ≡ sides feature.now filter.now) }
+    ensures said { IfOk result (λ t. said t ≡ sides feature.now filter.now) }
+    ensures answers { IsOk result }
 {
     match filter {
         Filter::CompareWhole(comparison, left, right) => {
             Ok(compared(*comparison, whole(left, feature), whole(right, feature)))
         }
-        Filter::Not(part) => Ok(turned(truth(part, feature)?)),
+        Filter::Not(part) => Ok(negation(truth(part, feature)?)),
         Filter::And(parts) => {
             let mut all = Truth::Yes;
             for part in parts {
@@ -65,8 +66,8 @@ fn relates(comparison: Comparison, a: i64, b: i64) -> bool
     }
 }
 
-fn turned(truth: Truth) -> Truth
-    ensures { said result ≡ turned_of (said truth) }
+fn negation(truth: Truth) -> Truth
+    ensures { said result ≡ negation_of (said truth) }
 {
     match truth {
         Truth::Yes => Truth::No,
@@ -76,7 +77,7 @@ fn turned(truth: Truth) -> Truth
 }
 
 fn and(a: Truth, b: Truth) -> Truth
-    ensures { said result ≡ all_of (said a ∷ said b ∷ []) }
+    ensures { said result ≡ conjunction (said a ∷ said b ∷ []) }
 {
     match (a, b) {
         (Truth::No, _) | (_, Truth::No) => Truth::No,
@@ -86,7 +87,7 @@ fn and(a: Truth, b: Truth) -> Truth
 }
 
 fn or(a: Truth, b: Truth) -> Truth
-    ensures { said result ≡ some_of (said a ∷ said b ∷ []) }
+    ensures { said result ≡ disjunction (said a ∷ said b ∷ []) }
 {
     match (a, b) {
         (Truth::Yes, _) | (_, Truth::Yes) => Truth::Yes,

@@ -9,10 +9,10 @@ use Rattle.cad_http.proofs.filter.read_filter.Goals as goal
 pub returns-in_err-tree-clause-refused : goal.returns-in_err-tree-clause-refused
 returns-in_err-tree-clause-refused c refused filter =
     let same = fault_given c.from_residual-in_err-tree.result (of_parser c.in_err-tree.field-0.0) _ c.from_residual-in_err-tree.ensures.1 refused in
-    parser_refusal Parcels c.args.text.now (marks c.in_ok-tokens.tokens.list.items) filter c.in_err-tree.field-0.0 c.in_ok-tokens.ensures.0 c.in_err-tree.ensures same
+    parser_refusal c.one_spelling.ensures Parcels c.args.text.now (marks c.in_ok-tokens.tokens.list.items) filter c.in_err-tree.field-0.0 c.in_ok-tokens.ensures.0 c.in_err-tree.ensures same
 
 pub returns-in_err-filter-clause-refused : goal.returns-in_err-filter-clause-refused
 returns-in_err-filter-clause-refused c refused filter =
     let same = fault_given c.from_residual-in_err-filter.result (of_types c.in_err-filter.field-0.0) _ c.from_residual-in_err-filter.ensures.1 refused in
-    type_refusal Parcels c.args.text.now (marks c.in_ok-tokens.tokens.list.items) (syntax_of c.in_ok-tree.tree) filter c.in_err-filter.field-0.0
+    type_refusal c.one_spelling.ensures Parcels c.args.text.now (marks c.in_ok-tokens.tokens.list.items) (syntax_of c.in_ok-tree.tree) filter c.in_err-filter.field-0.0
     c.in_ok-tokens.ensures.0 c.in_ok-tree.ensures.1 (λ e. c.in_err-filter.ensures.refused (ap Err e)) same

@@ -2,7 +2,7 @@ use Rattle.std.proofs.lemmas.Result.{err_from_is_err_and}
 use Rattle.cql_meaning.proofs.Trees.{syntax_of-Compare, syntax_of-Not, syntax_of-And, syntax_of-Or}
 use Rattle.cql_meaning.proofs.Checking.{parts_from, completes_more, completes_all, negation_in_box, ok_or_fits, ok_or_refused, same_error}
 use Rattle.cql_meaning.proofs.Typing.{negated, all_joined, some_joined, first_part, other_parts, no_other_condition}
-use Rattle.cql_meaning.specs.Kinds.{conjunction, disjunction, one_more}
+use Rattle.cql_meaning.specs.Kinds.{by_and, by_or, one_more}
 use Rattle.cql_meaning.proofs.check.+conditions.Goals as goal
 
 pub check-returns-in-Compare-clause-fits : goal.check-returns-in-Compare-clause-fits
@@ -33,7 +33,7 @@ pub check-returns-in_ok-check_others-in-And-clause-fits : goal.check-returns-in_
 check-returns-in_ok-check_others-in-And-clause-fits t c =
     let first = rw c.deref-in-And.ensures at c.in_ok-first-in-And.ensures.fits in
     rw (c.in-And.is, syntax_of-And)
-    (conjunction c.in_ok-check_others-in-And.field-0 (rw c.deref-in-And-2.ensures.value at (c.in_ok-check_others-in-And.ensures.fits _ first)))
+    (by_and c.in_ok-check_others-in-And.field-0 (rw c.deref-in-And-2.ensures.value at (c.in_ok-check_others-in-And.ensures.fits _ first)))
 
 pub check-returns-in_err-first-in-And-clause-refused : goal.check-returns-in_err-first-in-And-clause-refused
 check-returns-in_err-first-in-And-clause-refused t c =
@@ -52,7 +52,7 @@ pub check-returns-in_ok-check_others-in-Or-clause-fits : goal.check-returns-in_o
 check-returns-in_ok-check_others-in-Or-clause-fits t c =
     let first = rw c.deref-in-Or.ensures at c.in_ok-first-in-Or.ensures.fits in
     rw (c.in-Or.is, syntax_of-Or)
-    (disjunction c.in_ok-check_others-in-Or.field-0 (rw c.deref-in-Or-2.ensures.value at (c.in_ok-check_others-in-Or.ensures.fits _ first)))
+    (by_or c.in_ok-check_others-in-Or.field-0 (rw c.deref-in-Or-2.ensures.value at (c.in_ok-check_others-in-Or.ensures.fits _ first)))
 
 pub check-returns-in_err-first-in-Or-clause-refused : goal.check-returns-in_err-first-in-Or-clause-refused
 check-returns-in_err-first-in-Or-clause-refused t c =

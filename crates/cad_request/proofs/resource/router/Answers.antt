@@ -2,7 +2,7 @@ use Rattle.std.proofs.Common.{refl}
 use Rattle.matchit.proofs.OnLiterals.{matchit_on_literals}
 use Rattle.cad_request.specs.Resources.{items_path}
 use Rattle.cad_request.proofs.RouteLemmas.{only_memory}
-use Rattle.cad_request.proofs.resource.routes.Goals as goal
+use Rattle.cad_request.proofs.resource.router.Goals as goal
 
 pub no_memory-requires : goal.no_memory-requires
 unfolding matchit_on_literals
