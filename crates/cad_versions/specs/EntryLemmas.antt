@@ -27,7 +27,7 @@ closed_same object day n l = elim (is_open_of object l.version) as (λ b. versio
 closed_all : (object : ObjectId) (day : Day) (n : ℕ) (ls : List Entry) → map version_in (map (close_entry object day n) ls) ≡ map (closed_if_open object day) (map version_in ls)
 closed_all object day n ls = map-map version_in _ ls ∙ map_same _ _ (closed_same object day n) ls ∙ sym (map-map (closed_if_open object day) version_in ls)
 
-after_same : (n : ℕ) (ls : List Entry) (c : Command) → map version_in (entries_after n ls c) ≡ after (map version_in ls) c
+pub after_same : (n : ℕ) (ls : List Entry) (c : Command) → map version_in (entries_after n ls c) ≡ after (map version_in ls) c
 after_same n ls (Enter object first body) = map-append version_in ls _
 after_same n ls (Amend object first body) = map-append version_in _ _ ∙ ap (λ l. l ++ begun object (next_number object (map version_in ls)) first body ∷ []) (closed_all object (day_before first) n ls)
 after_same n ls (Retire object last) = closed_all object last n ls
@@ -159,10 +159,13 @@ revision_is_fold cs ds =
     ap (seen n) (entries_append 0 [] cs ds ∙ ap (λ m. entries_from m (entries_of cs) ds) (zero-add n)) ∙ all_later_unseen n n (omega arith) (entries_of cs) ds
     ∙ all_seen n (entries_of cs) (subst (λ m. AllByRecursion (IsDated m) (entries_of cs)) (zero-add n) (dated_from 0 [] cs tt)) ∙ versions_of_entries cs
 
-pub listing_is : (r : ℕ) (cs : List Command) → r ≤ length cs → map (seen_at r) (entries_listed r (entries_of cs)) ≡ as_of r cs
-listing_is r cs h =
+-- what a revision sees, in the order of identifiers
+pub seen_in_order : (r : ℕ) (cs : List Command) → r ≤ length cs → sort_by by_identifier (seen r (entries_of cs)) ≡ as_of r cs
+seen_in_order r cs h =
     let n : length (take r cs) ≡ r = length-take-le r cs h in
-    sym (sort_by-map by_identifier (seen_at r) (entries_at r (entries_of cs)))
-    ∙ ap (sort_by by_identifier)
+    ap (sort_by by_identifier)
     (subst (λ ds. map (seen_at r) (entries_at r (entries_of ds)) ≡ versions (take r cs)) (take-append-drop r cs)
     (subst (λ m. map (seen_at m) (entries_at m (entries_of (take r cs ++ drop r cs))) ≡ versions (take r cs)) n (revision_is_fold (take r cs) (drop r cs))))
+
+pub listing_is : (r : ℕ) (cs : List Command) → r ≤ length cs → map (seen_at r) (entries_listed r (entries_of cs)) ≡ as_of r cs
+listing_is r cs h = sym (sort_by-map by_identifier (seen_at r) (entries_at r (entries_of cs))) ∙ seen_in_order r cs h

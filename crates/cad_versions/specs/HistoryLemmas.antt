@@ -1,8 +1,9 @@
 -- Each object's versions are a history, whatever commands were accepted.
-use Rattle.std.proofs.Common.{◌≡◌, ℕ, ◌+◌, ℤ, pos, ◌≤ℤ◌, ◌<ℤ◌, ◌-ℤ◌, Bool, true, false, cond, ◌&&◌, List, [], ◌∷◌, ◌++◌, length, map, filter, find, fold, Option, Some, None, refl, sym, ap, ap₂, ◌∙◌, subst, arith, int_le, int_lt, is_none, append-nil, int_eq, option_map}
+use Rattle.std.proofs.Common.{◌≡◌, ℕ, ◌+◌, ℤ, pos, ◌≤ℤ◌, ◌<ℤ◌, ◌-ℤ◌, Bool, true, false, cond, ◌&&◌, List, [], ◌∷◌, ◌++◌, length, map, filter, find, fold, Option, Some, None, refl, sym, ap, ap₂, ◌∙◌, subst, arith, int_le, int_lt, is_none, append-nil, int_eq, option_map, true≢false}
+use Rattle.std.specs.List.{AllByRecursion}
 use Rattle.std.proofs.lemmas.Int.{ints}
 use Rattle.std.proofs.lemmas.List.Elements.{filter-append}
-use Rattle.cad_versions.specs.ListLemmas.{filter-map, filter_same}
+use Rattle.cad_versions.specs.ListLemmas.{filter-map, filter_same, all_weaker, all_kept}
 use Rattle.cad_day.specs.declared.day.Day.{Day}
 use Rattle.cad_day.specs.Days.{number_of}
 use Rattle.cad_versions.specs.declared.object_id.ObjectId.{ObjectId}
@@ -107,7 +108,7 @@ closed_history n object found day v (w ∷ vs) tail h f forward later rest =
 
 -- ---- why a command that is accepted may be
 
-unrefused : (t : Bool) (f : RegisterFault) → refuse_if t f ≡ None → t ≡ false
+pub unrefused : (t : Bool) (f : RegisterFault) → refuse_if t f ≡ None → t ≡ false
 unrefused true f e = absurd cc
 unrefused false f e = refl
 
@@ -154,10 +155,10 @@ enters object first body vs e = none_found object vs (go (find (is_of object) vs
 pub le_fails : (a b : ℤ) → int_le a b ≡ false → b <ℤ a
 le_fails a b h = grind (arith, ints)
 
-lt_fails : (a b : ℤ) → int_lt a b ≡ false → b ≤ℤ a
+pub lt_fails : (a b : ℤ) → int_lt a b ≡ false → b ≤ℤ a
 lt_fails a b h = grind (arith, ints)
 
-under : (m n d : ℤ) → m <ℤ n → d ≡ n -ℤ pos 1 → m ≤ℤ d
+pub under : (m n d : ℤ) → m <ℤ n → d ≡ n -ℤ pos 1 → m ≤ℤ d
 under m n d h e = grind (arith, ints)
 
 over : (n d : ℤ) → d ≡ n -ℤ pos 1 → d <ℤ n
@@ -220,3 +221,30 @@ histories_from vs (c ∷ cs) all h = histories_from (after vs c) cs all.1 (histo
 
 pub histories : (cs : List Command) → AreAccepted [] cs → HasHistories (versions cs)
 histories cs all = histories_from [] cs all (λ object. tt)
+
+-- ---- the open version of an object
+
+-- of a history the last alone may be open
+only_last_open : (object : ObjectId) (found : VersionedObject) (n : ℕ) (vs : List VersionedObject) → IsHistory n vs → find (is_open_of object) vs ≡ Some found → AllByRecursion (λ v. is_open_of object v ≡ true → v ≡ found) vs
+only_last_open object found n [] h f = tt
+only_last_open object found n (v ∷ []) h f = (λ opened. some_same v found (ap (λ t. cond t (Some v) None) (sym opened) ∙ f), tt)
+  where
+    some_same : (a b : VersionedObject) → Some a ≡ Some b → a ≡ b
+    some_same a b e = cc
+only_last_open object found n (v ∷ (w ∷ vs)) h f = go v.last refl (only_last_open object found (n + 1) (w ∷ vs) h.3)
+  where
+    go : (l : Option Day) → v.last ≡ l → (find (is_open_of object) (w ∷ vs) ≡ Some found → AllByRecursion (λ u. is_open_of object u ≡ true → u ≡ found) (w ∷ vs)) → AllByRecursion (λ u. is_open_of object u ≡ true → u ≡ found) (v ∷ (w ∷ vs))
+    go None e next = absurd (subst (λ l. EndsBefore l w) e h.2)
+    go (Some last) e next =
+        let shut : is_open_of object v ≡ false = closed_is_not_open object v last e in
+        (λ opened. absurd (true≢false (sym opened ∙ shut)), next (ap (λ t. cond t (Some v) (find (is_open_of object) (w ∷ vs))) (sym shut) ∙ f))
+
+left_true : (a b : Bool) → (a && b) ≡ true → a ≡ true
+left_true true b h = refl
+left_true false b h = absurd (true≢false (sym h))
+
+-- at most one version of an object is open
+pub only_open : (object : ObjectId) (found : VersionedObject) (vs : List VersionedObject) → IsHistory 1 (history object vs) → find (is_open_of object) vs ≡ Some found → AllByRecursion (λ v. is_open_of object v ≡ true → v ≡ found) vs
+only_open object found vs h f =
+    all_weaker (λ v. is_of object v ≡ true → is_open_of object v ≡ true → v ≡ found) (λ v. is_open_of object v ≡ true → v ≡ found) (λ v k opened. k (left_true (is_of object v) (is_none v.last) opened) opened) vs
+    (all_kept (λ v. is_open_of object v ≡ true → v ≡ found) (is_of object) vs (only_last_open object found 1 (history object vs) h (sym (find-filter object vs) ∙ f)))

@@ -23,5 +23,6 @@ pub mod BodyParts
 pub mod ListLemmas
 pub mod HistoryLemmas
 pub mod EntryLemmas
+pub mod OrderLemmas
 pub mod ShapeLemmas
 pub mod SameLemmas

@@ -1,5 +1,6 @@
 -- Lemmas on lists that std lacks: `map`, `filter` and `sort_by` together.
-use Rattle.std.proofs.Common.{◌≡◌, Bool, true, false, cond, List, [], ◌∷◌, map, filter, refl, ap, ◌∙◌, is_gt, Ordering}
+use Rattle.std.proofs.Common.{◌≡◌, Bool, true, false, true≢false, cond, List, [], ◌∷◌, map, filter, refl, sym, ap, ◌∙◌, is_gt, Ordering}
+use Rattle.std.specs.List.{AllByRecursion}
 use Rattle.cad_versions.specs.Sorting.{insert_sorted, sort_by}
 
 pub map-map : {A B C : Type 0} (g : B → C) (f : A → B) (xs : List A) → map g (map f xs) ≡ map (λ x. g (f x)) xs
@@ -27,3 +28,25 @@ insert_sorted-map cmp f new (x ∷ xs) =
 pub sort_by-map : {A B : Type 0} (cmp : B → B → Ordering) (f : A → B) (xs : List A) → sort_by cmp (map f xs) ≡ map f (sort_by (λ a b. cmp (f a) (f b)) xs)
 sort_by-map cmp f [] = refl
 sort_by-map cmp f (x ∷ xs) = ap (insert_sorted cmp (f x)) (sort_by-map cmp f xs) ∙ insert_sorted-map cmp f x _
+
+module _ {X : Type 0} (P : X → Type 0) where
+  pub all_weaker : (Q : X → Type 0) → ((x : X) → P x → Q x) → (xs : List X) → AllByRecursion P xs → AllByRecursion Q xs
+  all_weaker Q f [] h = tt
+  all_weaker Q f (x ∷ xs) h = (f x h.0, all_weaker Q f xs h.1)
+
+  -- what holds of each element that the filter keeps
+  pub all_kept : (p : X → Bool) (xs : List X) → AllByRecursion P (filter p xs) → AllByRecursion (λ x. p x ≡ true → P x) xs
+  all_kept p [] h = tt
+  all_kept p (x ∷ xs) h = go (p x) refl h (all_kept p xs)
+    where
+      go : (b : Bool) → p x ≡ b → AllByRecursion P (cond b (x ∷ filter p xs) (filter p xs)) → (AllByRecursion P (filter p xs) → AllByRecursion (λ y. p y ≡ true → P y) xs) → AllByRecursion (λ y. p y ≡ true → P y) (x ∷ xs)
+      go true e k more = (λ _. k.0, more k.1)
+      go false e k more = (λ t. absurd (true≢false (sym t ∙ e)), more k)
+
+  pub all_mapped : {A : Type 0} (f : A → X) (xs : List A) → AllByRecursion (λ x. P (f x)) xs → AllByRecursion P (map f xs)
+  all_mapped f [] h = tt
+  all_mapped f (x ∷ xs) h = (h.0, all_mapped f xs h.1)
+
+  pub all_unmapped : {A : Type 0} (f : A → X) (xs : List A) → AllByRecursion P (map f xs) → AllByRecursion (λ x. P (f x)) xs
+  all_unmapped f [] h = tt
+  all_unmapped f (x ∷ xs) h = (h.0, all_unmapped f xs h.1)

@@ -1,7 +1,6 @@
 -- Lists in an order.
 use Rattle.std.specs.Prelude.{List, [], ◌∷◌, if◌then◌else◌}
 use Rattle.std.specs.declared.cmp.Ordering.{Ordering}
-use Rattle.std.specs.List.{AllByRecursion}
 use Rattle.std.specs.Ordering.{is_gt}
 
 -- before the first that it does not come after
@@ -12,8 +11,3 @@ insert_sorted cmp new (x ∷ xs) = if is_gt (cmp new x) then x ∷ insert_sorted
 abbrev pub sort_by : {X : Type 0} → (X → X → Ordering) → List X → List X
 sort_by cmp [] = []
 sort_by cmp (x ∷ xs) = insert_sorted cmp x (sort_by cmp xs)
-
--- it holds of each element and every later one
-abbrev pub IsPairwise : {X : Type 0} → (X → X → Type 0) → List X → Type 0
-IsPairwise R [] = Unit {0}
-IsPairwise R (x ∷ xs) = AllByRecursion (R x) xs × IsPairwise R xs

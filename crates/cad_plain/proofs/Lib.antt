@@ -1,0 +1,4 @@
+pub mod SortLemmas
+pub mod PlainLemmas
+pub mod ShowLemmas
+pub mod LedgerLemmas

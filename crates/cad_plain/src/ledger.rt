@@ -1,0 +1,76 @@
+//! The ledger.
+
+use crate::versions::KeptVersions;
+use cad_versions::{Command, Ledger, RegisterFault, Version};
+use std::alloc::Global;
+
+/// A ledger in memory. The only fault of its own is `Memory`.
+#[derive(Drop)]
+pub struct PlainLedger {
+    versions: KeptVersions,
+    revision: u64,
+    alloc: Global,
+}
+
+impl PlainLedger {
+    ghost use Rattle.std.specs.Prelude.{[]};
+    ghost use Rattle.cad_plain.specs.Ledgers.{IsLedgerOf};
+
+    /// The ledger of no commands.
+    pub fn new(alloc: Global) -> PlainLedger
+        ensures { IsLedgerOf result [] }
+    {
+        PlainLedger {
+            versions: KeptVersions::new(alloc),
+            revision: 0,
+            alloc,
+        }
+    }
+}
+
+impl Ledger for PlainLedger {
+    ghost use Rattle.cad_plain.specs.Ledgers.{IsLedgerOf, IsMemory, memory_keeps};
+
+    ghost stands_for = { IsLedgerOf };
+
+    ghost counts = { λ _. Unit {0} };
+
+    ghost lives = { λ _. Unit {0} };
+
+    ghost fails_to_apply = { λ _ _. IsMemory };
+
+    ghost fails_to_list = { λ _ _. IsMemory };
+
+    ghost refuses_command = { λ _ _ _ _. ⊥ };
+
+    ghost refuses_listing = { λ _ _ _. ⊥ };
+
+    ghost apply_keeps = { λ _ _. memory_keeps };
+
+    ghost list_keeps = { λ _ _. memory_keeps };
+
+    fn revision(&self) -> u64 {
+        self.revision
+    }
+
+    fn apply(&mut self, command: Command) -> Result<u64, RegisterFault> {
+        if let Some(fault) = self.versions.refusal(&command) {
+            return Err(fault);
+        }
+        // No count goes further.
+        let Some(revision) = self.revision.checked_add(1) else {
+            return Err(RegisterFault::Memory);
+        };
+        self.versions.enact(command, revision)?;
+        self.revision = revision;
+        Ok(revision)
+    }
+
+    fn as_of(&mut self, revision: u64) -> Result<Vec<Version>, RegisterFault> {
+        if self.revision < revision {
+            return Err(RegisterFault::UnknownRevision);
+        }
+        let found = self.versions.as_of(self.alloc, revision)?;
+        Ok(found)
+    }
+}
