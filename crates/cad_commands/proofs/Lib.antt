@@ -1,2 +1,4 @@
 pub mod MemberLemmas
-pub mod TakingLemmas
+pub mod ReadingLemmas
+pub mod ValueLemmas
+pub mod CommandLemmas

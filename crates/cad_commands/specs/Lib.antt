@@ -1,3 +1,5 @@
+pub mod Reading
+pub mod Members
 pub mod Values
-pub mod Instructions
-pub mod CommandObjects
+pub mod Bodies
+pub mod Commands

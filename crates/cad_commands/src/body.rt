@@ -1,64 +1,79 @@
 //! Bodies of versions, as JSON objects.
 
-ghost use Rattle.std.specs.Prelude.{◌≡◌, ◌≢◌, IfErr, codes, map, option_map};
-ghost use Rattle.std.specs.Result.{result_ok};
-ghost use Rattle.serde_json.specs.View.{items_view, members_view, view};
-ghost use Rattle.cad_commands.specs.CommandObjects.{optional, without, party_in, unit_in, parcel_in, right_in, restriction_in, body_in};
-ghost use Rattle.cad_commands.specs.Instructions.{attributes_of, coordinates_of, outline_of};
-ghost use Rattle.cad_commands.specs.Values.{points_in, ring_in};
+ghost use Rattle.std.specs.Prelude.{◌≡◌, ◌≢◌, MatchOption};
+ghost use Rattle.serde_json.specs.View.{members_view};
+ghost use Rattle.cad_versions.specs.declared.body.Class.{Class as ClassOf};
+ghost use Rattle.cad_commands.specs.Bodies.{SaysBody, class_name};
+ghost use Rattle.cad_commands.specs.Commands.{SaysOneBody};
+ghost use Rattle.cad_commands.specs.Reading.{IsRead};
 
+use crate::command_error::CommandError;
 use crate::members::Members;
-use crate::unread::Unread;
-use crate::values::point;
-use cad_shape::{Point, Ring};
-use cad_versions::Body;
-use serde_json::Value;
+use cad_versions::{Body, Class};
 use std::alloc::Global;
 
-/// The body, which is all that is left of a command.
-pub fn body(alloc: Global, members: Members) -> Result<Body, Unread>
-    ensures { result ≢ Err Unread.Memory → option_map attributes_of (result_ok result) ≡ body_in (members_view members.left.entries) }
+/// The body of the one class whose name stands beside the object and the first day.
+pub fn body(alloc: Global, members: Members) -> Result<Body, CommandError>
+    ensures { IsRead (SaysOneBody (members_view members.map.entries)) result }
 {
-    let (name, value) = members.only()?;
+    let (name, value) = members.one_other(&["do", "object", "first"])?;
+    let class = class_named(name.as_str()).ok_or(CommandError::NotACommand)?;
     let members = Members::of(value)?;
-    match name.as_str() {
-        "party" => party(members),
-        "unit" => unit(members),
-        "parcel" => parcel(alloc, members),
-        "right" => right(members),
-        "restriction" => restriction(members),
-        _ => Err(Unread::NotACommand),
+    body_of(alloc, class, members)
+}
+
+fn class_named(name: &str) -> Option<Class>
+    ensures { MatchOption result ((class : ClassOf) → name.now ≢ class_name class)
+        (λ class. name.now ≡ class_name class) }
+{
+    match name {
+        "party" => Some(Class::Party),
+        "unit" => Some(Class::Unit),
+        "parcel" => Some(Class::Parcel),
+        "right" => Some(Class::Right),
+        "restriction" => Some(Class::Restriction),
+        _ => None,
     }
 }
 
-fn party(mut members: Members) -> Result<Body, Unread>
-    ensures value { option_map attributes_of (result_ok result) ≡ party_in (members_view members.left.entries) }
-    ensures refused { IfErr result (λ e. e ≡ Unread.NotACommand) }
+fn body_of(alloc: Global, class: Class, members: Members) -> Result<Body, CommandError>
+    ensures { IsRead (SaysBody (members_view members.map.entries) class) result }
 {
-    let name = members.optional("name")?;
-    let code = members.required("code")?;
-    members.end()?;
+    match class {
+        Class::Party => party(alloc, members),
+        Class::Unit => unit(alloc, members),
+        Class::Parcel => parcel(alloc, members),
+        Class::Right => right(alloc, members),
+        Class::Restriction => restriction(alloc, members),
+    }
+}
+
+fn party(alloc: Global, members: Members) -> Result<Body, CommandError>
+    ensures { IsRead (SaysBody (members_view members.map.entries) Class.Party) result }
+{
+    let name = members.optional(alloc, "name")?;
+    let code = members.required(alloc, "code")?;
+    members.only(&["name", "code"])?;
     Ok(Body::Party { name, code })
 }
 
-fn unit(mut members: Members) -> Result<Body, Unread>
-    ensures value { option_map attributes_of (result_ok result) ≡ unit_in (members_view members.left.entries) }
-    ensures refused { IfErr result (λ e. e ≡ Unread.NotACommand) }
+fn unit(alloc: Global, members: Members) -> Result<Body, CommandError>
+    ensures { IsRead (SaysBody (members_view members.map.entries) Class.Unit) result }
 {
-    let name = members.optional("name")?;
-    members.end()?;
+    let name = members.optional(alloc, "name")?;
+    members.only(&["name"])?;
     Ok(Body::Unit { name })
 }
 
-fn parcel(alloc: Global, mut members: Members) -> Result<Body, Unread>
-    ensures { result ≢ Err Unread.Memory → option_map attributes_of (result_ok result) ≡ parcel_in (members_view members.left.entries) }
+fn parcel(alloc: Global, members: Members) -> Result<Body, CommandError>
+    ensures { IsRead (SaysBody (members_view members.map.entries) Class.Parcel) result }
 {
-    let unit = members.required("unit")?;
-    let label = members.required("label")?;
-    let area = members.optional("area")?;
-    let shape = shape(alloc, &mut members)?;
-    let spot = members.optional("spot")?;
-    members.end()?;
+    let unit = members.required(alloc, "unit")?;
+    let label = members.required(alloc, "label")?;
+    let area = members.optional(alloc, "area")?;
+    let shape = members.optional(alloc, "shape")?;
+    let spot = members.optional(alloc, "spot")?;
+    members.only(&["unit", "label", "area", "shape", "spot"])?;
     Ok(Body::Parcel {
         unit,
         label,
@@ -68,15 +83,14 @@ fn parcel(alloc: Global, mut members: Members) -> Result<Body, Unread>
     })
 }
 
-fn right(mut members: Members) -> Result<Body, Unread>
-    ensures value { option_map attributes_of (result_ok result) ≡ right_in (members_view members.left.entries) }
-    ensures refused { IfErr result (λ e. e ≡ Unread.NotACommand) }
+fn right(alloc: Global, members: Members) -> Result<Body, CommandError>
+    ensures { IsRead (SaysBody (members_view members.map.entries) Class.Right) result }
 {
-    let unit = members.required("unit")?;
-    let party = members.optional("party")?;
-    let code = members.required("code")?;
-    let share = members.optional("share")?;
-    members.end()?;
+    let unit = members.required(alloc, "unit")?;
+    let party = members.optional(alloc, "party")?;
+    let code = members.required(alloc, "code")?;
+    let share = members.optional(alloc, "share")?;
+    members.only(&["unit", "party", "code", "share"])?;
     Ok(Body::Right {
         unit,
         party,
@@ -85,16 +99,15 @@ fn right(mut members: Members) -> Result<Body, Unread>
     })
 }
 
-fn restriction(mut members: Members) -> Result<Body, Unread>
-    ensures value { option_map attributes_of (result_ok result) ≡ restriction_in (members_view members.left.entries) }
-    ensures refused { IfErr result (λ e. e ≡ Unread.NotACommand) }
+fn restriction(alloc: Global, members: Members) -> Result<Body, CommandError>
+    ensures { IsRead (SaysBody (members_view members.map.entries) Class.Restriction) result }
 {
-    let unit = members.required("unit")?;
-    let party = members.optional("party")?;
-    let code = members.required("code")?;
-    let share = members.optional("share")?;
-    let required = members.optional("required")?;
-    members.end()?;
+    let unit = members.required(alloc, "unit")?;
+    let party = members.optional(alloc, "party")?;
+    let code = members.required(alloc, "code")?;
+    let share = members.optional(alloc, "share")?;
+    let required = members.optional(alloc, "required")?;
+    members.only(&["unit", "party", "code", "share", "required"])?;
     Ok(Body::Restriction {
         unit,
         party,
@@ -102,33 +115,4 @@ fn restriction(mut members: Members) -> Result<Body, Unread>
         share,
         required,
     })
-}
-
-fn shape(alloc: Global, members: &mut Members) -> Result<Option<Ring>, Unread>
-    ensures value { result ≢ Err Unread.Memory → option_map (option_map outline_of) (result_ok result) ≡ optional ring_in (codes "shape") (members_view members.old.left.entries) }
-    ensures left { members_view members.new.left.entries ≡ without (codes "shape") (members_view members.old.left.entries) }
-{
-    match members.take("shape") {
-        Some(value) => Ok(Some(ring(alloc, &value)?)),
-        None => Ok(None),
-    }
-}
-
-/// A ring, as the list of its corners, the first not repeated.
-fn ring(alloc: Global, value: &Value) -> Result<Ring, Unread>
-    ensures { result ≢ Err Unread.Memory → option_map outline_of (result_ok result) ≡ ring_in (view value.now) }
-{
-    let list = value.as_array().ok_or(Unread::NotACommand)?;
-    let corners = points(alloc, list)?;
-    Ring::new(corners).map_err(|_| Unread::NotACommand)
-}
-
-fn points(alloc: Global, list: &[Value]) -> Result<Vec<Point>, Unread>
-    ensures { result ≢ Err Unread.Memory → option_map (λ points. map coordinates_of points.items) (result_ok result) ≡ points_in (items_view list.now) }
-{
-    let mut points = Vec::new(alloc);
-    for value in list {
-        points.push(point(value)?)?;
-    }
-    Ok(points)
 }

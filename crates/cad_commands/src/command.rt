@@ -1,44 +1,40 @@
 //! Commands, each a line of JSON.
 
-ghost use Rattle.std.specs.Prelude.{◌≡◌, ◌≢◌, ℕ, ℤ, IfOk, IfErr, Err, option_map};
-ghost use Rattle.std.specs.Result.{result_ok};
+ghost use Rattle.std.specs.Prelude.{◌≡◌, map};
 ghost use Rattle.serde_json.specs.View.{members_view};
-ghost use Rattle.cad_day.specs.Days.{number_of};
-ghost use Rattle.cad_versions.specs.Objects.{object_number};
-ghost use Rattle.cad_commands.specs.CommandObjects.{Says, beginning_in, retiring_in, instruction_in};
-ghost use Rattle.cad_commands.specs.Instructions.{Attributes, Instruction, attributes_of, instruction_of};
+ghost use Rattle.cad_commands.specs.Reading.{IsRead};
+ghost use Rattle.cad_commands.specs.Commands.{Says, SaysBeginning, SaysCommand, SaysEnd};
 
 use crate::body::body;
+use crate::command_error::CommandError;
 use crate::members::Members;
-use crate::unread::Unread;
+use crate::operation::Operation;
 use cad_day::Day;
 use cad_versions::{Body, Command, ObjectId};
 use serde_json::Value;
 use std::alloc::Global;
 use std::str;
 
-/// The command that the line asks for.
-pub fn read_command(alloc: Global, line: &[u8]) -> Result<Command, Unread>
-    ensures value { IfOk result (λ command. Says line.now (instruction_of command)) }
-    ensures refused { result ≡ Err Unread.NotACommand → (instruction : Instruction) → ¬ Says line.now instruction }
+/// The command that the text says: where it says none, `NotACommand`.
+pub fn read_command(alloc: Global, text: &[u8]) -> Result<Command, CommandError>
+    ensures { IsRead (Says text.now) result }
 {
-    let text = str::from_utf8(line).map_err(|_| Unread::NotACommand)?;
+    let text = str::from_utf8(text).map_err(|_| CommandError::NotACommand)?;
     match Value::from_str(alloc, text) {
         Ok(value) => command(alloc, Members::of(value)?),
         Err(error) => Err(if error.is_memory() {
-            Unread::Memory
+            CommandError::Memory
         } else {
-            Unread::NotACommand
+            CommandError::NotACommand
         }),
     }
 }
 
-fn command(alloc: Global, mut members: Members) -> Result<Command, Unread>
-    ensures { result ≢ Err Unread.Memory → option_map instruction_of (result_ok result) ≡ instruction_in (members_view members.left.entries) }
+fn command(alloc: Global, members: Members) -> Result<Command, CommandError>
+    ensures { IsRead (SaysCommand (members_view members.map.entries)) result }
 {
-    let deed: String = members.required("do")?;
-    match deed.as_str() {
-        "enter" => {
+    match members.required(alloc, "do")? {
+        Operation::Enter => {
             let (object, first, body) = beginning(alloc, members)?;
             Ok(Command::Enter {
                 object,
@@ -46,7 +42,7 @@ fn command(alloc: Global, mut members: Members) -> Result<Command, Unread>
                 body,
             })
         }
-        "amend" => {
+        Operation::Amend => {
             let (object, first, body) = beginning(alloc, members)?;
             Ok(Command::Amend {
                 object,
@@ -54,28 +50,29 @@ fn command(alloc: Global, mut members: Members) -> Result<Command, Unread>
                 body,
             })
         }
-        "retire" => retiring(members),
-        _ => Err(Unread::NotACommand),
+        Operation::Retire => {
+            let (object, last) = end(alloc, members)?;
+            Ok(Command::Retire { object, last })
+        }
     }
 }
 
 /// The object, the first day and the body of a version that begins.
-fn beginning(alloc: Global, mut members: Members) -> Result<(ObjectId, Day, Body), Unread>
-    ensures { result ≢ Err Unread.Memory → (what : ℕ → ℤ → Attributes → Instruction) →
-        option_map (λ b. what (object_number b.0) (number_of b.1) (attributes_of b.2)) (result_ok result) ≡ beginning_in what (members_view members.left.entries) }
+fn beginning(alloc: Global, members: Members) -> Result<(ObjectId, Day, Body), CommandError>
+    ensures { IsRead (SaysBeginning (members_view members.map.entries)) result }
 {
-    let object = members.required("object")?;
-    let first = members.required("first")?;
+    let object = members.required(alloc, "object")?;
+    let first = members.required(alloc, "first")?;
     let body = body(alloc, members)?;
     Ok((object, first, body))
 }
 
-fn retiring(mut members: Members) -> Result<Command, Unread>
-    ensures value { option_map instruction_of (result_ok result) ≡ retiring_in (members_view members.left.entries) }
-    ensures refused { IfErr result (λ e. e ≡ Unread.NotACommand) }
+/// The object that ends, and its last day.
+fn end(alloc: Global, members: Members) -> Result<(ObjectId, Day), CommandError>
+    ensures { IsRead (SaysEnd (members_view members.map.entries)) result }
 {
-    let object = members.required("object")?;
-    let last = members.required("last")?;
-    members.end()?;
-    Ok(Command::Retire { object, last })
+    let object = members.required(alloc, "object")?;
+    let last = members.required(alloc, "last")?;
+    members.only(&["do", "object", "last"])?;
+    Ok((object, last))
 }

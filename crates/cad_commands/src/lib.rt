@@ -1,19 +1,24 @@
 //! What the land office asks for, as JSON: which object says which command, and how it is read.
 //!
 //! - `read_command`: the command that a text says.
-//! - `Unread`: why a text gives none.
+//! - `CommandError`: why a text gives none.
 //!
 //! A command is a JSON object of the members `do`, `object` and a day, with one member named by the
-//! object's class where a version begins. specs/CommandObjects says which object says what.
+//! object's class where a version begins. The text
+//!
+//!     {"do":"retire","object":3,"last":"2020-12-31"}
+//!
+//! gives `Command::Retire { object, last }` of object 3 and the last day of 2020, in whatever order
+//! its members stand. specs/Commands and specs/Bodies say which object says what.
 #![tactic(auto)]
 
 mod body;
 mod command;
+mod command_error;
 mod members;
-#[cfg(test)]
-mod tests;
-mod unread;
+mod operation;
+mod outline;
 mod values;
 
 pub use command::read_command;
-pub use unread::Unread;
+pub use command_error::CommandError;

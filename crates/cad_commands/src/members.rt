@@ -1,86 +1,102 @@
-//! Members of a JSON object, taken out one by one, so that a member that nothing asked for is seen.
+//! Members of a JSON object: each is read by its name, and then that there are no others.
 
-ghost use Rattle.std.specs.Prelude.{◌≡◌, ◌↔◌, IsOk, IfErr, option_map, string_bytes};
-ghost use Rattle.std.specs.Result.{result_ok};
-ghost use Rattle.serde_json.specs.Data.{no_members};
+ghost use Rattle.std.specs.Prelude.{◌≡◌, ℕ, List, MatchResult, Some, map, option_map, string_bytes};
+ghost use Rattle.serde_json.specs.Data.{Data};
 ghost use Rattle.serde_json.specs.Find.{as_object};
 ghost use Rattle.serde_json.specs.View.{members_view, view};
-ghost use Rattle.cad_commands.specs.CommandObjects.{only_member, optional, required, without};
-ghost use Rattle.cad_commands.specs.Values.{member_in};
+ghost use Rattle.cad_commands.specs.Members.{AreOnly, Has, HasOneOther, MayHave, member_in, without_all};
+ghost use Rattle.cad_commands.specs.Reading.{IsRead, IsReadAs};
 
-use crate::unread::Unread;
+use crate::command_error::CommandError;
 use crate::values::FromValue;
 use serde_json::{Map, Value};
+use std::alloc::Global;
 
-/// What is left of an object.
+/// The members of an object.
 #[derive(Drop)]
 pub struct Members {
-    left: Map<String, Value>,
+    map: Map<String, Value>,
 }
 
 impl Members {
-    /// The members of an object, none asked for yet.
-    pub fn of(value: Value) -> Result<Members, Unread>
-        ensures value { option_map (λ m. members_view m.left.entries) (result_ok result) ≡ as_object (view value) }
-        ensures refused { IfErr result (λ e. e ≡ Unread.NotACommand) }
+    /// The members of the value, which has to be an object.
+    pub fn of(value: Value) -> Result<Members, CommandError>
+        ensures { IsReadAs (λ members. members_view members.map.entries) (λ ms. as_object (view value) ≡ Some ms) result }
     {
         match value {
-            Value::Object(left) => Ok(Members { left }),
-            _ => Err(Unread::NotACommand),
+            Value::Object(map) => Ok(Members { map }),
+            _ => Err(CommandError::NotACommand),
         }
     }
 
     /// The member, where it is there and not null.
-    pub fn take(&mut self, name: &str) -> Option<Value>
-        ensures value { option_map view result ≡ member_in name.now (members_view self.old.left.entries) }
-        ensures left { members_view self.new.left.entries ≡ without name.now (members_view self.old.left.entries) }
+    fn get(&self, name: &str) -> Option<&Value>
+        ensures { option_map (λ v. view v.now) result ≡ member_in name.now (members_view self.now.map.entries) }
     {
-        let value = self.left.remove(name)?;
+        let value = self.map.get(name)?;
         if value.is_null() { None } else { Some(value) }
     }
 
     /// What the member says, if it is there and not null.
-    pub fn optional<T: FromValue>(&mut self, name: &str) -> Result<Option<T>, Unread>
-        ensures value { option_map (option_map T.says) (result_ok result) ≡ optional T.said_in name.now (members_view self.old.left.entries) }
-        ensures left { members_view self.new.left.entries ≡ without name.now (members_view self.old.left.entries) }
-        ensures refused { IfErr result (λ e. e ≡ Unread.NotACommand) }
+    pub fn optional<T: FromValue>(
+        &self,
+        alloc: Global,
+        name: &str,
+    ) -> Result<Option<T>, CommandError>
+        ensures { IsRead (MayHave T.said_by name.now (members_view self.now.map.entries)) result }
     {
-        match self.take(name) {
-            Some(value) => Ok(Some(T::from_value(value)?)),
+        match self.get(name) {
+            Some(value) => Ok(Some(T::from_value(alloc, value)?)),
             None => Ok(None),
         }
     }
 
     /// What the member says, which has to be there and not null.
-    pub fn required<T: FromValue>(&mut self, name: &str) -> Result<T, Unread>
-        ensures value { option_map T.says (result_ok result) ≡ required T.said_in name.now (members_view self.old.left.entries) }
-        ensures left { members_view self.new.left.entries ≡ without name.now (members_view self.old.left.entries) }
-        ensures refused { IfErr result (λ e. e ≡ Unread.NotACommand) }
+    pub fn required<T: FromValue>(&self, alloc: Global, name: &str) -> Result<T, CommandError>
+        ensures { IsRead (Has T.said_by name.now (members_view self.now.map.entries)) result }
     {
-        let value = self.take(name).ok_or(Unread::NotACommand)?;
-        T::from_value(value)
+        match self.get(name) {
+            Some(value) => T::from_value(alloc, value),
+            None => Err(CommandError::NotACommand),
+        }
     }
 
-    /// The one member that is left.
-    pub fn only(mut self) -> Result<(String, Value), Unread>
-        ensures value { option_map (λ m. (string_bytes m.0, view m.1)) (result_ok result) ≡ only_member (members_view self.left.entries) }
-        ensures refused { IfErr result (λ e. e ≡ Unread.NotACommand) }
+    /// That there are members of these names alone.
+    pub fn only(self, names: &[&str]) -> Result<(), CommandError>
+        ensures { MatchResult result
+            (λ _. AreOnly (map (λ name. name.now) names.now) (members_view self.map.entries))
+            (λ e. (e ≡ CommandError.NotACommand) × ¬ AreOnly (map (λ name. name.now) names.now) (members_view self.map.entries)) }
     {
-        let member = self.left.pop_first().ok_or(Unread::NotACommand)?;
-        self.end()?;
-        Ok(member)
-    }
-
-    /// Whether every member was asked for.
-    #[tactic(auto, using(crate::proofs::MemberLemmas::no_entries))]
-    pub fn end(&self) -> Result<(), Unread>
-        ensures value { IsOk result ↔ (members_view self.now.left.entries ≡ no_members) }
-        ensures refused { IfErr result (λ e. e ≡ Unread.NotACommand) }
-    {
-        if self.left.is_empty() {
+        if self.without(names).map.is_empty() {
             Ok(())
         } else {
-            Err(Unread::NotACommand)
+            Err(CommandError::NotACommand)
         }
+    }
+
+    /// The one member beside those of these names.
+    pub fn one_other(self, names: &[&str]) -> Result<(String, Value), CommandError>
+        ensures { IsReadAs {X = List ℕ × Data} (λ other. (string_bytes other.0, view other.1))
+            (λ other. HasOneOther (map (λ name. name.now) names.now) (members_view self.map.entries) other.0 other.1) result }
+    {
+        let mut others = self.without(names);
+        let Some(other) = others.map.pop_first() else {
+            return Err(CommandError::NotACommand);
+        };
+        if others.map.is_empty() {
+            Ok(other)
+        } else {
+            Err(CommandError::NotACommand)
+        }
+    }
+
+    fn without(self, names: &[&str]) -> Members
+        ensures { members_view result.map.entries ≡ without_all (map (λ name. name.now) names.now) (members_view self.map.entries) }
+    {
+        let mut map = self.map;
+        for name in names {
+            let _ = map.remove(*name);
+        }
+        Members { map }
     }
 }

@@ -1,203 +1,138 @@
 //! What the values of members are read as.
 
-ghost use Rattle.std.specs.Prelude.{◌≡◌, IfErr, option_map};
-ghost use Rattle.std.specs.Result.{result_ok};
+ghost use Rattle.std.specs.Prelude.{◌≡◌, ◌≢◌, MatchOption};
+ghost use Rattle.serde_json.specs.Data.{Data, no_items, item};
 ghost use Rattle.serde_json.specs.View.{items_view, view};
-ghost use Rattle.cad_commands.specs.Instructions.{coordinates_of};
-ghost use Rattle.cad_commands.specs.Values.{whole_in, two_of, pair_in, point_in};
+ghost use Rattle.cad_commands.specs.Reading.{IsRead, IsReadAs};
+ghost use Rattle.cad_commands.specs.Values.{IsPairOf, IsWholeOf, IsIntegerOf};
 
-use crate::unread::Unread;
+use crate::command_error::CommandError;
 use cad_day::Day;
 use cad_shape::Point;
 use cad_versions::{ObjectId, Share, Words};
 use serde_json::Value;
+use std::alloc::Global;
 
-/// What says something as the value of a member.
+/// What is said by the value of a member.
 pub trait FromValue: Sized {
-    ghost use Rattle.std.specs.Prelude.{◌≡◌, IfErr, Option, option_map};
-    ghost use Rattle.std.specs.Result.{result_ok};
     ghost use Rattle.serde_json.specs.Data.{Data};
     ghost use Rattle.serde_json.specs.View.{view};
+    ghost use Rattle.cad_commands.specs.Reading.{IsRead};
 
-    // Numbers, texts and truth values.
-    ghost Said: { Type 0 };
+    // The value says it.
+    ghost said_by: { Data → Self → Type 0 };
 
-    // What it says.
-    ghost says: { Self → Said };
-
-    // What the value says.
-    ghost said_in: { Data → Option Said };
-
-    fn from_value(value: Value) -> Result<Self, Unread>
-        ensures value { option_map says (result_ok result) ≡ said_in (view value) }
-        ensures refused { IfErr result (λ e. e ≡ Unread.NotACommand) };
+    fn from_value(alloc: Global, value: &Value) -> Result<Self, CommandError>
+        ensures { IsRead (said_by (view value.now)) result };
 }
 
-impl FromValue for String {
-    ghost use Rattle.std.specs.Prelude.{ℕ, List, string_bytes};
-    ghost use Rattle.serde_json.specs.Find.{as_str};
+impl FromValue for Words {
+    ghost use Rattle.cad_commands.specs.Values.{IsWordsOf};
 
-    ghost Said = { List ℕ };
+    ghost said_by = { IsWordsOf };
 
-    ghost says = { string_bytes };
-
-    ghost said_in = { as_str };
-
-    fn from_value(value: Value) -> Result<String, Unread> {
-        match value {
-            Value::String(text) => Ok(text),
-            _ => Err(Unread::NotACommand),
+    fn from_value(alloc: Global, value: &Value) -> Result<Words, CommandError> {
+        let text = value.as_str().ok_or(CommandError::NotACommand)?;
+        match Words::new(String::from_str(alloc, text)?) {
+            Ok(words) => Ok(words),
+            Err(_) => Err(CommandError::NotACommand),
         }
     }
 }
 
-impl FromValue for Words {
-    ghost use Rattle.std.specs.Prelude.{ℕ, List};
-    ghost use Rattle.cad_versions.specs.Texts.{bytes_of};
-    ghost use Rattle.cad_commands.specs.Values.{words_in};
-
-    ghost Said = { List ℕ };
-
-    ghost says = { bytes_of };
-
-    ghost said_in = { words_in };
-
-    fn from_value(value: Value) -> Result<Words, Unread> {
-        let text = String::from_value(value)?;
-        Words::new(text).map_err(|_| Unread::NotACommand)
-    }
-}
-
 impl FromValue for bool {
-    ghost use Rattle.std.specs.Prelude.{Bool};
-    ghost use Rattle.serde_json.specs.Find.{as_bool};
+    ghost use Rattle.cad_commands.specs.Values.{IsFlagOf};
 
-    ghost Said = { Bool };
+    ghost said_by = { IsFlagOf };
 
-    ghost says = { λ b. b };
-
-    ghost said_in = { as_bool };
-
-    fn from_value(value: Value) -> Result<bool, Unread> {
-        value.as_bool().ok_or(Unread::NotACommand)
+    fn from_value(_alloc: Global, value: &Value) -> Result<bool, CommandError> {
+        value.as_bool().ok_or(CommandError::NotACommand)
     }
 }
 
 impl FromValue for u32 {
-    ghost use Rattle.std.specs.Prelude.{ℕ};
-    ghost use Rattle.cad_commands.specs.Values.{whole_in};
+    ghost use Rattle.cad_commands.specs.Values.{IsWholeOf};
 
-    ghost Said = { ℕ };
+    ghost said_by = { IsWholeOf };
 
-    ghost says = { λ n. n };
-
-    ghost said_in = { whole_in };
-
-    fn from_value(value: Value) -> Result<u32, Unread> {
-        whole(&value)
+    fn from_value(_alloc: Global, value: &Value) -> Result<u32, CommandError> {
+        whole(value)
     }
 }
 
 impl FromValue for ObjectId {
-    ghost use Rattle.std.specs.Prelude.{ℕ};
-    ghost use Rattle.cad_versions.specs.Objects.{object_number};
-    ghost use Rattle.cad_commands.specs.Values.{object_in};
+    ghost use Rattle.cad_commands.specs.Values.{IsObjectOf};
 
-    ghost Said = { ℕ };
+    ghost said_by = { IsObjectOf };
 
-    ghost says = { object_number };
-
-    ghost said_in = { object_in };
-
-    fn from_value(value: Value) -> Result<ObjectId, Unread> {
-        ObjectId::new(whole(&value)?).ok_or(Unread::NotACommand)
+    fn from_value(_alloc: Global, value: &Value) -> Result<ObjectId, CommandError> {
+        let number = whole(value)?;
+        ObjectId::new(number).ok_or(CommandError::NotACommand)
     }
 }
 
 impl FromValue for Day {
-    ghost use Rattle.std.specs.Prelude.{ℤ};
-    ghost use Rattle.cad_day.specs.Days.{number_of};
-    ghost use Rattle.cad_commands.specs.Values.{day_in};
+    ghost use Rattle.cad_commands.specs.Values.{IsDayOf};
 
-    ghost Said = { ℤ };
+    ghost said_by = { IsDayOf };
 
-    ghost says = { number_of };
-
-    ghost said_in = { day_in };
-
-    fn from_value(value: Value) -> Result<Day, Unread> {
-        let text = value.as_str().ok_or(Unread::NotACommand)?;
-        Day::read(text).ok_or(Unread::NotACommand)
+    fn from_value(_alloc: Global, value: &Value) -> Result<Day, CommandError> {
+        let text = value.as_str().ok_or(CommandError::NotACommand)?;
+        Day::read(text).ok_or(CommandError::NotACommand)
     }
 }
 
 impl FromValue for Share {
-    ghost use Rattle.std.specs.Prelude.{ℕ};
-    ghost use Rattle.cad_commands.specs.Instructions.{parts_of};
-    ghost use Rattle.cad_commands.specs.Values.{share_in};
+    ghost use Rattle.cad_commands.specs.Values.{IsShareOf};
 
-    ghost Said = { ℕ × ℕ };
-
-    ghost says = { parts_of };
-
-    ghost said_in = { share_in };
+    ghost said_by = { IsShareOf };
 
     /// A fraction, as `[num,den]`.
-    fn from_value(value: Value) -> Result<Share, Unread> {
-        let (num, den) = pair(&value)?;
-        Share::new(whole(num)?, whole(den)?).ok_or(Unread::NotACommand)
+    fn from_value(_alloc: Global, value: &Value) -> Result<Share, CommandError> {
+        let (num, den) = pair(value)?;
+        let num = whole(num)?;
+        let den = whole(den)?;
+        Share::new(num, den).ok_or(CommandError::NotACommand)
     }
 }
 
 impl FromValue for Point {
-    ghost use Rattle.std.specs.Prelude.{ℤ};
-    ghost use Rattle.cad_commands.specs.Instructions.{coordinates_of};
-    ghost use Rattle.cad_commands.specs.Values.{point_in};
+    ghost use Rattle.cad_commands.specs.Values.{IsPointOf};
 
-    ghost Said = { ℤ × ℤ };
+    ghost said_by = { IsPointOf };
 
-    ghost says = { coordinates_of };
-
-    ghost said_in = { point_in };
-
-    fn from_value(value: Value) -> Result<Point, Unread> {
-        point(&value)
+    /// A point, as `[x,y]`.
+    fn from_value(_alloc: Global, value: &Value) -> Result<Point, CommandError> {
+        let (x, y) = pair(value)?;
+        let x = x.as_i64().ok_or(CommandError::NotACommand)?;
+        let y = y.as_i64().ok_or(CommandError::NotACommand)?;
+        Point::new(x, y).ok_or(CommandError::NotACommand)
     }
 }
 
 /// A whole number from 0 to 4,294,967,295. A number with a fraction or an exponent is none.
-fn whole(value: &Value) -> Result<u32, Unread>
-    ensures value { result_ok result ≡ whole_in (view value.now) }
-    ensures refused { IfErr result (λ e. e ≡ Unread.NotACommand) }
+fn whole(value: &Value) -> Result<u32, CommandError>
+    ensures { IsRead (IsWholeOf (view value.now)) result }
 {
-    let number = value.as_u64().ok_or(Unread::NotACommand)?;
-    u32::try_from(number).map_err(|_| Unread::NotACommand)
+    let number = value.as_u64().ok_or(CommandError::NotACommand)?;
+    u32::try_from(number).map_err(|_| CommandError::NotACommand)
 }
 
-fn pair(value: &Value) -> Result<(&Value, &Value), Unread>
-    ensures value { option_map (λ p. (view p.0.now, view p.1.now)) (result_ok result) ≡ pair_in (view value.now) }
-    ensures refused { IfErr result (λ e. e ≡ Unread.NotACommand) }
+/// The two values of a list of two.
+fn pair(value: &Value) -> Result<(&Value, &Value), CommandError>
+    ensures { IsReadAs {X = Data × Data} (λ pair. (view pair.0.now, view pair.1.now)) (λ pair. IsPairOf (view value.now) pair.0 pair.1) result }
 {
-    let list = value.as_array().ok_or(Unread::NotACommand)?;
-    two(list).ok_or(Unread::NotACommand)
+    let list = value.as_array().ok_or(CommandError::NotACommand)?;
+    two(list).ok_or(CommandError::NotACommand)
 }
 
 fn two(list: &[Value]) -> Option<(&Value, &Value)>
-    ensures { option_map (λ p. (view p.0.now, view p.1.now)) result ≡ two_of (items_view list.now) }
+    ensures { MatchOption result
+        ((first : Data) (second : Data) → items_view list.now ≢ item first (item second no_items))
+        (λ pair. items_view list.now ≡ item (view pair.0.now) (item (view pair.1.now) no_items)) }
 {
     match list {
         [first, second] => Some((first, second)),
         _ => None,
     }
-}
-
-/// A point, as `[x,y]`.
-pub fn point(value: &Value) -> Result<Point, Unread>
-    ensures value { option_map coordinates_of (result_ok result) ≡ point_in (view value.now) }
-    ensures refused { IfErr result (λ e. e ≡ Unread.NotACommand) }
-{
-    let (x, y) = pair(value)?;
-    let x = x.as_i64().ok_or(Unread::NotACommand)?;
-    let y = y.as_i64().ok_or(Unread::NotACommand)?;
-    Point::new(x, y).ok_or(Unread::NotACommand)
 }

@@ -7,7 +7,7 @@ use Rattle.cad_versions.specs.declared.fault.RegisterFault.{RegisterFault}
 use Rattle.cad_versions.specs.declared.command.Command.{Command}
 use Rattle.cad_office.specs.declared.print.Answer.{Answer}
 use Rattle.cad_office.specs.Answers.{joined, printed}
-use Rattle.cad_office.specs.Keeping.{all_printed, is_accepted, all_accepted, goes_on, AllGoOn, Comes, Works, AreAnswered, EndsRefused, EndsCut}
+use Rattle.cad_office.specs.Keeping.{all_printed, is_accepted, all_accepted, goes_on, AllGoOn, AnswersLine, AnswersLines, AreAnswered, EndsRefused, EndsCut}
 
 joined-append : (xs ys : List (List ℕ)) → joined (xs ++ ys) ≡ joined xs ++ joined ys
 joined-append [] ys = refl
@@ -27,43 +27,43 @@ written-append xs before w v end e f =
     rw (e, f) (sym (append_assoc (all_printed xs) (all_printed before) end) ∙ ap (λ (m : List ℕ). m ++ end) (sym (all_printed-append xs before)))
 
 module _ {B : Type 0} (applies : B → Command → Result ℕ RegisterFault → B → Type 0) where
-  works-append : (a b c : B) (ls ms : List (List ℕ)) (xs ys : List Answer) → Works applies a b ls xs → Works applies b c ms ys → Works applies a c (ls ++ ms) (xs ++ ys)
+  works-append : (a b c : B) (ls ms : List (List ℕ)) (xs ys : List Answer) → AnswersLines applies a b ls xs → AnswersLines applies b c ms ys → AnswersLines applies a c (ls ++ ms) (xs ++ ys)
   works-append a b c [] ms [] ys e t = rw e at t
   works-append a b c [] ms (x ∷ xs) ys s t = absurd s
   works-append a b c (l ∷ ls) ms [] ys s t = absurd s
   works-append a b c (l ∷ ls) ms (x ∷ xs) ys s t = (s.0, s.1, works-append s.0 b c ls ms xs ys s.2 t)
 
-  works-length : (a b : B) (ls : List (List ℕ)) (xs : List Answer) → Works applies a b ls xs → length ls ≡ length xs
+  works-length : (a b : B) (ls : List (List ℕ)) (xs : List Answer) → AnswersLines applies a b ls xs → length ls ≡ length xs
   works-length a b [] [] s = refl
   works-length a b [] (x ∷ xs) s = absurd s
   works-length a b (l ∷ ls) [] s = absurd s
   works-length a b (l ∷ ls) (x ∷ xs) s = omega (arith, works-length s.0 b ls xs s.2)
 
   -- what came of lines, and then of the first of more lines
-  first-append : (a b c : B) (ls ms : List (List ℕ)) (xs before : List Answer) (last : Answer) → Works applies a b ls xs → Works applies b c (take (length before + 1) ms) (before ++ last ∷ []) → Works applies a c (take (length (xs ++ before) + 1) (ls ++ ms)) ((xs ++ before) ++ last ∷ [])
+  first-append : (a b c : B) (ls ms : List (List ℕ)) (xs before : List Answer) (last : Answer) → AnswersLines applies a b ls xs → AnswersLines applies b c (take (length before + 1) ms) (before ++ last ∷ []) → AnswersLines applies a c (take (length (xs ++ before) + 1) (ls ++ ms)) ((xs ++ before) ++ last ∷ [])
   first-append a b c ls ms xs before last s t =
       let count : length (xs ++ before) + 1 ≡ length ls + (length before + 1) = omega (arith, works-length a b ls xs s, length-append xs before) in
       let lines = ap (λ (n : ℕ). take n (ls ++ ms)) count ∙ take-append-add ls ms (length before + 1) in
       rw (lines, append_assoc xs before (last ∷ [])) (works-append a b c ls (take (length before + 1) ms) xs (before ++ last ∷ []) s t)
 
   -- the first of the lines are the first of these and more
-  pub first-more : (a b : B) (ls more : List (List ℕ)) (before : List Answer) (last : Answer) → Works applies a b (take (length before + 1) ls) (before ++ last ∷ []) → Works applies a b (take (length before + 1) (ls ++ more)) (before ++ last ∷ [])
+  pub first-more : (a b : B) (ls more : List (List ℕ)) (before : List Answer) (last : Answer) → AnswersLines applies a b (take (length before + 1) ls) (before ++ last ∷ []) → AnswersLines applies a b (take (length before + 1) (ls ++ more)) (before ++ last ∷ [])
   first-more a b ls more before last s =
       let enough : length before + 1 ≤ length ls = omega (arith, works-length a b (take (length before + 1) ls) (before ++ last ∷ []) s, length-take (length before + 1) ls, length-append before (last ∷ [])) in
       rw (take-append-le (length before + 1) ls more enough) s
 
-  pub answered-append : (a b c : B) (ls ms : List (List ℕ)) (xs ys : List Answer) (w v : List ℕ) → AreAnswered (Works applies a b) ls xs w → AreAnswered (Works applies b c) ms ys v → AreAnswered (Works applies a c) (ls ++ ms) (xs ++ ys) (w ++ v)
+  pub answered-append : (a b c : B) (ls ms : List (List ℕ)) (xs ys : List Answer) (w v : List ℕ) → AreAnswered (AnswersLines applies a b) ls xs w → AreAnswered (AnswersLines applies b c) ms ys v → AreAnswered (AnswersLines applies a c) (ls ++ ms) (xs ++ ys) (w ++ v)
   answered-append a b c ls ms xs ys w v s t =
       (rw (s.0, t.0) (sym (all_printed-append xs ys)), all_go_on-append xs ys s.1 t.1, works-append a b c ls ms xs ys s.2 t.2)
 
-  pub refused-append : (a b c : B) (ls ms : List (List ℕ)) (xs : List Answer) (w v : List ℕ) → AreAnswered (Works applies a b) ls xs w → EndsRefused (Works applies b c) ms v → EndsRefused (Works applies a c) (ls ++ ms) (w ++ v)
+  pub refused-append : (a b c : B) (ls ms : List (List ℕ)) (xs : List Answer) (w v : List ℕ) → AreAnswered (AnswersLines applies a b) ls xs w → EndsRefused (AnswersLines applies b c) ms v → EndsRefused (AnswersLines applies a c) (ls ++ ms) (w ++ v)
   refused-append a b c ls ms xs w v s t =
       (xs ++ t.0, written-append xs t.0 w v _ s.0 t.1, all_go_on-append xs t.0 s.1 t.2, first-append a b c ls ms xs t.0 _ s.2 t.3)
 
-  pub cut-append : (a b c : B) (ls ms : List (List ℕ)) (xs : List Answer) (w v : List ℕ) → AreAnswered (Works applies a b) ls xs w → EndsCut (Works applies b c) ms v → EndsCut (Works applies a c) (ls ++ ms) (w ++ v)
+  pub cut-append : (a b c : B) (ls ms : List (List ℕ)) (xs : List Answer) (w v : List ℕ) → AreAnswered (AnswersLines applies a b) ls xs w → EndsCut (AnswersLines applies b c) ms v → EndsCut (AnswersLines applies a c) (ls ++ ms) (w ++ v)
   cut-append a b c ls ms xs w v s t =
       (xs ++ t.0, t.1, t.2, written-append xs t.0 w v _ s.0 t.3, t.4, all_go_on-append xs t.0 s.1 t.5, first-append a b c ls ms xs t.0 t.1 s.2 t.6)
 
   -- what came of one line
-  pub one_came : (a b : B) (line : List ℕ) (answer : Answer) → Comes applies line a answer b → Works applies a b (line ∷ []) (answer ∷ [])
+  pub one_came : (a b : B) (line : List ℕ) (answer : Answer) → AnswersLine applies line a answer b → AnswersLines applies a b (line ∷ []) (answer ∷ [])
   one_came a b line answer h = (b, h, refl)

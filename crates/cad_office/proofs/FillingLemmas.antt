@@ -3,7 +3,7 @@ use Rattle.std.proofs.Common.{◌≡◌, ℕ, List, [], ◌∷◌, ◌++◌, len
 use Rattle.std.proofs.lemmas.List.{map-append}
 use Rattle.cad_versions.specs.declared.command.Command.{Command}
 use Rattle.cad_versions.specs.declared.fault.RegisterFault.{RegisterFault}
-use Rattle.cad_commands.specs.Instructions.{Instruction, instruction_of}
+use Rattle.cad_office.specs.Instructions.{Instruction, instruction_of}
 use Rattle.cad_office.specs.Filling.{Answers, Accepts}
 
 accepts_one_more : {B : Type 0} (applies : B → Command → Result ℕ RegisterFault → B → Type 0) (done : List Instruction) (next : Instruction) (old mid new : B) (first revision last : ℕ) → Accepts applies done old first revision mid → Answers applies mid next (Ok last) new → Accepts applies (done ++ next ∷ []) old first last new

@@ -13,8 +13,8 @@ use Rattle.cad_office.specs.declared.line.Line.{Line}
 use Rattle.cad_office.specs.declared.print.Answer.{Answer}
 use Rattle.cad_office.specs.declared.print.Answer.TheVariants.{Refused}
 use Rattle.cad_office.specs.Answers.{printed, WritesCut}
-use Rattle.cad_office.specs.Lines.{is_filled, lines_ended, line_begun, StandsFor}
-use Rattle.cad_office.specs.Keeping.{all_printed, is_accepted, goes_on, Works, EndIn, IsPiece, Writes}
+use Rattle.cad_office.specs.Lines.{is_filled, lines_ended, line_begun, BuffersLine}
+use Rattle.cad_office.specs.Keeping.{all_printed, is_accepted, goes_on, AnswersLines, EndIn, IsPiece, Writes}
 use Rattle.cad_office.proofs.LineLemmas.{lines_in-begun, lines_ended-lf, line_begun-lf, lines_ended-byte, line_begun-byte, lines_ended-append}
 use Rattle.cad_office.proofs.AnswerLemmas.{all_accepted-append, first-more, answered-append, refused-append, cut-append}
 
@@ -35,7 +35,7 @@ refused_goes_on Store other = absurd (other refl)
 refused_goes_on _ other = refl
 
 -- an empty line
-pub line_empty : (Q : List (List ℕ) → List Answer → Type 0) (a : Option (List ℕ)) (read : List ℕ) (line : Line) → StandsFor (line_begun read) line → (length (line_begun read) == 0) ≡ true → Q [] [] → Writes a a (IsPiece Q read (Ok true) line (10 ∷ []))
+pub line_empty : (Q : List (List ℕ) → List Answer → Type 0) (a : Option (List ℕ)) (read : List ℕ) (line : Line) → BuffersLine (line_begun read) line → (length (line_begun read) == 0) ≡ true → Q [] [] → Writes a a (IsPiece Q read (Ok true) line (10 ∷ []))
 line_empty Q a read line stands empty q =
     let none = no_length (line_begun read) empty in
     let ends = lf_ends read ∙ ap (λ (text : List ℕ). lines_ended read ++ filter is_filled (text ∷ [])) none in
@@ -45,7 +45,7 @@ filled_ends : (read : List ℕ) → (length (line_begun read) == 0) ≡ false �
 filled_ends read filled =
     lf_ends read ∙ ap (λ (b : Bool). lines_ended read ++ cond (not b) (line_begun read ∷ []) []) filled
 
-pub line_answered : (Q : List (List ℕ) → List Answer → Type 0) (a b : Option (List ℕ)) (read : List ℕ) (next : Line) (answer : Answer) (accepted : Bool) → (length (line_begun read) == 0) ≡ false → StandsFor [] next → IsTrue (goes_on answer) → accepted ≡ is_accepted answer → Appends a b (printed answer) → Q (line_begun read ∷ []) (answer ∷ []) → Writes a b (IsPiece Q read (Ok accepted) next (10 ∷ []))
+pub line_answered : (Q : List (List ℕ) → List Answer → Type 0) (a b : Option (List ℕ)) (read : List ℕ) (next : Line) (answer : Answer) (accepted : Bool) → (length (line_begun read) == 0) ≡ false → BuffersLine [] next → IsTrue (goes_on answer) → accepted ≡ is_accepted answer → Appends a b (printed answer) → Q (line_begun read ∷ []) (answer ∷ []) → Writes a b (IsPiece Q read (Ok accepted) next (10 ∷ []))
 line_answered Q a b read next answer accepted filled stands goes e x q =
     (printed answer, x, (line_begun read ∷ [], filled_ends read filled, (answer ∷ [], (one_printed answer, and-true (goes_on answer) ∙ goes, q), e ∙ sym (and-true (is_accepted answer))), rw (line_begun-lf read) stands))
 
@@ -58,7 +58,7 @@ line_cut Q a b read next answer filled cut q =
     (cut.0, cut.1, (line_begun read ∷ [], filled_ends read filled, ([], answer, cut.0, refl, cut.2, refl, q)))
 
 -- a byte of a line
-pub piece_byte : (Q : List (List ℕ) → List Answer → Type 0) (a : Option (List ℕ)) (read : List ℕ) (next : Line) (byte : ℕ) → (byte == 10) ≡ false → StandsFor (line_begun read ++ byte ∷ []) next → Q [] [] → Writes a a (IsPiece Q read (Ok true) next (byte ∷ []))
+pub piece_byte : (Q : List (List ℕ) → List Answer → Type 0) (a : Option (List ℕ)) (read : List ℕ) (next : Line) (byte : ℕ) → (byte == 10) ≡ false → BuffersLine (line_begun read ++ byte ∷ []) next → Q [] [] → Writes a a (IsPiece Q read (Ok true) next (byte ∷ []))
 piece_byte Q a read next byte other stands q =
     ([], Appends-nil a, ([], lines_ended-byte read byte other ∙ sym (append-nil _), ([], (refl, refl, q), refl), rw (line_begun-byte read byte other) stands))
 
@@ -73,13 +73,13 @@ ends-append read p q ls ms e f =
     ap lines_ended (sym (append_assoc read p q)) ∙ f ∙ ap (λ (s : List (List ℕ)). s ++ ms) e ∙ append_assoc (lines_ended read) ls ms
 
 -- nothing was read and nothing written
-pub piece_nothing : (Q : List (List ℕ) → List Answer → Type 0) (a : Option (List ℕ)) (read : List ℕ) (line : Line) → StandsFor (line_begun read) line → Q [] [] → Writes a a (IsPiece Q read (Ok true) line [])
+pub piece_nothing : (Q : List (List ℕ) → List Answer → Type 0) (a : Option (List ℕ)) (read : List ℕ) (line : Line) → BuffersLine (line_begun read) line → Q [] [] → Writes a a (IsPiece Q read (Ok true) line [])
 piece_nothing Q a read line stands q =
     ([], Appends-nil a, ([], ap lines_ended (append-nil read) ∙ sym (append-nil _), ([], (refl, refl, q), refl), rw (append-nil read) stands))
 
 module _ {B : Type 0} (applies : B → Command → Result ℕ RegisterFault → B → Type 0) where
   -- a piece that went well, and one more
-  pub pieces_more : (a b c : B) (read : List ℕ) (mid last : Line) (p q w v : List ℕ) (x y : Bool) → IsPiece (Works applies a b) read (Ok x) mid p w → IsPiece (Works applies b c) (read ++ p) (Ok y) last q v → IsPiece (Works applies a c) read (Ok (x && y)) last (p ++ q) (w ++ v)
+  pub pieces_more : (a b c : B) (read : List ℕ) (mid last : Line) (p q w v : List ℕ) (x y : Bool) → IsPiece (AnswersLines applies a b) read (Ok x) mid p w → IsPiece (AnswersLines applies b c) (read ++ p) (Ok y) last q v → IsPiece (AnswersLines applies a c) read (Ok (x && y)) last (p ++ q) (w ++ v)
   pieces_more a b c read mid last p q w v x y s t = (
     s.0 ++ t.0,
     ends-append read p q s.0 t.0 s.1 t.1,
@@ -88,7 +88,7 @@ module _ {B : Type 0} (applies : B → Command → Result ℕ RegisterFault → 
   )
 
   -- a piece that went well, and one that failed
-  pub pieces_failed : (a b c : B) (read : List ℕ) (mid last : Line) (p q w v : List ℕ) (x : Bool) (f : OfficeFault) → IsPiece (Works applies a b) read (Ok x) mid p w → IsPiece (Works applies b c) (read ++ p) (Err f) last q v → IsPiece (Works applies a c) read (Err f) last (p ++ q) (w ++ v)
+  pub pieces_failed : (a b c : B) (read : List ℕ) (mid last : Line) (p q w v : List ℕ) (x : Bool) (f : OfficeFault) → IsPiece (AnswersLines applies a b) read (Ok x) mid p w → IsPiece (AnswersLines applies b c) (read ++ p) (Err f) last q v → IsPiece (AnswersLines applies a c) read (Err f) last (p ++ q) (w ++ v)
   pieces_failed a b c read mid last p q w v x Read s t = absurd t
   pieces_failed a b c read mid last p q w v x TurnsSpent s t = absurd t
   pieces_failed a b c read mid last p q w v x Register s t =
@@ -97,7 +97,7 @@ module _ {B : Type 0} (applies : B → Command → Result ℕ RegisterFault → 
       (s.0 ++ t.0, ends-append read p q s.0 t.0 s.1 t.1, cut-append applies a b c s.0 t.0 s.2.0 w v s.2.1 t.2)
 
   -- what follows a failure is not read
-  failed_more : (a b : B) (read : List ℕ) (last : Line) (p rest w : List ℕ) (f : OfficeFault) → IsPiece (Works applies a b) read (Err f) last p w → IsPiece (Works applies a b) read (Err f) last (p ++ rest) w
+  failed_more : (a b : B) (read : List ℕ) (last : Line) (p rest w : List ℕ) (f : OfficeFault) → IsPiece (AnswersLines applies a b) read (Err f) last p w → IsPiece (AnswersLines applies a b) read (Err f) last (p ++ rest) w
   failed_more a b read last p rest w Read s = absurd s
   failed_more a b read last p rest w TurnsSpent s = absurd s
   failed_more a b read last p rest w Register s =
@@ -107,12 +107,12 @@ module _ {B : Type 0} (applies : B → Command → Result ℕ RegisterFault → 
       let more = lines_ended-append (read ++ p) rest in
       (s.0 ++ more.0, ends-append read p rest s.0 more.0 s.1 more.1, (s.2.0, s.2.1, s.2.2, s.2.3, s.2.4, s.2.5, first-more applies a b s.0 more.0 s.2.0 s.2.1 s.2.6))
 
-  pub piece_more : (a b c : B) (u v w : Option (List ℕ)) (read : List ℕ) (mid last : Line) (p q : List ℕ) (x y : Bool) → Writes u v (IsPiece (Works applies a b) read (Ok x) mid p) → ((earlier : List ℕ) → StandsFor (line_begun earlier) mid → Writes v w (IsPiece (Works applies b c) earlier (Ok y) last q)) → Writes u w (IsPiece (Works applies a c) read (Ok (x && y)) last (p ++ q))
+  pub piece_more : (a b c : B) (u v w : Option (List ℕ)) (read : List ℕ) (mid last : Line) (p q : List ℕ) (x y : Bool) → Writes u v (IsPiece (AnswersLines applies a b) read (Ok x) mid p) → ((earlier : List ℕ) → BuffersLine (line_begun earlier) mid → Writes v w (IsPiece (AnswersLines applies b c) earlier (Ok y) last q)) → Writes u w (IsPiece (AnswersLines applies a c) read (Ok (x && y)) last (p ++ q))
   piece_more a b c u v w read mid last p q x y s next =
       let t = next (read ++ p) s.2.3 in
       (s.0 ++ t.0, Appends-trans u v w s.0 t.0 s.1 t.1, pieces_more a b c read mid last p q s.0 t.0 x y s.2 t.2)
 
-  pub piece_failed : (a b c : B) (u v w : Option (List ℕ)) (read : List ℕ) (mid last : Line) (p q rest : List ℕ) (x : Bool) (f : OfficeFault) → Writes u v (IsPiece (Works applies a b) read (Ok x) mid p) → ((earlier : List ℕ) → StandsFor (line_begun earlier) mid → Writes v w (IsPiece (Works applies b c) earlier (Err f) last q)) → Writes u w (IsPiece (Works applies a c) read (Err f) last ((p ++ q) ++ rest))
+  pub piece_failed : (a b c : B) (u v w : Option (List ℕ)) (read : List ℕ) (mid last : Line) (p q rest : List ℕ) (x : Bool) (f : OfficeFault) → Writes u v (IsPiece (AnswersLines applies a b) read (Ok x) mid p) → ((earlier : List ℕ) → BuffersLine (line_begun earlier) mid → Writes v w (IsPiece (AnswersLines applies b c) earlier (Err f) last q)) → Writes u w (IsPiece (AnswersLines applies a c) read (Err f) last ((p ++ q) ++ rest))
   piece_failed a b c u v w read mid last p q rest x f s next =
       let t = next (read ++ p) s.2.3 in
       (s.0 ++ t.0, Appends-trans u v w s.0 t.0 s.1 t.1, failed_more a c read last (p ++ q) rest (s.0 ++ t.0) f (pieces_failed a b c read mid last p q s.0 t.0 x f s.2 t.2))

@@ -3,20 +3,20 @@ use Rattle.std.specs.Prelude.{◌≡◌, ℕ, List, [], ◌∷◌, ◌++◌, ◌
 use Rattle.cad_versions.specs.declared.command.Command.{Command}
 use Rattle.cad_versions.specs.declared.fault.RegisterFault.{RegisterFault}
 use Rattle.cad_versions.specs.declared.fault.RegisterFault.TheVariants.{Memory}
-use Rattle.cad_commands.specs.Instructions.{Instruction, instruction_of}
+use Rattle.cad_office.specs.Instructions.{Instruction, instruction_of}
 
 module _ {B : Type 0} (applies : B → Command → Result ℕ RegisterFault → B → Type 0) where
-  -- the book answers this to a command that says so
+  -- the ledger answers this to a command that says so
   abbrev pub Answers : B → Instruction → Result ℕ RegisterFault → B → Type 0
   Answers old instruction result new = (command : Command) × (instruction_of command ≡ instruction) × applies old command result new
 
-  -- the book accepts these, one after the other, and answers the last revision; before them it had answered the first
+  -- the ledger accepts these, one after the other, and answers the last revision; before them it had answered the first
   abbrev pub Accepts : List Instruction → B → ℕ → ℕ → B → Type 0
   Accepts [] old first last new = (new ≡ old) × (last ≡ first)
   Accepts (instruction ∷ more) old first last new =
       (revision : ℕ) × (mid : B) × Answers old instruction (Ok revision) mid × Accepts more mid revision last new
 
-  -- the book refuses the next one, or there is no memory for it
+  -- the ledger refuses the next one, or there is no memory for it
   abbrev pub Refuses : List Instruction → B → RegisterFault → B → Type 0
   Refuses [] old fault new = ⊥
   Refuses (instruction ∷ more) old fault new = Answers old instruction (Err fault) new ⊎ ((fault ≡ Memory) × (new ≡ old))

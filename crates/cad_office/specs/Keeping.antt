@@ -1,5 +1,5 @@
 -- What the office writes for what it reads (own profile).
-use Rattle.std.specs.Prelude.{◌≡◌, ℕ, ◌+◌, ◌≤◌, Bool, true, false, IsTrue, List, [], ◌∷◌, ◌++◌, ◌⊎◌, length, map, take, Option, Result, Ok, Err}
+use Rattle.std.specs.Prelude.{◌≡◌, ℕ, ◌+◌, ◌*◌, ◌≤◌, Bool, true, false, IsTrue, List, [], ◌∷◌, ◌++◌, ◌⊎◌, length, map, take, Option, Result, Ok, Err}
 use Rattle.std.specs.List.{list_all}
 use Rattle.std.specs.Io.KnownBytes.{Consumes, Appends}
 use Rattle.cad_versions.specs.declared.fault.RegisterFault.TheVariants.{Store, Memory}
@@ -11,15 +11,14 @@ use Rattle.cad_office.specs.declared.line.Line.{Line}
 use Rattle.cad_office.specs.declared.print.Answer.{Answer}
 use Rattle.cad_office.specs.declared.print.Answer.TheVariants.{Entered, Refused, NotACommand}
 use Rattle.cad_office.specs.Answers.{joined, printed, IsCut}
-use Rattle.cad_commands.specs.CommandObjects.{Says}
-use Rattle.cad_commands.specs.Instructions.{Instruction, instruction_of}
-use Rattle.cad_office.specs.Lines.{longest_line, lines_in, lines_ended, line_begun, StandsFor}
+use Rattle.cad_commands.specs.Commands.{Says}
+use Rattle.cad_office.specs.Lines.{longest_line, lines_in, lines_ended, line_begun, BuffersLine}
 
 -- the lines of the answers, one after the other
 abbrev pub all_printed : List Answer → List ℕ
 all_printed answers = joined (map printed answers)
 
--- only a command that the book accepted is a line accepted
+-- only a command that the ledger accepted is a line accepted
 abbrev pub is_accepted : Answer → Bool
 is_accepted (Entered revision) = true
 is_accepted (Refused fault) = false
@@ -41,38 +40,38 @@ abbrev pub AllGoOn : List Answer → Type 0
 AllGoOn answers = IsTrue (list_all goes_on answers)
 
 -- a line that is not too long asks for what its text says
-abbrev pub Asks : List ℕ → Instruction → Type 0
-Asks line instruction = (length line ≤ longest_line) × Says line instruction
+abbrev pub Asks : List ℕ → Command → Type 0
+Asks line command = (length line ≤ longest_line) × Says line command
 
--- what came of the line in the book: what the book answers to the command that the line asks for, or no change
-abbrev pub Comes : {B : Type 0} → (B → Command → Result ℕ RegisterFault → B → Type 0) → List ℕ → B → Answer → B → Type 0
-Comes applies line old (Entered revision) new =
-    (command : Command) × Asks line (instruction_of command) × applies old command (Ok revision) new
-Comes applies line old (Refused fault) new =
-    ((command : Command) × Asks line (instruction_of command) × applies old command (Err fault) new) ⊎ ((fault ≡ Memory) × (new ≡ old))
-Comes applies line old NotACommand new = ((instruction : Instruction) → ¬ Asks line instruction) × (new ≡ old)
+-- what came of the line in the ledger: what the ledger answers to the command that the line asks for, or no change
+abbrev pub AnswersLine : {B : Type 0} → (B → Command → Result ℕ RegisterFault → B → Type 0) → List ℕ → B → Answer → B → Type 0
+AnswersLine applies line old (Entered revision) new =
+    (command : Command) × Asks line command × applies old command (Ok revision) new
+AnswersLine applies line old (Refused fault) new =
+    ((command : Command) × Asks line command × applies old command (Err fault) new) ⊎ ((fault ≡ Memory) × (new ≡ old))
+AnswersLine applies line old NotACommand new = ((command : Command) → ¬ Asks line command) × (new ≡ old)
 
--- what came of the lines in the book, one after the other, each with its answer
-abbrev pub Works : {B : Type 0} → (B → Command → Result ℕ RegisterFault → B → Type 0) → B → B → List (List ℕ) → List Answer → Type 0
-Works applies old new [] [] = new ≡ old
-Works applies old new [] (answer ∷ answers) = ⊥
-Works applies old new (line ∷ lines) [] = ⊥
-Works {B} applies old new (line ∷ lines) (answer ∷ answers) =
-    (mid : B) × Comes applies line old answer mid × Works applies mid new lines answers
+-- what came of the lines in the ledger, one after the other, each with its answer
+abbrev pub AnswersLines : {B : Type 0} → (B → Command → Result ℕ RegisterFault → B → Type 0) → B → B → List (List ℕ) → List Answer → Type 0
+AnswersLines applies old new [] [] = new ≡ old
+AnswersLines applies old new [] (answer ∷ answers) = ⊥
+AnswersLines applies old new (line ∷ lines) [] = ⊥
+AnswersLines {B} applies old new (line ∷ lines) (answer ∷ answers) =
+    (mid : B) × AnswersLine applies line old answer mid × AnswersLines applies mid new lines answers
 
 -- each of the lines has its answer, each answer is written, and none ends the work
 abbrev pub AreAnswered : (List (List ℕ) → List Answer → Type 0) → List (List ℕ) → List Answer → List ℕ → Type 0
-AreAnswered InBook lines answers written = (written ≡ all_printed answers) × AllGoOn answers × InBook lines answers
+AreAnswered InLedger lines answers written = (written ≡ all_printed answers) × AllGoOn answers × InLedger lines answers
 
 -- all answers before the last let the work go on, and the last is that the database refused
 abbrev pub EndsRefused : (List (List ℕ) → List Answer → Type 0) → List (List ℕ) → List ℕ → Type 0
-EndsRefused InBook lines written =
-    (before : List Answer) × (written ≡ all_printed before ++ printed (Refused Store)) × AllGoOn before × InBook (take (length before + 1) lines) (before ++ Refused Store ∷ [])
+EndsRefused InLedger lines written =
+    (before : List Answer) × (written ≡ all_printed before ++ printed (Refused Store)) × AllGoOn before × InLedger (take (length before + 1) lines) (before ++ Refused Store ∷ [])
 
 -- all answers before the last are whole and let the work go on, and the last is cut
 abbrev pub EndsCut : (List (List ℕ) → List Answer → Type 0) → List (List ℕ) → List ℕ → Type 0
-EndsCut InBook lines written =
-    (before : List Answer) × (last : Answer) × (front : List ℕ) × (written ≡ all_printed before ++ front) × IsCut (printed last) front × AllGoOn before × InBook (take (length before + 1) lines) (before ++ last ∷ [])
+EndsCut InLedger lines written =
+    (before : List Answer) × (last : Answer) × (front : List ℕ) × (written ≡ all_printed before ++ front) × IsCut (printed last) front × AllGoOn before × InLedger (take (length before + 1) lines) (before ++ last ∷ [])
 
 -- the lines that were read whole: those that an LF ended, and at the end of the input the last one
 abbrev pub AreWhole : Type 0 → List ℕ → List (List ℕ) → Type 0
@@ -80,16 +79,33 @@ AreWhole AtEnd read lines = (lines ≡ lines_ended read) ⊎ (AtEnd × (lines �
 
 -- each line that was read whole has its answer, up to the one at which the work stopped
 abbrev pub IsKept : (List (List ℕ) → List Answer → Type 0) → Type 0 → Result Bool OfficeFault → List ℕ → List ℕ → Type 0
-IsKept InBook AtEnd (Ok accepted) read written =
-    (answers : List Answer) × AreAnswered InBook (lines_in read) answers written × (accepted ≡ all_accepted answers)
-IsKept InBook AtEnd (Err Read) read written =
-    (answers : List Answer) × AreAnswered InBook (lines_ended read) answers written
-IsKept InBook AtEnd (Err TurnsSpent) read written =
-    (answers : List Answer) × AreAnswered InBook (lines_ended read) answers written
-IsKept InBook AtEnd (Err Register) read written =
-    (lines : List (List ℕ)) × AreWhole AtEnd read lines × EndsRefused InBook lines written
-IsKept InBook AtEnd (Err Write) read written =
-    (lines : List (List ℕ)) × AreWhole AtEnd read lines × EndsCut InBook lines written
+IsKept InLedger AtEnd (Ok accepted) read written =
+    (answers : List Answer) × AreAnswered InLedger (lines_in read) answers written × (accepted ≡ all_accepted answers)
+IsKept InLedger AtEnd (Err Read) read written =
+    (answers : List Answer) × AreAnswered InLedger (lines_ended read) answers written
+IsKept InLedger AtEnd (Err TurnsSpent) read written =
+    (answers : List Answer) × AreAnswered InLedger (lines_ended read) answers written
+IsKept InLedger AtEnd (Err Register) read written =
+    (lines : List (List ℕ)) × AreWhole AtEnd read lines × EndsRefused InLedger lines written
+IsKept InLedger AtEnd (Err Write) read written =
+    (lines : List (List ℕ)) × AreWhole AtEnd read lines × EndsCut InLedger lines written
+
+-- the most reads, and the most bytes of one
+abbrev pub most_reads : ℕ
+most_reads = 1000000
+
+abbrev pub read_bytes : ℕ
+read_bytes = 4096
+
+-- so many reads that each gave a byte read so many bytes
+pub record IsOfReads (count : ℕ) (read : List ℕ) : Type 0 where
+  pub each_gave : count ≤ length read
+  pub each_short : length read ≤ read_bytes * count
+
+-- no more is read than the reads may give, and they are spent only where each gave a byte
+pub record IsPaced (result : Result Bool OfficeFault) (read : List ℕ) : Type 0 where
+  pub bounded : length read ≤ read_bytes * most_reads
+  pub spent : result ≡ Err TurnsSpent → most_reads ≤ length read
 
 -- these lines end in the piece
 abbrev pub EndIn : List ℕ → List ℕ → List (List ℕ) → Type 0
@@ -97,14 +113,14 @@ EndIn read piece lines = lines_ended (read ++ piece) ≡ lines_ended read ++ lin
 
 -- the same for a piece, where this was read before it
 abbrev pub IsPiece : (List (List ℕ) → List Answer → Type 0) → List ℕ → Result Bool OfficeFault → Line → List ℕ → List ℕ → Type 0
-IsPiece InBook read (Ok accepted) line piece written =
-    (lines : List (List ℕ)) × EndIn read piece lines × ((answers : List Answer) × AreAnswered InBook lines answers written × (accepted ≡ all_accepted answers)) × StandsFor (line_begun (read ++ piece)) line
-IsPiece InBook read (Err Read) line piece written = ⊥
-IsPiece InBook read (Err TurnsSpent) line piece written = ⊥
-IsPiece InBook read (Err Register) line piece written =
-    (lines : List (List ℕ)) × EndIn read piece lines × EndsRefused InBook lines written
-IsPiece InBook read (Err Write) line piece written =
-    (lines : List (List ℕ)) × EndIn read piece lines × EndsCut InBook lines written
+IsPiece InLedger read (Ok accepted) line piece written =
+    (lines : List (List ℕ)) × EndIn read piece lines × ((answers : List Answer) × AreAnswered InLedger lines answers written × (accepted ≡ all_accepted answers)) × BuffersLine (line_begun (read ++ piece)) line
+IsPiece InLedger read (Err Read) line piece written = ⊥
+IsPiece InLedger read (Err TurnsSpent) line piece written = ⊥
+IsPiece InLedger read (Err Register) line piece written =
+    (lines : List (List ℕ)) × EndIn read piece lines × EndsRefused InLedger lines written
+IsPiece InLedger read (Err Write) line piece written =
+    (lines : List (List ℕ)) × EndIn read piece lines × EndsCut InLedger lines written
 
 -- known bytes written are so
 abbrev pub Writes : Option (List ℕ) → Option (List ℕ) → (List ℕ → Type 0) → Type 0

@@ -2,8 +2,8 @@
 use Rattle.std.specs.Prelude.{◌≡◌, ℕ, ◌<◌, ◌≤◌, ◌==◌, Bool, not, List, length}
 use Rattle.std.specs.List.{filter, slice_split, before_last, after_last}
 use Rattle.cad_office.specs.declared.line.Line.{Line}
-use Rattle.cad_office.specs.declared.line.Fate.{Fate}
-use Rattle.cad_office.specs.declared.line.Fate.TheVariants.{Held, TooLong, NoMemory}
+use Rattle.cad_office.specs.declared.line.LineState.{LineState}
+use Rattle.cad_office.specs.declared.line.LineState.TheVariants.{Buffered, TooLong, OutOfMemory}
 
 -- the byte that ends a line
 abbrev pub is_lf : ℕ → Bool
@@ -30,11 +30,11 @@ abbrev pub longest_line : ℕ
 longest_line = 65536
 
 -- what the line holds of the bytes that were read of it
-abbrev pub Stands : List ℕ → List ℕ → Fate → Type 0
-Stands text held Held = (held ≡ text) × (length text ≤ longest_line)
-Stands text held TooLong = longest_line < length text
-Stands text held NoMemory = 0 < length text
+abbrev pub Buffers : List ℕ → List ℕ → LineState → Type 0
+Buffers text held Buffered = (held ≡ text) × (length text ≤ longest_line)
+Buffers text held TooLong = longest_line < length text
+Buffers text held OutOfMemory = 0 < length text
 
 -- the same of the line as it is held
-abbrev pub StandsFor : List ℕ → Line → Type 0
-StandsFor text line = Stands text line.bytes.items line.fate
+abbrev pub BuffersLine : List ℕ → Line → Type 0
+BuffersLine text line = Buffers text line.bytes.items line.state

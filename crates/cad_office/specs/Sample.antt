@@ -1,7 +1,7 @@
 -- The commands of the sample register (own profile).
 use Rattle.std.specs.Prelude.{ℕ, ◌+◌, ℤ, pos, false, List, [], ◌∷◌, Some, None, codes, encode_utf8_all}
 use Rattle.jiff_core.specs.Calendar.{days_from_civil}
-use Rattle.cad_commands.specs.Instructions.{Attributes, a_party, a_unit, a_parcel, a_right, a_restriction, Instruction, to_enter, to_amend}
+use Rattle.cad_office.specs.Instructions.{Attributes, a_party, a_unit, a_parcel, a_right, a_restriction, Instruction, to_enter, to_amend}
 
 -- the day of the calendar (ISO 8601-1:2019, 5.2.2)
 abbrev pub date : ℕ → ℕ → ℕ → ℤ

@@ -1,15 +1,21 @@
 //! Why the office stops.
 
+use thiserror::Error;
+
 /// Why the office stops before its input ends.
-#[derive(Clone, Copy, Debug, PartialEq, Eq)]
+#[derive(Clone, Copy, Debug, PartialEq, Eq, Error)]
 pub enum OfficeFault {
     /// A read failed.
+    #[error("a read failed")]
     Read,
     /// A write failed, or took nothing.
+    #[error("a write failed")]
     Write,
     /// As many reads were made as there may be, 1,000,000.
+    #[error("too many reads")]
     TurnsSpent,
     /// The database refused a command for another cause than memory.
+    #[error("the database refused a command")]
     Register,
 }
 

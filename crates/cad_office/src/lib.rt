@@ -4,15 +4,23 @@
 //! - `fill`: the ten commands of the sample register.
 //! - `OfficeFault`: why the office stops before its input ends.
 //!
-//! Both work on any `Ledger`, as a land register.
+//! Both work on any `Ledger`, as a land register. On an empty one the lines
+//!
+//!     {"do":"enter","object":11,"first":"2000-01-01","unit":{}}
+//!     {"do":"enter","object":11,"first":"2000-01-01","unit":{}}
+//!     hello
+//!
+//! are answered by
+//!
+//!     revision 1
+//!     refused 1 KnownObject
+//!     refused 0 NotACommand
 #![tactic(auto)]
 
 mod fault;
 mod line;
 mod print;
 mod sample;
-#[cfg(test)]
-mod tests;
 mod turns;
 mod write;
 

@@ -8,7 +8,7 @@ ghost use Rattle.cad_versions.specs.Objects.{IsObjectNumber, object_number};
 ghost use Rattle.cad_versions.specs.Texts.{AreWords, bytes_of};
 ghost use Rattle.cad_versions.specs.LedgerCalls.{Applies};
 ghost use Rattle.cad_office.specs.Filling.{Enters};
-ghost use Rattle.cad_commands.specs.Instructions.{a_parcel, to_enter, to_amend, attributes_of, instruction_of, coordinates_of};
+ghost use Rattle.cad_office.specs.Instructions.{a_parcel, to_enter, to_amend, attributes_of, instruction_of, coordinates_of};
 ghost use Rattle.cad_office.specs.Sample.{sample as commands_of_sample, ana, first_parcel as first, second_parcel as second, third_parcel as third, fourth_parcel as fourth, ownership, no_building};
 
 use cad_day::Day;
@@ -19,21 +19,21 @@ use std::alloc::{AllocError, Global};
 /// Applies the ten commands of the sample register, in their order, and answers the last revision.
 ///
 /// It stops at the first refusal, and the commands before it stay.
-pub fn fill<B: Ledger>(alloc: Global, book: &mut B) -> Result<u64, RegisterFault>
-    ensures { Enters (Applies B.Ledger) commands_of_sample book.old result book.new }
+pub fn fill<L: Ledger>(alloc: Global, ledger: &mut L) -> Result<u64, RegisterFault>
+    ensures { Enters (Applies L.Ledger) commands_of_sample ledger.old result ledger.new }
 {
     match sample(alloc) {
-        Ok(commands) => enter_all(book, commands),
+        Ok(commands) => enter_all(ledger, commands),
         Err(_) => Err(RegisterFault::Memory),
     }
 }
 
-fn enter_all<B: Ledger>(book: &mut B, commands: Vec<Command>) -> Result<u64, RegisterFault>
-    ensures { Enters (Applies B.Ledger) (map instruction_of commands.items) book.old result book.new }
+fn enter_all<L: Ledger>(ledger: &mut L, commands: Vec<Command>) -> Result<u64, RegisterFault>
+    ensures { Enters (Applies L.Ledger) (map instruction_of commands.items) ledger.old result ledger.new }
 {
     let mut revision = 0;
     for command in commands {
-        match book.apply(command) {
+        match ledger.apply(command) {
             Ok(next) => revision = next,
             Err(fault) => return Err(fault),
         }

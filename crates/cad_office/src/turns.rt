@@ -2,15 +2,14 @@
 
 ghost use Rattle.std.specs.Prelude.{◌≡◌, ◌↔◌, ℕ, List, ◌∷◌, [], IsOk, IsTrue};
 ghost use Rattle.std.specs.Io.KnownBytes.{IsAtEnd};
-ghost use Rattle.cad_commands.specs.Instructions.{instruction_of};
 ghost use Rattle.cad_versions.specs.LedgerCalls.{Applies};
-ghost use Rattle.cad_office.specs.Keeping.{Asks, IsKept, IsPiece, Works, Comes, Writes, ReadsAndWrites};
-ghost use Rattle.cad_office.specs.Lines.{line_begun, StandsFor};
+ghost use Rattle.cad_office.specs.Keeping.{AnswersLine, AnswersLines, Asks, IsKept, IsPaced, IsPiece, ReadsAndWrites, Writes};
+ghost use Rattle.cad_office.specs.Lines.{line_begun, BuffersLine};
 
 use crate::fault::OfficeFault;
-use crate::line::{Fate, Line};
+use crate::line::{Line, LineState};
 use crate::print::{Answer, print};
-use cad_commands::{Unread, read_command};
+use cad_commands::{CommandError, read_command};
 use cad_versions::{Command, Ledger, RegisterFault};
 use std::alloc::Global;
 use std::io::{Read, Write};
@@ -20,66 +19,67 @@ const TURNS: u32 = 1_000_000;
 /// Reads lines to their end, applies each command and prints an answer for each line, and says whether no line was refused.
 ///
 /// Each read is of at most 4,096 bytes. It stops where a read or a write fails, after 1,000,000 reads, and where the database refuses a command for another cause than memory. The commands accepted so far stay.
-pub fn office<R: Read, W: Write, B: Ledger>(
+pub fn office<R: Read, W: Write, L: Ledger>(
     alloc: Global,
     reader: &mut R,
     writer: &mut W,
-    book: &mut B,
+    ledger: &mut L,
 ) -> Result<bool, OfficeFault>
     ensures kept { ReadsAndWrites (R.remaining reader.old) (R.remaining reader.new)
         (W.contents writer.old) (W.contents writer.new)
-        (IsKept (Works (Applies B.Ledger) book.old book.new) (IsAtEnd (R.remaining reader.new)) result) }
+        (λ read written. IsKept (AnswersLines (Applies L.Ledger) ledger.old ledger.new) (IsAtEnd (R.remaining reader.new)) result read written
+        × IsPaced result read) }
     ensures all { IsOk result → IsAtEnd (R.remaining reader.new) }
 {
     let mut line = Line::new(alloc);
     let mut accepted = true;
-    for _ in 0..TURNS {
+    for turn in 0..TURNS {
         let mut buffer = [0; 4096];
         let count = match reader.read(&mut buffer) {
             Ok(count) => count,
             Err(_) => return Err(OfficeFault::Read),
         };
         if count == 0 {
-            let last = end_line(alloc, &mut line, writer, book)?;
+            let last = end_line(alloc, &mut line, writer, ledger)?;
             return Ok(accepted & last);
         }
-        let more = take_piece(alloc, &buffer[..count], &mut line, writer, book)?;
+        let more = take_piece(alloc, &buffer[..count], &mut line, writer, ledger)?;
         accepted = accepted & more;
     }
     Err(OfficeFault::TurnsSpent)
 }
 
 /// Whether no line that ends in the piece was refused.
-fn take_piece<W: Write, B: Ledger>(
+fn take_piece<W: Write, L: Ledger>(
     alloc: Global,
     piece: &[u8],
     line: &mut Line,
     writer: &mut W,
-    book: &mut B,
+    ledger: &mut L,
 ) -> Result<bool, OfficeFault>
-    ensures { (read : List ℕ) → StandsFor (line_begun read) line.old → Writes (W.contents writer.old) (W.contents writer.new)
-        (IsPiece (Works (Applies B.Ledger) book.old book.new) read result line.new piece.now) }
+    ensures { (read : List ℕ) → BuffersLine (line_begun read) line.old → Writes (W.contents writer.old) (W.contents writer.new)
+        (IsPiece (AnswersLines (Applies L.Ledger) ledger.old ledger.new) read result line.new piece.now) }
 {
     let mut accepted = true;
     for byte in piece {
-        let more = take_byte(alloc, *byte, line, writer, book)?;
+        let more = take_byte(alloc, *byte, line, writer, ledger)?;
         accepted = accepted & more;
     }
     Ok(accepted)
 }
 
-fn take_byte<W: Write, B: Ledger>(
+fn take_byte<W: Write, L: Ledger>(
     alloc: Global,
     byte: u8,
     line: &mut Line,
     writer: &mut W,
-    book: &mut B,
+    ledger: &mut L,
 ) -> Result<bool, OfficeFault>
-    ensures { (read : List ℕ) → StandsFor (line_begun read) line.old → Writes (W.contents writer.old) (W.contents writer.new)
-        (IsPiece (Works (Applies B.Ledger) book.old book.new) read result line.new (byte ∷ [])) }
+    ensures { (read : List ℕ) → BuffersLine (line_begun read) line.old → Writes (W.contents writer.old) (W.contents writer.new)
+        (IsPiece (AnswersLines (Applies L.Ledger) ledger.old ledger.new) read result line.new (byte ∷ [])) }
 {
     if byte == b'\n' {
-        let accepted = end_line(alloc, line, writer, book)?;
+        let accepted = end_line(alloc, line, writer, ledger)?;
         return Ok(accepted);
     }
     line.add(byte);
@@ -87,19 +87,19 @@ fn take_byte<W: Write, B: Ledger>(
 }
 
 /// Whether the line was not refused. An empty line asks for nothing.
-fn end_line<W: Write, B: Ledger>(
+fn end_line<W: Write, L: Ledger>(
     alloc: Global,
     line: &mut Line,
     writer: &mut W,
-    book: &mut B,
+    ledger: &mut L,
 ) -> Result<bool, OfficeFault>
-    ensures { (read : List ℕ) → StandsFor (line_begun read) line.old → Writes (W.contents writer.old) (W.contents writer.new)
-        (IsPiece (Works (Applies B.Ledger) book.old book.new) read result line.new (10 ∷ [])) }
+    ensures { (read : List ℕ) → BuffersLine (line_begun read) line.old → Writes (W.contents writer.old) (W.contents writer.new)
+        (IsPiece (AnswersLines (Applies L.Ledger) ledger.old ledger.new) read result line.new (10 ∷ [])) }
 {
     if line.is_empty() {
         return Ok(true);
     }
-    let answer = answer_line(alloc, line, book);
+    let answer = answer_line(alloc, line, ledger);
     line.clear();
     print(writer, answer)?;
     match answer {
@@ -119,24 +119,24 @@ fn is_store(fault: RegisterFault) -> bool
     matches!(fault, RegisterFault::Store)
 }
 
-fn answer_line<B: Ledger>(alloc: Global, line: &Line, book: &mut B) -> Answer
-    ensures { (text : List ℕ) → StandsFor text line.now → Comes (Applies B.Ledger) text book.old result book.new }
+fn answer_line<L: Ledger>(alloc: Global, line: &Line, ledger: &mut L) -> Answer
+    ensures { (text : List ℕ) → BuffersLine text line.now → AnswersLine (Applies L.Ledger) text ledger.old result ledger.new }
 {
-    match line.fate() {
-        Fate::TooLong => Answer::NotACommand,
-        Fate::NoMemory => Answer::Refused(RegisterFault::Memory),
-        Fate::Held => match read_command(alloc, line.bytes()) {
-            Ok(command) => apply(book, command),
-            Err(Unread::NotACommand) => Answer::NotACommand,
-            Err(Unread::Memory) => Answer::Refused(RegisterFault::Memory),
+    match line.state() {
+        LineState::TooLong => Answer::NotACommand,
+        LineState::OutOfMemory => Answer::Refused(RegisterFault::Memory),
+        LineState::Buffered => match read_command(alloc, line.bytes()) {
+            Ok(command) => apply(ledger, command),
+            Err(CommandError::NotACommand) => Answer::NotACommand,
+            Err(CommandError::Memory) => Answer::Refused(RegisterFault::Memory),
         },
     }
 }
 
-fn apply<B: Ledger>(book: &mut B, command: Command) -> Answer
-    ensures { (line : List ℕ) → Asks line (instruction_of command) → Comes (Applies B.Ledger) line book.old result book.new }
+fn apply<L: Ledger>(ledger: &mut L, command: Command) -> Answer
+    ensures { (line : List ℕ) → Asks line command → AnswersLine (Applies L.Ledger) line ledger.old result ledger.new }
 {
-    match book.apply(command) {
+    match ledger.apply(command) {
         Ok(revision) => Answer::Entered(revision),
         Err(fault) => Answer::Refused(fault),
     }

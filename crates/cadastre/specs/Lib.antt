@@ -1,3 +1,4 @@
 pub mod Commands
 pub mod Serving
 pub mod Outcomes
+pub mod Entering

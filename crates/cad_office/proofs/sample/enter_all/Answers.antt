@@ -1,6 +1,6 @@
 use Rattle.std.proofs.Common.{[], ◌∷◌, map, arith, length-append, append_assoc, refl, ◌∙◌, inl}
 use Rattle.cad_versions.specs.LedgerCalls.{Applies}
-use Rattle.cad_commands.specs.Instructions.{instruction_of}
+use Rattle.cad_office.specs.Instructions.{instruction_of}
 use Rattle.cad_office.proofs.FillingLemmas.{accepts_more, all_but_rest, all_of}
 use Rattle.cad_office.proofs.sample.enter_all.Goals as goal
 
@@ -14,13 +14,13 @@ loop-command-preserved g c =
     record {
       left = append_assoc c.loop-command.yielded (c.in-Some.command ∷ []) c.next.new.self.rest.items ∙ (rw steps.0 at c.loop-command.invariant.left);
       counted = omega (arith, steps.1, length-append c.loop-command.yielded (c.in-Some.command ∷ []), c.loop-command.invariant.counted);
-      accepted = accepts_more (Applies g.B.Ledger) c.loop-command.yielded c.in-Some.command c.args.book.now c.loop-command.book c.apply.new.self 0 c.loop-command.revision c.in-Ok.next c.loop-command.invariant.accepted c.in-Ok.ensures;
+      accepted = accepts_more (Applies g.L.Ledger) c.loop-command.yielded c.in-Some.command c.args.ledger.now c.loop-command.ledger c.apply.new.self 0 c.loop-command.revision c.in-Ok.next c.loop-command.invariant.accepted c.in-Ok.ensures;
     }
 
 pub returns-in-Err : goal.returns-in-Err
 returns-in-Err g c =
     let steps = c.in-Some.ensures.steps in
-    (map instruction_of c.loop-command.yielded, _, c.loop-command.revision, c.loop-command.book, all_but_rest c.loop-command.yielded c.in-Some.command c.next.new.self.rest.items _ (rw steps.0 at c.loop-command.invariant.left), c.loop-command.invariant.accepted, inl (c.in-Some.command, refl, c.in-Err.ensures))
+    (map instruction_of c.loop-command.yielded, _, c.loop-command.revision, c.loop-command.ledger, all_but_rest c.loop-command.yielded c.in-Some.command c.next.new.self.rest.items _ (rw steps.0 at c.loop-command.invariant.left), c.loop-command.invariant.accepted, inl (c.in-Some.command, refl, c.in-Err.ensures))
 
 pub returns : goal.returns
 returns g c =

@@ -1,5 +1,5 @@
 use Rattle.std.proofs.Common.{◌≡◌, map, take}
-use Rattle.cad_commands.specs.Instructions.{coordinates_of}
+use Rattle.cad_office.specs.Instructions.{coordinates_of}
 use Rattle.cad_office.proofs.sample.points.Given as goal
 
 abbrev pub invariant-loop-x : goal.invariant-loop-x

@@ -1,7 +1,7 @@
 use Rattle.std.proofs.Common.{refl, ne_eqb}
 use Rattle.std.proofs.lemmas.Result.{err_from_is_err_and}
 use Rattle.cad_versions.specs.LedgerCalls.{Applies}
-use Rattle.cad_office.specs.Keeping.{Works}
+use Rattle.cad_office.specs.Keeping.{AnswersLines}
 use Rattle.cad_office.specs.Lines.{line_begun}
 use Rattle.cad_office.proofs.PieceLemmas.{piece_byte}
 use Rattle.cad_office.proofs.turns.take_byte.Goals as goal
@@ -16,4 +16,4 @@ returns-then-byte-eq10 g c = λ read stands. rw c.if-byte-eq10.true (c.in_ok-acc
 
 pub returns : goal.returns
 returns g c = λ read stands.
-    piece_byte (Works (Applies g.B.Ledger) c.args.book.now c.args.book.now) _ read c.add.new.self c.args.byte (ne_eqb _ _ c.if-byte-eq10.false) (c.add.ensures (line_begun read) stands) refl
+    piece_byte (AnswersLines (Applies g.L.Ledger) c.args.ledger.now c.args.ledger.now) _ read c.add.new.self c.args.byte (ne_eqb _ _ c.if-byte-eq10.false) (c.add.ensures (line_begun read) stands) refl

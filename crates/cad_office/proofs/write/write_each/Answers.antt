@@ -3,7 +3,7 @@ use Rattle.std.specs.Io.KnownBytes.{Appends}
 use Rattle.std.proofs.lemmas.Result.{err_from_is_err_and}
 use Rattle.std.proofs.KnownBytes.{Appends-trans}
 use Rattle.cad_office.proofs.WriteLemmas.{joined_at, joined_next, cut_with}
-use Rattle.cad_office.proofs.write.write_pieces.Goals as goal
+use Rattle.cad_office.proofs.write.write_each.Goals as goal
 
 pub returns-in_err-write_whole-clause-cut : goal.returns-in_err-write_whole-clause-cut
 returns-in_err-write_whole-clause-cut g c =
