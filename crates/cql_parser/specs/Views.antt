@@ -1,21 +1,101 @@
 -- A tree without where it lies in memory.
-use Rattle.std.specs.Prelude.{List, map, string_bytes}
-use Rattle.cql_parser.specs.Syntax.{Syntax, Parts, none, part, name_node, number_node, or_node, and_node, not_node, compare_node}
-use Rattle.cql_parser.specs.declared.tree.Tree.{Tree, Row_of-Tree, end_of-Tree, more_of-Tree}
-use Rattle.cql_parser.specs.declared.tree.Tree.TheVariants.{Name, Number, Or', And', Not', Compare'}
+use Rattle.std.specs.Prelude.{List, [], ◌∷◌, ◌++◌, map, string_bytes}
+use Rattle.cql_parser.specs.Syntax.{Syntax, Parts, none, part, parts_of, leaf, node, name_leaf, number_leaf, text_leaf, truth_leaf, day_leaf, bound_leaf, or_op, and_op, not_op, compare_op, like_op, between_op, in_op, is_null_op, sum_op, product_op, casei_op, date_op, interval_op, point_op, polygon_op, ring_op, bbox_op, spatial_op, temporal_op}
+use Rattle.cql_parser.specs.declared.tree.Addition.{Addition}
+use Rattle.cql_parser.specs.declared.tree.Multiplication.{Multiplication}
+use Rattle.cql_parser.specs.declared.tree.Number.{Number}
+use Rattle.cql_parser.specs.declared.tree.Bound.{Bound}
+use Rattle.cql_parser.specs.declared.tree.Bound.TheVariants as bound
+use Rattle.cql_parser.specs.declared.tree.Tree.TheVariants as tree
+use Rattle.cql_parser.specs.declared.tree.Corner.{Corner}
+use Rattle.cql_parser.specs.declared.tree.Ring.{Ring}
+use Rattle.cql_parser.specs.declared.tree.Term.{Term}
+use Rattle.cql_parser.specs.declared.tree.Factor.{Factor}
+use Rattle.cql_parser.specs.declared.tree.Tree.{Tree, Row_of-Tree, end_of-Tree, more_of-Tree, Row_of-Term, end_of-Term, more_of-Term, Row_of-Factor, end_of-Factor, more_of-Factor}
+use Rattle.cql_parser.specs.declared.tree.Tree.TheVariants.{Name, Text, Truth, Or', And', Not', Compare', Like', Between', In', IsNull', Sum', Product', Casei', Date, Interval, Point, Polygon, Bbox, Spatial', Temporal'}
+
+abbrev pub number_of : Number → Syntax
+number_of n = leaf n.place (number_leaf n.is_negative (string_bytes n.digits))
+
+abbrev pub bound_of : Bound → Syntax
+bound_of (bound.Text p s) = leaf p (bound_leaf (string_bytes s))
+bound_of (bound.Name p s) = leaf p (name_leaf (string_bytes s))
+
+-- x and y of each corner
+abbrev pub numbers_of : List Corner → List Syntax
+numbers_of [] = []
+numbers_of (c ∷ cs) = number_of c.x ∷ number_of c.y ∷ numbers_of cs
+
+abbrev pub ring_of : Ring → Syntax
+ring_of r = node ring_op (parts_of (numbers_of r.corners.items))
+
+abbrev pub rings_of : List Ring → List Syntax
+rings_of rs = map ring_of rs
 
 unfoldable mutual
   pub syntax_of : Tree → Syntax
-  syntax_of (Name p s) = name_node p (string_bytes s)
-  syntax_of (Number p n s) = number_node p n (string_bytes s)
-  syntax_of (Or' p f shape all) = or_node (syntax_of f) (parts_in all)
-  syntax_of (And' p f shape all) = and_node (syntax_of f) (parts_in all)
-  syntax_of (Not' place p t) = not_node place (syntax_of t)
-  syntax_of (Compare' c p a q b) = compare_node c (syntax_of a) (syntax_of b)
+  syntax_of (Name p s) = leaf p (name_leaf (string_bytes s))
+  syntax_of (tree.Number n) = number_of n
+  syntax_of (Text p s) = leaf p (text_leaf (string_bytes s))
+  syntax_of (Truth p b) = leaf p (truth_leaf b)
+  syntax_of (Or' p f shape all) = node or_op (part (syntax_of f) (parts_in all))
+  syntax_of (And' p f shape all) = node and_op (part (syntax_of f) (parts_in all))
+  syntax_of (Not' place p t) = node (not_op place) (part (syntax_of t) none)
+  syntax_of (Compare' c p a q b) = node (compare_op c) (part (syntax_of a) (part (syntax_of b) none))
+  syntax_of (Like' n p a q b) = node (like_op n) (part (syntax_of a) (part (syntax_of b) none))
+  syntax_of (Between' n p a q b r c) =
+      node (between_op n) (part (syntax_of a) (part (syntax_of b) (part (syntax_of c) none)))
+  syntax_of (In' n p a q f shape all) = node (in_op n) (part (syntax_of a) (part (syntax_of f) (parts_in all)))
+  syntax_of (IsNull' n p a) = node (is_null_op n) (part (syntax_of a) none)
+  syntax_of (Sum' p f shape all) = node (sum_op (additions_in all)) (part (syntax_of f) (terms_in all))
+  syntax_of (Product' p f shape all) =
+      node (product_op (multiplications_in all)) (part (syntax_of f) (factors_in all))
+  syntax_of (Casei' place p t) = node (casei_op place) (part (syntax_of t) none)
+  syntax_of (Date p q s) = node (date_op p) (part (leaf q (day_leaf (string_bytes s))) none)
+  syntax_of (Interval p a b) = node (interval_op p) (part (bound_of a) (part (bound_of b) none))
+  syntax_of (Point p c) = node (point_op p) (parts_of (numbers_of (c ∷ [])))
+  syntax_of (Polygon p rings) = node (polygon_op p) (parts_of (rings_of rings.items))
+  syntax_of (Bbox p low high) = node (bbox_op p) (parts_of (numbers_of (low ∷ high ∷ [])))
+  syntax_of (Spatial' place c p a q b) = node (spatial_op place c) (part (syntax_of a) (part (syntax_of b) none))
+  syntax_of (Temporal' place c p a q b) = node (temporal_op place c) (part (syntax_of a) (part (syntax_of b) none))
 
   pub parts_in : {m : _} → Row_of-Tree m → Parts
   parts_in end_of-Tree = none
   parts_in (more_of-Tree t rest) = part (syntax_of t) (parts_in rest)
 
+  pub terms_in : {m : _} → Row_of-Term m → Parts
+  terms_in end_of-Term = none
+  terms_in (more_of-Term by t rest) = part (syntax_of t) (terms_in rest)
+
+  pub additions_in : {m : _} → Row_of-Term m → List Addition
+  additions_in end_of-Term = []
+  additions_in (more_of-Term by t rest) = by ∷ additions_in rest
+
+  pub factors_in : {m : _} → Row_of-Factor m → Parts
+  factors_in end_of-Factor = none
+  factors_in (more_of-Factor by t rest) = part (syntax_of t) (factors_in rest)
+
+  pub multiplications_in : {m : _} → Row_of-Factor m → List Multiplication
+  multiplications_in end_of-Factor = []
+  multiplications_in (more_of-Factor by t rest) = by ∷ multiplications_in rest
+
 abbrev pub syntaxes_of : List Tree → List Syntax
 syntaxes_of ts = map syntax_of ts
+
+abbrev pub term_of : Term → Syntax
+term_of t = syntax_of t.tree
+
+abbrev pub terms_of : List Term → List Syntax
+terms_of ts = map term_of ts
+
+abbrev pub additions_of : List Term → List Addition
+additions_of ts = map (λ t. t.by) ts
+
+abbrev pub factor_of : Factor → Syntax
+factor_of t = syntax_of t.tree
+
+abbrev pub factors_of : List Factor → List Syntax
+factors_of ts = map factor_of ts
+
+abbrev pub multiplications_of : List Factor → List Multiplication
+multiplications_of ts = map (λ t. t.by) ts

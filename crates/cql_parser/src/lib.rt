@@ -13,10 +13,8 @@ mod node;
 mod parser;
 mod start;
 mod stop;
-#[cfg(test)]
-mod tests;
 mod tree;
 
 pub use fault::ParseFault;
 pub use parser::parse;
-pub use tree::Tree;
+pub use tree::{Addition, Bound, Corner, Factor, Multiplication, Number, Ring, Term, Tree};

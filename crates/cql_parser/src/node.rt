@@ -4,7 +4,7 @@ ghost use Rattle.std.specs.Prelude.{◌≡◌, IfOk, string_bytes};
 ghost use Rattle.cql_parser.specs.Syntax.{or_of, and_of, compare_node, not_node, name_node, number_node};
 ghost use Rattle.cql_parser.specs.Views.{syntax_of, syntaxes_of};
 
-use crate::tree::Tree;
+use crate::tree::{Number, Tree};
 use cql_lexer::Comparison;
 use std::alloc::{AllocError, Global};
 
@@ -15,7 +15,10 @@ pub fn or_tree(alloc: Global, first: Tree, others: Vec<Tree>) -> Result<Tree, Al
     if others.is_empty() {
         return Ok(first);
     }
-    Ok(Tree::Or(Box::new(alloc, first)?, others))
+    Ok(Tree::Or {
+        first: Box::new(alloc, first)?,
+        others,
+    })
 }
 
 /// The parts joined by AND; one part alone is that part.
@@ -25,7 +28,10 @@ pub fn and_tree(alloc: Global, first: Tree, others: Vec<Tree>) -> Result<Tree, A
     if others.is_empty() {
         return Ok(first);
     }
-    Ok(Tree::And(Box::new(alloc, first)?, others))
+    Ok(Tree::And {
+        first: Box::new(alloc, first)?,
+        others,
+    })
 }
 
 /// A tree with NOT before it.
@@ -33,7 +39,10 @@ pub fn and_tree(alloc: Global, first: Tree, others: Vec<Tree>) -> Result<Tree, A
 pub fn not_tree(alloc: Global, place: usize, negated: Tree) -> Result<Tree, AllocError>
     ensures { IfOk result (λ t. syntax_of t ≡ not_node place (syntax_of negated)) }
 {
-    Ok(Tree::Not(place, Box::new(alloc, negated)?))
+    Ok(Tree::Not {
+        place,
+        part: Box::new(alloc, negated)?,
+    })
 }
 
 /// Two trees compared.
@@ -47,7 +56,11 @@ pub fn compare_tree(
     ensures { IfOk result (λ t. syntax_of t ≡ compare_node by (syntax_of left) (syntax_of right)) }
 {
     let left = Box::new(alloc, left)?;
-    Ok(Tree::Compare(by, left, Box::new(alloc, right)?))
+    Ok(Tree::Compare {
+        by,
+        left,
+        right: Box::new(alloc, right)?,
+    })
 }
 
 /// A name.
@@ -55,7 +68,10 @@ pub fn compare_tree(
 pub fn name_tree(place: usize, name: &String) -> Result<Tree, AllocError>
     ensures { IfOk result (λ t. syntax_of t ≡ name_node place (string_bytes name.now)) }
 {
-    Ok(Tree::Name(place, name.clone()?))
+    Ok(Tree::Name {
+        place,
+        name: name.clone()?,
+    })
 }
 
 /// A number's digits, and whether a minus stands before them.
@@ -63,5 +79,9 @@ pub fn name_tree(place: usize, name: &String) -> Result<Tree, AllocError>
 pub fn number_tree(place: usize, negative: bool, digits: &String) -> Result<Tree, AllocError>
     ensures { IfOk result (λ t. syntax_of t ≡ number_node place negative (string_bytes digits.now)) }
 {
-    Ok(Tree::Number(place, negative, digits.clone()?))
+    Ok(Tree::Number(Number {
+        place,
+        is_negative: negative,
+        digits: digits.clone()?,
+    }))
 }
