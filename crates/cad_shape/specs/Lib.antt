@@ -1,3 +1,11 @@
 pub mod Coordinates
 pub mod Boxes
+pub mod Frames
+pub mod Segments
+pub mod Edges
+pub mod Regions
+pub mod Areas
+pub mod Crossings
+pub mod Outlines
 pub mod Rings
+pub mod Shapes

@@ -1,16 +1,20 @@
 //! Shapes on the register's plane, in whole millimetres.
-//!
-//! - `Point`: a point within 100,000 kilometres of the origin either way.
-//! - `Bounds`: a closed box with sides along the axes.
-//! - `Ring`: a closed line through 3 to 1,000 corners; `RingFault` says why a list of corners is none.
 #![tactic(auto)]
 
-mod bounds;
+mod area;
+mod boxes;
+mod crossing;
+mod meeting;
 mod point;
+mod region;
+mod relation;
 mod ring;
-#[cfg(test)]
-mod tests;
+mod segment;
+mod shape;
 
-pub use bounds::Bounds;
+pub use boxes::Bounds;
 pub use point::Point;
+pub use relation::{bounds, in_region, meets, within};
 pub use ring::{Ring, RingFault};
+pub use segment::segments_meet;
+pub use shape::Shape;

@@ -1,0 +1,7 @@
+use Rattle.std.proofs.Common.{◌↔◌, drop}
+use Rattle.cad_shape.specs.Edges.{walk}
+use Rattle.cad_shape.specs.Regions.{IsOnSome}
+use Rattle.cad_shape.proofs.region.is_on_walk.Given as goal
+
+abbrev pub invariant-loop-corner : goal.invariant-loop-corner
+invariant-loop-corner l = IsOnSome l.point (walk l.fn.start l.corners) ↔ IsOnSome l.point (walk l.from (drop l.corner-index l.corners))

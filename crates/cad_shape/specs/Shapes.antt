@@ -1,0 +1,79 @@
+-- Shapes: whether they share a point, and whether one lies within another (OGC 21-065r2, spatial functions; boundaries: own profile).
+use Rattle.std.specs.Prelude.{◌≡◌, ◌⊎◌, Bool, true, false, List, [], ◌∷◌, All}
+use Rattle.cad_shape.specs.declared.point.Point.{Point}
+use Rattle.cad_shape.specs.declared.boxes.Bounds.{Bounds}
+use Rattle.cad_shape.specs.declared.ring.Ring.{Ring}
+use Rattle.cad_shape.specs.declared.shape.Shape.{Shape}
+use Rattle.cad_shape.specs.declared.shape.Shape.TheVariants.{Spot, Frame, Area}
+use Rattle.cad_shape.specs.Edges.{Edge, AnyOf, edges_of}
+use Rattle.cad_shape.specs.Frames.{IsHeld, frame_corners}
+use Rattle.cad_shape.specs.Regions.{IsOnSome, IsInRegion, SomeMeet}
+use Rattle.cad_shape.specs.Rings.{corners_of}
+
+-- the corners of a shape
+abbrev pub shape_corners : Shape → List Point
+shape_corners (Spot p) = p ∷ []
+shape_corners (Frame bounds) = frame_corners bounds
+shape_corners (Area ring) = corners_of ring
+
+-- the edges of a shape; those of a flat frame may have no length
+abbrev pub shape_edges : Shape → List Edge
+shape_edges (Spot p) = []
+shape_edges (Frame bounds) = edges_of (frame_corners bounds)
+shape_edges (Area ring) = edges_of (corners_of ring)
+
+abbrev pub IsSamePoint : Point → Point → Type 0
+IsSamePoint p q = (p.x ≡ q.x) × (p.y ≡ q.y)
+
+-- t lies in the shape, its boundary taken in
+abbrev pub IsIn : Point → Shape → Type 0
+IsIn t (Spot p) = IsSamePoint t p
+IsIn t (Frame bounds) = IsHeld bounds t
+IsIn t (Area ring) = IsInRegion t (edges_of (corners_of ring))
+
+-- some of the points lies in the shape
+abbrev pub SomeIn : List Point → Shape → Type 0
+SomeIn points shape = AnyOf (λ p. IsIn p shape) points
+
+-- some edges of the two regions with these corners share a point, or a corner of one lies in the other
+abbrev pub RegionsMeet : Shape → List Point → Shape → List Point → Type 0
+RegionsMeet a cs b ds = SomeMeet (edges_of cs) (edges_of ds) ⊎ (SomeIn cs b ⊎ SomeIn ds a)
+
+-- the region a with these corners shares a point with b
+abbrev pub RegionMeets : Shape → List Point → Shape → Type 0
+RegionMeets a cs (Spot q) = IsIn q a
+RegionMeets a cs (Frame g) = RegionsMeet a cs (Frame g) (frame_corners g)
+RegionMeets a cs (Area s) = RegionsMeet a cs (Area s) (corners_of s)
+
+-- the two shapes share a point
+abbrev pub Meets : Shape → Shape → Type 0
+Meets (Spot p) b = IsIn p b
+Meets (Frame f) b = RegionMeets (Frame f) (frame_corners f) b
+Meets (Area r) b = RegionMeets (Area r) (corners_of r) b
+
+-- t lies in the shape and on no edge of it
+abbrev pub IsInside : Point → Shape → Type 0
+IsInside t shape = IsIn t shape × ¬ (IsOnSome t (shape_edges shape))
+
+-- the shape is a frame that holds all these corners
+abbrev pub AreFramed : List Point → Shape → Type 0
+AreFramed corners (Spot p) = ⊥
+AreFramed corners (Frame bounds) = All (IsHeld bounds) corners
+AreFramed corners (Area ring) = ⊥
+
+-- the first shape lies within the second: a point inside it, a region in a frame that holds all its corners
+abbrev pub IsWithin : Shape → Shape → Type 0
+IsWithin (Spot p) b = IsInside p b
+IsWithin (Frame f) b = AreFramed (frame_corners f) b
+IsWithin (Area r) b = AreFramed (corners_of r) b
+
+abbrev pub is_frame : Shape → Bool
+is_frame (Spot p) = false
+is_frame (Frame bounds) = true
+is_frame (Area ring) = false
+
+-- whether it is asked for one shape to lie within another: a point in any, a region in a frame alone
+abbrev pub is_judged : Shape → Shape → Bool
+is_judged (Spot p) b = true
+is_judged (Frame f) b = is_frame b
+is_judged (Area r) b = is_frame b

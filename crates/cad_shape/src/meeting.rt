@@ -1,0 +1,68 @@
+//! Edges of two rings that share a point.
+
+ghost use Rattle.std.specs.Prelude.{◌↔◌, ◌<◌, IsTrue, length};
+ghost use Rattle.std.specs.List.{All};
+ghost use Rattle.cad_shape.specs.Segments.{Meet};
+ghost use Rattle.cad_shape.specs.Edges.{AnyOf, walk, edges_of};
+ghost use Rattle.cad_shape.specs.Frames.{IsHeld};
+ghost use Rattle.cad_shape.specs.Regions.{MeetsSome, SomeMeet};
+
+use crate::segment::segments_meet;
+use crate::{Bounds, Point};
+
+// Whether the segment from `p` to `q` shares a point with the walk from `start` through the corners in order.
+fn meets_walk(p: Point, q: Point, start: Point, corners: &[Point]) -> bool
+    ensures { IsTrue result ↔ MeetsSome p q (walk start corners.now) }
+{
+    let mut from = start;
+    for corner in corners {
+        if segments_meet(p, q, from, *corner) {
+            return true;
+        }
+        from = *corner;
+    }
+    false
+}
+
+// Whether the segment from `p` to `q` shares a point with the ring through these corners.
+fn meets_ring(p: Point, q: Point, corners: &[Point]) -> bool
+    requires { 0 < length corners.now }
+    ensures { IsTrue result ↔ MeetsSome p q (edges_of corners.now) }
+{
+    meets_walk(p, q, corners[corners.len() - 1], corners)
+}
+
+// The same, where a box that holds the ring is looked at first.
+fn meets_ring_within(p: Point, q: Point, bounds: Bounds, corners: &[Point]) -> bool
+    requires some { 0 < length corners.now }
+    requires held { All (IsHeld bounds) corners.now }
+    ensures { IsTrue result ↔ MeetsSome p q (edges_of corners.now) }
+{
+    Bounds::of_segment(p, q).overlaps(bounds) && meets_ring(p, q, corners)
+}
+
+// Whether the walk from `start` through the corners shares a point with the ring inside the box.
+fn walk_meets_ring(start: Point, corners: &[Point], bounds: Bounds, ring: &[Point]) -> bool
+    requires some { 0 < length ring.now }
+    requires held { All (IsHeld bounds) ring.now }
+    ensures { IsTrue result ↔ SomeMeet (walk start corners.now) (edges_of ring.now) }
+{
+    let mut from = start;
+    for corner in corners {
+        if meets_ring_within(from, *corner, bounds, ring) {
+            return true;
+        }
+        from = *corner;
+    }
+    false
+}
+
+// Whether the rings through these corners, the second of which lies in the box, share a point.
+pub(crate) fn rings_meet(corners: &[Point], bounds: Bounds, ring: &[Point]) -> bool
+    requires corners_some { 0 < length corners.now }
+    requires some { 0 < length ring.now }
+    requires held { All (IsHeld bounds) ring.now }
+    ensures { IsTrue result ↔ SomeMeet (edges_of corners.now) (edges_of ring.now) }
+{
+    walk_meets_ring(corners[corners.len() - 1], corners, bounds, ring)
+}
