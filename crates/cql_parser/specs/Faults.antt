@@ -1,8 +1,12 @@
--- How many parentheses may be open at one time (own profile).
-use Rattle.std.specs.Prelude.{◌≡◌, ℕ, ◌+◌, ◌-◌, ◌≤◌, List, [], ◌∷◌, ◌++◌, Option, Some, None, if◌then◌else◌, ◌==◌}
-use Rattle.cql_lexer.specs.Mark.{Mark, at, opening, closing}
+-- What is wrong with tokens that are no filter.
+use Rattle.std.specs.Prelude.{◌≡◌, ℕ, ◌+◌, ◌-◌, ◌≤◌, List, [], ◌∷◌, ◌++◌, Option, Some, None, if◌then◌else◌, ◌==◌, codes}
+use Rattle.cql_lexer.specs.Mark.{Sort, Mark, at, opening, closing}
+use Rattle.cql_parser.specs.Syntax.{Syntax}
+use Rattle.cql_parser.specs.Grammar.{Reads, IsViable}
+use Rattle.cql_parser.specs.declared.fault.ParseFault.{ParseFault}
+use Rattle.cql_parser.specs.declared.fault.ParseFault.TheVariants.{TooDeep, NotExpected, EndOfFilter, Memory}
 
--- the place of the parenthesis that is the 65th open at one time, with n open before
+-- the place of the parenthesis that is the 65th open at one time, with n open before (own profile)
 abbrev pub deep_at : ℕ → List Mark → Option ℕ
 deep_at n [] = None
 deep_at n (at p opening ∷ xs) = if n == 64 then Some p else deep_at (n + 1) xs
@@ -25,3 +29,29 @@ closings (at p _ ∷ xs) = closings xs
 abbrev pub IsShallow : List Mark → Type 0
 IsShallow tokens =
     (before part after : List Mark) → tokens ≡ before ++ (part ++ after) → openings part ≤ closings part + 64
+
+-- the last token of the shortest front that no tokens make a filter
+pub record IsUnexpected (tokens : List Mark) (place : ℕ) : Type 0 where
+  pub before : List Mark
+  pub sort : Sort
+  pub after : List Mark
+  pub is_all : tokens ≡ before ++ at place sort ∷ after
+  pub viable : IsViable before
+  pub dead : IsViable (before ++ at place sort ∷ []) → ⊥
+
+-- the front of a filter, and no filter
+pub record IsUnfinished (tokens : List Mark) : Type 0 where
+  pub viable : IsViable tokens
+  pub unread : (tree : Syntax) → Reads tokens tree → ⊥
+
+-- what programs tell of a fault
+pub record Label : Type 0 where
+  pub number : ℕ
+  pub name : List ℕ
+  pub place : Option ℕ
+
+abbrev pub label_of : ParseFault → Label
+label_of (TooDeep place) = record { number = 1; name = codes "TooDeep"; place = Some place }
+label_of (NotExpected place) = record { number = 2; name = codes "NotExpected"; place = Some place }
+label_of (EndOfFilter place) = record { number = 3; name = codes "EndOfFilter"; place = Some place }
+label_of Memory = record { number = 4; name = codes "Memory"; place = None }

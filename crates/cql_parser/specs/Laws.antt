@@ -4,6 +4,7 @@ use Rattle.cql_lexer.specs.Mark.{Mark}
 use Rattle.cql_parser.specs.Syntax.{Syntax}
 use Rattle.cql_parser.specs.Grammar.{Reads}
 use Rattle.cql_parser.specs.Faults.{deep_at, IsShallow}
+use Rattle.cql_parser.specs.Order.{Ascend, IsOrdered}
 
 -- tokens have one tree
 abbrev pub HasOneTree : Type 0
@@ -12,3 +13,7 @@ HasOneTree = (tokens : List Mark) (a b : Syntax) → Reads tokens a → Reads to
 -- the count of open parentheses stays within 64 where no tokens in a row open over 64 more than they close
 abbrev pub CountsOpen : Type 0
 CountsOpen = (tokens : List Mark) → ((deep_at 0 tokens ≡ None) ↔ IsShallow tokens)
+
+-- a tree's places ascend in the order of reading where its tokens' do
+abbrev pub HasPlacesInOrder : Type 0
+HasPlacesInOrder = (tokens : List Mark) (tree : Syntax) → Reads tokens tree → Ascend 0 tokens → IsOrdered tree

@@ -82,21 +82,3 @@ abbrev mutual
   pub place_in : Parts → ℕ
   place_in none = 0
   place_in (part t ts) = place_of t
-
-abbrev pub name_node : ℕ → List ℕ → Syntax
-name_node p s = leaf p (name_leaf s)
-
-abbrev pub number_node : ℕ → Bool → List ℕ → Syntax
-number_node p n s = leaf p (number_leaf n s)
-
-abbrev pub not_node : ℕ → Syntax → Syntax
-not_node p t = node (not_op p) (part t none)
-
-abbrev pub compare_node : Comparison → Syntax → Syntax → Syntax
-compare_node c a b = node (compare_op c) (part a (part b none))
-
-abbrev pub or_of : Syntax → List Syntax → Syntax
-or_of f ts = joined or_op (f ∷ ts)
-
-abbrev pub and_of : Syntax → List Syntax → Syntax
-and_of f ts = joined and_op (f ∷ ts)

@@ -1,5 +1,5 @@
 -- A tree without where it lies in memory.
-use Rattle.std.specs.Prelude.{List, [], ◌∷◌, ◌++◌, map, string_bytes}
+use Rattle.std.specs.Prelude.{List, [], ◌∷◌, map, string_bytes}
 use Rattle.cql_parser.specs.Syntax.{Syntax, Parts, none, part, parts_of, leaf, node, name_leaf, number_leaf, text_leaf, truth_leaf, day_leaf, bound_leaf, or_op, and_op, not_op, compare_op, like_op, between_op, in_op, is_null_op, sum_op, product_op, casei_op, date_op, interval_op, point_op, polygon_op, ring_op, bbox_op, spatial_op, temporal_op}
 use Rattle.cql_parser.specs.declared.tree.Addition.{Addition}
 use Rattle.cql_parser.specs.declared.tree.Multiplication.{Multiplication}

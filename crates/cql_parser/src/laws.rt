@@ -1,6 +1,6 @@
 //! What holds of every list of tokens.
 
-ghost use Rattle.cql_parser.specs.Laws.{CountsOpen, HasOneTree};
+ghost use Rattle.cql_parser.specs.Laws.{CountsOpen, HasOneTree, HasPlacesInOrder};
 
 /// Tokens have one tree.
 pub fn tokens_have_one_tree()
@@ -11,4 +11,9 @@ pub fn tokens_have_one_tree()
 /// more than they close.
 pub fn open_parentheses_are_counted()
     ensures { CountsOpen }
+{}
+
+/// The places of a tree's nodes ascend in the order of reading where those of its tokens do.
+pub fn places_are_in_order()
+    ensures { HasPlacesInOrder }
 {}

@@ -1,16 +1,23 @@
 //! From the tokens of a filter to its tree.
 //!
-//! [`parse`] reads a whole list of tokens by the grammar of CQL2 Text (OGC 21-065r2), for names,
-//! whole numbers, six comparisons, AND, OR, NOT and parentheses. At most 64 parentheses may be
-//! open at one time. [`laws`] says that a list of tokens has at most one tree.
+//! [`parse`] reads a whole list of tokens by the grammar of CQL2 Text (OGC 21-065r2): the tokens of
+//! `NOT area BETWEEN 5 AND 7` give `Not` over `Between`, those of `area >` the fault `EndOfFilter`
+//! at byte 6, and those of `a = b = c` the fault `NotExpected` at byte 6. At most 64 parentheses
+//! may be open at one time.
+//!
+//! - [`Tree`]: a filter, each name, literal and keyword at its place.
+//! - [`ParseFault`]: the first fault, with its place.
+//! - [`laws`]: a list of tokens has at most one tree, and its places ascend.
 #![tactic(auto)]
 
 mod descent;
 mod fault;
 pub mod laws;
+mod literal;
 mod lookahead;
 mod node;
 mod parser;
+mod slot;
 mod start;
 mod stop;
 mod tree;

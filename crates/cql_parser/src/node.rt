@@ -1,48 +1,69 @@
 // Nodes from their parts.
 
-ghost use Rattle.std.specs.Prelude.{◌≡◌, IfOk, string_bytes};
-ghost use Rattle.cql_parser.specs.Syntax.{or_of, and_of, compare_node, not_node, name_node, number_node};
-ghost use Rattle.cql_parser.specs.Views.{syntax_of, syntaxes_of};
+ghost use Rattle.std.specs.Prelude.{◌≡◌, [], ◌∷◌, IfOk, string_bytes};
+ghost use Rattle.cql_parser.specs.Syntax.{joined, leaf, name_leaf, text_leaf, truth_leaf, or_op, and_op, sum_op, product_op, spatial_op, temporal_op, casei_op, date_op, interval_op, point_op, polygon_op, bbox_op, day_leaf, bound_leaf, number_leaf};
+ghost use Rattle.cql_parser.specs.Starts.{pair_op};
+ghost use Rattle.cql_parser.specs.Machine.{not_node, compare_node, like_node, between_node, in_node, null_node, filled};
+ghost use Rattle.cql_parser.specs.Views.{syntax_of, syntaxes_of, terms_of, additions_of, factors_of, multiplications_of, number_of, bound_of, numbers_of};
 
-use crate::tree::{Number, Tree};
-use cql_lexer::Comparison;
+use crate::start::Pairing;
+use crate::tree::{Bound, Corner, Factor, Number, Ring, Term, Tree};
+use cad_day::Relation;
+use cql_lexer::{Comparison, SpatialRelation};
 use std::alloc::{AllocError, Global};
 
 /// The parts joined by OR; one part alone is that part.
-pub fn or_tree(alloc: Global, first: Tree, others: Vec<Tree>) -> Result<Tree, AllocError>
-    ensures { IfOk result (λ t. syntax_of t ≡ or_of (syntax_of first) (syntaxes_of others.items)) }
+pub fn or_tree(alloc: Global, first: Box<Tree>, others: Vec<Tree>) -> Result<Box<Tree>, AllocError>
+    ensures { IfOk result (λ t. syntax_of t.value ≡ joined or_op (syntax_of first.value ∷ syntaxes_of others.items)) }
 {
     if others.is_empty() {
         return Ok(first);
     }
-    Ok(Tree::Or {
-        first: Box::new(alloc, first)?,
-        others,
-    })
+    Ok(Box::new(alloc, Tree::Or { first, others })?)
 }
 
 /// The parts joined by AND; one part alone is that part.
-pub fn and_tree(alloc: Global, first: Tree, others: Vec<Tree>) -> Result<Tree, AllocError>
-    ensures { IfOk result (λ t. syntax_of t ≡ and_of (syntax_of first) (syntaxes_of others.items)) }
+pub fn and_tree(alloc: Global, first: Box<Tree>, others: Vec<Tree>) -> Result<Box<Tree>, AllocError>
+    ensures { IfOk result (λ t. syntax_of t.value ≡ joined and_op (syntax_of first.value ∷ syntaxes_of others.items)) }
 {
     if others.is_empty() {
         return Ok(first);
     }
-    Ok(Tree::And {
-        first: Box::new(alloc, first)?,
-        others,
-    })
+    Ok(Box::new(alloc, Tree::And { first, others })?)
+}
+
+/// The parts added and taken off; one part alone is that part.
+pub fn sum_tree(alloc: Global, first: Box<Tree>, others: Vec<Term>) -> Result<Box<Tree>, AllocError>
+    ensures { IfOk result (λ t. syntax_of t.value ≡
+        joined (sum_op (additions_of others.items)) (syntax_of first.value ∷ terms_of others.items)) }
+{
+    if others.is_empty() {
+        return Ok(first);
+    }
+    Ok(Box::new(alloc, Tree::Sum { first, others })?)
+}
+
+/// The parts multiplied and divided; one part alone is that part.
+pub fn product_tree(
+    alloc: Global,
+    first: Box<Tree>,
+    others: Vec<Factor>,
+) -> Result<Box<Tree>, AllocError>
+    ensures { IfOk result (λ t. syntax_of t.value ≡
+        joined (product_op (multiplications_of others.items)) (syntax_of first.value ∷ factors_of others.items)) }
+{
+    if others.is_empty() {
+        return Ok(first);
+    }
+    Ok(Box::new(alloc, Tree::Product { first, others })?)
 }
 
 /// A tree with NOT before it.
 #[tactic(auto, unfolding(crate::specs::Views::syntax_of))]
-pub fn not_tree(alloc: Global, place: usize, negated: Tree) -> Result<Tree, AllocError>
-    ensures { IfOk result (λ t. syntax_of t ≡ not_node place (syntax_of negated)) }
+pub fn not_tree(alloc: Global, place: usize, part: Box<Tree>) -> Result<Box<Tree>, AllocError>
+    ensures { IfOk result (λ t. syntax_of t.value ≡ not_node place (syntax_of part.value)) }
 {
-    Ok(Tree::Not {
-        place,
-        part: Box::new(alloc, negated)?,
-    })
+    Ok(Box::new(alloc, Tree::Not { place, part })?)
 }
 
 /// Two trees compared.
@@ -50,38 +71,270 @@ pub fn not_tree(alloc: Global, place: usize, negated: Tree) -> Result<Tree, Allo
 pub fn compare_tree(
     alloc: Global,
     by: Comparison,
-    left: Tree,
-    right: Tree,
-) -> Result<Tree, AllocError>
-    ensures { IfOk result (λ t. syntax_of t ≡ compare_node by (syntax_of left) (syntax_of right)) }
+    left: Box<Tree>,
+    right: Box<Tree>,
+) -> Result<Box<Tree>, AllocError>
+    ensures { IfOk result (λ t. syntax_of t.value ≡ compare_node by (syntax_of left.value) (syntax_of right.value)) }
 {
-    let left = Box::new(alloc, left)?;
-    Ok(Tree::Compare {
+    Ok(Box::new(alloc, Tree::Compare { by, left, right })?)
+}
+
+/// A value held against a pattern.
+#[tactic(auto, unfolding(crate::specs::Views::syntax_of))]
+pub fn like_tree(
+    alloc: Global,
+    is_negated: bool,
+    value: Box<Tree>,
+    pattern: Box<Tree>,
+) -> Result<Box<Tree>, AllocError>
+    ensures { IfOk result (λ t. syntax_of t.value ≡ like_node is_negated (syntax_of value.value) (syntax_of pattern.value)) }
+{
+    let tree = Tree::Like {
+        is_negated,
+        value,
+        pattern,
+    };
+    Ok(Box::new(alloc, tree)?)
+}
+
+/// A value between two others.
+#[tactic(auto, unfolding(crate::specs::Views::syntax_of))]
+pub fn between_tree(
+    alloc: Global,
+    is_negated: bool,
+    value: Box<Tree>,
+    low: Box<Tree>,
+    high: Box<Tree>,
+) -> Result<Box<Tree>, AllocError>
+    ensures { IfOk result (λ t. syntax_of t.value ≡
+        between_node is_negated (syntax_of value.value) (syntax_of low.value) (syntax_of high.value)) }
+{
+    let tree = Tree::Between {
+        is_negated,
+        value,
+        low,
+        high,
+    };
+    Ok(Box::new(alloc, tree)?)
+}
+
+/// A value among others.
+pub fn in_tree(
+    alloc: Global,
+    is_negated: bool,
+    value: Box<Tree>,
+    first: Box<Tree>,
+    others: Vec<Tree>,
+) -> Result<Box<Tree>, AllocError>
+    ensures { IfOk result (λ t. syntax_of t.value ≡
+        in_node is_negated (syntax_of value.value) (syntax_of first.value ∷ syntaxes_of others.items)) }
+{
+    let tree = Tree::In {
+        is_negated,
+        value,
+        first,
+        others,
+    };
+    Ok(Box::new(alloc, tree)?)
+}
+
+/// A value that is asked for.
+#[tactic(auto, unfolding(crate::specs::Views::syntax_of))]
+pub fn null_tree(alloc: Global, is_negated: bool, value: Box<Tree>) -> Result<Box<Tree>, AllocError>
+    ensures { IfOk result (λ t. syntax_of t.value ≡ null_node is_negated (syntax_of value.value)) }
+{
+    Ok(Box::new(alloc, Tree::IsNull { is_negated, value })?)
+}
+
+/// A text whose case is folded.
+#[tactic(auto, unfolding(crate::specs::Views::syntax_of))]
+pub fn casei_tree(alloc: Global, place: usize, part: Box<Tree>) -> Result<Box<Tree>, AllocError>
+    ensures { IfOk result (λ t. syntax_of t.value ≡ filled (casei_op place) (syntax_of part.value ∷ [])) }
+{
+    Ok(Box::new(alloc, Tree::Casei { place, part })?)
+}
+
+/// Two shapes compared.
+#[tactic(auto, unfolding(crate::specs::Views::syntax_of))]
+pub fn spatial_tree(
+    alloc: Global,
+    place: usize,
+    by: SpatialRelation,
+    left: Box<Tree>,
+    right: Box<Tree>,
+) -> Result<Box<Tree>, AllocError>
+    ensures { IfOk result (λ t. syntax_of t.value ≡
+        filled (spatial_op place by) (syntax_of left.value ∷ syntax_of right.value ∷ [])) }
+{
+    let tree = Tree::Spatial {
+        place,
         by,
         left,
-        right: Box::new(alloc, right)?,
-    })
+        right,
+    };
+    Ok(Box::new(alloc, tree)?)
+}
+
+/// Two spans of days compared.
+#[tactic(auto, unfolding(crate::specs::Views::syntax_of))]
+pub fn temporal_tree(
+    alloc: Global,
+    place: usize,
+    by: Relation,
+    left: Box<Tree>,
+    right: Box<Tree>,
+) -> Result<Box<Tree>, AllocError>
+    ensures { IfOk result (λ t. syntax_of t.value ≡
+        filled (temporal_op place by) (syntax_of left.value ∷ syntax_of right.value ∷ [])) }
+{
+    let tree = Tree::Temporal {
+        place,
+        by,
+        left,
+        right,
+    };
+    Ok(Box::new(alloc, tree)?)
 }
 
 /// A name.
 #[tactic(auto, unfolding(crate::specs::Views::syntax_of))]
-pub fn name_tree(place: usize, name: &String) -> Result<Tree, AllocError>
-    ensures { IfOk result (λ t. syntax_of t ≡ name_node place (string_bytes name.now)) }
+pub fn name_tree(alloc: Global, place: usize, name: &String) -> Result<Box<Tree>, AllocError>
+    ensures { IfOk result (λ t. syntax_of t.value ≡ leaf place (name_leaf (string_bytes name.now))) }
 {
-    Ok(Tree::Name {
-        place,
-        name: name.clone()?,
-    })
+    let name = name.clone()?;
+    Ok(Box::new(alloc, Tree::Name { place, name })?)
 }
 
-/// A number's digits, and whether a minus stands before them.
+/// A text.
 #[tactic(auto, unfolding(crate::specs::Views::syntax_of))]
-pub fn number_tree(place: usize, negative: bool, digits: &String) -> Result<Tree, AllocError>
-    ensures { IfOk result (λ t. syntax_of t ≡ number_node place negative (string_bytes digits.now)) }
+pub fn text_tree(alloc: Global, place: usize, content: &String) -> Result<Box<Tree>, AllocError>
+    ensures { IfOk result (λ t. syntax_of t.value ≡ leaf place (text_leaf (string_bytes content.now))) }
 {
-    Ok(Tree::Number(Number {
+    let content = content.clone()?;
+    Ok(Box::new(alloc, Tree::Text { place, content })?)
+}
+
+/// TRUE or FALSE.
+#[tactic(auto, unfolding(crate::specs::Views::syntax_of))]
+pub fn truth_tree(alloc: Global, place: usize, value: bool) -> Result<Box<Tree>, AllocError>
+    ensures { IfOk result (λ t. syntax_of t.value ≡ leaf place (truth_leaf value)) }
+{
+    Ok(Box::new(alloc, Tree::Truth { place, value })?)
+}
+
+/// A number.
+#[tactic(auto, unfolding(crate::specs::Views::syntax_of))]
+pub fn number_tree(alloc: Global, number: Number) -> Result<Box<Tree>, AllocError>
+    ensures { IfOk result (λ t. syntax_of t.value ≡ number_of number) }
+{
+    Ok(Box::new(alloc, Tree::Number(number))?)
+}
+
+/// A day.
+#[tactic(auto, unfolding(crate::specs::Views::syntax_of))]
+pub fn date_tree(
+    alloc: Global,
+    place: usize,
+    text_place: usize,
+    text: &String,
+) -> Result<Box<Tree>, AllocError>
+    ensures { IfOk result (λ t. syntax_of t.value ≡
+        filled (date_op place) (leaf text_place (day_leaf (string_bytes text.now)) ∷ [])) }
+{
+    let text = text.clone()?;
+    let tree = Tree::Date {
         place,
-        is_negative: negative,
-        digits: digits.clone()?,
-    }))
+        text_place,
+        text,
+    };
+    Ok(Box::new(alloc, tree)?)
+}
+
+/// A span of days.
+#[tactic(auto, unfolding(crate::specs::Views::syntax_of))]
+pub fn interval_tree(
+    alloc: Global,
+    place: usize,
+    from: Bound,
+    to: Bound,
+) -> Result<Box<Tree>, AllocError>
+    ensures { IfOk result (λ t. syntax_of t.value ≡ filled (interval_op place) (bound_of from ∷ bound_of to ∷ [])) }
+{
+    Ok(Box::new(alloc, Tree::Interval { place, from, to })?)
+}
+
+/// A point.
+#[tactic(auto, unfolding(crate::specs::Views::syntax_of))]
+pub fn point_tree(alloc: Global, place: usize, corner: Corner) -> Result<Box<Tree>, AllocError>
+    ensures { IfOk result (λ t. syntax_of t.value ≡ filled (point_op place) (numbers_of (corner ∷ []))) }
+{
+    Ok(Box::new(alloc, Tree::Point { place, corner })?)
+}
+
+/// A frame.
+#[tactic(auto, unfolding(crate::specs::Views::syntax_of))]
+pub fn bbox_tree(
+    alloc: Global,
+    place: usize,
+    low: Corner,
+    high: Corner,
+) -> Result<Box<Tree>, AllocError>
+    ensures { IfOk result (λ t. syntax_of t.value ≡ filled (bbox_op place) (numbers_of (low ∷ high ∷ []))) }
+{
+    Ok(Box::new(alloc, Tree::Bbox { place, low, high })?)
+}
+
+/// An area of one ring.
+#[tactic(auto, unfolding(crate::specs::Views::syntax_of))]
+pub fn polygon_tree(alloc: Global, place: usize, ring: Ring) -> Result<Box<Tree>, AllocError>
+    ensures { IfOk result (λ t. syntax_of t.value ≡ filled (polygon_op place) (numbers_of ring.corners.items)) }
+{
+    let mut rings = Vec::new(alloc);
+    rings.push(ring)?;
+    Ok(Box::new(alloc, Tree::Polygon { place, rings })?)
+}
+
+/// A function of two values.
+pub fn pair_tree(
+    alloc: Global,
+    place: usize,
+    by: Pairing,
+    left: Box<Tree>,
+    right: Box<Tree>,
+) -> Result<Box<Tree>, AllocError>
+    ensures { IfOk result (λ t. syntax_of t.value ≡
+        filled (pair_op place by) (syntax_of left.value ∷ syntax_of right.value ∷ [])) }
+{
+    match by {
+        Pairing::Spatial(by) => spatial_tree(alloc, place, by, left, right),
+        Pairing::Temporal(by) => temporal_tree(alloc, place, by, left, right),
+    }
+}
+
+/// An end of an interval that is a text.
+pub fn text_bound(place: usize, content: &String) -> Result<Bound, AllocError>
+    ensures { IfOk result (λ b. bound_of b ≡ leaf place (bound_leaf (string_bytes content.now))) }
+{
+    let content = content.clone()?;
+    Ok(Bound::Text { place, content })
+}
+
+/// An end of an interval that is a name.
+pub fn name_bound(place: usize, name: &String) -> Result<Bound, AllocError>
+    ensures { IfOk result (λ b. bound_of b ≡ leaf place (name_leaf (string_bytes name.now))) }
+{
+    let name = name.clone()?;
+    Ok(Bound::Name { place, name })
+}
+
+/// A number of these digits.
+pub fn number(place: usize, is_negative: bool, digits: &String) -> Result<Number, AllocError>
+    ensures { IfOk result (λ n. number_of n ≡ leaf place (number_leaf is_negative (string_bytes digits.now))) }
+{
+    let digits = digits.clone()?;
+    Ok(Number {
+        place,
+        is_negative,
+        digits,
+    })
 }

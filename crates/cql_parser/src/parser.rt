@@ -1,9 +1,11 @@
-// From tokens to a tree.
+// From tokens to a tree, or the first fault.
 
-ghost use Rattle.std.specs.Prelude.{◌≡◌, is_some};
+ghost use Rattle.std.specs.Prelude.{◌≡◌, IfErr, IfOk};
 ghost use Rattle.cql_lexer.specs.Mark.{marks};
-ghost use Rattle.cql_parser.specs.Answer.{Answers};
+ghost use Rattle.cql_parser.specs.Answer.{Answers, Refuses, fault_of};
 ghost use Rattle.cql_parser.specs.Faults.{deep_at};
+ghost use Rattle.cql_parser.specs.Order.{Ascend, IsOrdered};
+ghost use Rattle.cql_parser.specs.Views.{syntax_of};
 
 use crate::descent::parse_filter;
 use crate::fault::ParseFault;
@@ -15,32 +17,54 @@ use std::alloc::Global;
 // How many parentheses may be open at one time
 const MOST_OPEN: usize = 64;
 
-/// The tree that the tokens spell.
+/// The tree that the tokens spell, or their first fault: the 65th parenthesis open at one time,
+/// else the first token after which no filter can come, else the end.
 pub fn parse(alloc: Global, tokens: &Tokens) -> Result<Tree, ParseFault>
-    ensures { Answers (marks tokens.now.list.items) result }
+    ensures answer { Answers (marks tokens.now.list.items) tokens.now.end result }
+    // Tokens that spell a filter are refused for want of memory alone.
+    ensures refused { IfErr result (Refuses (marks tokens.now.list.items)) }
+    // The tree's places ascend where the tokens' do.
+    ensures ordered { IfOk result (λ tree. Ascend 0 (marks tokens.now.list.items) → IsOrdered (syntax_of tree)) }
+{
+    first_answer(alloc, tokens)
+}
+
+fn first_answer(alloc: Global, tokens: &Tokens) -> Result<Tree, ParseFault>
+    ensures { Answers (marks tokens.now.list.items) tokens.now.end result }
 {
     let list = tokens.list.as_slice();
-    if is_too_deep(list) {
-        return Err(ParseFault::Refused);
+    if let Some(place) = too_deep(list) {
+        return Err(ParseFault::TooDeep { place });
     }
     match parse_filter(alloc, list) {
-        Ok(tree) => Ok(tree),
-        Err(Stop::At(_)) => Err(ParseFault::Refused),
+        Ok(tree) => Ok(Box::into_inner(tree)),
         Err(Stop::Memory) => Err(ParseFault::Memory),
+        Err(Stop::At(rest)) => Err(fault_at(rest, tokens.end)),
     }
 }
 
-fn is_too_deep(tokens: &[Token]) -> bool
-    ensures { result ≡ is_some (deep_at 0 (marks tokens.now)) }
+// The fault of a filter that stops before these tokens.
+fn fault_at(rest: &[Token], end: usize) -> ParseFault
+    ensures { result ≡ fault_of (marks rest.now) end }
+{
+    match rest.split_first() {
+        None => ParseFault::EndOfFilter { place: end },
+        Some((first, _)) => ParseFault::NotExpected { place: first.place },
+    }
+}
+
+// The place of the first parenthesis that is one too many.
+fn too_deep(tokens: &[Token]) -> Option<usize>
+    ensures { result ≡ deep_at 0 (marks tokens.now) }
 {
     let mut open: usize = 0;
     for token in tokens {
         match token.kind {
-            Kind::Open if open == MOST_OPEN => return true,
+            Kind::Open if open == MOST_OPEN => return Some(token.place),
             Kind::Open => open += 1,
             Kind::Close => open = open.saturating_sub(1),
             _ => {}
         }
     }
-    false
+    None
 }

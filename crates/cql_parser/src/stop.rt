@@ -17,7 +17,7 @@ pub enum Stop<'a> {
 /// A part that was read, and the tokens after it.
 #[derive(Drop)]
 pub struct Parsed<'a> {
-    pub tree: Tree,
+    pub tree: Box<Tree>,
     pub rest: &'a [Token],
 }
 

@@ -1,5 +1,7 @@
+use Rattle.std.proofs.Common.{◌∙◌, ap}
+use Rattle.cql_parser.specs.Views.{syntax_of}
 use Rattle.cql_parser.proofs.Nodes.{and_made}
 use Rattle.cql_parser.proofs.node.and_tree.Goals as goal
 
 pub returns : goal.returns
-returns c = and_made c.in_ok-new.field-0 c.args.first c.args.others c.in_ok-new.ensures.ok c.if-is_empty.ensures
+returns c = ap syntax_of c.in_ok-new.ensures.ok ∙ and_made c.args.first c.args.others c.if-is_empty.ensures

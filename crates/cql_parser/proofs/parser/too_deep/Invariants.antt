@@ -1,7 +1,7 @@
 use Rattle.std.proofs.Common.{◌≡◌, ◌≤◌, drop}
 use Rattle.cql_lexer.specs.Mark.{marks}
 use Rattle.cql_parser.specs.Faults.{deep_at}
-use Rattle.cql_parser.proofs.parser.is_too_deep.Given as goal
+use Rattle.cql_parser.proofs.parser.too_deep.Given as goal
 
 abbrev pub invariant-loop-token : goal.invariant-loop-token
 invariant-loop-token l = record {

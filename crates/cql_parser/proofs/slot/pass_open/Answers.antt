@@ -1,0 +1,8 @@
+use Rattle.cql_parser.proofs.Turns.{open_goes, open_stops}
+use Rattle.cql_parser.proofs.slot.pass_open.Goals as goal
+
+pub returns-in-Some-clause-passes : goal.returns-in-Some-clause-passes
+returns-in-Some-clause-passes c = λ a. open_goes a _ _ c.in-Some.ensures.found
+
+pub returns-in-None-clause-passes : goal.returns-in-None-clause-passes
+returns-in-None-clause-passes c = λ a. open_stops a _ c.in-None.ensures.none

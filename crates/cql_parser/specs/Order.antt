@@ -1,0 +1,27 @@
+-- Places ascend in the order of reading.
+use Rattle.std.specs.Prelude.{ℕ, ◌<◌, ◌≤◌, ◌+◌, List, [], ◌∷◌}
+use Rattle.cql_lexer.specs.Mark.{Mark, at}
+use Rattle.cql_parser.specs.Syntax.{Syntax, Parts, none, part, leaf, node, Leaf, Op, keyed, place_in}
+
+-- the places of the tokens ascend from the first on
+abbrev pub Ascend : ℕ → List Mark → Type 0
+Ascend first [] = Unit {0}
+Ascend first (at place sort ∷ tokens) = (first ≤ place) × Ascend (place + 1) tokens
+
+mutual
+  -- the places of the tree are from one on and below another, in order: a keyword before its parts, and each part before
+  -- the next
+  pub data InOrder : ℕ → Syntax → ℕ → Type 0 where
+    leaf_in_order : {from to p : ℕ} {l : Leaf} → from ≤ p → p < to → InOrder from (leaf p l) to
+    node_in_order : {from to : ℕ} {op : Op} {ps : Parts} → from ≤ keyed op (place_in ps) →
+        keyed op (place_in ps) ≤ place_in ps → place_in ps < to → AreInOrder (place_in ps) ps to →
+        InOrder from (node op ps) to
+
+  pub data AreInOrder : ℕ → Parts → ℕ → Type 0 where
+    no_part : {from to : ℕ} → from ≤ to → AreInOrder from none to
+    one_part : {from middle to : ℕ} {t : Syntax} {ts : Parts} → InOrder from t middle → AreInOrder middle ts to →
+        AreInOrder from (part t ts) to
+
+-- the tree's places ascend: a fact of one proof, so that a type can keep it
+abbrev pub IsOrdered : Syntax → Type 0
+IsOrdered t = ∥ ((from : ℕ) × (to : ℕ) × InOrder from t to) ∥₁
