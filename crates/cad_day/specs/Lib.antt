@@ -2,3 +2,6 @@ pub mod DayNumbers
 pub mod Days
 pub mod DayTexts
 pub mod Calendar
+pub mod Relations
+pub mod Faults
+pub mod Moments

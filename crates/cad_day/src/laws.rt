@@ -1,10 +1,13 @@
-//! What holds of days and their texts, beyond what each call says.
+//! What holds of days, their texts and how intervals lie, beyond what each call says.
 
-ghost use Rattle.std.specs.Prelude.{◌≡◌, ℕ, ℤ, List, Some};
+ghost use Rattle.std.specs.Prelude.{◌≡◌, ◌↔◌, ◌||◌, not, ℕ, ℤ, IsTrue, List, Ok, Some};
 ghost use Rattle.cad_day.specs.Days.{number_of};
 ghost use Rattle.cad_day.specs.DayTexts.{Names, ReadsWhatIsNamed, HasOneText, day_named, day_text};
+ghost use Rattle.cad_day.specs.Moments.{asked};
+ghost use Rattle.cad_day.specs.Relations.{holds, mirror, ShareDay};
+ghost use Rattle.cad_day.specs.declared.relation.Relation.TheVariants.{After, Before, Disjoint, Intersects};
 
-use crate::Day;
+use crate::{Day, Interval, Relation};
 
 /// A text is read as the day that it names in the calendar, and as no other.
 pub fn reading_is_naming()
@@ -28,4 +31,33 @@ pub fn written_days_are_read_back(day: Day)
     ensures { day_named (day_text (number_of day)) ≡ Some (number_of day) }
 {
     each_day_is_named(day);
+}
+
+/// Seen from the other interval a relation is its mirror: AFTER and BEFORE, CONTAINS and DURING,
+/// MEETS and METBY, STARTS and STARTEDBY, FINISHES and FINISHEDBY, OVERLAPS and OVERLAPPEDBY;
+/// DISJOINT, INTERSECTS and EQUALS are their own.
+pub fn each_relation_has_its_mirror(relation: Relation, a: Interval, b: Interval)
+    ensures { holds (mirror relation) a b ≡ holds relation b a }
+{}
+
+/// Two intervals are disjoint where one lies after the other, or before it.
+pub fn disjoint_is_after_or_before(a: Interval, b: Interval)
+    ensures { holds Disjoint a b ≡ (holds After a b || holds Before a b) }
+{}
+
+/// Two intervals intersect where they are not disjoint.
+pub fn intersecting_is_not_disjoint(a: Interval, b: Interval)
+    ensures { holds Intersects a b ≡ not (holds Disjoint a b) }
+{}
+
+/// Two intervals intersect exactly where some day lies in both.
+pub fn intersecting_is_sharing_a_day(a: Interval, b: Interval)
+    ensures { IsTrue (holds Intersects a b) ↔ ShareDay a b }
+{}
+
+/// The text of a day asks for that day.
+pub fn a_day_is_asked_by_its_text(day: Day)
+    ensures { asked (day_text (number_of day)) ≡ Ok (Some (number_of day), Some (number_of day)) }
+{
+    written_days_are_read_back(day);
 }

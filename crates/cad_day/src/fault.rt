@@ -1,0 +1,44 @@
+//! Why a text asks for no days.
+
+ghost use Rattle.std.specs.Prelude.{◌≡◌};
+ghost use Rattle.cad_day.specs.Faults.{fault_number, fault_name};
+
+use thiserror::Error;
+
+/// Why a text asks for no days.
+#[derive(Clone, Copy, PartialEq, Eq, Debug, Error)]
+pub enum DatetimeFault {
+    /// A moment that is asked is neither a day nor an instant.
+    #[error("not a date")]
+    NotADate,
+    /// The last day lies before the first.
+    #[error("the last day lies before the first")]
+    EndsTurned,
+    /// A growth was refused. [`asked`](crate::asked) grows nothing; callers that do answer it.
+    #[error("out of memory")]
+    Memory,
+}
+
+impl DatetimeFault {
+    /// The number by which programs tell the fault.
+    pub fn number(&self) -> u8
+        ensures { result ≡ fault_number self.now }
+    {
+        match self {
+            DatetimeFault::NotADate => 1,
+            DatetimeFault::EndsTurned => 2,
+            DatetimeFault::Memory => 3,
+        }
+    }
+
+    /// The name that programs print.
+    pub fn name(&self) -> &'static str
+        ensures { result.now ≡ fault_name self.now }
+    {
+        match self {
+            DatetimeFault::NotADate => "NotADate",
+            DatetimeFault::EndsTurned => "EndsTurned",
+            DatetimeFault::Memory => "Memory",
+        }
+    }
+}

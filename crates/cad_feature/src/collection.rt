@@ -1,0 +1,50 @@
+//! Collections.
+
+/// A kind of features.
+#[derive(Clone, Copy, PartialEq, Eq, Debug)]
+pub enum Collection {
+    Parcels,
+    Rights,
+    Restrictions,
+    Units,
+    Parties,
+}
+
+impl Collection {
+    ghost use Rattle.std.specs.Prelude.{◌≡◌, MatchOption};
+    ghost use Rattle.cad_feature.specs.Collections.{name_of};
+
+    /// The collections, in the order in which they are listed.
+    pub const ALL: [Collection; 5] = [
+        Collection::Parcels,
+        Collection::Rights,
+        Collection::Restrictions,
+        Collection::Units,
+        Collection::Parties,
+    ];
+
+    /// The collection's name in paths.
+    pub fn name(self) -> &'static str
+        ensures { result.now ≡ name_of self }
+    {
+        match self {
+            Collection::Parcels => "parcels",
+            Collection::Rights => "rights",
+            Collection::Restrictions => "restrictions",
+            Collection::Units => "units",
+            Collection::Parties => "parties",
+        }
+    }
+
+    /// The collection with that name, if there is one.
+    pub fn read(name: &str) -> Option<Collection>
+        ensures { MatchOption result ((c : Collection) → ¬ (name_of c ≡ name.now)) (λ c. name_of c ≡ name.now) }
+    {
+        for collection in Collection::ALL {
+            if collection.name() == name {
+                return Some(collection);
+            }
+        }
+        None
+    }
+}
