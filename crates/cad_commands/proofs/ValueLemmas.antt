@@ -11,7 +11,8 @@ use Rattle.cad_shape.specs.Coordinates.{IsCoordinate}
 use Rattle.cad_shape.specs.declared.point.Point.{Point}
 use Rattle.cad_shape.specs.declared.ring.Ring.{Ring}
 use Rattle.cad_shape.specs.declared.ring.RingFault.{RingFault}
-use Rattle.cad_shape.specs.Rings.{corners_of, ring_fault}
+use Rattle.cad_shape.specs.Outlines.{IsRing}
+use Rattle.cad_shape.specs.Rings.{corners_of, IsRingFault, no_ring, ring_is}
 use Rattle.cad_commands.specs.Values.{IsPairOf, IsPointOf, ArePointsOf, IsRingOf}
 
 -- other than two values are no pair
@@ -65,9 +66,8 @@ pub points_next : (vs : List Value) (i : ℕ) (v d : Value) (points : List Point
 points_next vs i v d points point h is are said = rw (take_more vs i d h, ← is) (points_more (take i vs) v points point are said)
 
 -- a list that says points that are no ring says no ring
-pub no_ring : (d : Data) (ds : Items) (corners : List Point) (fault : RingFault) → as_array d ≡ Some ds → ArePointsOf ds corners → ring_fault corners ≡ Some fault → (ring : Ring) → IsRingOf d ring → ⊥
-no_ring d ds corners fault array are wrong ring is =
+pub says_no_ring : (d : Data) (ds : Items) (corners : List Point) (fault : RingFault) → as_array d ≡ Some ds → ArePointsOf ds corners → IsRingFault corners fault → (ring : Ring) → IsRingOf d ring → ⊥
+says_no_ring d ds corners fault array are wrong ring is =
     let same : is.0 ≡ ds = cc in
     let one : corners_of ring ≡ corners = points_said ds (corners_of ring) corners (rw same at is.2) are in
-    let none : ring_fault corners ≡ None = rw one at is.3 in
-    cc
+    no_ring corners fault wrong (subst IsRing one (ring_is ring))

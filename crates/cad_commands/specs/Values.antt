@@ -8,7 +8,7 @@ use Rattle.cad_day.specs.Days.{number_of}
 use Rattle.cad_day.specs.DayTexts.{day_named}
 use Rattle.cad_shape.specs.declared.point.Point.{Point}
 use Rattle.cad_shape.specs.declared.ring.Ring.{Ring}
-use Rattle.cad_shape.specs.Rings.{corners_of, ring_fault}
+use Rattle.cad_shape.specs.Rings.{corners_of}
 use Rattle.cad_versions.specs.declared.object_id.ObjectId.{ObjectId}
 use Rattle.cad_versions.specs.declared.share.Share.{Share}
 use Rattle.cad_versions.specs.declared.words.Words.{Words}
@@ -62,4 +62,4 @@ ArePointsOf (item d ds) (point ∷ points) = IsPointOf d point × ArePointsOf ds
 -- a ring, as the list of its corners, the first not repeated
 abbrev pub IsRingOf : Data → Ring → Type 0
 IsRingOf d ring =
-    (ds : Items) × (as_array d ≡ Some ds) × ArePointsOf ds (corners_of ring) × (ring_fault (corners_of ring) ≡ None)
+    (ds : Items) × (as_array d ≡ Some ds) × ArePointsOf ds (corners_of ring)

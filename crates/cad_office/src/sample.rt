@@ -3,6 +3,7 @@
 ghost use Rattle.std.specs.Prelude.{◌≡◌, ◌≤◌, length, map, Some, None, is_some, option_map, IsTrue, IfOk};
 ghost use Rattle.cad_day.specs.Days.{number_of};
 ghost use Rattle.cad_day.specs.DayTexts.{day_named};
+ghost use Rattle.cad_shape.specs.PlainRings.{is_plain_ring};
 ghost use Rattle.cad_shape.specs.Rings.{corners_of};
 ghost use Rattle.cad_versions.specs.Objects.{IsObjectNumber, object_number};
 ghost use Rattle.cad_versions.specs.Texts.{AreWords, bytes_of};
@@ -12,6 +13,7 @@ ghost use Rattle.cad_office.specs.Instructions.{a_parcel, to_enter, to_amend, at
 ghost use Rattle.cad_office.specs.Sample.{sample as commands_of_sample, ana, first_parcel as first, second_parcel as second, third_parcel as third, fourth_parcel as fourth, ownership, no_building};
 
 use cad_day::Day;
+use cad_shape::laws::plain_rings_are_rings;
 use cad_shape::{Point, Ring};
 use cad_versions::{Body, Command, Ledger, ObjectId, RegisterFault, Share, Words};
 use std::alloc::{AllocError, Global};
@@ -190,11 +192,12 @@ fn words(alloc: Global, text: &str) -> Result<Words, AllocError>
 }
 
 fn ring(alloc: Global, corners: &[(i32, i32)]) -> Result<Ring, AllocError>
-    requires enough { 3 ≤ length corners.now }
-    requires not_too_many { length corners.now ≤ 1000 }
+    requires { IsTrue (is_plain_ring corners.now) }
     ensures { IfOk result (λ ring. map coordinates_of (corners_of ring) ≡ corners.now) }
 {
-    match Ring::new(points(alloc, corners)?) {
+    let corners = points(alloc, corners)?;
+    plain_rings_are_rings();
+    match Ring::new(corners) {
         Ok(ring) => Ok(ring),
         Err(_) => unreachable!(),
     }
