@@ -1,11 +1,18 @@
 # The toolchain's command; `rt doc` prints the page to read first.
 RT ?= rt
+# How many crates `make check` proves side by side.
+JOBS ?= $(shell nproc)
 
-.PHONY: sample test check bench register-file clean
+.PHONY: sample test check refused bench register-file office-file clean
 
 # Proves and builds the program, and answers the request in crates/cadastre/stdin.
 sample:
+	$(MAKE) -j3 prove-cad_http prove-cad_register prove-cad_office
 	cd crates/cadastre && $(RT) run -- sample < stdin
+
+# One crate, and those that it stands on: those that several stand on are proved once, and the others side by side.
+prove-%:
+	cd crates/$* && $(RT) check
 
 # The whole gate: every proof from nothing, the must-fail edits, the tests, and each program as two compilers build it.
 test:
@@ -13,10 +20,16 @@ test:
 
 # Every crate, over what earlier checks kept.
 check:
-	$(RT) all check
+	$(RT) all check --jobs $(JOBS)
+
+# Refuses each growth of a run of the case programs in turn. Needs a C compiler.
+refused:
+	cd crates/cql_cases && $(RT) run < stdin | cmp - stdout
+	cd crates/cad_cases && $(RT) run < stdin | cmp - stdout
+	scripts/refused
 
 # How many commands a second the office enters, in memory and in a file.
-bench:
+bench: sample
 	cd crates/cad_bench && $(RT) run -- 100
 	scripts/bench
 
@@ -24,12 +37,9 @@ bench:
 register-file: sample
 	scripts/check_register_file
 
+# Runs `cadastre office` on a new file, a standing one and foreign ones.
+office-file: sample
+	scripts/check_office
+
 clean:
 	rm -rf crates/*/out
-
-# Refuses each growth of a run of the case programs in turn. Needs a C compiler.
-.PHONY: refused
-refused:
-	cd crates/cql_cases && $(RT) run < stdin | cmp - stdout
-	cd crates/cad_cases && $(RT) run < stdin | cmp - stdout
-	scripts/refused
