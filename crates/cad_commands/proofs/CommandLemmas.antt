@@ -1,6 +1,6 @@
 -- What an object of an operation says.
-use Rattle.std.proofs.Common.{◌≡◌, ℕ, List, codes, bytes_eq, true≢false, Option, Some, None, refl, sym, ap, ◌∙◌}
-use Rattle.serde_json.specs.Data.{Data, Members, member, no_members}
+use Rattle.std.proofs.Common.{◌≡◌, ℕ, List, codes, bytes_eq, true≢false, Option, Some, None, refl, ap}
+use Rattle.serde_json.specs.Data.{Data, Members}
 use Rattle.cad_day.specs.declared.day.Day.{Day}
 use Rattle.cad_versions.specs.declared.object_id.ObjectId.{ObjectId}
 use Rattle.cad_versions.specs.declared.body.Body.{Body}

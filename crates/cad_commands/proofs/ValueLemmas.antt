@@ -1,6 +1,5 @@
 -- Values of JSON, and what they say.
-use Rattle.std.proofs.Common.{◌≡◌, ℕ, zero, suc, ◌<◌, ℤ, List, [], ◌∷◌, ◌++◌, ◌+◌, length, take, get_or, arith, Option, Some, None, refl, sym, ap, ap₂, ◌∙◌, subst}
-use Rattle.std.specs.Prelude.{neg_ℤ, pos, ◌≤ℤ◌}
+use Rattle.std.proofs.Common.{◌≡◌, ℕ, zero, suc, ◌<◌, ℤ, List, [], ◌∷◌, ◌++◌, ◌+◌, length, take, get_or, arith, Some, refl, ap₂, subst}
 use Rattle.std.proofs.lemmas.List.{take_more}
 use lib.Dec.{T_prop}
 use Rattle.serde_json.specs.Data.{Data, Items, no_items, item}
@@ -13,7 +12,7 @@ use Rattle.cad_shape.specs.declared.ring.Ring.{Ring}
 use Rattle.cad_shape.specs.declared.ring.RingFault.{RingFault}
 use Rattle.cad_shape.specs.Outlines.{IsRing}
 use Rattle.cad_shape.specs.Rings.{corners_of, IsRingFault, no_ring, ring_is}
-use Rattle.cad_commands.specs.Values.{IsPairOf, IsPointOf, ArePointsOf, IsRingOf}
+use Rattle.cad_commands.specs.Values.{IsPointOf, ArePointsOf, IsRingOf}
 
 -- other than two values are no pair
 pub no_pair : (vs : List Value) → (length vs ≡ 2 → ⊥) → (first second : Data) → items_view vs ≡ item first (item second no_items) → ⊥

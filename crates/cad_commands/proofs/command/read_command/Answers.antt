@@ -2,7 +2,7 @@ use Rattle.std.proofs.Common.{◌≡◌, Some, sym, ap, ◌∙◌, rules}
 use Rattle.std.specs.Option.{option_and_then}
 use Rattle.serde_json.specs.Find.{as_object}
 use Rattle.serde_json.specs.Read.{read}
-use Rattle.serde_json.specs.View.{members_view, view}
+use Rattle.serde_json.specs.View.{view}
 use Rattle.cad_commands.specs.Commands.{Says}
 use Rattle.cad_commands.proofs.ReadingLemmas.{unread_part}
 use Rattle.cad_commands.proofs.command.read_command.Goals as goal

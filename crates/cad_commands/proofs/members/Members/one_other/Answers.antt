@@ -1,5 +1,4 @@
-use Rattle.std.proofs.Common.{◌≡◌, sym, ap, true≢false, ◌∙◌}
-use Rattle.serde_json.specs.View.{members_view}
+use Rattle.std.proofs.Common.{sym, true≢false, ◌∙◌}
 use Rattle.cad_commands.proofs.MemberLemmas.{no_entries, none_behind}
 use Rattle.cad_commands.proofs.members.Members.one_other.Goals as goal
 
