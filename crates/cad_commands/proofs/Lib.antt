@@ -2,3 +2,5 @@ pub mod MemberLemmas
 pub mod ReadingLemmas
 pub mod ValueLemmas
 pub mod CommandLemmas
+pub mod OneValue
+pub mod OneCommand

@@ -3,3 +3,4 @@ pub mod Members
 pub mod Values
 pub mod Bodies
 pub mod Commands
+pub mod Laws

@@ -2,6 +2,7 @@
 //!
 //! - `read_command`: the command that a text says.
 //! - `CommandError`: why a text gives none.
+//! - `laws`: what holds of every text, whoever reads it.
 //!
 //! A command is a JSON object of the members `do`, `object` and a day, with one member named by the
 //! object's class where a version begins. The text
@@ -15,6 +16,7 @@
 mod body;
 mod command;
 mod command_error;
+pub mod laws;
 mod members;
 mod operation;
 mod outline;

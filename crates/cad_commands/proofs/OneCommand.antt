@@ -1,0 +1,106 @@
+-- An object says one command alone.
+use Rattle.std.proofs.Common.{◌≡◌, ℕ, List, codes, bytes_eq, if◌then◌else◌, refl, sym, ap, ◌∙◌}
+use Rattle.serde_json.specs.Data.{Data, Members, member, no_members}
+use Rattle.serde_json.specs.Data as json
+use Rattle.cad_day.specs.declared.day.Day.{Day}
+use Rattle.cad_versions.specs.declared.object_id.ObjectId.{ObjectId}
+use Rattle.cad_versions.specs.declared.body.Body.{Body}
+use Rattle.cad_versions.specs.declared.body.Class.{Class}
+use Rattle.cad_versions.specs.declared.body.Class.TheVariants as class
+use Rattle.cad_versions.specs.declared.command.Command.{Command}
+use Rattle.cad_versions.specs.declared.command.Command.TheVariants as command
+use Rattle.cad_commands.specs.declared.operation.Operation.{Operation}
+use Rattle.cad_commands.specs.declared.operation.Operation.TheVariants.{Enter, Amend, Retire}
+use Rattle.cad_commands.specs.Members.{Has}
+use Rattle.cad_commands.specs.Values.{IsWholeOf, IsObjectOf, IsDayOf, IsWordsOf, IsFlagOf, IsShareOf, IsPointOf, IsRingOf}
+use Rattle.cad_commands.specs.Bodies.{class_name, SaysBody}
+use Rattle.cad_commands.specs.Commands.{IsOperationOf, SaysOneBody, SaysBeginning, SaysEnd, SaysCommand, Says}
+use Rattle.cad_commands.proofs.ValueLemmas.{point_said}
+use Rattle.cad_commands.proofs.OneValue.{may_have_one, has_one, one_whole, one_flag, one_object, one_words, one_day, one_share, one_ring, one_operation}
+
+-- the class of a name
+abbrev class_named : List ℕ → Class
+class_named name =
+    if bytes_eq name (codes "party") then class.Party else (if bytes_eq name (codes "unit") then class.Unit else (if bytes_eq name (codes "parcel") then class.Parcel else (if bytes_eq name (codes "right") then class.Right else class.Restriction)))
+
+named : (class : Class) → class_named (class_name class) ≡ class
+named class.Party = refl
+named class.Unit = refl
+named class.Parcel = refl
+named class.Right = refl
+named class.Restriction = refl
+
+one_class : (a b : Class) → class_name a ≡ class_name b → a ≡ b
+one_class a b e = sym (named a) ∙ ap class_named e ∙ named b
+
+one_body : (ms : Members) (class : Class) (a b : Body) → SaysBody ms class a → SaysBody ms class b → a ≡ b
+one_body ms class.Party a b s t =
+    let names : s.0 ≡ t.0 = may_have_one IsWordsOf one_words (codes "name") ms s.0 t.0 s.3 t.3 in
+    let kinds : s.1 ≡ t.1 = has_one IsWordsOf one_words (codes "code") ms s.1 t.1 s.4 t.4 in
+    cc
+one_body ms class.Unit a b s t =
+    let names : s.0 ≡ t.0 = may_have_one IsWordsOf one_words (codes "name") ms s.0 t.0 s.2 t.2 in
+    cc
+one_body ms class.Parcel a b s t =
+    let units : s.0 ≡ t.0 = has_one IsObjectOf one_object (codes "unit") ms s.0 t.0 s.6 t.6 in
+    let labels : s.1 ≡ t.1 = has_one IsWordsOf one_words (codes "label") ms s.1 t.1 s.7 t.7 in
+    let areas : s.2 ≡ t.2 = may_have_one IsWholeOf one_whole (codes "area") ms s.2 t.2 s.8 t.8 in
+    let shapes : s.3 ≡ t.3 = may_have_one IsRingOf one_ring (codes "shape") ms s.3 t.3 s.9 t.9 in
+    let spots : s.4 ≡ t.4 = may_have_one IsPointOf point_said (codes "spot") ms s.4 t.4 s.10 t.10 in
+    cc
+one_body ms class.Right a b s t =
+    let units : s.0 ≡ t.0 = has_one IsObjectOf one_object (codes "unit") ms s.0 t.0 s.5 t.5 in
+    let parties : s.1 ≡ t.1 = may_have_one IsObjectOf one_object (codes "party") ms s.1 t.1 s.6 t.6 in
+    let kinds : s.2 ≡ t.2 = has_one IsWordsOf one_words (codes "code") ms s.2 t.2 s.7 t.7 in
+    let shares : s.3 ≡ t.3 = may_have_one IsShareOf one_share (codes "share") ms s.3 t.3 s.8 t.8 in
+    cc
+one_body ms class.Restriction a b s t =
+    let units : s.0 ≡ t.0 = has_one IsObjectOf one_object (codes "unit") ms s.0 t.0 s.6 t.6 in
+    let parties : s.1 ≡ t.1 = may_have_one IsObjectOf one_object (codes "party") ms s.1 t.1 s.7 t.7 in
+    let kinds : s.2 ≡ t.2 = has_one IsWordsOf one_words (codes "code") ms s.2 t.2 s.8 t.8 in
+    let shares : s.3 ≡ t.3 = may_have_one IsShareOf one_share (codes "share") ms s.3 t.3 s.9 t.9 in
+    let flags : s.4 ≡ t.4 = may_have_one IsFlagOf one_flag (codes "required") ms s.4 t.4 s.10 t.10 in
+    cc
+
+one_body_said : (ms : Members) (a b : Body) → SaysOneBody ms a → SaysOneBody ms b → a ≡ b
+one_body_said ms a b s t =
+    let others : member (class_name s.0) (json.object s.1) no_members ≡ member (class_name t.0) (json.object t.1) no_members = cc in
+    let classes : s.0 ≡ t.0 = one_class s.0 t.0 (cc) in
+    let inners : s.1 ≡ t.1 = cc in
+    one_body t.1 t.0 a b (rw classes at (rw inners at s.3)) t.3
+
+one_beginning : (ms : Members) (a b : ObjectId × Day × Body) → SaysBeginning ms a → SaysBeginning ms b → a ≡ b
+one_beginning ms (o, f, x) (p, g, y) s t =
+    let objects : o ≡ p = has_one IsObjectOf one_object (codes "object") ms o p s.0 t.0 in
+    let days : f ≡ g = has_one IsDayOf one_day (codes "first") ms f g s.1 t.1 in
+    let bodies : x ≡ y = one_body_said ms x y s.2 t.2 in
+    cc
+
+one_end : (ms : Members) (a b : ObjectId × Day) → SaysEnd ms a → SaysEnd ms b → a ≡ b
+one_end ms (o, f) (p, g) s t =
+    let objects : o ≡ p = has_one IsObjectOf one_object (codes "object") ms o p s.0 t.0 in
+    let days : f ≡ g = has_one IsDayOf one_day (codes "last") ms f g s.1 t.1 in
+    cc
+
+abbrev operation_of : Command → Operation
+operation_of (command.Enter object first body) = Enter
+operation_of (command.Amend object first body) = Amend
+operation_of (command.Retire object last) = Retire
+
+says_operation : (ms : Members) (command : Command) → SaysCommand ms command → Has IsOperationOf (codes "do") ms (operation_of command)
+says_operation ms (command.Enter object first body) says = says.0
+says_operation ms (command.Amend object first body) says = says.0
+says_operation ms (command.Retire object last) says = says.0
+
+one_command : (ms : Members) (a b : Command) → SaysCommand ms a → SaysCommand ms b → a ≡ b
+one_command ms (command.Enter o f x) (command.Enter p g y) s t = ap (λ whole. command.Enter whole.0 whole.1 whole.2) (one_beginning ms (o, f, x) (p, g, y) s.1 t.1)
+one_command ms (command.Amend o f x) (command.Amend p g y) s t = ap (λ whole. command.Amend whole.0 whole.1 whole.2) (one_beginning ms (o, f, x) (p, g, y) s.1 t.1)
+one_command ms (command.Retire o f) (command.Retire p g) s t = ap (λ whole. command.Retire whole.0 whole.1) (one_end ms (o, f) (p, g) s.1 t.1)
+one_command ms a b s t =
+    let same : operation_of a ≡ operation_of b = has_one IsOperationOf one_operation (codes "do") ms (operation_of a) (operation_of b) (says_operation ms a s) (says_operation ms b t) in
+    cc
+
+pub one_command_said : (text : List ℕ) (a b : Command) → Says text a → Says text b → a ≡ b
+one_command_said text a b s t =
+    let objects : s.1.0 ≡ t.1.0 = cc in
+    one_command t.1.0 a b (rw objects at s.1.2) t.1.2

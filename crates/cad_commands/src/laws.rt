@@ -1,0 +1,8 @@
+//! What holds of every text, whoever reads it. Each contract is a law; the functions do nothing.
+
+ghost use Rattle.cad_commands.specs.Laws.{TextSaysOneCommand};
+
+/// A text says at most one command.
+pub fn text_says_one_command()
+    ensures { TextSaysOneCommand }
+{}
