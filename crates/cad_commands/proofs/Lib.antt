@@ -4,3 +4,4 @@ pub mod ValueLemmas
 pub mod CommandLemmas
 pub mod OneValue
 pub mod OneCommand
+pub mod OrderLemmas

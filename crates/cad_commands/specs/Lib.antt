@@ -3,4 +3,5 @@ pub mod Members
 pub mod Values
 pub mod Bodies
 pub mod Commands
+pub mod MemberOrder
 pub mod Laws
