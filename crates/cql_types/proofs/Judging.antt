@@ -1,0 +1,171 @@
+-- From what the parts are to what the node is.
+use Rattle.std.proofs.Common.{◌≡◌, refl, ap, sym, subst, ◌∙◌, ℕ, ◌≤◌, List, [], ◌∷◌, ◌++◌, length, get_or, ◌<◌, ◌+◌, drop, drop-cons, add-one, drop_of_length-le, append-nil, append_assoc, map, true, false, Some, Result, Ok, Err, IfOk, IfErr, OnOk, MatchResult, arith}
+use Rattle.std.specs.Option.{is_some}
+use Rattle.std.proofs.Math.Logic.{∥∥₁_elim}
+use Rattle.std.proofs.Math.Bridge.{le_prop}
+use Rattle.cad_feature.specs.Schema.{Named}
+use Rattle.cql_parser.specs.Syntax.{Syntax, Parts, none, part, parts_of, node, Op, keyed, place_in, place_of}
+use Rattle.cql_types.specs.declared.fault.Fault.{Fault}
+use Rattle.cql_types.specs.declared.fault.TypeFault.{TypeFault}
+use Rattle.cql_types.specs.declared.fault.TypeFault.TheVariants.{Memory, At}
+use Rattle.cql_types.specs.declared.filter.Filter.{Filter}
+use Rattle.cql_types.specs.declared.filter.Operation.{Operation}
+use Rattle.cql_types.specs.declared.judged.Judged.{Judged}
+use Rattle.cql_types.specs.declared.judged.JudgedStep.{JudgedStep}
+use Rattle.cql_types.specs.declared.judged.Node.{Node}
+use Rattle.cql_types.specs.Kinds.{Kind, Has, is_condition, wrong_kind, IsFault, in_tree, no_condition, IsLeast, IsCondition}
+use Rattle.cql_types.specs.Fits.{condition_fits}
+use Rattle.cql_parser.specs.Order.{IsOrdered}
+use Rattle.cql_types.specs.Means.{Mean, IsFilter, condition_of, kind_of, no_more, one_more, node_means}
+use Rattle.cql_types.specs.Contract.{ForFault, IsFirst, IsFirstIn, node_first, inside_first, here_first, later_first, IsJudged, Judges, Combines, place_first, parts_judged, operations_of, AreJudgedSteps}
+use Rattle.cql_types.proofs.Faults.{first_least, first_wrong, no_fault, same_kind}
+use Rattle.cql_types.proofs.Fitting.{means_has, mean_have}
+
+place_mean : {s : List Named} {ps : Parts} {js : List Judged} → Mean s ps js → place_in ps ≡ place_first js
+place_mean no_more = refl
+place_mean (one_more p h m) = p
+
+pub node_judged : {s : List Named} (op : Op) {ps : Parts} {js : List Judged} (r : Result Judged TypeFault) →
+    Mean s ps js → Combines op js r → Judges s (node op ps) r
+node_judged op (Ok j) m h = record { place = ap (keyed op) (place_mean m) ∙ h.place; means = node_means m h.makes }
+node_judged op (Err Memory) m h = tt
+node_judged op (Err (At f)) m h = node_first (mean_have m) h
+
+pub and_part : {s : List Named} {t : Syntax} {ts : Parts} {j : Judged} {js : List Judged} → IsJudged s t j → Mean s ts js → Mean s (part t ts) (j ∷ js)
+and_part h m = one_more h.place h.means m
+
+pub last_part : {s : List Named} {t : Syntax} {j : Judged} → IsJudged s t j → Mean s (part t none) (j ∷ [])
+last_part h = one_more h.place h.means no_more
+
+pub fault_here : (s : List Named) (op : Op) (t : Syntax) (ts : Parts) (e : TypeFault) → ForFault (IsFirst s t) e → ForFault (IsFirst s (node op (part t ts))) e
+fault_here s op t ts Memory h = tt
+fault_here s op t ts (At f) h = inside_first (here_first h)
+
+pub fault_later : (s : List Named) (op : Op) (t : Syntax) (ts : Parts) {j : Judged} (e : TypeFault) → IsJudged s t j → ForFault (IsFirstIn s ts) e →
+    ForFault (IsFirst s (node op (part t ts))) e
+fault_later s op t ts Memory j h = tt
+fault_later s op t ts (At f) j h = inside_first (later_first (means_has j.means) h)
+
+pub fault_second : (s : List Named) (op : Op) (t u : Syntax) (us : Parts) {j : Judged} (e : TypeFault) → IsJudged s t j → ForFault (IsFirst s u) e →
+    ForFault (IsFirst s (node op (part t (part u us)))) e
+fault_second s op t u us Memory j h = tt
+fault_second s op t u us (At f) j h = inside_first (later_first (means_has j.means) (here_first h))
+
+pub fault_third : (s : List Named) (op : Op) (t u : Syntax) (us : Parts) {i j : Judged} (e : TypeFault) → IsJudged s t i → IsJudged s u j → ForFault (IsFirstIn s us) e →
+    ForFault (IsFirst s (node op (part t (part u us)))) e
+fault_third s op t u us Memory i j h = tt
+fault_third s op t u us (At f) i j h = inside_first (later_first (means_has i.means) (later_first (means_has j.means) h))
+
+pub only_fault : (s : List Named) (t : Syntax) (ts : Parts) (e : TypeFault) → ForFault (IsFirst s t) e → ForFault (IsFirstIn s (part t ts)) e
+only_fault s t ts Memory h = tt
+only_fault s t ts (At f) h = here_first h
+
+-- a judged part that went through a box
+pub boxed : {s : List Named} {t : Syntax} {i j k : Judged} → IsJudged s t i → j ≡ i → k ≡ j → IsJudged s t k
+boxed {s = s} {t = t} h e f = subst (IsJudged s t) (sym (f ∙ e)) h
+
+-- a node whose first part went through a box
+pub list_judged : {s : List Named} (op : Op) {t : Syntax} {ts : Parts} {i j k : Judged} {js : List Judged} (r : Result Judged TypeFault) →
+    IsJudged s t i → j ≡ i → k ≡ j → Mean s ts js → Combines op (k ∷ js) r → Judges s (node op (part t ts)) r
+list_judged op {i = i} {js = js} r h e f m c = node_judged op r (and_part h m) (subst (λ j. Combines op (j ∷ js) r) (f ∙ e) c)
+
+-- the same where the others are steps
+pub steps_judged : {s : List Named} (op : Op) {t : Syntax} {ts : Parts} {bs : List Operation} {i j k : Judged} {steps : List JudgedStep} (r : Result Judged TypeFault) →
+    IsJudged s t i → j ≡ i → k ≡ j → AreJudgedSteps s ts bs steps → (bs ≡ operations_of steps → Combines op (k ∷ parts_judged steps) r) → Judges s (node op (part t ts)) r
+steps_judged op r h e f m c = list_judged op r h e f m.mean (c (sym m.by))
+
+-- the parts that are left, and all
+pub completes_more : {s : List Named} {all rest rest' : Parts} {t : Syntax} {j : Judged} {after : List Judged} (before : List Judged) →
+    ((js : List Judged) → Mean s rest js → Mean s all (before ++ js)) → rest ≡ part t rest' → IsJudged s t j → after ≡ before ++ j ∷ [] →
+    (js : List Judged) → Mean s rest' js → Mean s all (after ++ js)
+completes_more {j = j} before so_far is h e js more = rw (e, append_assoc) (so_far (j ∷ js) (rw is (and_part h more)))
+
+pub completes_all : {s : List Named} {A : Type 0} {all : Parts} (syntax : A → Syntax) (ts : List A) (i : ℕ) (before : List Judged) → length ts ≤ i →
+    ((js : List Judged) → Mean s (parts_of (map syntax (drop i ts))) js → Mean s all (before ++ js)) → Mean s all before
+completes_all syntax ts i before past so_far =
+    let none_left : drop i ts ≡ [] = drop_of_length-le ts past in
+    rw append-nil at (so_far [] (rw none_left no_more))
+
+pub first_more : {s : List Named} {all rest rest' : Parts} {t : Syntax} {j : Judged} →
+    ((f : Fault) → IsFirstIn s rest f → IsFirstIn s all f) → rest ≡ part t rest' → IsJudged s t j →
+    (f : Fault) → IsFirstIn s rest' f → IsFirstIn s all f
+first_more so_far is h f i = so_far f (rw is (later_first (means_has h.means) i))
+
+pub fault_among : {s : List Named} {all rest rest' : Parts} (t : Syntax) (e : TypeFault) →
+    ((f : Fault) → IsFirstIn s rest f → IsFirstIn s all f) → rest ≡ part t rest' → ForFault (IsFirst s t) e → ForFault (IsFirstIn s all) e
+fault_among t Memory so_far is h = tt
+fault_among t (At f) so_far is h = so_far f (rw is (here_first h))
+
+-- what is done with the parts that are left, and with all
+pub signs_from : {A S : Type 0} (sign : A → S) (by : S → Operation) (ts : List A) (i : ℕ) (t : A) → i < length ts → t ≡ get_or ts i t →
+    map by (map sign (drop i ts)) ≡ by (sign t) ∷ map by (map sign (drop (i + 1) ts))
+signs_from sign by ts i t within is = ap (λ us. map by (map sign us)) (drop-cons ts i t within) ∙ rw (add-one, ← is)
+
+pub by_more : (before : List Operation) {after rest rest' all : List Operation} (b : Operation) → before ++ rest ≡ all → rest ≡ b ∷ rest' → after ≡ before ++ b ∷ [] → after ++ rest' ≡ all
+by_more before b so_far is e = rw (e, append_assoc) (rw is at so_far)
+
+pub by_all : {A S : Type 0} (sign : A → S) (by : S → Operation) (ts : List A) (i : ℕ) (before all : List Operation) → length ts ≤ i →
+    before ++ map by (map sign (drop i ts)) ≡ all → before ≡ all
+by_all sign by ts i before all past so_far =
+    let none_left : drop i ts ≡ [] = drop_of_length-le ts past in
+    rw append-nil at (rw none_left at so_far)
+
+-- the answer for the whole
+not_before : {s : List Named} {t : Syntax} {f : Fault} (g : Fault) → IsOrdered t → IsFirst s t f → IsFault s t g → f.place ≤ g.place
+not_before g o i (in_tree w) = ∥∥₁_elim o le_prop (λ h. first_least h.2 i w)
+not_before g o i (no_condition h e) = absurd (no_fault h (first_wrong i))
+
+pub whole_least : {s : List Named} {t : Syntax} {f : Fault} → IsOrdered t → IsFirst s t f → IsLeast s t f
+whole_least o i = record {
+  fault = in_tree (first_wrong i);
+  least = λ g. not_before g o i;
+}
+
+pub whole_wrong : (s : List Named) (t : Syntax) (e : TypeFault) → ForFault (IsFirst s t) e → ForFault (IsFault s t) e
+whole_wrong s t Memory h = tt
+whole_wrong s t (At f) h = in_tree (first_wrong h)
+
+pub least_is_fault : (s : List Named) (t : Syntax) (e : TypeFault) → ForFault (IsLeast s t) e → ForFault (IsFault s t) e
+least_is_fault s t Memory h = tt
+least_is_fault s t (At f) h = h.fault
+
+pub whole_faults : (s : List Named) (t : Syntax) (e : TypeFault) → IsOrdered t → ForFault (IsFirst s t) e → ForFault (IsLeast s t) e
+whole_faults s t Memory o h = tt
+whole_faults s t (At f) o h = whole_least o h
+
+no_lesser : {s : List Named} {t : Syntax} {k : Kind} (g : Fault) → Has s t k → IsFault s t g → place_of t ≤ g.place
+no_lesser g h (in_tree w) = absurd (no_fault h w)
+no_lesser g h (no_condition k e) = omega arith
+
+pub whole_answer : {s : List Named} {t : Syntax} {j : Judged} (r : Result Filter TypeFault) → IsJudged s t j →
+    IfOk r (λ x. condition_of j.node ≡ Some x) → IfErr r (λ e. (e ≡ At (wrong_kind j.place)) × (is_condition (kind_of j.node) ≡ false)) →
+    MatchResult r (IsFilter s t) (ForFault (IsLeast s t))
+whole_answer {j = j} (Ok f) h ok err = (j.node, h.means, ok)
+whole_answer (Err e) h ok err =
+    rw (err.0, ← h.place) (record { fault = no_condition (means_has h.means) err.1; least = λ g. no_lesser g (means_has h.means) })
+
+filter_kind : (x : Node) {f : Filter} → condition_of x ≡ Some f → is_condition (kind_of x) ≡ true
+filter_kind x e = sym (condition_fits x) ∙ ap is_some e
+
+pub filter_is_condition : {s : List Named} {t : Syntax} {f : Filter} → IsFilter s t f → IsCondition s t
+filter_is_condition h = (kind_of h.0, means_has h.1, filter_kind h.0 h.2)
+
+pub condition_has_no_fault : {s : List Named} {t : Syntax} {f : Fault} → IsCondition s t → IsFault s t f → ⊥
+condition_has_no_fault h (in_tree w) = no_fault h.1 w
+condition_has_no_fault h (no_condition k e) = let f = sym e ∙ (ap is_condition (same_kind k h.1) ∙ h.2) in absurd cc
+
+pub match_ok : {A E : Type 0} (r : Result A E) (P : A → Type 0) (Q : E → Type 0) → MatchResult r P Q → IfOk r P
+match_ok (Ok x) P Q h = h
+match_ok (Err e) P Q h = tt
+
+pub match_err : {A E : Type 0} (r : Result A E) (P : A → Type 0) (Q : E → Type 0) → MatchResult r P Q → IfErr r Q
+match_err (Ok x) P Q h = tt
+match_err (Err e) P Q h = h
+
+pub match_condition : (s : List Named) (t : Syntax) (r : Result Filter TypeFault) (Q : TypeFault → Type 0) → MatchResult r (IsFilter s t) Q → OnOk r (IsCondition s t)
+match_condition s t (Ok x) Q h = filter_is_condition h
+match_condition s t (Err e) Q h = tt
+
+pub match_fault : (s : List Named) (t : Syntax) (r : Result Filter TypeFault) (P : Filter → Type 0) → MatchResult r P (ForFault (IsLeast s t)) → IfErr r (ForFault (IsFault s t))
+match_fault s t (Ok x) P h = tt
+match_fault s t (Err e) P h = least_is_fault s t e h

@@ -1,0 +1,9 @@
+mod EndLemmas
+mod Faults
+mod Fitting
+mod Judging
+mod LiteralLemmas
+mod NumberLemmas
+mod Relating
+mod Terms
+mod Trees

@@ -1,0 +1,165 @@
+-- The views of a tree's nodes.
+use Rattle.std.proofs.Common.{◌≡◌, ◌<◌, ◌+◌, ℕ, Bool, List, [], ◌∷◌, length, get_or, drop, drop-cons, add-one, map, refl, ap, ◌∙◌}
+use Rattle.std.specs.String.{string_bytes}
+use Rattle.std.specs.declared.alloc.Global.{Global}
+use Rattle.std.specs.declared.boxed.Box.{Box}
+use Rattle.std.specs.declared.string.String.{String}
+use Rattle.std.specs.declared.vec.Vec.{Vec}
+use Rattle.cad_day.specs.declared.relation.Relation.{Relation}
+use Rattle.cql_lexer.specs.declared.token.Comparison.{Comparison}
+use Rattle.cql_lexer.specs.declared.token.SpatialRelation.{SpatialRelation}
+use Rattle.cql_parser.specs.declared.tree.Addition.{Addition}
+use Rattle.cql_parser.specs.declared.tree.Multiplication.{Multiplication}
+use Rattle.cql_parser.specs.declared.tree.Bound.{Bound}
+use Rattle.cql_parser.specs.declared.tree.Corner.{Corner}
+use Rattle.cql_parser.specs.declared.tree.Factor.{Factor}
+use Rattle.cql_parser.specs.declared.tree.Ring.{Ring}
+use Rattle.cql_parser.specs.declared.tree.Term.{Term}
+use Rattle.cql_parser.specs.Syntax.{Syntax, Parts, leaf, node, part, none, parts_of, name_leaf, text_leaf, truth_leaf, day_leaf, or_op, and_op, not_op, compare_op, like_op, between_op, in_op, is_null_op, sum_op, product_op, casei_op, date_op, interval_op, point_op, polygon_op, bbox_op, spatial_op, temporal_op}
+use Rattle.cql_parser.specs.Views.{syntax_of, parts_in, terms_in, additions_in, factors_in, multiplications_in, syntaxes_of, terms_of, additions_of, factors_of, multiplications_of, number_of, numbers_of, bound_of, rings_of}
+use Rattle.cql_parser.specs.declared.tree.Number.{Number}
+use Rattle.cql_parser.specs.declared.tree.Tree.{Tree, Row_of-Tree, end_of-Tree, more_of-Tree, items-the_row-Tree, items_hidden-the_row-Tree-0, Row_of-Term, end_of-Term, more_of-Term, items-the_row-Term, items_hidden-the_row-Term-1, Row_of-Factor, end_of-Factor, more_of-Factor, items-the_row-Factor, items_hidden-the_row-Factor-2}
+use Rattle.cql_parser.specs.declared.tree.Tree.TheBlock.{hidden-the_row-Tree-0, hidden-the_row-Term-1, hidden-the_row-Factor-2}
+use Rattle.cql_parser.specs.declared.tree.Tree.TheVariants.{Name, Text, Truth, Or, And, Not, Compare, Like, Between, In, IsNull, Sum, Product, Casei, Date, Interval, Point, Polygon, Bbox, Spatial, Temporal}
+use Rattle.cql_parser.specs.declared.tree.Tree.TheVariants as tree
+
+row_parts : (n : _) (row : Row_of-Tree n) → parts_in row ≡ parts_of (syntaxes_of (items-the_row-Tree n row))
+unfolding syntax_of
+row_parts n end_of-Tree = refl
+row_parts n (more_of-Tree t rest) = ap (part (syntax_of t)) (row_parts _ rest)
+
+-- the parts of a vector
+vec_parts : (ts : Vec Tree Global) → parts_in (hidden-the_row-Tree-0 ts) ≡ parts_of (syntaxes_of ts.items)
+vec_parts ts = row_parts _ (hidden-the_row-Tree-0 ts) ∙ ap (λ us. parts_of (syntaxes_of us)) (items_hidden-the_row-Tree-0 ts)
+
+term_parts : (n : _) (row : Row_of-Term n) → terms_in row ≡ parts_of (terms_of (items-the_row-Term n row))
+unfolding syntax_of
+term_parts n end_of-Term = refl
+term_parts n (more_of-Term by t rest) = ap (part (syntax_of t)) (term_parts _ rest)
+
+term_signs : (n : _) (row : Row_of-Term n) → additions_in row ≡ additions_of (items-the_row-Term n row)
+unfolding syntax_of
+term_signs n end_of-Term = refl
+term_signs n (more_of-Term by t rest) = ap (λ bs. by ∷ bs) (term_signs _ rest)
+
+vec_terms : (ts : Vec Term Global) → terms_in (hidden-the_row-Term-1 ts) ≡ parts_of (terms_of ts.items)
+vec_terms ts = term_parts _ (hidden-the_row-Term-1 ts) ∙ ap (λ us. parts_of (terms_of us)) (items_hidden-the_row-Term-1 ts)
+
+vec_additions : (ts : Vec Term Global) → additions_in (hidden-the_row-Term-1 ts) ≡ additions_of ts.items
+vec_additions ts = term_signs _ (hidden-the_row-Term-1 ts) ∙ ap (λ us. additions_of us) (items_hidden-the_row-Term-1 ts)
+
+factor_parts : (n : _) (row : Row_of-Factor n) → factors_in row ≡ parts_of (factors_of (items-the_row-Factor n row))
+unfolding syntax_of
+factor_parts n end_of-Factor = refl
+factor_parts n (more_of-Factor by t rest) = ap (part (syntax_of t)) (factor_parts _ rest)
+
+factor_signs : (n : _) (row : Row_of-Factor n) → multiplications_in row ≡ multiplications_of (items-the_row-Factor n row)
+unfolding syntax_of
+factor_signs n end_of-Factor = refl
+factor_signs n (more_of-Factor by t rest) = ap (λ bs. by ∷ bs) (factor_signs _ rest)
+
+vec_factors : (ts : Vec Factor Global) → factors_in (hidden-the_row-Factor-2 ts) ≡ parts_of (factors_of ts.items)
+vec_factors ts = factor_parts _ (hidden-the_row-Factor-2 ts) ∙ ap (λ us. parts_of (factors_of us)) (items_hidden-the_row-Factor-2 ts)
+
+vec_multiplications : (ts : Vec Factor Global) → multiplications_in (hidden-the_row-Factor-2 ts) ≡ multiplications_of ts.items
+vec_multiplications ts = factor_signs _ (hidden-the_row-Factor-2 ts) ∙ ap (λ us. multiplications_of us) (items_hidden-the_row-Factor-2 ts)
+
+pub syntax_of-Name : (p : ℕ) (s : String Global) → syntax_of (Name p s) ≡ leaf p (name_leaf (string_bytes s))
+unfolding syntax_of
+syntax_of-Name p s = refl
+
+pub syntax_of-Number : (m : Number) → syntax_of (tree.Number m) ≡ number_of m
+unfolding syntax_of
+syntax_of-Number m = refl
+
+pub syntax_of-Text : (p : ℕ) (s : String Global) → syntax_of (Text p s) ≡ leaf p (text_leaf (string_bytes s))
+unfolding syntax_of
+syntax_of-Text p s = refl
+
+pub syntax_of-Truth : (p : ℕ) (b : Bool) → syntax_of (Truth p b) ≡ leaf p (truth_leaf b)
+unfolding syntax_of
+syntax_of-Truth p b = refl
+
+pub syntax_of-Or : (t : Box Tree Global) (ts : Vec Tree Global) → syntax_of (Or t ts) ≡ node or_op (part (syntax_of t.value) (parts_of (syntaxes_of ts.items)))
+unfolding syntax_of
+syntax_of-Or t ts = ap (λ ps. node or_op (part (syntax_of t.value) ps)) (vec_parts ts)
+
+pub syntax_of-And : (t : Box Tree Global) (ts : Vec Tree Global) → syntax_of (And t ts) ≡ node and_op (part (syntax_of t.value) (parts_of (syntaxes_of ts.items)))
+unfolding syntax_of
+syntax_of-And t ts = ap (λ ps. node and_op (part (syntax_of t.value) ps)) (vec_parts ts)
+
+pub syntax_of-Not : (p : ℕ) (t : Box Tree Global) → syntax_of (Not p t) ≡ node (not_op p) (part (syntax_of t.value) none)
+unfolding syntax_of
+syntax_of-Not p t = refl
+
+pub syntax_of-Compare : (c : Comparison) (a b : Box Tree Global) → syntax_of (Compare c a b) ≡ node (compare_op c) (part (syntax_of a.value) (part (syntax_of b.value) none))
+unfolding syntax_of
+syntax_of-Compare c a b = refl
+
+pub syntax_of-Like : (n : Bool) (a b : Box Tree Global) → syntax_of (Like n a b) ≡ node (like_op n) (part (syntax_of a.value) (part (syntax_of b.value) none))
+unfolding syntax_of
+syntax_of-Like n a b = refl
+
+pub syntax_of-Between : (n : Bool) (a b c : Box Tree Global) → syntax_of (Between n a b c) ≡ node (between_op n) (part (syntax_of a.value) (part (syntax_of b.value) (part (syntax_of c.value) none)))
+unfolding syntax_of
+syntax_of-Between n a b c = refl
+
+pub syntax_of-In : (n : Bool) (a t : Box Tree Global) (ts : Vec Tree Global) → syntax_of (In n a t ts) ≡ node (in_op n) (part (syntax_of a.value) (part (syntax_of t.value) (parts_of (syntaxes_of ts.items))))
+unfolding syntax_of
+syntax_of-In n a t ts = ap (λ ps. node (in_op n) (part (syntax_of a.value) (part (syntax_of t.value) ps))) (vec_parts ts)
+
+pub syntax_of-IsNull : (n : Bool) (a : Box Tree Global) → syntax_of (IsNull n a) ≡ node (is_null_op n) (part (syntax_of a.value) none)
+unfolding syntax_of
+syntax_of-IsNull n a = refl
+
+sum_node : {bs cs : List Addition} {ps qs : Parts} (t : Syntax) → bs ≡ cs → ps ≡ qs → node (sum_op bs) (part t ps) ≡ node (sum_op cs) (part t qs)
+sum_node t e f = cc
+
+product_node : {bs cs : List Multiplication} {ps qs : Parts} (t : Syntax) → bs ≡ cs → ps ≡ qs → node (product_op bs) (part t ps) ≡ node (product_op cs) (part t qs)
+product_node t e f = cc
+
+pub syntax_of-Sum : (t : Box Tree Global) (ts : Vec Term Global) → syntax_of (Sum t ts) ≡ node (sum_op (additions_of ts.items)) (part (syntax_of t.value) (parts_of (terms_of ts.items)))
+unfolding syntax_of
+syntax_of-Sum t ts = sum_node (syntax_of t.value) (vec_additions ts) (vec_terms ts)
+
+pub syntax_of-Product : (t : Box Tree Global) (ts : Vec Factor Global) → syntax_of (Product t ts) ≡ node (product_op (multiplications_of ts.items)) (part (syntax_of t.value) (parts_of (factors_of ts.items)))
+unfolding syntax_of
+syntax_of-Product t ts = product_node (syntax_of t.value) (vec_multiplications ts) (vec_factors ts)
+
+pub syntax_of-Casei : (p : ℕ) (t : Box Tree Global) → syntax_of (Casei p t) ≡ node (casei_op p) (part (syntax_of t.value) none)
+unfolding syntax_of
+syntax_of-Casei p t = refl
+
+pub syntax_of-Date : (p q : ℕ) (s : String Global) → syntax_of (Date p q s) ≡ node (date_op p) (part (leaf q (day_leaf (string_bytes s))) none)
+unfolding syntax_of
+syntax_of-Date p q s = refl
+
+pub syntax_of-Interval : (p : ℕ) (a b : Bound) → syntax_of (Interval p a b) ≡ node (interval_op p) (part (bound_of a) (part (bound_of b) none))
+unfolding syntax_of
+syntax_of-Interval p a b = refl
+
+pub syntax_of-Point : (p : ℕ) (c : Corner) → syntax_of (Point p c) ≡ node (point_op p) (parts_of (numbers_of (c ∷ [])))
+unfolding syntax_of
+syntax_of-Point p c = refl
+
+pub syntax_of-Polygon : (p : ℕ) (rings : Vec Ring Global) → syntax_of (Polygon p rings) ≡ node (polygon_op p) (parts_of (rings_of rings.items))
+unfolding syntax_of
+syntax_of-Polygon p rings = refl
+
+pub syntax_of-Bbox : (p : ℕ) (low high : Corner) → syntax_of (Bbox p low high) ≡ node (bbox_op p) (parts_of (numbers_of (low ∷ high ∷ [])))
+unfolding syntax_of
+syntax_of-Bbox p low high = refl
+
+pub syntax_of-Spatial : (p : ℕ) (c : SpatialRelation) (a b : Box Tree Global) → syntax_of (Spatial p c a b) ≡ node (spatial_op p c) (part (syntax_of a.value) (part (syntax_of b.value) none))
+unfolding syntax_of
+syntax_of-Spatial p c a b = refl
+
+pub syntax_of-Temporal : (p : ℕ) (c : Relation) (a b : Box Tree Global) → syntax_of (Temporal p c a b) ≡ node (temporal_op p c) (part (syntax_of a.value) (part (syntax_of b.value) none))
+unfolding syntax_of
+syntax_of-Temporal p c a b = refl
+
+-- the parts from one place on
+pub parts_from : {A : Type 0} (syntax : A → Syntax) (ts : List A) (i : ℕ) (t : A) → i < length ts → t ≡ get_or ts i t →
+    parts_of (map syntax (drop i ts)) ≡ part (syntax t) (parts_of (map syntax (drop (i + 1) ts)))
+parts_from syntax ts i t within is =
+    ap (λ us. parts_of (map syntax us)) (drop-cons ts i t within) ∙ rw (add-one, ← is)

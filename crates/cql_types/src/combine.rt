@@ -1,0 +1,331 @@
+//! Nodes from their parts, each of which has a kind.
+
+ghost use Rattle.std.specs.Prelude.{◌≡◌, [], ◌∷◌, map, List, IfOk, IsTrue, ◌↔◌, true};
+ghost use Rattle.cql_parser.specs.Syntax.{or_op, and_op, not_op, compare_op, like_op, between_op, in_op, is_null_op, sum_op, product_op, casei_op, date_op, spatial_op, temporal_op};
+ghost use Rattle.cql_parser.specs.declared.tree.Addition.{Addition};
+ghost use Rattle.cql_parser.specs.declared.tree.Multiplication.{Multiplication};
+ghost use Rattle.cql_types.specs.Kinds as kinds;
+ghost use Rattle.cql_types.specs.Kinds.{is_equality, is_related};
+ghost use Rattle.cql_types.specs.Means.{kind_of, IsTurned, added_by, multiplied_by};
+ghost use Rattle.cql_types.specs.Contract.{Combines, CombinesFlags, CombinesTexts, parts_judged, operations_of};
+ghost use Rattle.cql_types.specs.declared.judged.Node.TheVariants as n;
+
+use crate::collect::{collect_steps, gather, one, wrong_kind};
+use crate::fault::TypeFault;
+use crate::filter::{AnyTerm, Filter, FlagTerm, ShapeTerm, SpanTerm, TextTerm, WholeTerm};
+use crate::judged::{Judged, JudgedStep, Node};
+use cad_day::Relation;
+use cql_lexer::{Comparison, SpatialRelation};
+use std::alloc::{AllocError, Global};
+
+fn condition(place: usize, filter: Filter) -> Judged
+    ensures { result ≡ record { place = place; node = n.Condition filter } }
+{
+    Judged {
+        place,
+        node: Node::Condition(filter),
+    }
+}
+
+// The filter, or its negation where a NOT stands in the node.
+fn turned(alloc: Global, is_negated: bool, filter: Filter) -> Result<Filter, AllocError>
+    ensures { IfOk result (IsTurned filter is_negated) }
+{
+    if is_negated {
+        Ok(Filter::Not(Box::new(alloc, filter)?))
+    } else {
+        Ok(filter)
+    }
+}
+
+/// Conditions joined by OR.
+pub fn or(alloc: Global, first: Judged, others: Vec<Judged>) -> Result<Judged, TypeFault>
+    ensures { Combines or_op (first ∷ others.items) result }
+{
+    let place = first.place;
+    Ok(condition(place, Filter::Or(gather(alloc, first, others)?)))
+}
+
+/// Conditions joined by AND.
+pub fn and(alloc: Global, first: Judged, others: Vec<Judged>) -> Result<Judged, TypeFault>
+    ensures { Combines and_op (first ∷ others.items) result }
+{
+    let place = first.place;
+    Ok(condition(place, Filter::And(gather(alloc, first, others)?)))
+}
+
+/// The condition behind a NOT.
+pub fn not(alloc: Global, place: usize, part: Judged) -> Result<Judged, TypeFault>
+    ensures { Combines (not_op place) (part ∷ []) result }
+{
+    let filter: Filter = one(part)?;
+    Ok(condition(place, Filter::Not(Box::new(alloc, filter)?)))
+}
+
+fn tests_equality(by: Comparison) -> bool
+    ensures { result ≡ is_equality by }
+{
+    matches!(by, Comparison::Equal | Comparison::Unequal)
+}
+
+/// Two values compared.
+pub fn compare(by: Comparison, left: Judged, right: Judged) -> Result<Judged, TypeFault>
+    ensures { Combines (compare_op by) (left ∷ right ∷ []) result }
+{
+    let Judged { place, node } = left;
+    match node {
+        Node::Whole(left) => {
+            let right = one(right)?;
+            Ok(condition(place, Filter::CompareWhole { by, left, right }))
+        }
+        Node::Text(left) => compare_text(by, place, left, right),
+        Node::Pattern(left) => compare_text(by, place, left, right),
+        Node::Day(left) => {
+            let right = one(right)?;
+            Ok(condition(place, Filter::CompareDay { by, left, right }))
+        }
+        Node::Flag(left) => compare_flag(by, place, left, right),
+        Node::Truth(value) => compare_flag(by, place, FlagTerm::Constant(value), right),
+        _ => Err(wrong_kind(place)),
+    }
+}
+
+fn compare_text(
+    by: Comparison,
+    place: usize,
+    left: TextTerm,
+    right: Judged,
+) -> Result<Judged, TypeFault>
+    ensures { CombinesTexts by place left right result }
+{
+    let right = one(right)?;
+    Ok(condition(place, Filter::CompareText { by, left, right }))
+}
+
+fn compare_flag(
+    by: Comparison,
+    place: usize,
+    left: FlagTerm,
+    right: Judged,
+) -> Result<Judged, TypeFault>
+    ensures { CombinesFlags by place left right result }
+{
+    if !tests_equality(by) {
+        return Err(wrong_kind(place));
+    }
+    let right = one(right)?;
+    Ok(condition(place, Filter::CompareFlag { by, left, right }))
+}
+
+/// `[NOT] LIKE`
+pub fn like(
+    alloc: Global,
+    is_negated: bool,
+    left: Judged,
+    right: Judged,
+) -> Result<Judged, TypeFault>
+    ensures { Combines (like_op is_negated) (left ∷ right ∷ []) result }
+{
+    let place = left.place;
+    let value: Box<TextTerm> = Box::new(alloc, one(left)?)?;
+    let Judged {
+        place: second,
+        node,
+    } = right;
+    match node {
+        Node::Pattern(pattern) => {
+            let value = Box::into_inner(value);
+            let filter = turned(alloc, is_negated, Filter::Like { value, pattern })?;
+            Ok(condition(place, filter))
+        }
+        _ => Err(wrong_kind(second)),
+    }
+}
+
+/// `[NOT] BETWEEN`
+pub fn between(
+    alloc: Global,
+    is_negated: bool,
+    value: Judged,
+    low: Judged,
+    high: Judged,
+) -> Result<Judged, TypeFault>
+    ensures { Combines (between_op is_negated) (value ∷ low ∷ high ∷ []) result }
+{
+    let place = value.place;
+    let value: WholeTerm = one(value)?;
+    let low: WholeTerm = one(low)?;
+    let high: WholeTerm = one(high)?;
+    let filter = turned(alloc, is_negated, Filter::Between { value, low, high })?;
+    Ok(condition(place, filter))
+}
+
+/// `[NOT] IN`
+pub fn is_in(
+    alloc: Global,
+    is_negated: bool,
+    value: Judged,
+    first: Judged,
+    others: Vec<Judged>,
+) -> Result<Judged, TypeFault>
+    ensures { Combines (in_op is_negated) (value ∷ first ∷ others.items) result }
+{
+    let Judged { place, node } = value;
+    match node {
+        Node::Whole(value) => {
+            let items = gather(alloc, first, others)?;
+            let filter = turned(alloc, is_negated, Filter::InWhole { value, items })?;
+            Ok(condition(place, filter))
+        }
+        Node::Text(value) => {
+            let items = gather(alloc, first, others)?;
+            let filter = turned(alloc, is_negated, Filter::InText { value, items })?;
+            Ok(condition(place, filter))
+        }
+        Node::Pattern(value) => {
+            let items = gather(alloc, first, others)?;
+            let filter = turned(alloc, is_negated, Filter::InText { value, items })?;
+            Ok(condition(place, filter))
+        }
+        Node::Day(value) => {
+            let items = gather(alloc, first, others)?;
+            let filter = turned(alloc, is_negated, Filter::InDay { value, items })?;
+            Ok(condition(place, filter))
+        }
+        Node::Flag(value) => {
+            let items = gather(alloc, first, others)?;
+            let filter = turned(alloc, is_negated, Filter::InFlag { value, items })?;
+            Ok(condition(place, filter))
+        }
+        Node::Truth(value) => {
+            let value = FlagTerm::Constant(value);
+            let items = gather(alloc, first, others)?;
+            let filter = turned(alloc, is_negated, Filter::InFlag { value, items })?;
+            Ok(condition(place, filter))
+        }
+        _ => Err(wrong_kind(place)),
+    }
+}
+
+/// `IS [NOT] NULL`
+pub fn is_null(alloc: Global, is_negated: bool, value: Judged) -> Result<Judged, TypeFault>
+    ensures { Combines (is_null_op is_negated) (value ∷ []) result }
+{
+    let place = value.place;
+    let value: AnyTerm = one(value)?;
+    let filter = turned(alloc, is_negated, Filter::IsNull(value))?;
+    Ok(condition(place, filter))
+}
+
+/// A sum or a product, by what is done with each part behind the first.
+pub fn computed(alloc: Global, first: Judged, steps: Vec<JudgedStep>) -> Result<Judged, TypeFault>
+    ensures sum { (signs : List Addition) → map added_by signs ≡ operations_of steps.items → Combines (sum_op signs) (first ∷ parts_judged steps.items) result }
+    ensures product { (signs : List Multiplication) → map multiplied_by signs ≡ operations_of steps.items → Combines (product_op signs) (first ∷ parts_judged steps.items) result }
+{
+    let place = first.place;
+    let first: WholeTerm = one(first)?;
+    let first = Box::new(alloc, first)?;
+    let steps = collect_steps(alloc, steps)?;
+    let node = Node::Whole(WholeTerm::Computed { first, steps });
+    Ok(Judged { place, node })
+}
+
+/// `CASEI`
+pub fn casei(alloc: Global, place: usize, part: Judged) -> Result<Judged, TypeFault>
+    ensures { Combines (casei_op place) (part ∷ []) result }
+{
+    let Judged { place: first, node } = part;
+    match node {
+        Node::Text(term) => {
+            let node = Node::Text(TextTerm::Folded(Box::new(alloc, term)?));
+            Ok(Judged { place, node })
+        }
+        Node::Pattern(term) => {
+            let node = Node::Pattern(TextTerm::Folded(Box::new(alloc, term)?));
+            Ok(Judged { place, node })
+        }
+        _ => Err(wrong_kind(first)),
+    }
+}
+
+/// `DATE`
+pub fn date(place: usize, part: Judged) -> Result<Judged, TypeFault>
+    ensures { Combines (date_op place) (part ∷ []) result }
+{
+    let node = Node::Day(one(part)?);
+    Ok(Judged { place, node })
+}
+
+// Whether the second shape may stand beside the first: what lies within another is a point, or the other is a box.
+fn are_related(by: SpatialRelation, left: &Node, right: &Node) -> bool
+    ensures { result ≡ is_related by (kind_of left.now) (kind_of right.now) }
+{
+    match by {
+        SpatialRelation::Intersects | SpatialRelation::Disjoint => is_shape(right),
+        SpatialRelation::Within => {
+            if is_spot(left) {
+                is_shape(right)
+            } else {
+                is_frame(right)
+            }
+        }
+        SpatialRelation::Contains => {
+            if is_frame(left) {
+                is_shape(right)
+            } else {
+                is_spot(right)
+            }
+        }
+    }
+}
+
+fn is_shape(node: &Node) -> bool
+    ensures { result ≡ kinds.is_shape (kind_of node.now) }
+{
+    matches!(node, Node::Spot(_) | Node::Area(_) | Node::Frame(_))
+}
+
+fn is_spot(node: &Node) -> bool
+    ensures { result ≡ kinds.is_spot (kind_of node.now) }
+{
+    matches!(node, Node::Spot(_))
+}
+
+fn is_frame(node: &Node) -> bool
+    ensures { result ≡ kinds.is_frame (kind_of node.now) }
+{
+    matches!(node, Node::Frame(_))
+}
+
+/// One of the functions whose names begin with `S_`.
+pub fn spatial(
+    place: usize,
+    by: SpatialRelation,
+    left: Judged,
+    right: Judged,
+) -> Result<Judged, TypeFault>
+    ensures { Combines (spatial_op place by) (left ∷ right ∷ []) result }
+{
+    let second = right.place;
+    let related = are_related(by, &left.node, &right.node);
+    let left: ShapeTerm = one(left)?;
+    if !related {
+        return Err(wrong_kind(second));
+    }
+    let right: ShapeTerm = one(right)?;
+    Ok(condition(place, Filter::Spatial { by, left, right }))
+}
+
+/// One of the functions whose names begin with `T_`.
+pub fn temporal(
+    place: usize,
+    by: Relation,
+    left: Judged,
+    right: Judged,
+) -> Result<Judged, TypeFault>
+    ensures { Combines (temporal_op place by) (left ∷ right ∷ []) result }
+{
+    let left: SpanTerm = one(left)?;
+    let right: SpanTerm = one(right)?;
+    Ok(condition(place, Filter::Temporal { by, left, right }))
+}

@@ -1,0 +1,35 @@
+//! What holds of kinds and faults, beyond what the call says.
+
+ghost use Rattle.std.specs.Prelude.{◌≡◌, ℕ, List};
+ghost use Rattle.cad_feature.specs.Schema.{Named};
+ghost use Rattle.cql_parser.specs.Syntax.{Syntax};
+ghost use Rattle.cql_types.specs.Kinds.{Kind, Has, IsWrong, IsFault};
+ghost use Rattle.cql_parser.specs.Order.{InOrder};
+ghost use Rattle.cql_types.specs.Means.{IsFilter};
+ghost use Rattle.cql_types.specs.declared.fault.Fault.{Fault};
+ghost use Rattle.cql_types.specs.declared.filter.Filter.{Filter};
+
+/// A tree has at most one kind, TRUE and FALSE that of both.
+pub fn tree_has_one_kind()
+    ensures { (s : List Named) (t : Syntax) (k l : Kind) → Has s t k → Has s t l → k ≡ l }
+{}
+
+/// A tree with a kind has no fault.
+pub fn kind_excludes_faults()
+    ensures { (s : List Named) (t : Syntax) (k : Kind) (f : Fault) → Has s t k → ¬ IsWrong s t f }
+{}
+
+/// A tree without a fault cannot be without a kind.
+pub fn faultless_tree_has_a_kind()
+    ensures { (s : List Named) (t : Syntax) → ((f : Fault) → ¬ IsWrong s t f) → ¬ ¬ ((k : Kind) × Has s t k) }
+{}
+
+/// At one place at most one cause is wrong.
+pub fn one_place_has_one_cause()
+    ensures { (s : List Named) (t : Syntax) (f g : Fault) (from to : ℕ) → InOrder from t to → IsWrong s t f → IsWrong s t g → f.place ≡ g.place → f ≡ g }
+{}
+
+/// What a tree means is a filter where its kind is Condition, and then no fault is there.
+pub fn filter_excludes_faults()
+    ensures { (s : List Named) (t : Syntax) (x : Filter) (f : Fault) → IsFilter s t x → ¬ IsFault s t f }
+{}
