@@ -48,11 +48,21 @@ fn tell_ring(rt: &HostRuntime, name: &str, corners: &[Point], times: u32) -> Res
         drop(ring(Vec::from_slice(rt.alloc(), corners)?)?);
     }
     let spent = start.elapsed(rt)?.as_nanos();
-    println!(rt; "a ring of {} corners, {name}: {} ns", corners.len(), spent / u128::from(times.max(1)))?;
+    println!(rt;
+        "a ring of {} corners, {name}: {} ns",
+        corners.len(),
+        spent / u128::from(times.max(1))
+    )?;
     Ok(())
 }
 
-fn tell_meeting(rt: &HostRuntime, name: &str, first: &[Shape], second: &[Shape], times: u32) -> Result<()> {
+fn tell_meeting(
+    rt: &HostRuntime,
+    name: &str,
+    first: &[Shape],
+    second: &[Shape],
+    times: u32,
+) -> Result<()> {
     let mut met = 0u32;
     let start = Instant::now(rt)?;
     for _ in 0..times {
@@ -64,7 +74,10 @@ fn tell_meeting(rt: &HostRuntime, name: &str, first: &[Shape], second: &[Shape],
     }
     let spent = start.elapsed(rt)?.as_nanos();
     let pairs = u128::from(times.max(1)).saturating_mul(16);
-    println!(rt; "meets of two rings of 100 corners, {name}: {} ns ({met} met)", spent / pairs.max(1))?;
+    println!(rt;
+        "meets of two rings of 100 corners, {name}: {} ns ({met} met)",
+        spent / pairs.max(1)
+    )?;
     Ok(())
 }
 
@@ -87,7 +100,10 @@ fn tell_points(rt: &HostRuntime) -> Result<()> {
         }
     }
     let spent = start.elapsed(rt)?.as_nanos();
-    println!(rt; "a point in a region of 1000 corners: {} ns ({inside} inside)", spent / 1000)?;
+    println!(rt;
+        "a point in a region of 1000 corners: {} ns ({inside} inside)",
+        spent / 1000
+    )?;
     Ok(())
 }
 
@@ -104,7 +120,19 @@ pub(crate) fn tell_times(rt: &HostRuntime) -> Result<()> {
     let far = four(alloc, 1_000_000)?;
     let beside = four(alloc, 90)?;
     tell_meeting(rt, "apart", near.as_slice(), far.as_slice(), 100_000)?;
-    tell_meeting(rt, "with overlapping boxes", near.as_slice(), beside.as_slice(), 100)?;
-    tell_meeting(rt, "one over the other", near.as_slice(), near.as_slice(), 1000)?;
+    tell_meeting(
+        rt,
+        "with overlapping boxes",
+        near.as_slice(),
+        beside.as_slice(),
+        100,
+    )?;
+    tell_meeting(
+        rt,
+        "one over the other",
+        near.as_slice(),
+        near.as_slice(),
+        1000,
+    )?;
     tell_points(rt)
 }

@@ -1,6 +1,8 @@
 //! Lines with cases, and their answers.
 
-use cad_shape::{Bounds, Point, Ring, RingFault, Shape, bounds, in_region, meets, segments_meet, within};
+use cad_shape::{
+    Bounds, Point, Ring, RingFault, Shape, bounds, in_region, meets, segments_meet, within,
+};
 use std::alloc::{AllocError, Global};
 
 fn point(text: &str) -> Option<Point> {
@@ -100,7 +102,10 @@ fn bounds_answer(alloc: Global, text: &str) -> Result<Option<String>, AllocError
         return Ok(None);
     };
     let found = bounds(&shape);
-    let answer = format!(in alloc; "{},{} {},{}", found.x_min, found.y_min, found.x_max, found.y_max)?;
+    let answer = format!(in alloc;
+        "{},{} {},{}",
+        found.x_min, found.y_min, found.x_max, found.y_max
+    )?;
     Ok(Some(answer))
 }
 
