@@ -5,18 +5,14 @@ JOBS ?= $(shell nproc)
 
 .PHONY: sample test check refused bench register-file office-file clean
 
-# Proves and builds the program, and answers the request in crates/cadastre/stdin.
-sample:
-	$(MAKE) -j3 prove-cad_http prove-cad_register prove-cad_office
+# Proves and builds the program, and answers the request in crates/cadastre/stdin. Crates that do not wait for each other are proved side by side.
+sample: check
 	cd crates/cadastre && $(RT) run -- sample < stdin
 
-# One crate, and those that it stands on: those that several stand on are proved once, and the others side by side.
-prove-%:
-	cd crates/$* && $(RT) check
-
-# The whole gate: every proof from nothing, the must-fail edits, the tests, and each program as two compilers build it.
+# The whole gate: every proof from nothing, the must-fail edits, the tests, and each program as two compilers build it; and the program on files of the office.
 test:
 	$(RT) ci
+	scripts/check_office
 
 # Every crate, over what earlier checks kept.
 check:

@@ -1,0 +1,75 @@
+//! The office over readers and writers that fail.
+
+use cad_office::{OfficeFault, office};
+use cad_plain::PlainLedger;
+use cad_versions::Ledger;
+use std::test::Fail;
+use test_streams::{Peer, Stop, Taker};
+
+/// Two commands, with a line between them that is none.
+const LINES: &str = r#"{"do":"enter","object":11,"first":"2000-01-01","unit":{}}
+hello
+{"do":"retire","object":11,"last":"2000-01-01"}
+"#;
+
+const ANSWERS: &str = "revision 1\nrefused 0 NotACommand\nrevision 2\n";
+
+/// Behind so many bytes of the lines the answers have so many bytes, and the ledger that revision.
+const PROGRESS: [(usize, usize, u64); 4] = [(0, 0, 0), (58, 11, 1), (64, 33, 1), (112, 44, 2)];
+
+/// What stands behind so many bytes of the lines: the answers' length and the revision.
+fn progress(bytes: usize) -> (usize, u64) {
+    let mut reached = (0, 0);
+    for (from, answers, revision) in PROGRESS {
+        if from <= bytes {
+            reached = (answers, revision);
+        }
+    }
+    reached
+}
+
+/// Where a read fails after each number of bytes, the lines before are answered, and no read is made behind it.
+#[test]
+fn stops_where_reading_does(rt: HostRuntime) -> Result<(), Fail> {
+    for bytes in 0..=LINES.len() {
+        for piece in [1, 7, 4096] {
+            let mut reader = Peer::new(LINES.as_bytes(), piece, bytes, Stop::Fails);
+            let mut writer = Taker::new(512, 512, Stop::Fails);
+            let mut ledger = PlainLedger::new(rt.alloc());
+            let ended = office(rt.alloc(), &mut reader, &mut writer, &mut ledger);
+            let (answers, revision) = progress(bytes);
+            assert_eq!(rt; ended, Err(OfficeFault::Read), "after {bytes}");
+            assert_eq!(rt; reader.reads(), bytes.div_ceil(piece) + 1, "after {bytes}");
+            assert!(rt;
+                writer.has_taken(&ANSWERS.as_bytes()[..answers]),
+                "after {bytes}"
+            );
+            assert_eq!(rt; ledger.revision(), revision, "after {bytes}");
+        }
+    }
+    Ok(())
+}
+
+/// Where a write fails or takes nothing after each number of bytes, so many bytes of the answers were written.
+#[test]
+fn stops_where_writing_does(rt: HostRuntime) -> Result<(), Fail> {
+    for most in 0..=ANSWERS.len() {
+        for (piece, stop) in [(1, Stop::Ends), (100, Stop::Fails)] {
+            let mut reader = Peer::new(LINES.as_bytes(), 4096, LINES.len(), Stop::Ends);
+            let mut writer = Taker::new(piece, most, stop);
+            let mut ledger = PlainLedger::new(rt.alloc());
+            let ended = office(rt.alloc(), &mut reader, &mut writer, &mut ledger);
+            let wanted = if most == ANSWERS.len() {
+                Ok(false)
+            } else {
+                Err(OfficeFault::Write)
+            };
+            assert_eq!(rt; ended, wanted, "after {most}");
+            assert!(rt;
+                writer.has_taken(&ANSWERS.as_bytes()[..most]),
+                "after {most}"
+            );
+        }
+    }
+    Ok(())
+}
