@@ -1,2 +1,5 @@
 mod CollectionLemmas
+mod FeatureLemmas
+mod ListLemmas
 mod NameLemmas
+mod RunLemmas

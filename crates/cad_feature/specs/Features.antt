@@ -1,6 +1,6 @@
 -- Features of a collection (OGC 17-069r4, 7.15: items; own profile: identifiers).
-use Rattle.std.specs.Prelude.{ℕ, ◌≤◌, ℤ, pos, List, [], ◌∷◌, ⊤}
-use Rattle.std.specs.List.{All}
+use Rattle.std.specs.Prelude.{ℕ, ◌≤◌, ℤ, pos, List}
+use Rattle.std.specs.List.{All, AllZip}
 use Rattle.std.specs.List.Sorted.{IsStrictlySortedBy}
 use Rattle.std.specs.declared.cmp.Ordering.{Ordering}
 use Rattle.cad_versions.specs.declared.object_id.ObjectId.{ObjectId}
@@ -26,10 +26,7 @@ by_identifier x y = identifier_cmp (identifier_of x) (identifier_of y)
 
 -- one value for each property, each of its kind or null
 abbrev pub FitSchema : List Named → List Datum → Type 0
-FitSchema [] [] = ⊤
-FitSchema [] (d ∷ ds) = ⊥
-FitSchema (p ∷ ps) [] = ⊥
-FitSchema (p ∷ ps) (d ∷ ds) = IsOfKind p.1 d × FitSchema ps ds
+FitSchema ps ds = AllZip (λ p d. IsOfKind p.1 d) ps ds
 
 -- its version has a number from 1 to 2^31 - 1, and its values fit the schema
 pub record IsFeatureOf (collection : Collection) (x : Item) : Type 0 where

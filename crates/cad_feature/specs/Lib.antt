@@ -1,4 +1,7 @@
+pub mod Attributes
 pub mod Collections
 pub mod Features
+pub mod Flatten
+pub mod Lifespans
 pub mod Schema
 pub mod Values

@@ -42,3 +42,7 @@ IsOfKind k (a_day day) = k ≡ kind.Day
 IsOfKind k (a_span days) = k ≡ kind.Span
 IsOfKind k (a_spot point) = k ≡ kind.Spot
 IsOfKind k (an_area ring) = k ≡ kind.Area
+
+-- the value is seen as this one, of this kind
+abbrev pub Shows : PropertyKind → Datum → Value → Type 0
+Shows k d value = (datum_of value ≡ d) × IsOfKind k d

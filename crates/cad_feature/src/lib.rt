@@ -7,15 +7,20 @@
 //! - `laws`: what holds of names, beyond what each call says.
 #![tactic(auto)]
 
+mod attribute;
 mod collection;
 mod feature;
+mod flattening;
+mod joining;
 pub mod laws;
 mod property;
 mod schemas;
 mod value;
+mod values;
 
 pub use collection::Collection;
 pub use feature::Feature;
+pub use flattening::flatten;
 pub use property::{Property, PropertyKind};
 pub use schemas::{find_property, schema};
 pub use value::Value;
