@@ -31,6 +31,7 @@ in_order v is = go v.last is.forward
     go (Some last) h = let forward = h last refl in grind (arith, ints)
 
 pub lifespan_is : (v : VersionedObject) → IsVersion v → (days : Interval) × (or_null a_span (between (Some v.first) v.last) ≡ a_span days) × (days.from ≡ Some v.first) × (days.to ≡ v.last)
+unfolding between
 lifespan_is v is = go (is_turned (Some v.first) v.last) refl
   where
     go : (b : Bool) (e : is_turned (Some v.first) v.last ≡ b) → (days : Interval) × (or_null a_span (between_if (Some v.first) v.last b e) ≡ a_span days) × (days.from ≡ Some v.first) × (days.to ≡ v.last)

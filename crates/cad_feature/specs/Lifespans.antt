@@ -33,7 +33,7 @@ between_if from to true e = None
 between_if from to false e = Some (record { from = from; to = to; in_order = not_turned from to e })
 
 -- the days from one to another, if they stand in order
-abbrev pub between : Option Day → Option Day → Option Interval
+unfoldable pub between : Option Day → Option Day → Option Interval
 between from to = between_if from to (is_turned from to) refl
 
 -- ---- what constructs intervals
@@ -59,6 +59,7 @@ turned_says (Some first) None e = absurd (true≢false (sym e))
 turned_says (Some first) (Some last) e = grind (arith, ints)
 
 pub between_is : (from to : Option Day) (days : Interval) → days.from ≡ from → days.to ≡ to → Some days ≡ between from to
+unfolding between
 between_is from to days e f = go (is_turned from to) refl
   where
     go : (b : Bool) (t : is_turned from to ≡ b) → Some days ≡ between_if from to b t
@@ -66,6 +67,7 @@ between_is from to days e f = go (is_turned from to) refl
     go false t = ap Some (same_interval days (record { from = from; to = to; in_order = not_turned from to t }) e f)
 
 pub none_between : (from to : Option Day) → IsTurned from to → None ≡ between from to
+unfolding between
 none_between from to h = go (is_turned from to) refl
   where
     go : (b : Bool) (t : is_turned from to ≡ b) → None ≡ between_if from to b t
