@@ -1,2 +1,6 @@
 mod CollectionLemmas
+mod FeatureLemmas
+mod LawLemmas
+mod ListLemmas
 mod NameLemmas
+mod RunLemmas

@@ -1,5 +1,7 @@
 //! Properties of features.
 
+use crate::attribute::Attribute;
+
 /// The kind of a property's values.
 #[derive(Clone, Copy, PartialEq, Eq, Debug)]
 pub enum PropertyKind {
@@ -24,4 +26,5 @@ pub enum PropertyKind {
 pub struct Property {
     pub name: &'static str,
     pub kind: PropertyKind,
+    pub(crate) attribute: Attribute,
 }

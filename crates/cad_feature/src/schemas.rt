@@ -1,46 +1,61 @@
 //! The properties of each collection.
 
 ghost use Rattle.std.specs.Prelude.{◌≡◌, map};
+ghost use Rattle.cad_feature.specs.Attributes.{attribute_of, attributes_of};
 ghost use Rattle.cad_feature.specs.Schema.{property_of, schema_of, find};
 
+use crate::attribute::Attribute;
 use crate::{Collection, Property, PropertyKind};
 
 // The properties of versions of an object, which all features have, and those named here.
 macro_rules! properties {
-    ($($name:literal: $kind:ident),*) => {
+    ($($name:literal: $kind:ident = $attribute:ident),*) => {
         [
-            Property { name: "object", kind: PropertyKind::Whole },
-            Property { name: "number", kind: PropertyKind::Whole },
-            Property { name: "begin", kind: PropertyKind::Day },
-            Property { name: "end", kind: PropertyKind::Day },
-            Property { name: "lifespan", kind: PropertyKind::Span },
-            $(Property { name: $name, kind: PropertyKind::$kind }),*
+            property!("object": Whole = Object),
+            property!("number": Whole = Number),
+            property!("begin": Day = Begin),
+            property!("end": Day = End),
+            property!("lifespan": Span = Lifespan),
+            $(property!($name: $kind = $attribute)),*
         ]
     };
 }
 
+macro_rules! property {
+    ($name:literal: $kind:ident = $attribute:ident) => {
+        Property {
+            name: $name,
+            kind: PropertyKind::$kind,
+            attribute: Attribute::$attribute,
+        }
+    };
+}
+
 static PARCELS: [Property; 11] = properties!(
-    "label": Text, "area": Whole, "geometry": Area, "reference_point": Spot,
-    "unit": Whole, "unit_name": Text
+    "label": Text = Label, "area": Whole = Area, "geometry": Area = Geometry,
+    "reference_point": Spot = ReferencePoint, "unit": Whole = Unit, "unit_name": Text = UnitName
 );
 
 static RIGHTS: [Property; 12] = properties!(
-    "type": Text, "share_num": Whole, "share_den": Whole, "unit": Whole, "unit_name": Text,
-    "party": Whole, "party_name": Text
+    "type": Text = Type, "share_num": Whole = ShareNum, "share_den": Whole = ShareDen,
+    "unit": Whole = Unit, "unit_name": Text = UnitName, "party": Whole = Party,
+    "party_name": Text = PartyName
 );
 
 static RESTRICTIONS: [Property; 13] = properties!(
-    "type": Text, "share_num": Whole, "share_den": Whole, "unit": Whole, "unit_name": Text,
-    "party": Whole, "party_name": Text, "party_required": Flag
+    "type": Text = Type, "share_num": Whole = ShareNum, "share_den": Whole = ShareDen,
+    "unit": Whole = Unit, "unit_name": Text = UnitName, "party": Whole = Party,
+    "party_name": Text = PartyName, "party_required": Flag = PartyRequired
 );
 
-static UNITS: [Property; 6] = properties!("name": Text);
+static UNITS: [Property; 6] = properties!("name": Text = Name);
 
-static PARTIES: [Property; 7] = properties!("name": Text, "type": Text);
+static PARTIES: [Property; 7] = properties!("name": Text = Name, "type": Text = Type);
 
 /// The properties of a collection, in the order of a feature's values.
 pub fn schema(collection: Collection) -> &'static [Property]
-    ensures { map property_of result.now ≡ schema_of collection }
+    ensures named { map property_of result.now ≡ schema_of collection }
+    ensures attributes { map attribute_of result.now ≡ attributes_of collection }
 {
     match collection {
         Collection::Parcels => &PARCELS,

@@ -1,0 +1,100 @@
+-- The features of a register (OGC 17-069r4, 7.15: items; ISO 19152:2012, VersionedObject).
+use Rattle.std.specs.Prelude.{ℕ, pos, ◌==◌, Bool, List, map, filter, find, Option, Some, None, option_and_then, chars}
+use Rattle.cad_day.specs.declared.day.Day.{Day}
+use Rattle.cad_versions.specs.declared.body.Class.{Class}
+use Rattle.cad_versions.specs.declared.body.Class.TheVariants as class
+use Rattle.cad_versions.specs.declared.object_id.ObjectId.{ObjectId}
+use Rattle.cad_versions.specs.declared.share.Share.{Share}
+use Rattle.cad_versions.specs.declared.words.Words.{Words}
+use Rattle.cad_versions.specs.BodyParts.{name_in, code_in, label_in, area_in, unit_named, party_named, share_in, required_in, spot_in, shape_in}
+use Rattle.cad_versions.specs.Class.{class_of, class_number}
+use Rattle.cad_versions.specs.Fractions.{num_of, den_of}
+use Rattle.cad_versions.specs.Objects.{object_number}
+use Rattle.cad_versions.specs.Texts.{bytes_of}
+use Rattle.cad_versions.specs.VersionedObject.{VersionedObject}
+use Rattle.cad_versions.specs.Versions.{history}
+use Rattle.cad_feature.specs.declared.attribute.Attribute.{Attribute}
+use Rattle.cad_feature.specs.declared.attribute.Attribute.TheVariants as attribute
+use Rattle.cad_feature.specs.declared.collection.Collection.{Collection}
+use Rattle.cad_feature.specs.declared.collection.Collection.TheVariants.{Parcels, Rights, Restrictions, Units, Parties}
+use Rattle.cad_feature.specs.Attributes.{attributes_of}
+use Rattle.cad_feature.specs.Features.{Item}
+use Rattle.cad_feature.specs.Lifespans.{holds_on, between}
+use Rattle.cad_feature.specs.Values.{Datum, null, a_text, a_whole, a_flag, a_day, a_span, a_spot, an_area}
+
+-- the class of a collection's objects
+abbrev pub class_for : Collection → Class
+class_for Parcels = class.Parcel
+class_for Rights = class.Right
+class_for Restrictions = class.Restriction
+class_for Units = class.Unit
+class_for Parties = class.Party
+
+abbrev pub is_in : Collection → VersionedObject → Bool
+is_in collection v = class_number (class_of v.body) == class_number (class_for collection)
+
+-- ---- names that are joined
+
+-- the first version of the object, in the order of numbers, that holds the day
+abbrev pub version_on : List VersionedObject → Day → ObjectId → Option VersionedObject
+version_on vs day object = find (holds_on day) (history object vs)
+
+-- the name in that version
+abbrev pub name_on : List VersionedObject → Day → ObjectId → Option Words
+name_on vs day object = option_and_then (λ v. name_in v.body) (version_on vs day object)
+
+abbrev pub joined_name : List VersionedObject → Day → Option ObjectId → Option Words
+joined_name vs day object = option_and_then (name_on vs day) object
+
+-- ---- values
+
+abbrev pub or_null : {X : Type 0} → (X → Datum) → Option X → Datum
+or_null value None = null
+or_null value (Some x) = value x
+
+-- the characters of the words
+abbrev pub text_of : Words → Datum
+text_of words = a_text (chars (bytes_of words))
+
+abbrev pub count_of : ℕ → Datum
+count_of n = a_whole (pos n)
+
+abbrev pub object_of : ObjectId → Datum
+object_of object = count_of (object_number object)
+
+abbrev pub parts_of : Share → Datum
+parts_of share = count_of (num_of share)
+
+abbrev pub whole_of : Share → Datum
+whole_of share = count_of (den_of share)
+
+-- what a version says; names are joined on its first day
+abbrev pub value_in : List VersionedObject → VersionedObject → Attribute → Datum
+value_in vs v attribute.Object = object_of v.object
+value_in vs v attribute.Number = count_of v.number
+value_in vs v attribute.Begin = a_day v.first
+value_in vs v attribute.End = or_null a_day v.last
+value_in vs v attribute.Lifespan = or_null a_span (between (Some v.first) v.last)
+value_in vs v attribute.Name = or_null text_of (name_in v.body)
+value_in vs v attribute.Type = or_null text_of (code_in v.body)
+value_in vs v attribute.Label = or_null text_of (label_in v.body)
+value_in vs v attribute.Area = or_null count_of (area_in v.body)
+value_in vs v attribute.Geometry = or_null an_area (shape_in v.body)
+value_in vs v attribute.ReferencePoint = or_null a_spot (spot_in v.body)
+value_in vs v attribute.Unit = or_null object_of (unit_named v.body)
+value_in vs v attribute.UnitName = or_null text_of (joined_name vs v.first (unit_named v.body))
+value_in vs v attribute.Party = or_null object_of (party_named v.body)
+value_in vs v attribute.PartyName = or_null text_of (joined_name vs v.first (party_named v.body))
+value_in vs v attribute.ShareNum = or_null parts_of (share_in v.body)
+value_in vs v attribute.ShareDen = or_null whole_of (share_in v.body)
+value_in vs v attribute.PartyRequired = or_null a_flag (required_in v.body)
+
+-- ---- features
+
+-- the version as a feature of the collection, among these versions
+abbrev pub feature_in : List VersionedObject → Collection → VersionedObject → Item
+feature_in vs collection v = record { object = v.object; number = v.number; values = map (value_in vs v) (attributes_of collection) }
+
+-- one feature for each version of the collection's class, in their order
+abbrev pub features_in : List VersionedObject → Collection → List Item
+features_in vs collection = map (feature_in vs collection) (filter (is_in collection) vs)

@@ -1,0 +1,38 @@
+//! What properties say.
+
+/// What a property says of a version: its own number or days, or an attribute of its body (ISO 19152).
+#[derive(Clone, Copy, Debug)]
+pub(crate) enum Attribute {
+    /// The number of the object.
+    Object,
+    /// The number of the version.
+    Number,
+    /// The first day.
+    Begin,
+    /// The last day.
+    End,
+    /// The days from the first to the last.
+    Lifespan,
+    Name,
+    /// The code that says of what type a party, a right or a restriction is.
+    Type,
+    Label,
+    /// In square metres.
+    Area,
+    /// The outline of a parcel.
+    Geometry,
+    ReferencePoint,
+    /// The number of the unit.
+    Unit,
+    /// The unit's name on the first day.
+    UnitName,
+    /// The number of the party.
+    Party,
+    /// The party's name on the first day.
+    PartyName,
+    /// The parts that a share has.
+    ShareNum,
+    /// The parts of the whole.
+    ShareDen,
+    PartyRequired,
+}

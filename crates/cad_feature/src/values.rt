@@ -1,0 +1,135 @@
+//! Values of features, from what versions say.
+
+ghost use Rattle.std.specs.Prelude.{IfOk, Some};
+ghost use Rattle.std.specs.Option.{option_copied};
+ghost use Rattle.cad_versions.specs.Listing.{IsListing};
+ghost use Rattle.cad_feature.specs.declared.property.PropertyKind.TheVariants as kind;
+ghost use Rattle.cad_feature.specs.Attributes.{named};
+ghost use Rattle.cad_feature.specs.Flatten.{or_null, text_of, count_of, object_of, value_in};
+ghost use Rattle.cad_feature.specs.Lifespans.{between};
+ghost use Rattle.cad_feature.specs.Values.{Shows, a_day, a_span, a_flag, a_spot, an_area};
+
+use crate::Value;
+use crate::attribute::Attribute;
+use crate::joining::joined_name;
+use cad_day::{Day, Interval};
+use cad_shape::{Point, Ring};
+use cad_versions::{ObjectId, Version, Words};
+use std::alloc::{AllocError, Global};
+
+fn text(alloc: Global, words: Option<&Words>) -> Result<Value, AllocError>
+    ensures { IfOk result (Shows kind.Text (or_null text_of (option_copied words.entry))) }
+{
+    match words {
+        None => Ok(Value::Null),
+        Some(words) => {
+            let text = String::from_str(alloc, words.as_str())?;
+            Ok(Value::Text(text))
+        }
+    }
+}
+
+fn whole(number: Option<u32>) -> Value
+    ensures { Shows kind.Whole (or_null count_of number) result }
+{
+    match number {
+        None => Value::Null,
+        Some(number) => Value::Whole(i64::from(number)),
+    }
+}
+
+fn object(object: Option<ObjectId>) -> Value
+    ensures { Shows kind.Whole (or_null object_of object) result }
+{
+    match object {
+        None => Value::Null,
+        Some(object) => Value::Whole(i64::from(object.number())),
+    }
+}
+
+fn flag(flag: Option<bool>) -> Value
+    ensures { Shows kind.Flag (or_null a_flag flag) result }
+{
+    match flag {
+        None => Value::Null,
+        Some(flag) => Value::Flag(flag),
+    }
+}
+
+fn day(day: Option<Day>) -> Value
+    ensures { Shows kind.Day (or_null a_day day) result }
+{
+    match day {
+        None => Value::Null,
+        Some(day) => Value::Day(day),
+    }
+}
+
+fn lifespan(first: Day, last: Option<Day>) -> Value
+    ensures { Shows kind.Span (or_null a_span (between (Some first) last)) result }
+{
+    match Interval::new(Some(first), last) {
+        None => Value::Null,
+        Some(days) => Value::Span(days),
+    }
+}
+
+fn spot(point: Option<Point>) -> Value
+    ensures { Shows kind.Spot (or_null a_spot point) result }
+{
+    match point {
+        None => Value::Null,
+        Some(point) => Value::Spot(point),
+    }
+}
+
+fn region(alloc: Global, ring: Option<&Ring>) -> Result<Value, AllocError>
+    ensures { IfOk result (Shows kind.Area (or_null an_area (option_copied ring.entry))) }
+{
+    match ring {
+        None => Ok(Value::Null),
+        Some(ring) => {
+            let ring = ring.copy(alloc)?;
+            Ok(Value::Area(ring))
+        }
+    }
+}
+
+/// What the version says, one of these versions. Names are joined on its first day.
+pub(crate) fn value(
+    alloc: Global,
+    versions: &[Version],
+    version: &Version,
+    attribute: Attribute,
+) -> Result<Value, AllocError>
+    requires { IsListing versions.now }
+    ensures { IfOk result (Shows ((named attribute).1) (value_in versions.now version.now attribute)) }
+{
+    let body = &version.body;
+    match attribute {
+        Attribute::Object => Ok(object(Some(version.object))),
+        Attribute::Number => Ok(whole(Some(version.number))),
+        Attribute::Begin => Ok(day(Some(version.first))),
+        Attribute::End => Ok(day(version.last)),
+        Attribute::Lifespan => Ok(lifespan(version.first, version.last)),
+        Attribute::Name => Ok(text(alloc, body.name())?),
+        Attribute::Type => Ok(text(alloc, body.code())?),
+        Attribute::Label => Ok(text(alloc, body.label())?),
+        Attribute::Area => Ok(whole(body.area())),
+        Attribute::Geometry => Ok(region(alloc, body.shape())?),
+        Attribute::ReferencePoint => Ok(spot(body.spot())),
+        Attribute::Unit => Ok(object(body.unit())),
+        Attribute::UnitName => {
+            let name = joined_name(versions, version.first, body.unit());
+            Ok(text(alloc, name)?)
+        }
+        Attribute::Party => Ok(object(body.party())),
+        Attribute::PartyName => {
+            let name = joined_name(versions, version.first, body.party());
+            Ok(text(alloc, name)?)
+        }
+        Attribute::ShareNum => Ok(whole(body.share().map(|share| share.num()))),
+        Attribute::ShareDen => Ok(whole(body.share().map(|share| share.den()))),
+        Attribute::PartyRequired => Ok(flag(body.required())),
+    }
+}
