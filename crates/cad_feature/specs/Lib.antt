@@ -1,2 +1,4 @@
 pub mod Collections
+pub mod Features
 pub mod Schema
+pub mod Values

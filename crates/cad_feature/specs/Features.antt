@@ -1,0 +1,43 @@
+-- Features of a collection (OGC 17-069r4, 7.15: items; own profile: identifiers).
+use Rattle.std.specs.Prelude.{ℕ, ◌≤◌, ℤ, pos, List, [], ◌∷◌, ⊤}
+use Rattle.std.specs.List.{All}
+use Rattle.std.specs.List.Sorted.{IsStrictlySortedBy}
+use Rattle.std.specs.declared.cmp.Ordering.{Ordering}
+use Rattle.cad_versions.specs.declared.object_id.ObjectId.{ObjectId}
+use Rattle.cad_versions.specs.Objects.{object_number}
+use Rattle.cad_versions.specs.Identifiers.{identifier_cmp}
+use Rattle.cad_feature.specs.declared.collection.Collection.{Collection}
+use Rattle.cad_feature.specs.Schema.{Named, schema_of}
+use Rattle.cad_feature.specs.Values.{Datum, IsOfKind}
+
+-- a feature as definitions see it: a version of an object, with its values in the order of the schema
+pub record Item : Type 0 where
+  pub object : ObjectId
+  pub number : ℕ
+  pub values : List Datum
+
+-- the number of the object, and the number of its version
+abbrev pub identifier_of : Item → ℤ × ℤ
+identifier_of x = (pos (object_number x.object), pos x.number)
+
+-- by object, and then by version
+abbrev pub by_identifier : Item → Item → Ordering
+by_identifier x y = identifier_cmp (identifier_of x) (identifier_of y)
+
+-- one value for each property, each of its kind or null
+abbrev pub FitSchema : List Named → List Datum → Type 0
+FitSchema [] [] = ⊤
+FitSchema [] (d ∷ ds) = ⊥
+FitSchema (p ∷ ps) [] = ⊥
+FitSchema (p ∷ ps) (d ∷ ds) = IsOfKind p.1 d × FitSchema ps ds
+
+-- its version has a number from 1 to 2^31 - 1, and its values fit the schema
+pub record IsFeatureOf (collection : Collection) (x : Item) : Type 0 where
+  pub positive : 1 ≤ x.number
+  pub small : x.number ≤ 2147483647
+  pub fits : FitSchema (schema_of collection) x.values
+
+-- the features of a collection at a revision, as they are listed: no two have one identifier, and they ascend by it
+pub record AreFeaturesOf (collection : Collection) (xs : List Item) : Type 0 where
+  pub each : All (IsFeatureOf collection) xs
+  pub ascending : IsStrictlySortedBy by_identifier xs

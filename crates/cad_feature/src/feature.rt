@@ -1,0 +1,25 @@
+//! Features.
+
+use crate::Value;
+use cad_versions::ObjectId;
+use std::marker::Model;
+
+/// One version of an object as a feature of a collection: its values stand in the order of the collection's schema.
+///
+/// `object` and `number` identify it. Contracts see it as an `Item`.
+#[derive(Debug, Drop)]
+pub struct Feature {
+    pub object: ObjectId,
+    pub number: u32,
+    pub values: Vec<Value>,
+}
+
+impl Model for Feature {
+    ghost use Rattle.std.specs.Prelude.{map};
+    ghost use Rattle.cad_feature.specs.Features.{Item};
+    ghost use Rattle.cad_feature.specs.Values.{datum_of};
+
+    ghost Value = { Item };
+
+    ghost view = { λ x. record { object = x.object; number = x.number; values = map datum_of x.values.items } };
+}
