@@ -8,6 +8,7 @@ ghost use Rattle.cad_shape.specs.Regions.{IsInRegion, SomeMeet};
 ghost use Rattle.cad_shape.specs.Rings.{corners_of};
 ghost use Rattle.cad_shape.specs.Shapes.{shape_corners, shape_edges, IsSamePoint, IsIn, SomeIn, RegionsMeet, RegionMeets, Meets};
 ghost use Rattle.cad_shape.specs.Shapes.{IsInside, AreFramed, IsWithin, is_frame, is_judged, lent_shape};
+ghost use Rattle.cad_shape.specs.Tests.{shapes_meet, within as within_test};
 
 use crate::meeting::rings_meet;
 use crate::region::{is_on_ring, is_within_ring};
@@ -104,6 +105,25 @@ fn is_framed(a: ShapeRef, b: ShapeRef) -> Option<bool>
     }
 }
 
+// Whether the two share a point, by a look at the bounds of both first.
+fn lent_meet(a: ShapeRef, b: ShapeRef) -> bool
+    ensures { IsTrue result ↔ Meets (lent_shape a.entry) (lent_shape b.entry) }
+{
+    a.bounds().overlaps(b.bounds()) && meets_closely(a, b)
+}
+
+// Whether the first lies within the second; None for a region in anything but a frame.
+fn lent_within(a: ShapeRef, b: ShapeRef) -> Option<bool>
+    ensures judged { is_some result ≡ is_judged (lent_shape a.entry) (lent_shape b.entry) }
+    ensures answer { IfSome result (λ inside. IsTrue inside ↔ IsWithin (lent_shape a.entry) (lent_shape b.entry)) }
+{
+    match a {
+        ShapeRef::Spot(point) => Some(is_inside(point, b)),
+        ShapeRef::Frame(_) => is_framed(a, b),
+        ShapeRef::Area(_) => is_framed(a, b),
+    }
+}
+
 impl ShapeRef<'_> {
     /// The least box that holds the shape: that of a ring's corners, of a point alone.
     pub fn bounds(self) -> Bounds
@@ -118,21 +138,19 @@ impl ShapeRef<'_> {
 
     /// Whether the two shapes share a point: see [`meets`].
     pub fn meets(self, other: ShapeRef) -> bool
-        ensures { IsTrue result ↔ Meets (lent_shape self.entry) (lent_shape other.entry) }
+        ensures meaning { IsTrue result ↔ Meets (lent_shape self.entry) (lent_shape other.entry) }
+        ensures test { result ≡ shapes_meet (lent_shape self.entry) (lent_shape other.entry) }
     {
-        self.bounds().overlaps(other.bounds()) && meets_closely(self, other)
+        lent_meet(self, other)
     }
 
     /// Whether this shape lies within the other: see [`within`].
     pub fn within(self, other: ShapeRef) -> Option<bool>
         ensures judged { is_some result ≡ is_judged (lent_shape self.entry) (lent_shape other.entry) }
         ensures answer { IfSome result (λ inside. IsTrue inside ↔ IsWithin (lent_shape self.entry) (lent_shape other.entry)) }
+        ensures test { result ≡ within_test (lent_shape self.entry) (lent_shape other.entry) }
     {
-        match self {
-            ShapeRef::Spot(point) => Some(is_inside(point, other)),
-            ShapeRef::Frame(_) => is_framed(self, other),
-            ShapeRef::Area(_) => is_framed(self, other),
-        }
+        lent_within(self, other)
     }
 }
 

@@ -1,11 +1,6 @@
+use Rattle.cad_shape.specs.Shapes.{lent_shape}
+use Rattle.cad_shape.proofs.TestLemmas.{told_of_within}
 use Rattle.cad_shape.proofs.shape.ShapeRef.within.Goals as goal
 
-pub returns-in-Frame-clause-answer : goal.returns-in-Frame-clause-answer
-returns-in-Frame-clause-answer c =
-    let h = rw c.in-Frame.is at c.is_framed.ensures.answer in
-    rw c.in-Frame.is h
-
-pub returns-in-Area-clause-answer : goal.returns-in-Area-clause-answer
-returns-in-Area-clause-answer c =
-    let h = rw c.in-Area.is at c.is_framed-in-Area.ensures.answer in
-    rw c.in-Area.is h
+pub returns-clause-test : goal.returns-clause-test
+returns-clause-test c = told_of_within (lent_shape c.args.self) (lent_shape c.args.other) c.lent_within.result c.lent_within.ensures.judged c.lent_within.ensures.answer
