@@ -1,11 +1,16 @@
 //! Laws of patterns, case folding and the order of texts, each proved for the definitions that the contracts cite.
 //! Nothing runs here.
 
-ghost use Rattle.cql_text.specs.Laws.{PlainPatternsAreEqual, AnyNumberTakesAll, FoldedTextsStay, OneTextIsEqual, OrderIsTotal};
+ghost use Rattle.cql_text.specs.Laws.{LikeTestTells, PlainPatternsAreEqual, AnyNumberTakesAll, FoldedTextsStay, OneTextIsEqual, OrderIsTotal};
 
 /// A pattern without `%`, `_` and `\` is like itself alone.
 pub fn plain_patterns_are_equal()
     ensures { PlainPatternsAreEqual }
+{}
+
+/// The test by which texts are judged is true exactly where the relation holds.
+pub fn like_test_tells()
+    ensures { LikeTestTells }
 {}
 
 /// The pattern `%` is like every text.

@@ -1,7 +1,7 @@
 //! LIKE, in one walk with a place to come back to.
 
 ghost use Rattle.std.specs.Prelude.{◌≡◌, ◌↔◌, ◌∷◌, [], chars, MatchOption, IsTrue};
-ghost use Rattle.cql_text.specs.Patterns.{Advances, BeginsPlain, Stops, any, is_like, pieces, piece_takes, some_end};
+ghost use Rattle.cql_text.specs.Patterns.{Advances, BeginsPlain, Stops, any, is_like, like_test, pieces, piece_takes, some_end};
 ghost use Rattle.cql_text.specs.Likeness.{IsLike};
 ghost use Rattle.cql_text.specs.Parts.{piece_of};
 
@@ -17,7 +17,8 @@ enum Part {
 /// character after it, and a last `\` for itself. No memory is taken.
 #[tactic(auto, using(crate::proofs::LikenessLemmas::tells))]
 pub fn like(text: &str, pattern: &str) -> bool
-    ensures { IsTrue result ↔ IsLike (chars pattern.now) (chars text.now) }
+    ensures meaning { IsTrue result ↔ IsLike (chars pattern.now) (chars text.now) }
+    ensures test { result ≡ like_test (chars pattern.now) (chars text.now) }
 {
     is_whole_like(text, pattern)
 }
