@@ -12,3 +12,4 @@ pub mod ShapeLemmas
 pub mod Neighbours
 pub mod LawLemmas
 pub mod PlainRingLemmas
+mod TestLemmas

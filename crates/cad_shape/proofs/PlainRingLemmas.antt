@@ -1,13 +1,13 @@
 -- What the test for rings that are written out shows.
-use Rattle.std.proofs.Common.{◌≡◌, ◌↔◌, IsTrue, ℕ, zero, suc, ◌+◌, ◌<◌, ◌≤◌, ◌⊎◌, Bool, true, false, ◌&&◌, ◌||◌, inl, inr, ⊎_elim, ℤ, pos, ◌+ℤ◌, ◌-ℤ◌, ◌*ℤ◌, ◌≤ℤ◌, ◌<ℤ◌, int_lt, nat_le, List, [], ◌∷◌, ◌++◌, length, map, refl, sym, ap, ap₂, ◌∙◌, subst, arith}
+use Rattle.std.proofs.Common.{◌≡◌, ℕ, zero, suc, ◌+◌, ◌<◌, ◌≤◌, ◌⊎◌, Bool, true, false, ◌&&◌, ◌||◌, inl, inr, ⊎_elim, ℤ, pos, ◌+ℤ◌, ◌-ℤ◌, ◌*ℤ◌, ◌<ℤ◌, int_lt, nat_le, List, [], ◌∷◌, ◌++◌, length, map, refl, sym, ap, ◌∙◌, subst, arith}
 use Rattle.std.proofs.lemmas.Bool.{false≢true, leb-true}
 use Rattle.std.proofs.lemmas.Int.{ints}
 use Rattle.cad_shape.specs.Segments.{Straddle, turn}
 use Rattle.cad_shape.specs.Edges.{Edge, walk, edges_of}
 use Rattle.cad_shape.specs.Areas.{doubled_area}
-use Rattle.cad_shape.specs.Crossings.{edge_at, pair_of, Cross, IsCrossing, NoneCross}
+use Rattle.cad_shape.specs.Crossings.{edge_at, pair_of, Cross}
 use Rattle.cad_shape.specs.Outlines.{IsRing}
-use Rattle.cad_shape.specs.PlainRings.{coordinates, lines, ring_lines, lines_area, side, differ, agree, is_clear, is_clear_of, are_clear, is_plain_ring}
+use Rattle.cad_shape.specs.PlainRings.{coordinates, lines, ring_lines, lines_area, differ, agree, is_clear, is_clear_of, are_clear, is_plain_ring}
 use Rattle.cad_shape.specs.declared.point.Point.{Point}
 use Rattle.cad_shape.specs.declared.crossing.Pair.{Pair}
 use Rattle.cad_shape.specs.declared.crossing.Pair.TheVariants.{Same, Next, Round, Far}

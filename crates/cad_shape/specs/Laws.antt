@@ -14,6 +14,7 @@ use Rattle.cad_shape.specs.Regions.{CrossesRight, passes, IsInRegion}
 use Rattle.cad_shape.specs.Rings.{corners_of, IsRingFault}
 use Rattle.cad_shape.specs.Segments.{Meet}
 use Rattle.cad_shape.specs.Shapes.{shape_corners, IsIn, Meets, IsWithin}
+use Rattle.cad_shape.specs.Tests.{shapes_meet, shape_within}
 
 -- segments that meet do so whichever is named first, and from whichever end
 abbrev pub SegmentsMeetEitherWay : Type 0
@@ -66,3 +67,7 @@ BoundsOverlap = (a b : Shape) (f g : Bounds) → IsLeastBounds f (shape_corners 
 -- a shape within another meets it
 abbrev pub WithinMeets : Type 0
 WithinMeets = (a b : Shape) → IsWithin a b → Meets a b
+
+-- the tests of shapes are true exactly where their relations hold
+abbrev pub TestsTell : Type 0
+TestsTell = (a b : Shape) → (IsTrue (shapes_meet a b) ↔ Meets a b) × (IsTrue (shape_within a b) ↔ IsWithin a b)

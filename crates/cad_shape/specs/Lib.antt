@@ -11,3 +11,4 @@ pub mod Rings
 pub mod Shapes
 pub mod Laws
 pub mod PlainRings
+pub mod Tests

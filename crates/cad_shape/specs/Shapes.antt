@@ -3,10 +3,18 @@ use Rattle.std.specs.Prelude.{◌≡◌, ◌⊎◌, Bool, true, false, List, [],
 use Rattle.cad_shape.specs.declared.point.Point.{Point}
 use Rattle.cad_shape.specs.declared.shape.Shape.{Shape}
 use Rattle.cad_shape.specs.declared.shape.Shape.TheVariants.{Spot, Frame, Area}
+use Rattle.cad_shape.specs.declared.shape.ShapeRef.{ShapeRef}
+use Rattle.cad_shape.specs.declared.shape.ShapeRef.TheVariants as lent
 use Rattle.cad_shape.specs.Edges.{Edge, AnyOf, edges_of}
 use Rattle.cad_shape.specs.Frames.{IsHeld, frame_corners}
 use Rattle.cad_shape.specs.Regions.{IsOnSome, IsInRegion, SomeMeet}
 use Rattle.cad_shape.specs.Rings.{corners_of}
+
+-- the shape that is lent
+abbrev pub lent_shape : ShapeRef → Shape
+lent_shape (lent.Spot p) = Spot p
+lent_shape (lent.Frame bounds) = Frame bounds
+lent_shape (lent.Area ring) = Area ring.now
 
 -- the corners of a shape
 abbrev pub shape_corners : Shape → List Point

@@ -2,7 +2,7 @@
 
 ghost use Rattle.cad_shape.specs.Laws.{SegmentsMeetEitherWay, CountedEdgesCross, TurningKeepsRegions, OrderKeepsRegions};
 ghost use Rattle.cad_shape.specs.Laws.{OneFaultAlone, CornersMakeTheRing, OneLeastBox, MeetingIsSymmetric, CornersLieInside};
-ghost use Rattle.cad_shape.specs.Laws.{BoundsHoldTheShape, BoundsOverlap, PlainRingsAreRings, WithinMeets};
+ghost use Rattle.cad_shape.specs.Laws.{BoundsHoldTheShape, BoundsOverlap, PlainRingsAreRings, WithinMeets, TestsTell};
 
 /// Segments that meet do so whichever is named first, and from whichever end.
 pub fn segments_meet_either_way()
@@ -67,4 +67,9 @@ pub fn bounds_overlap()
 /// A shape within another meets it.
 pub fn within_meets()
     ensures { WithinMeets }
+{}
+
+/// The tests of shapes, by signs of whole numbers, are true exactly where their relations hold.
+pub fn tests_tell()
+    ensures { TestsTell }
 {}

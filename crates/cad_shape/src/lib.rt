@@ -3,7 +3,7 @@
 //! - `Point`: a point within 100,000 kilometres of the origin either way.
 //! - `Bounds`: a closed box with sides along the axes.
 //! - `Ring`: a simple closed line with area through 3 to 1,000 corners; `RingFault` says why a list of corners is none.
-//! - `Shape`: a point, a box or the region inside a ring.
+//! - `Shape`: a point, a box or the region inside a ring; `ShapeRef`: the same with the ring lent.
 //! - `segments_meet`: whether two segments share a point.
 //! - `in_region`: whether a point lies in the region inside a ring.
 //! - `meets`, `within`, `bounds`: whether two shapes share a point, whether one lies within another, and the least box
@@ -35,4 +35,4 @@ pub use point::Point;
 pub use relation::{bounds, in_region, meets, within};
 pub use ring::{Ring, RingFault};
 pub use segment::segments_meet;
-pub use shape::Shape;
+pub use shape::{Shape, ShapeRef};

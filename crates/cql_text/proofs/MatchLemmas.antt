@@ -1,0 +1,57 @@
+-- The test and the relation say the same.
+use Rattle.std.proofs.Common.{◌≡◌, ◌↔◌, ◌∙◌, ℕ, Bool, true, false, ◌==◌, ◌||◌, ◌&&◌, List, [], ◌∷◌, ◌++◌, ap, sym, refl, arith}
+use Rattle.std.specs.Bool.{IsTrue}
+use Rattle.std.proofs.lemmas.Bool.Decides.{nat_tests}
+use Rattle.cql_text.specs.Patterns.{Matches, Piece, any, one, exactly, is_like, some_end}
+
+both_first : (a b : Bool) → (a && b) ≡ true → a ≡ true
+both_first a b h = grind arith
+
+both_second : (a b : Bool) → (a && b) ≡ true → b ≡ true
+both_second a b h = grind arith
+
+pub same_char : (c d : ℕ) → (c == d) ≡ true → c ≡ d
+same_char c d h = grind (arith, nat_tests)
+
+itself : (c : ℕ) → (c == c) ≡ true
+itself c = grind (arith, nat_tests)
+
+or_second : (a b : Bool) → b ≡ true → (a || b) ≡ true
+or_second a b h = grind arith
+
+or_first : (a b : Bool) → a ≡ true → (a || b) ≡ true
+or_first a b h = grind arith
+
+end_from : (test : List ℕ → Bool) (text : List ℕ) → some_end test text ≡ true → (u : List ℕ) × (v : List ℕ) × (text ≡ u ++ v) × (test v ≡ true)
+end_from test [] h = ([], [], refl, h)
+end_from test (c ∷ text) h = elim (test (c ∷ text)) as (λ b. test (c ∷ text) ≡ b → (b || some_end test text) ≡ true → (u : List ℕ) × (v : List ℕ) × (c ∷ text ≡ u ++ v) × (test v ≡ true)) [
+  | true ↦ λ e g. ([], c ∷ text, refl, e)
+  | false ↦ λ e g. let r = end_from test text g in (c ∷ r.0, r.1, ap (λ (t : List ℕ). c ∷ t) r.2, r.3)
+] refl h
+
+end_here : (test : List ℕ → Bool) (text : List ℕ) → test text ≡ true → some_end test text ≡ true
+end_here test [] h = h
+end_here test (c ∷ text) h = or_first (test (c ∷ text)) (some_end test text) h
+
+end_at : (test : List ℕ → Bool) (u v : List ℕ) → test v ≡ true → some_end test (u ++ v) ≡ true
+end_at test [] v h = end_here test v h
+end_at test (c ∷ u) v h = or_second (test (c ∷ u ++ v)) (some_end test (u ++ v)) (end_at test u v h)
+
+matches_from : (p : List Piece) (text : List ℕ) → is_like p text ≡ true → Matches p text
+matches_from [] [] h = refl
+matches_from [] (c ∷ text) h = cc
+matches_from (any ∷ p) text h = let r = end_from (is_like p) text h in (r.0, r.1, r.2, matches_from p r.1 r.3)
+matches_from (one ∷ p) [] h = cc
+matches_from (one ∷ p) (c ∷ text) h = (c, text, refl, matches_from p text h)
+matches_from (exactly d ∷ p) [] h = cc
+matches_from (exactly d ∷ p) (c ∷ text) h =
+    (text, ap (λ (x : ℕ). x ∷ text) (same_char c d (both_first (c == d) (is_like p text) h)), matches_from p text (both_second (c == d) (is_like p text) h))
+
+matches_to : (p : List Piece) (text : List ℕ) → Matches p text → is_like p text ≡ true
+matches_to [] text m = rw m refl
+matches_to (any ∷ p) text m = rw m.2 (end_at (is_like p) m.0 m.1 (matches_to p m.1 m.3))
+matches_to (one ∷ p) text m = rw m.2 (matches_to p m.1 m.3)
+matches_to (exactly d ∷ p) text m = rw (m.1, itself d) (matches_to p m.0 m.2)
+
+pub matches_iff : (p : List Piece) (text : List ℕ) (r : Bool) → r ≡ is_like p text → IsTrue r ↔ Matches p text
+matches_iff p text r e = (λ h. matches_from p text (sym e ∙ h), λ m. e ∙ matches_to p text m)

@@ -1,0 +1,5 @@
+pub mod Likeness
+pub mod Patterns
+pub mod Parts
+pub mod Order
+pub mod Laws

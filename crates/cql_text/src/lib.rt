@@ -1,0 +1,16 @@
+//! Texts as the filter language sees them: as lists of code points.
+//!
+//! - [`like`]: whether a text is like a pattern. `C%1` is like `C\%_`, and `CC1` is not.
+//! - [`fold`]: a text with its case folded: `Straße` and `STRASSE` both become `strasse`.
+//! - [`compare`]: the order of texts, by code points.
+//! - [`laws`]: what holds of patterns, folding and the order, beyond what each call says.
+#![tactic(auto)]
+
+mod folding;
+pub mod laws;
+mod order;
+mod pattern;
+
+pub use folding::fold;
+pub use order::compare;
+pub use pattern::like;

@@ -1,0 +1,14 @@
+//! The order of texts.
+
+ghost use Rattle.std.specs.Prelude.{◌≡◌, chars};
+ghost use Rattle.cql_text.specs.Order.{text_cmp};
+
+use std::cmp::Ordering;
+
+/// Compares by code points: the first that differ decide, and else the shorter text comes first. No memory is taken.
+#[tactic(auto, using(crate::proofs::CodePointLemmas::bytes_cmp))]
+pub fn compare(left: &str, right: &str) -> Ordering
+    ensures { result ≡ text_cmp (chars left.now) (chars right.now) }
+{
+    left.cmp(right)
+}

@@ -1,0 +1,142 @@
+//! LIKE, in one walk with a place to come back to.
+
+ghost use Rattle.std.specs.Prelude.{◌≡◌, ◌↔◌, ◌∷◌, [], chars, MatchOption, IsTrue};
+ghost use Rattle.cql_text.specs.Patterns.{Advances, BeginsPlain, Stops, any, is_like, like_test, pieces, piece_takes, some_end};
+ghost use Rattle.cql_text.specs.Likeness.{IsLike};
+ghost use Rattle.cql_text.specs.Parts.{piece_of};
+
+// One part of a pattern: any number of characters, one, or exactly that one.
+#[derive(Clone, Copy)]
+enum Part {
+    Any,
+    One,
+    Exactly(char),
+}
+
+/// Whether the whole text is like the pattern: `%` stands for any number of characters, `_` for one, `\` for the
+/// character after it, and a last `\` for itself. No memory is taken.
+#[tactic(auto, using(crate::proofs::LikenessLemmas::tells))]
+pub fn like(text: &str, pattern: &str) -> bool
+    ensures meaning { IsTrue result ↔ IsLike (chars pattern.now) (chars text.now) }
+    ensures test { result ≡ like_test (chars pattern.now) (chars text.now) }
+{
+    is_whole_like(text, pattern)
+}
+
+// Up to the first part for any number, each part takes one character.
+fn is_whole_like(text: &str, pattern: &str) -> bool
+    ensures { result ≡ is_like (pieces (chars pattern.now)) (chars text.now) }
+{
+    let mut rest = text;
+    let mut left = pattern;
+    'front: loop {
+        if let Some(after) = after_any(left) {
+            return is_some_end_like(rest, after);
+        }
+        let Some((after, more)) = advance(left, rest) else {
+            return is_over(left, rest);
+        };
+        left = after;
+        rest = more;
+    }
+}
+
+// After a part for any number: `again` and `from` are where the walk comes back to.
+fn is_some_end_like(text: &str, pattern: &str) -> bool
+    ensures { result ≡ some_end (is_like (pieces (chars pattern.now))) (chars text.now) }
+{
+    let mut again = pattern;
+    let mut from = text;
+    let mut left = pattern;
+    let mut rest = text;
+    'walk: loop {
+        if let Some(after) = after_any(left) {
+            again = after;
+            from = rest;
+            left = after;
+        } else if let Some((after, more)) = advance(left, rest) {
+            left = after;
+            rest = more;
+        } else {
+            if is_over(left, rest) {
+                return true;
+            }
+            let Some((_, more)) = first_char(from) else {
+                return false;
+            };
+            from = more;
+            left = again;
+            rest = more;
+        }
+    }
+}
+
+// Whether nothing is left on either side, where the walk goes no further.
+fn is_over(pattern: &str, text: &str) -> bool
+    requires plain { BeginsPlain (pieces (chars pattern.now)) }
+    requires stops { Stops (pieces (chars pattern.now)) (chars text.now) }
+    ensures { result ≡ is_like (pieces (chars pattern.now)) (chars text.now) }
+{
+    first_part(pattern).is_none() && first_char(text).is_none()
+}
+
+// The pattern after a part that takes any number.
+fn after_any(pattern: &str) -> Option<&str>
+    ensures { MatchOption result (BeginsPlain (pieces (chars pattern.now))) (λ after. pieces (chars pattern.now) ≡ any ∷ pieces (chars after.now)) }
+{
+    match first_part(pattern) {
+        Some((Part::Any, after)) => Some(after),
+        _ => None,
+    }
+}
+
+// What is left when the first part has taken the first character.
+fn advance<'a>(pattern: &'a str, text: &'a str) -> Option<(&'a str, &'a str)>
+    requires { BeginsPlain (pieces (chars pattern.now)) }
+    ensures { MatchOption result (Stops (pieces (chars pattern.now)) (chars text.now)) (λ r. Advances (pieces (chars pattern.now)) (chars text.now) (pieces (chars r.0.now)) (chars r.1.now)) }
+{
+    let (part, after) = first_part(pattern)?;
+    let (first, more) = first_char(text)?;
+    if takes(part, first) {
+        Some((after, more))
+    } else {
+        None
+    }
+}
+
+fn takes(part: Part, c: char) -> bool
+    ensures { result ≡ piece_takes (piece_of part) c }
+{
+    match part {
+        Part::Any => false,
+        Part::One => true,
+        Part::Exactly(d) => c == d,
+    }
+}
+
+// The first character, and the text after it.
+fn first_char(text: &str) -> Option<(char, &str)>
+    ensures { MatchOption result (chars text.now ≡ []) (λ r. chars text.now ≡ r.0 ∷ chars r.1.now) }
+{
+    let mut all = text.chars();
+    match all.next() {
+        None => None,
+        Some(first) => Some((first, all.as_str())),
+    }
+}
+
+// The first part of a pattern, and the pattern after it.
+fn first_part(pattern: &str) -> Option<(Part, &str)>
+    ensures { MatchOption result (pieces (chars pattern.now) ≡ []) (λ r. pieces (chars pattern.now) ≡ piece_of r.0 ∷ pieces (chars r.1.now)) }
+{
+    let (first, after) = first_char(pattern)?;
+    match first {
+        '%' => Some((Part::Any, after)),
+        '_' => Some((Part::One, after)),
+        '\\' => match first_char(after) {
+            None => Some((Part::Exactly('\\'), after)),
+            Some((next, after)) => Some((Part::Exactly(next), after)),
+        },
+        _ => Some((Part::Exactly(first), after)),
+    }
+}

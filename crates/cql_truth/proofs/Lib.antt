@@ -1,0 +1,3 @@
+mod Exclusion
+mod IntervalLemmas
+mod PartLemmas

@@ -1,0 +1,13 @@
+use Rattle.std.proofs.Common.{◌≡◌, ◌∷◌, drop, map}
+use Rattle.cql_truth.specs.Said.{said}
+use Rattle.cql_truth.specs.Sides.{conjunction, disjunction, sides}
+use Rattle.cql_truth.proofs.decide.+truth.Given as goal
+
+-- what is said so far with what is left is what all parts say
+abbrev pub invariant-all_of-loop-part : goal.invariant-all_of-loop-part
+invariant-all_of-loop-part l =
+    conjunction (said l.all ∷ map (sides l.feature) (drop l.part-index l.parts)) ≡ conjunction (map (sides l.feature) l.parts)
+
+abbrev pub invariant-some_of-loop-part : goal.invariant-some_of-loop-part
+invariant-some_of-loop-part l =
+    disjunction (said l.some ∷ map (sides l.feature) (drop l.part-index l.parts)) ≡ disjunction (map (sides l.feature) l.parts)

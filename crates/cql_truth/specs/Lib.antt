@@ -1,0 +1,9 @@
+pub mod Intervals
+pub mod Values
+pub mod Arithmetic
+pub mod Sides
+pub mod Said
+pub mod Contents
+pub mod Terms
+pub mod Nodes
+pub mod Laws

@@ -1,0 +1,22 @@
+//! What a filter says of a feature.
+//!
+//! [`truth`] says whether a filter is true or false of a feature, or neither for want of a value. Of
+//! `NOT area > 390` it says Yes where the area is 380, No where it is 400, and Unknown where there is none.
+//!
+//! - [`truth`], [`Truth`]: what a filter says of a feature
+//! - [`laws`]: what holds of filters and of values, beyond what the call says
+#![tactic(auto)]
+
+mod comparison;
+mod decide;
+mod flag;
+pub mod laws;
+mod property;
+mod shape;
+mod text;
+mod time;
+mod verdict;
+mod whole;
+
+pub use decide::truth;
+pub use verdict::Truth;
