@@ -1,5 +1,5 @@
 -- A text is a filter or has one first fault.
-use Rattle.std.proofs.Common.{◌≡◌, ◌⊎◌, inl, inr, refl, ap, sym, subst, ◌∙◌, ℕ, ◌+◌, List, [], ◌∷◌, length}
+use Rattle.std.proofs.Common.{◌≡◌, ◌⊎◌, inl, inr, refl, ap, subst, ℕ, ◌+◌, List, [], ◌∷◌, length}
 use Rattle.std.specs.Prelude.{Result, Ok, Err, IsOk}
 use Rattle.cad_feature.specs.Schema.{Named}
 use Rattle.cql_lexer.specs.Laws as lexer
@@ -8,18 +8,27 @@ use Rattle.cql_lexer.specs.Lexed as lexed
 use Rattle.cql_lexer.specs.Lexed.{IsSpelt}
 use Rattle.cql_lexer.specs.Mark.{Mark, at}
 use Rattle.cql_lexer.specs.declared.fault.SpellingFault.{SpellingFault}
+use Rattle.cql_lexer.specs.declared.fault.LexFault.{LexFault}
+use Rattle.cql_lexer.specs.declared.fault.LexFault.TheVariants as lex
+use Rattle.cql_parser.specs.Answer as parsed
 use Rattle.cql_parser.specs.Answer.{IsParsed}
 use Rattle.cql_parser.specs.Faults.{HasFault}
 use Rattle.cql_parser.specs.Laws as parser
 use Rattle.cql_parser.specs.Order.{Ascend, IsOrdered}
 use Rattle.cql_parser.specs.Syntax.{Syntax}
 use Rattle.cql_parser.specs.declared.fault.GrammarFault.{GrammarFault}
+use Rattle.cql_parser.specs.declared.fault.ParseFault.{ParseFault}
+use Rattle.cql_parser.specs.declared.fault.ParseFault.TheVariants as parse
+use Rattle.cql_types.specs.Contract.{ForFault}
 use Rattle.cql_types.specs.Kinds.{IsCondition, IsLeast}
 use Rattle.cql_types.specs.Laws as types
 use Rattle.cql_types.specs.declared.fault.Fault.{Fault}
+use Rattle.cql_types.specs.declared.fault.TypeFault.{TypeFault}
+use Rattle.cql_types.specs.declared.fault.TypeFault.TheVariants as check
 use Rattle.cql_types.specs.declared.filter.Filter.{Filter}
 use Rattle.cql_filter.specs.Answer.{Answers, OrMemory}
-use Rattle.cql_filter.specs.Filters.{IsRead, IsAccepted, IsFilterOf, IsFirstFault, of_spelling, of_grammar, of_kinds}
+use Rattle.cql_filter.specs.Causes.{of_lexer, of_parser, of_types}
+use Rattle.cql_filter.specs.Filters.{IsRead, IsAccepted, IsFirstFault, of_spelling, of_grammar, of_kinds}
 use Rattle.cql_filter.specs.Laws.{HasFilterOrFault, HasFaultOrFilter, HasOneFirstFault, HasFiltersOfAccepted}
 use Rattle.cql_filter.specs.declared.cause.Cause.{Cause}
 use Rattle.cql_filter.specs.declared.cause.Cause.TheVariants.{OfLexer, OfParser, OfTypes}
@@ -37,13 +46,13 @@ same_tree one_spelling one_tree {text} {this} {that} a b =
     (subst (λ (ts : List Mark). IsParsed ts this) (same_tokens one_spelling a.spelt b.spelt) a.parsed).reads b.parsed.reads
 
 -- whose places ascend
-ascend : {first end : ℕ} (tokens : List Mark) → AscendWithin first end tokens → Ascend first tokens
-ascend [] h = tt
-ascend (at place sort ∷ tokens) h = (h.0, ascend tokens h.2)
+pub ascend : (first end : ℕ) (tokens : List Mark) → AscendWithin first end tokens → Ascend first tokens
+ascend first end [] h = tt
+ascend first end (at place sort ∷ tokens) h = (h.0, ascend (place + 1) end tokens h.2)
 
 pub ordered : lexer.HasPlacesInOrder → parser.HasPlacesInOrder → {text : List ℕ} {tree : Syntax} → IsRead text tree → IsOrdered tree
 ordered tokens_ascend trees_ascend {text} {tree} r =
-    trees_ascend r.tokens tree r.parsed.reads (ascend r.tokens (tokens_ascend text r.tokens r.spelt.spells))
+    trees_ascend r.tokens tree r.parsed.reads (ascend 0 (length text) r.tokens (tokens_ascend text r.tokens r.spelt.spells))
 
 -- ---- a filter has no fault
 
@@ -83,21 +92,21 @@ kinds_same below {schema} {text} {t} {u} {f} {g} a b h k =
     below.one_least schema u f g (ordered below.tokens_ascend below.trees_ascend b)
     (subst (λ (v : Syntax). IsLeast schema v f) (same_tree below.one_spelling below.one_tree a b) h) k
 
-no_grammar_fault : Below → {text : List ℕ} {tokens : List Mark} {tree : Syntax} {fault : GrammarFault} → IsSpelt text tokens →
+no_grammar_fault : Below → {text : List ℕ} {tokens : List Mark} {tree : Syntax} (fault : GrammarFault) → IsSpelt text tokens →
     HasFault tokens (length text) fault → IsRead text tree → ⊥
-no_grammar_fault below {text} {tokens} {tree} {fault} spelt h read =
+no_grammar_fault below {text} {tokens} {tree} fault spelt h read =
     below.no_tree tokens (length text) fault tree h
     (subst (λ (ts : List Mark). IsParsed ts tree) (same_tokens below.one_spelling read.spelt spelt) read.parsed)
 
 pub one_first_fault : Below → HasOneFirstFault
-one_first_fault below schema text _ _ (of_spelling {fault} h) (of_spelling {other} k) = ap OfLexer (below.one_spelling_fault text fault other h k)
+one_first_fault below schema text _ _ (of_spelling {fault} h) (of_spelling {fault = other} k) = ap OfLexer (below.one_spelling_fault text fault other h k)
 one_first_fault below schema text _ _ (of_spelling {fault} h) (of_grammar {tokens} spelt k) = absurd (below.no_tokens text fault tokens h spelt)
 one_first_fault below schema text _ _ (of_spelling {fault} h) (of_kinds read k) = absurd (below.no_tokens text fault read.tokens h read.spelt)
 one_first_fault below schema text _ _ (of_grammar {tokens} spelt h) (of_spelling {fault} k) = absurd (below.no_tokens text fault tokens k spelt)
 one_first_fault below schema text _ _ (of_grammar a h) (of_grammar b k) = ap OfParser (grammar_same below a b h k)
-one_first_fault below schema text _ _ (of_grammar spelt h) (of_kinds read k) = absurd (no_grammar_fault below spelt h read)
+one_first_fault below schema text _ _ (of_grammar {fault = fault} spelt h) (of_kinds read k) = absurd (no_grammar_fault below fault spelt h read)
 one_first_fault below schema text _ _ (of_kinds read h) (of_spelling {fault} k) = absurd (below.no_tokens text fault read.tokens k read.spelt)
-one_first_fault below schema text _ _ (of_kinds read h) (of_grammar spelt k) = absurd (no_grammar_fault below spelt k read)
+one_first_fault below schema text _ _ (of_kinds read h) (of_grammar {fault = fault} spelt k) = absurd (no_grammar_fault below fault spelt k read)
 one_first_fault below schema text _ _ (of_kinds a h) (of_kinds b k) = ap OfTypes (kinds_same below a b h k)
 
 -- ---- a text is a filter or has a fault
@@ -133,6 +142,20 @@ filters_of_accepted conditions schema text filter h =
     record { tree = h.tree; read = h.read; condition = conditions schema h.tree filter h.means }
 
 -- ---- what the answers say
+
+pub of_lexer_answers : (schema : List Named) (text : List ℕ) (why : LexFault) → lexed.Answers text (Err why) → Answers schema text (Err (of_lexer why))
+of_lexer_answers schema text (lex.At fault) h = of_spelling h
+of_lexer_answers schema text lex.Memory h = tt
+
+pub of_parser_answers : (schema : List Named) (text : List ℕ) (tokens : List Mark) (end : ℕ) (why : ParseFault) → IsSpelt text tokens → end ≡ length text →
+    parsed.Answers tokens end (Err why) → Answers schema text (Err (of_parser why))
+of_parser_answers schema text tokens end (parse.At fault) spelt e h = of_grammar spelt (subst (λ (n : ℕ). HasFault tokens n fault) e h)
+of_parser_answers schema text tokens end parse.Memory spelt e h = tt
+
+pub of_types_answers : (schema : List Named) (text : List ℕ) (tree : Syntax) (why : TypeFault) → IsRead text tree → ForFault (IsLeast schema tree) why →
+    Answers schema text (Err (of_types why))
+of_types_answers schema text tree (check.At fault) read h = of_kinds read h
+of_types_answers schema text tree check.Memory read h = tt
 
 pub accepted : HasFaultOrFilter → (schema : List Named) (text : List ℕ) (result : Result Filter FilterFault) → Answers schema text result →
     IsAccepted schema text → OrMemory result (IsOk result)

@@ -1,7 +1,7 @@
 // Why a text has no tokens.
 
-ghost use Rattle.std.specs.Prelude.{◌≡◌, Some};
-ghost use Rattle.cql_lexer.specs.Faults.{label_of, spelling_label};
+ghost use Rattle.std.specs.Prelude.{◌≡◌};
+ghost use Rattle.cql_lexer.specs.Faults.{label_of, name_of, number_of, place_of};
 ghost use Rattle.cql_lexer.specs.declared.fault.LexFault.TheVariants.{Memory};
 
 use crate::token::Token;
@@ -39,7 +39,7 @@ pub enum LexFault {
 impl SpellingFault {
     /// The number by which programs tell the fault.
     pub fn number(&self) -> u8
-        ensures { result ≡ (spelling_label self.now).number }
+        ensures { result ≡ (label_of self.now).number }
     {
         match self {
             SpellingFault::Unterminated { .. } => 1,
@@ -51,7 +51,7 @@ impl SpellingFault {
 
     /// The name that programs print.
     pub fn name(&self) -> &'static str
-        ensures { result.now ≡ (spelling_label self.now).name }
+        ensures { result.now ≡ (label_of self.now).name }
     {
         match self {
             SpellingFault::Unterminated { .. } => "Unterminated",
@@ -63,7 +63,7 @@ impl SpellingFault {
 
     /// The byte of the text at which the fault stands.
     pub fn place(&self) -> usize
-        ensures { Some result ≡ (spelling_label self.now).place }
+        ensures { result ≡ (label_of self.now).place }
     {
         match self {
             SpellingFault::Unterminated { place }
@@ -77,7 +77,7 @@ impl SpellingFault {
 impl LexFault {
     /// The number by which programs tell the fault.
     pub fn number(&self) -> u8
-        ensures { result ≡ (label_of self.now).number }
+        ensures { result ≡ number_of self.now }
     {
         match self {
             LexFault::At(fault) => fault.number(),
@@ -87,7 +87,7 @@ impl LexFault {
 
     /// The name that programs print.
     pub fn name(&self) -> &'static str
-        ensures { result.now ≡ (label_of self.now).name }
+        ensures { result.now ≡ name_of self.now }
     {
         match self {
             LexFault::At(fault) => fault.name(),
@@ -97,7 +97,7 @@ impl LexFault {
 
     /// The byte of the text at which the fault stands, or `None` where memory ran out.
     pub fn place(&self) -> Option<usize>
-        ensures { result ≡ (label_of self.now).place }
+        ensures { result ≡ place_of self.now }
     {
         match self {
             LexFault::At(fault) => Some(fault.place()),

@@ -56,13 +56,22 @@ HasFault tokens end (EndOfFilter place) = (deep_at 0 tokens ≡ None) × (place 
 pub record Label : Type 0 where
   pub number : ℕ
   pub name : List ℕ
-  pub place : Option ℕ
+  pub place : ℕ
 
-abbrev pub grammar_label : GrammarFault → Label
-grammar_label (TooDeep place) = record { number = 1; name = codes "TooDeep"; place = Some place }
-grammar_label (NotExpected place) = record { number = 2; name = codes "NotExpected"; place = Some place }
-grammar_label (EndOfFilter place) = record { number = 3; name = codes "EndOfFilter"; place = Some place }
+abbrev pub label_of : GrammarFault → Label
+label_of (TooDeep place) = record { number = 1; name = codes "TooDeep"; place = place }
+label_of (NotExpected place) = record { number = 2; name = codes "NotExpected"; place = place }
+label_of (EndOfFilter place) = record { number = 3; name = codes "EndOfFilter"; place = place }
 
-abbrev pub label_of : ParseFault → Label
-label_of (At fault) = grammar_label fault
-label_of Memory = record { number = 4; name = codes "Memory"; place = None }
+abbrev pub number_of : ParseFault → ℕ
+number_of (At fault) = (label_of fault).number
+number_of Memory = 4
+
+abbrev pub name_of : ParseFault → List ℕ
+name_of (At fault) = (label_of fault).name
+name_of Memory = codes "Memory"
+
+-- want of memory has no place
+abbrev pub place_of : ParseFault → Option ℕ
+place_of (At fault) = Some (label_of fault).place
+place_of Memory = None

@@ -1,7 +1,7 @@
 // Why tokens are not read.
 
-ghost use Rattle.std.specs.Prelude.{◌≡◌, Some};
-ghost use Rattle.cql_parser.specs.Faults.{grammar_label, label_of};
+ghost use Rattle.std.specs.Prelude.{◌≡◌};
+ghost use Rattle.cql_parser.specs.Faults.{label_of, name_of, number_of, place_of};
 
 use thiserror::Error;
 
@@ -33,7 +33,7 @@ pub enum ParseFault {
 impl GrammarFault {
     /// The number by which programs tell the fault.
     pub fn number(&self) -> u8
-        ensures { result ≡ (grammar_label self.now).number }
+        ensures { result ≡ (label_of self.now).number }
     {
         match self {
             GrammarFault::TooDeep { .. } => 1,
@@ -44,7 +44,7 @@ impl GrammarFault {
 
     /// The name that programs print.
     pub fn name(&self) -> &'static str
-        ensures { result.now ≡ (grammar_label self.now).name }
+        ensures { result.now ≡ (label_of self.now).name }
     {
         match self {
             GrammarFault::TooDeep { .. } => "TooDeep",
@@ -55,7 +55,7 @@ impl GrammarFault {
 
     /// The byte of the text at which the fault stands.
     pub fn place(&self) -> usize
-        ensures { Some result ≡ (grammar_label self.now).place }
+        ensures { result ≡ (label_of self.now).place }
     {
         match self {
             GrammarFault::TooDeep { place }
@@ -68,7 +68,7 @@ impl GrammarFault {
 impl ParseFault {
     /// The number by which programs tell the fault.
     pub fn number(&self) -> u8
-        ensures { result ≡ (label_of self.now).number }
+        ensures { result ≡ number_of self.now }
     {
         match self {
             ParseFault::At(fault) => fault.number(),
@@ -78,7 +78,7 @@ impl ParseFault {
 
     /// The name that programs print.
     pub fn name(&self) -> &'static str
-        ensures { result.now ≡ (label_of self.now).name }
+        ensures { result.now ≡ name_of self.now }
     {
         match self {
             ParseFault::At(fault) => fault.name(),
@@ -88,7 +88,7 @@ impl ParseFault {
 
     /// The byte of the text at which the fault stands, or `None` where memory ran out.
     pub fn place(&self) -> Option<usize>
-        ensures { result ≡ (label_of self.now).place }
+        ensures { result ≡ place_of self.now }
     {
         match self {
             ParseFault::At(fault) => Some(fault.place()),
