@@ -3,14 +3,18 @@ RT ?= rt
 # How many crates `make check` proves side by side.
 JOBS ?= $(shell nproc)
 
-.PHONY: sample test check refused bench register-file office-file clean
+.PHONY: sample cases test check refused bench register-file office-file clean
 
 # Proves and builds the program, and answers the request in crates/cadastre/stdin. Crates that do not wait for each other are proved side by side.
 sample: check
 	cd crates/cadastre && $(RT) run -- sample < stdin
 
-# The whole gate: every proof from nothing, the must-fail edits, the tests, and each program as two compilers build it; and the program on files of the office.
-test:
+# Holds the stored answers of the filter cases, and the examples of docs/FILTERS.md, against a second reading of the rules.
+cases:
+	scripts/check_filter_cases
+
+# The whole gate: the cases held against a second reading, every proof from nothing, the must-fail edits, the tests, each program as two compilers build it, and the program on files of the office.
+test: cases
 	$(RT) ci
 	scripts/check_office
 
