@@ -20,9 +20,9 @@ use Rattle.cad_stream.specs.declared.replies.Next.TheVariants as next
 use Rattle.cad_stream.specs.declared.replies.Replies.{Replies}
 use Rattle.cad_stream.specs.declared.responder.Responder.{Ghosts}
 use Rattle.cad_stream.specs.Streams.{Outcome, waits, closed, refused, Passes, Reaches, IsStream}
-use Rattle.cad_stream.specs.Replies.{replies_to, last_reply}
+use Rattle.cad_stream.specs.Replies.{replies_to, last_reply, Fails}
 use Rattle.cad_stream.specs.Answering.{Answered}
-use Rattle.cad_stream.specs.Feeding.{bytes_left, Under, Stays, Fails, IsNext, IsNextOf, IsReplied, RepliesTo, Feeds}
+use Rattle.cad_stream.specs.Feeding.{bytes_left, Under, Stays, IsNext, IsNextOf, IsReplied, RepliesTo, Feeds}
 use Rattle.cad_stream.proofs.StreamLemmas.{fits_some, passes_push, passes_join}
 
 -- the spans of a head show its request
@@ -78,7 +78,7 @@ module _ {R : Type 0} (g : Ghosts R) where
 
   -- a fault of the next request
   pub fails_later : (bytes : List ℕ) (old now new : R) (used : ℕ) (out : List ℕ) (fault : RegisterFault) → HasReplied bytes old used out now
-      → IsNext g (drop used bytes) now (Err fault) new → Under g old new (λ commands. (fault ≡ Memory) ⊎ Fails g bytes fault commands)
+      → IsNext g (drop used bytes) now (Err fault) new → Under g old new (λ commands. (fault ≡ Memory) ⊎ Fails g.closes g.fails_to_answer bytes fault commands)
   fails_later bytes old now new used out fault h n counts commands stands =
       elim (n.cause counts commands (h.stands (n.stays.clean counts) commands stands)) [
         | inl m ↦ inl m

@@ -24,10 +24,10 @@ pub fits_some : (bytes : List ℕ) (head : RequestHead) (rest : List ℕ) → Fi
 fits_some bytes head rest f =
     (print_some head f.reads.0, sym (length-append (print_request head) rest) ∙ ap length (sym f.reads.1))
 
-hopeless_none : (bytes : List ℕ) → IsHopeless bytes → HasNone bytes
+pub hopeless_none : (bytes : List ℕ) → IsHopeless bytes → HasNone bytes
 hopeless_none bytes hopeless = subst HasNone (append-nil bytes) (hopeless [])
 
-hopeless_stays : (bytes more : List ℕ) → IsHopeless bytes → IsHopeless (bytes ++ more)
+pub hopeless_stays : (bytes more : List ℕ) → IsHopeless bytes → IsHopeless (bytes ++ more)
 hopeless_stays bytes more hopeless later = subst HasNone (sym (append_assoc bytes more later)) (hopeless (more ++ later))
 
 -- ---- more heads, and more bytes

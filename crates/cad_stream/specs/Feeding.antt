@@ -12,8 +12,8 @@ use Rattle.cad_stream.specs.declared.replies.Next.{Next}
 use Rattle.cad_stream.specs.declared.replies.Next.TheVariants.{Waiting, Hopeless, Answered}
 use Rattle.cad_stream.specs.declared.replies.Replies.{Replies}
 use Rattle.cad_stream.specs.declared.responder.Responder.{Ghosts}
-use Rattle.cad_stream.specs.Streams.{Outcome, rest_of, Passes, Reaches, IsStream}
-use Rattle.cad_stream.specs.Replies.{replies_to, last_reply}
+use Rattle.cad_stream.specs.Streams.{Outcome, rest_of, IsStream}
+use Rattle.cad_stream.specs.Replies.{replies_to, last_reply, Fails}
 
 -- the bytes that no request took yet
 abbrev pub bytes_held : Connection → List ℕ
@@ -35,12 +35,6 @@ module _ {R : Type 0} (g : Ghosts R) where
     pub store : g.counts new → IfErr result (λ fault. fault ≡ Store → (before : R) × (request : Request) × g.refuses_answer before new request)
     pub clean : g.counts new → g.counts old
 
-  -- one of the requests that the bytes come to has no reply
-  abbrev pub Fails : List ℕ → RegisterFault → List Command → Type 0
-  Fails bytes fault commands =
-      (heads : List RequestHead) × (head : RequestHead) × (rest : List ℕ)
-      × Reaches g.closes heads head bytes rest × g.fails_to_answer commands (request_of head) fault
-
   -- these are the replies, and that comes of the connection
   abbrev pub IsReplied : R → R → List ℕ → List ℕ → Outcome → Type 0
   IsReplied old new bytes out last =
@@ -50,14 +44,14 @@ module _ {R : Type 0} (g : Ghosts R) where
   -- a piece that follows the bytes held
   pub record Feeds (held piece : List ℕ) (old : R) (result : Result Fed RegisterFault) (new : R) : Type 0 where
     pub replied : IfOk result (λ fed. (last : Outcome) × IsReplied old new (held ++ piece) fed.bytes.items last × (bytes_left fed.connection ≡ rest_of last))
-    pub cause : IfErr result (λ fault. Under old new (λ commands. (fault ≡ Memory) ⊎ Fails (held ++ piece) fault commands))
+    pub cause : IfErr result (λ fault. Under old new (λ commands. (fault ≡ Memory) ⊎ Fails g.closes g.fails_to_answer (held ++ piece) fault commands))
     pub stays : Stays old result new
 
   -- all requests that the bytes come to
   pub record RepliesTo (bytes : List ℕ) (old : R) (result : Result Replies RegisterFault) (new : R) : Type 0 where
     pub replied : IfOk result (λ replies. (last : Outcome) × IsReplied old new bytes replies.bytes.items last × (option_map (λ used. drop used bytes) replies.used ≡ rest_of last))
     pub within : IfOk result (λ replies. (used : ℕ) → replies.used ≡ Some used → used ≤ length bytes)
-    pub cause : IfErr result (λ fault. Under old new (λ commands. (fault ≡ Memory) ⊎ Fails bytes fault commands))
+    pub cause : IfErr result (λ fault. Under old new (λ commands. (fault ≡ Memory) ⊎ Fails g.closes g.fails_to_answer bytes fault commands))
     pub stays : Stays old result new
 
   -- what the bytes begin with
@@ -72,5 +66,5 @@ module _ {R : Type 0} (g : Ghosts R) where
   -- the first request that the bytes come to
   pub record IsNext (bytes : List ℕ) (old : R) (result : Result Next RegisterFault) (new : R) : Type 0 where
     pub next : IfOk result (λ next. IsNextOf bytes old next new)
-    pub cause : IfErr result (λ fault. Under old new (λ commands. (fault ≡ Memory) ⊎ Fails bytes fault commands))
+    pub cause : IfErr result (λ fault. Under old new (λ commands. (fault ≡ Memory) ⊎ Fails g.closes g.fails_to_answer bytes fault commands))
     pub stays : Stays old result new

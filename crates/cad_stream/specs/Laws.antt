@@ -20,3 +20,8 @@ abbrev pub CutsMakeNoDifference : Type 0
 CutsMakeNoDifference = (closes : Request → Bool) (pieces others : List Piece) (heads ends : List HeadAt) (last end : Outcome)
     → bytes_of pieces ≡ bytes_of others → IsConversation closes (waits []) pieces heads last → IsConversation closes (waits []) others ends end
     → (heads_of heads ≡ heads_of ends) × IsSameOutcome last end × (commands_of heads ≡ commands_of ends → heads ≡ ends)
+
+-- the heads that pieces make whole are determined, and the commands in force at each
+abbrev pub PiecesHaveOneConversation : Type 0
+PiecesHaveOneConversation = (closes : Request → Bool) (pieces : List Piece) (heads ends : List HeadAt) (last end : Outcome)
+    → IsConversation closes (waits []) pieces heads last → IsConversation closes (waits []) pieces ends end → (heads ≡ ends) × IsSameOutcome last end

@@ -1,6 +1,6 @@
 //! What holds of every connection, however its bytes were cut. Each contract is a law; the functions do nothing.
 
-ghost use Rattle.cad_stream.specs.Laws.{BytesAreOneStream, PiecesAreOneStream, CutsMakeNoDifference};
+ghost use Rattle.cad_stream.specs.Laws.{BytesAreOneStream, PiecesAreOneStream, CutsMakeNoDifference, PiecesHaveOneConversation};
 
 use cad_head::laws::{bytes_have_one_head, heads_stay};
 
@@ -27,4 +27,12 @@ pub fn cuts_make_no_difference()
 {
     bytes_are_one_stream();
     pieces_are_one_stream();
+}
+
+/// The requests that pieces make whole are determined, with the commands in force at each.
+pub fn pieces_have_one_conversation()
+    ensures { PiecesHaveOneConversation }
+{
+    bytes_have_one_head();
+    cuts_make_no_difference();
 }
