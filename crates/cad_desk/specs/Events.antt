@@ -1,0 +1,78 @@
+-- What each event does to a desk, and what is answered (own profile).
+use Rattle.std.specs.Prelude.{◌≡◌, ◌≢◌, ◌⊎◌, ℕ, ◌+◌, ◌<◌, ◌≤◌, Bool, true, false, List, [], ◌∷◌, ◌++◌, length, Option, Some, None, IsSome, is_none, Result, Ok, Err}
+use Rattle.httparse.specs.Grammar.{RequestHead}
+use Rattle.cad_versions.specs.declared.command.Command.{Command}
+use Rattle.cad_versions.specs.declared.fault.RegisterFault.{RegisterFault}
+use Rattle.cad_versions.specs.declared.fault.RegisterFault.TheVariants as register
+use Rattle.cad_versions.specs.Versions.{versions}
+use Rattle.cad_versions.specs.Refusals.{refusal}
+use Rattle.cad_request.specs.Request.{Request}
+use Rattle.cad_stream.specs.Streams.{Outcome, rest_of, IsStream}
+use Rattle.cad_stream.specs.Replies.{replies_to, last_reply, Fails}
+use Rattle.cad_desk.specs.declared.event.Event.{Event}
+use Rattle.cad_desk.specs.declared.event.Event.TheVariants.{Open, Bytes, Close, Office}
+use Rattle.cad_desk.specs.declared.event.Reply.{Reply}
+use Rattle.cad_desk.specs.declared.event.Reply.TheVariants.{Opened, Closed, Sent, Entered}
+use Rattle.cad_desk.specs.declared.fault.DeskFault.{DeskFault}
+use Rattle.cad_desk.specs.declared.fault.DeskFault.TheVariants.{UnknownConnection, KnownConnection, TooManyConnections, Memory, Register}
+use Rattle.cad_desk.specs.Connections.{Connections, rest_at, count_of, connection_room, Changes, Keeps}
+
+-- what the answers of a desk follow from: the reply to each request, which requests close their connection, the reply where no request can come, and why there is none or a command is not entered
+pub record Rules : Type 1 where
+  pub reply : List Command → Request → List ℕ
+  pub closes : Request → Bool
+  pub bad_head : List ℕ
+  pub FailsToAnswer : List Command → Request → RegisterFault → Type 0
+  pub FailsToEnter : List Command → Command → RegisterFault → Type 0
+
+-- the replies to the bytes that came, and what is left; InForce says what holds of the commands in force
+module _ (rules : Rules) (InForce : (List Command → Type 0) → Type 0) where
+  abbrev pub IsOpened : Connections → ℕ → Result Reply DeskFault → Connections → Type 0
+  IsOpened old c (Ok Opened) new = (rest_at old c ≡ None) × (count_of old < connection_room) × Changes old new c (Some [])
+  IsOpened old c (Ok other) new = ⊥
+  IsOpened old c (Err KnownConnection) new = IsSome (rest_at old c) × Keeps old new
+  IsOpened old c (Err TooManyConnections) new = (rest_at old c ≡ None) × (connection_room ≤ count_of old) × Keeps old new
+  IsOpened old c (Err Memory) new = (rest_at old c ≡ None) × (count_of old < connection_room) × Keeps old new
+  IsOpened old c (Err other) new = ⊥
+
+  abbrev pub IsTaken : Connections → ℕ → List ℕ → Result Reply DeskFault → Connections → Type 0
+  IsTaken old c piece (Ok (Sent out ends)) new =
+      (held : List ℕ) × (heads : List RequestHead) × (last : Outcome)
+      × (rest_at old c ≡ Some held) × IsStream rules.closes heads (held ++ piece) last
+      × (ends ≡ is_none (rest_of last)) × Changes old new c (rest_of last)
+      × InForce (λ commands. out.items ≡ replies_to rules.reply commands heads ++ last_reply rules.bad_head last)
+  IsTaken old c piece (Ok other) new = ⊥
+  IsTaken old c piece (Err UnknownConnection) new = (rest_at old c ≡ None) × Keeps old new
+  IsTaken old c piece (Err Memory) new = IsSome (rest_at old c) × Changes old new c None
+  IsTaken old c piece (Err (Register fault)) new =
+      (held : List ℕ) × (rest_at old c ≡ Some held) × (fault ≢ register.Memory) × Changes old new c None
+      × InForce (Fails rules.closes rules.FailsToAnswer (held ++ piece) fault)
+  IsTaken old c piece (Err other) new = ⊥
+
+  abbrev pub IsClosed : Connections → ℕ → Result Reply DeskFault → Connections → Type 0
+  IsClosed old c (Ok Closed) new = IsSome (rest_at old c) × Changes old new c None
+  IsClosed old c (Ok other) new = ⊥
+  IsClosed old c (Err UnknownConnection) new = (rest_at old c ≡ None) × Keeps old new
+  IsClosed old c (Err other) new = ⊥
+
+  abbrev pub IsEntered : Connections → Command → Result Reply DeskFault → Connections → Type 0
+  IsEntered old command (Ok (Entered revision)) new =
+      Keeps old new × InForce (λ commands. (refusal (versions commands) command ≡ None) × (revision ≡ length commands + 1))
+  IsEntered old command (Ok other) new = ⊥
+  IsEntered old command (Err Memory) new = Keeps old new
+  IsEntered old command (Err (Register fault)) new =
+      Keeps old new × (fault ≢ register.Memory)
+      × InForce (λ commands. (refusal (versions commands) command ≡ Some fault) ⊎ rules.FailsToEnter commands command fault)
+  IsEntered old command (Err other) new = ⊥
+
+  -- from the old connections the event may bring this answer and leave the new ones
+  abbrev pub StepOf : Connections → Event → Result Reply DeskFault → Connections → Type 0
+  StepOf old (Open c) result new = IsOpened old c result new
+  StepOf old (Bytes c piece) result new = IsTaken old c piece.items result new
+  StepOf old (Close c) result new = IsClosed old c result new
+  StepOf old (Office command) result new = IsEntered old command result new
+
+-- the commands in force after an event and its answer
+abbrev pub commands_after : List Command → Event → Result Reply DeskFault → List Command
+commands_after commands (Office command) (Ok reply) = commands ++ command ∷ []
+commands_after commands event answer = commands

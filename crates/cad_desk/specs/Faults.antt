@@ -1,0 +1,24 @@
+-- The numbers and names of a desk's faults, as programs print them (own profile).
+use Rattle.std.specs.Prelude.{ℕ, List, codes}
+use Rattle.cad_versions.specs.declared.fault.RegisterFault.{RegisterFault}
+use Rattle.cad_versions.specs.declared.fault.RegisterFault.TheVariants as register
+use Rattle.cad_desk.specs.declared.fault.DeskFault.{DeskFault}
+use Rattle.cad_desk.specs.declared.fault.DeskFault.TheVariants.{UnknownConnection, KnownConnection, TooManyConnections, Memory, Register}
+
+abbrev pub desk_fault_told : DeskFault → ℕ × List ℕ
+desk_fault_told UnknownConnection = (1, codes "UnknownConnection")
+desk_fault_told KnownConnection = (2, codes "KnownConnection")
+desk_fault_told TooManyConnections = (3, codes "TooManyConnections")
+desk_fault_told Memory = (4, codes "Memory")
+desk_fault_told (Register fault) = (5, codes "Register")
+
+abbrev pub desk_fault_number : DeskFault → ℕ
+desk_fault_number fault = (desk_fault_told fault).0
+
+abbrev pub desk_fault_name : DeskFault → List ℕ
+desk_fault_name fault = (desk_fault_told fault).1
+
+-- want of memory is the desk's own fault, whoever met it
+abbrev pub fault_of : RegisterFault → DeskFault
+fault_of register.Memory = Memory
+fault_of fault = Register fault

@@ -1,0 +1,129 @@
+//! The desk.
+
+use crate::event::{Event, Reply};
+use crate::fault::DeskFault;
+use cad_stream::{Connection, Fed, Responder};
+use cad_versions::Command;
+use std::alloc::Global;
+use std::collections::HashMap;
+
+/// The most connections that may be open.
+const CONNECTION_ROOM: usize = 64;
+
+/// The open connections, and what answers their requests.
+pub struct Desk<R: Responder> {
+    responder: R,
+    connections: HashMap<u32, Connection>,
+    alloc: Global,
+}
+
+impl<R: Responder + Drop> Drop for Desk<R> {
+    fn drop(self) {
+        let Desk {
+            responder: _,
+            connections: _,
+            alloc: _,
+        } = self;
+    }
+}
+
+impl<R: Responder> Desk<R> {
+    ghost use Rattle.std.specs.Prelude.{◌≡◌, ℕ, None};
+    ghost use Rattle.cad_desk.specs.declared.event.Event.TheVariants.{Open, Bytes, Close, Office};
+    ghost use Rattle.cad_desk.specs.Connections.{rest_at};
+    ghost use Rattle.cad_desk.specs.Desks.{responder_of, connections_of, Steps};
+
+    /// A desk without connections.
+    pub fn new(alloc: Global, responder: R) -> Desk<R>
+        ensures responder { responder_of result ≡ responder }
+        ensures empty { (c : ℕ) → rest_at (connections_of result) c ≡ None }
+    {
+        Desk {
+            responder,
+            connections: HashMap::new(alloc),
+            alloc,
+        }
+    }
+
+    /// What answered the requests. All connections are dropped.
+    pub fn release(self) -> R
+        ensures { result ≡ responder_of self }
+    {
+        let Desk {
+            responder,
+            connections: _,
+            alloc: _,
+        } = self;
+        responder
+    }
+
+    fn open(&mut self, c: u32) -> Result<Reply, DeskFault>
+        ensures { Steps R.Responder self.old (Open c) result self.new }
+    {
+        if self.connections.contains_key(&c) {
+            return Err(DeskFault::KnownConnection);
+        }
+        if self.connections.len() >= CONNECTION_ROOM {
+            return Err(DeskFault::TooManyConnections);
+        }
+        let connection = Connection::new(self.alloc);
+        match self.connections.insert(c, connection) {
+            Ok(_) => Ok(Reply::Opened),
+            Err(_) => Err(DeskFault::Memory),
+        }
+    }
+
+    /// A connection that is refused is not put back, and so it is closed.
+    fn take(&mut self, c: u32, piece: Vec<u8>) -> Result<Reply, DeskFault>
+        ensures { Steps R.Responder self.old (Bytes c piece) result self.new }
+    {
+        let Some(connection) = self.connections.remove(&c) else {
+            return Err(DeskFault::UnknownConnection);
+        };
+        let Fed { bytes, connection } = match connection.feed(
+            self.alloc,
+            &piece,
+            &mut self.responder,
+        ) {
+            Ok(fed) => fed,
+            Err(fault) => return Err(DeskFault::from(fault)),
+        };
+        match connection {
+            None => Ok(Reply::Sent { bytes, ends: true }),
+            Some(connection) => match self.connections.insert(c, connection) {
+                Ok(_) => Ok(Reply::Sent { bytes, ends: false }),
+                Err(_) => Err(DeskFault::Memory),
+            },
+        }
+    }
+
+    fn close(&mut self, c: u32) -> Result<Reply, DeskFault>
+        ensures { Steps R.Responder self.old (Close c) result self.new }
+    {
+        match self.connections.remove(&c) {
+            Some(_) => Ok(Reply::Closed),
+            None => Err(DeskFault::UnknownConnection),
+        }
+    }
+
+    fn enter(&mut self, command: Command) -> Result<Reply, DeskFault>
+        ensures { Steps R.Responder self.old (Office command) result self.new }
+    {
+        match self.responder.enter(command) {
+            Ok(revision) => Ok(Reply::Entered(revision)),
+            Err(fault) => Err(DeskFault::from(fault)),
+        }
+    }
+
+    /// Takes an event, and answers it whole. Bytes that are refused close their connection; all else stays as it was.
+    pub fn step(&mut self, event: Event) -> Result<Reply, DeskFault>
+        ensures { Steps R.Responder self.old event result self.new }
+    {
+        match event {
+            Event::Open(c) => self.open(c),
+            Event::Bytes(c, piece) => self.take(c, piece),
+            Event::Close(c) => self.close(c),
+            Event::Office(command) => self.enter(command),
+        }
+    }
+}

@@ -1,0 +1,34 @@
+//! What happens to a desk, and what it answers.
+
+use cad_versions::Command;
+
+/// What happens to a desk. Connections are told apart by their numbers.
+#[derive(Debug, Drop)]
+pub enum Event {
+    /// A connection opens.
+    Open(u32),
+    /// A connection sends these bytes.
+    Bytes(u32, Vec<u8>),
+    /// A connection closes.
+    Close(u32),
+    /// The land office enters a command.
+    Office(Command),
+}
+
+/// What a desk answers.
+#[derive(Debug, Drop)]
+pub enum Reply {
+    /// The connection is open.
+    Opened,
+    /// The connection is closed.
+    Closed,
+    /// What goes out to the connection.
+    Sent {
+        /// The replies to the requests that these bytes made whole, one after the other.
+        bytes: Vec<u8>,
+        /// Whether the connection ended with the last of them.
+        ends: bool,
+    },
+    /// The command was accepted, and this is the revision since.
+    Entered(u64),
+}

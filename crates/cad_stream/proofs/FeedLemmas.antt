@@ -1,0 +1,192 @@
+-- On the replies to bytes, request by request.
+use Rattle.std.proofs.Common.{◌≡◌, ◌⊎◌, ℕ, ◌+◌, ◌<◌, ◌≤◌, List, [], ◌∷◌, ◌++◌, Bool, true, false, Option, Some, None, Result, Ok, Err, OnErr, length, drop, refl, sym, ap, subst, ◌∙◌, append_assoc, append-nil, arith, length-drop, inl, inr}
+use Rattle.std.specs.Global.{Vec}
+use Rattle.std.specs.List.{flat_map}
+use Rattle.std.proofs.lemmas.List.{drop-drop}
+use Rattle.std.proofs.lemmas.List.Concat.{flat_map-append}
+use Rattle.httparse.specs.Grammar.{RequestHead, print_request}
+use Rattle.httparse.specs.declared.spans.HeaderSpan.{HeaderSpan}
+use Rattle.httparse.specs.declared.spans.RequestSpans.{RequestSpans}
+use Rattle.cad_head.specs.Heads.{Fits, IsHopeless, IsIncomplete}
+use Rattle.cad_head.specs.Front.{front_bytes, IsHeadAt}
+use Rattle.cad_versions.specs.declared.command.Command.{Command}
+use Rattle.cad_versions.specs.declared.fault.RegisterFault.{RegisterFault}
+use Rattle.cad_versions.specs.declared.fault.RegisterFault.TheVariants.{Memory}
+use Rattle.cad_request.specs.Request.{Request, request_at, request_of}
+use Rattle.cad_stream.specs.declared.answer.Answer.{Answer}
+use Rattle.cad_stream.specs.declared.connection.Fed.{Fed}
+use Rattle.cad_stream.specs.declared.replies.Next.{Next}
+use Rattle.cad_stream.specs.declared.replies.Next.TheVariants as next
+use Rattle.cad_stream.specs.declared.replies.Replies.{Replies}
+use Rattle.cad_stream.specs.declared.responder.Responder.{Ghosts}
+use Rattle.cad_stream.specs.Streams.{Outcome, waits, closed, refused, Passes, Reaches, IsStream}
+use Rattle.cad_stream.specs.Replies.{replies_to, last_reply, Fails}
+use Rattle.cad_stream.specs.Answering.{Answered}
+use Rattle.cad_stream.specs.Feeding.{bytes_left, Under, Stays, IsNext, IsNextOf, IsReplied, RepliesTo, Feeds}
+use Rattle.cad_stream.proofs.StreamLemmas.{fits_some, passes_push, passes_join}
+
+-- the spans of a head show its request
+pub request_at-head : (bytes front : List ℕ) (headers : List HeaderSpan) (spans : RequestSpans) (head : RequestHead)
+    → front ≡ front_bytes bytes → IsHeadAt bytes headers spans head → request_at front headers spans ≡ request_of head
+request_at-head bytes front headers spans head here found =
+    let at = found.at in
+    rw here (rw (at.method, at.path, at.version, at.fields) refl)
+
+module _ {R : Type 0} (g : Ghosts R) where
+  -- the answer to the request that spans show is that to the head
+  pub answered_head : (bytes : List ℕ) (old new : R) (request : Request) (head : RequestHead) (rest : List ℕ) (answer : Answer) → request ≡ request_of head → Fits bytes head rest
+      → Answered g.stands_for g.counts g.lives g.reply g.closes g.fails_to_answer g.refuses_answer old request (Ok answer) new
+      → (answer.ends ≡ g.closes (request_of head)) × Under g old new (λ commands. answer.bytes.items ≡ g.reply commands (request_of head))
+  answered_head bytes old new request head rest answer same fits a =
+      (a.ends ∙ ap g.closes same, λ counts commands stands. a.replied counts commands stands ∙ ap (g.reply commands) same)
+
+  pub failed_head : (bytes : List ℕ) (old new : R) (request : Request) (head : RequestHead) (rest : List ℕ) (fault : RegisterFault) → request ≡ request_of head → Fits bytes head rest
+      → Answered g.stands_for g.counts g.lives g.reply g.closes g.fails_to_answer g.refuses_answer old request (Err fault) new
+      → IsNext g bytes old (Err fault) new
+  failed_head bytes old new request head rest fault same fits a = record {
+    next = tt;
+    cause = λ counts commands stands. elim (a.cause counts commands stands) [
+      | inl m ↦ inl m
+      | inr f ↦ inr ([], head, rest, (bytes, refl, fits), subst (λ (r : Request). g.fails_to_answer commands r fault) same f)
+    ];
+    stays = record {
+      kept = λ _. tt;
+      unchanged = a.unchanged;
+      store = λ counts e. (old, request, a.store counts e);
+      clean = a.clean;
+    };
+  }
+
+  -- ---- a loop from the front on
+
+  -- the bytes before this place are passed and these are the replies to them, and the responder stayed with its commands
+  pub record HasReplied (bytes : List ℕ) (old : R) (used : ℕ) (out : List ℕ) (now : R) : Type 0 where
+    pub heads : List RequestHead
+    pub passed : Passes g.closes heads bytes (drop used bytes)
+    pub told : Under g old now (λ commands. out ≡ replies_to g.reply commands heads)
+    pub stands : g.counts now → (commands : List Command) → g.stands_for old commands → g.stands_for now commands
+    pub clean : g.counts now → g.counts old
+
+  pub replied_nothing : (bytes : List ℕ) (old : R) (out : List ℕ) → out ≡ [] → HasReplied bytes old 0 out old
+  replied_nothing bytes old out e = record {
+    heads = [];
+    passed = refl;
+    told = λ counts commands stands. e;
+    stands = λ counts commands stands. stands;
+    clean = λ counts. counts;
+  }
+
+  -- a fault of the next request
+  pub fails_later : (bytes : List ℕ) (old now new : R) (used : ℕ) (out : List ℕ) (fault : RegisterFault) → HasReplied bytes old used out now
+      → IsNext g (drop used bytes) now (Err fault) new → Under g old new (λ commands. (fault ≡ Memory) ⊎ Fails g.closes g.fails_to_answer bytes fault commands)
+  fails_later bytes old now new used out fault h n counts commands stands =
+      elim (n.cause counts commands (h.stands (n.stays.clean counts) commands stands)) [
+        | inl m ↦ inl m
+        | inr f ↦ inr (h.heads ++ f.0, f.1, f.2, (f.3.0, passes_join g.closes h.heads f.0 bytes (drop used bytes) f.3.0 h.passed f.3.1, f.3.2), f.4)
+      ]
+
+  -- what is answered is no more than what was read, and the call that failed left the commands
+  pub fails_here : (bytes : List ℕ) (old now new : R) (used : ℕ) (out : List ℕ) (fault : RegisterFault) → HasReplied bytes old used out now
+      → IsNext g (drop used bytes) now (Err fault) new → RepliesTo g bytes old (Err fault) new
+  fails_here bytes old now new used out fault h n = record {
+    replied = tt;
+    within = tt;
+    cause = fails_later bytes old now new used out fault h n;
+    stays = record {
+      kept = λ counts. tt;
+      unchanged = λ counts lives commands stands. n.stays.unchanged counts lives commands (h.stands (n.stays.clean counts) commands stands);
+      store = n.stays.store;
+      clean = λ counts. h.clean (n.stays.clean counts);
+    };
+  }
+
+  -- a call that went well stays with the commands too
+  stays_well : {T : Type 0} (bytes : List ℕ) (old now new : R) (used : ℕ) (out : List ℕ) (next : Next) (result : T) → HasReplied bytes old used out now
+      → Stays g now (Ok next) new → Stays g old (Ok result) new
+  stays_well bytes old now new used out next result h s = record {
+    kept = λ counts commands stands. s.kept counts commands (h.stands (s.clean counts) commands stands);
+    unchanged = λ counts lives. tt;
+    store = λ counts. tt;
+    clean = λ counts. h.clean (s.clean counts);
+  }
+
+  pub waits_here : (bytes : List ℕ) (old now new : R) (used : ℕ) (out : Vec ℕ) → used ≤ length bytes → HasReplied bytes old used out.items now
+      → IsNext g (drop used bytes) now (Ok next.Waiting) new → RepliesTo g bytes old (Ok (record { bytes = out; used = Some used })) new
+  waits_here bytes old now new used out within h n = record {
+    replied = (
+      waits (drop used bytes),
+      (h.heads, (h.passed, n.next), λ counts commands stands. h.told (n.stays.clean counts) commands stands ∙ sym (append-nil _)),
+      refl,
+    );
+    within = λ count e. let same : used ≡ count = cc in subst (λ (m : ℕ). m ≤ length bytes) same within;
+    cause = tt;
+    stays = stays_well bytes old now new used out.items next.Waiting (record { bytes = out; used = Some used }) h n.stays;
+  }
+
+  -- one reply more
+  replies_push : (commands : List Command) (heads : List RequestHead) (head : RequestHead) (out more : List ℕ) → out ≡ replies_to g.reply commands heads
+      → more ≡ g.reply commands (request_of head) → out ++ more ≡ replies_to g.reply commands (heads ++ head ∷ [])
+  replies_push commands heads head out more e f =
+      rw (e, f) (sym (flat_map-append (λ (h : RequestHead). g.reply commands (request_of h)) heads (head ∷ []) ∙ ap (λ (l : List ℕ). replies_to g.reply commands heads ++ l) (append-nil _)))
+
+  told_more : (bytes : List ℕ) (old now new : R) (used len : ℕ) (out : List ℕ) (answer : Answer) (h : HasReplied bytes old used out now)
+      (n : IsNext g (drop used bytes) now (Ok (next.Answered answer len)) new)
+      → Under g old new (λ commands. out ++ answer.bytes.items ≡ replies_to g.reply commands (h.heads ++ n.next.0 ∷ []))
+  told_more bytes old now new used len out answer h n counts commands stands =
+      let clean = n.stays.clean counts in
+      replies_push commands h.heads n.next.0 out answer.bytes.items (h.told clean commands stands) (n.next.4 counts commands (h.stands clean commands stands))
+
+  pub closes_here : (bytes : List ℕ) (old now new : R) (used len : ℕ) (out : List ℕ) (answer : Answer) (whole : Vec ℕ) → HasReplied bytes old used out now
+      → IsNext g (drop used bytes) now (Ok (next.Answered answer len)) new → answer.ends ≡ true → whole.items ≡ out ++ answer.bytes.items
+      → RepliesTo g bytes old (Ok (record { bytes = whole; used = None })) new
+  closes_here bytes old now new used len out answer whole h n ends all = record {
+    replied = (
+      closed,
+      (
+        h.heads ++ n.next.0 ∷ [],
+        (h.heads, n.next.0, drop len (drop used bytes), refl, (drop used bytes, h.passed, n.next.1), sym n.next.3 ∙ ends),
+        λ counts commands stands. all ∙ told_more bytes old now new used len out answer h n counts commands stands ∙ sym (append-nil _),
+      ),
+      refl,
+    );
+    within = λ count e. absurd cc;
+    cause = tt;
+    stays = stays_well bytes old now new used out (next.Answered answer len) (record { bytes = whole; used = None }) h n.stays;
+  }
+
+  pub passes_here : (bytes : List ℕ) (old now new : R) (used len : ℕ) (out : List ℕ) (answer : Answer) (whole : List ℕ) → HasReplied bytes old used out now
+      → IsNext g (drop used bytes) now (Ok (next.Answered answer len)) new → answer.ends ≡ false → whole ≡ out ++ answer.bytes.items
+      → HasReplied bytes old (used + len) whole new
+  passes_here bytes old now new used len out answer whole h n ends all =
+      let rest : drop len (drop used bytes) ≡ drop (used + len) bytes = drop-drop len used bytes in
+      record {
+        heads = h.heads ++ n.next.0 ∷ [];
+        passed = passes_push g.closes h.heads n.next.0 bytes (drop used bytes) (drop (used + len) bytes) h.passed (subst (λ (b : List ℕ). Fits (drop used bytes) n.next.0 b) rest n.next.1) (sym n.next.3 ∙ ends);
+        told = λ counts commands stands. all ∙ told_more bytes old now new used len out answer h n counts commands stands;
+        stands = λ counts commands stands. n.stays.kept counts commands (h.stands (n.stays.clean counts) commands stands);
+        clean = λ counts. h.clean (n.stays.clean counts);
+      }
+
+  -- the head that is passed has bytes, and lies in those that are there
+  pub advances : (bytes : List ℕ) (now new : R) (used len : ℕ) (answer : Answer) → used ≤ length bytes
+      → IsNext g (drop used bytes) now (Ok (next.Answered answer len)) new → (0 < len) × (used + len ≤ length bytes)
+  advances bytes now new used len answer within n =
+      let some = fits_some (drop used bytes) n.next.0 (drop len (drop used bytes)) n.next.1 in
+      let size = n.next.2 in
+      (omega (arith, some.0), omega (arith, some.1, length-drop used bytes))
+
+  -- ---- a piece
+
+  -- a piece that cannot settle anything goes to what is held
+  pub holds_more : (held piece : List ℕ) (old : R) (fed : Fed) → fed.bytes.items ≡ [] → bytes_left fed.connection ≡ Some (held ++ piece) → IsIncomplete (held ++ piece)
+      → Feeds g held piece old (Ok fed) old
+  holds_more held piece old fed none left waiting = record {
+    replied = (waits (held ++ piece), ([], (refl, waiting), λ counts commands stands. none), left);
+    cause = tt;
+    stays = record {
+      kept = λ counts commands stands. stands;
+      unchanged = λ counts lives. tt;
+      store = λ counts. tt;
+      clean = λ counts. counts;
+    };
+  }

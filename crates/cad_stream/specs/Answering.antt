@@ -1,0 +1,18 @@
+-- What answering a request does (RFC 9110, section 3.4: messages; own profile: revisions and refusals).
+use Rattle.std.specs.Prelude.{◌≡◌, ◌⊎◌, ℕ, List, Bool, Result, IfOk, IfErr, OnOk, OnErr}
+use Rattle.cad_versions.specs.declared.command.Command.{Command}
+use Rattle.cad_versions.specs.declared.fault.RegisterFault.{RegisterFault}
+use Rattle.cad_versions.specs.declared.fault.RegisterFault.TheVariants.{Store, Memory}
+use Rattle.cad_request.specs.Request.{Request}
+use Rattle.cad_stream.specs.declared.answer.Answer.{Answer}
+
+module _ {R : Type 0} (StandsFor : R → List Command → Type 0) (Counts Lives : R → Type 0) where
+  -- the answer is the reply with the commands in force; there is none for want of memory, or for what keeps the commands; nothing changes
+  pub record Answered (Reply : List Command → Request → List ℕ) (Closes : Request → Bool) (FailsToAnswer : List Command → Request → RegisterFault → Type 0) (Refuses : R → R → Request → Type 0) (old : R) (request : Request) (result : Result Answer RegisterFault) (new : R) : Type 0 where
+    pub replied : Counts new → IfOk result (λ answer. (commands : List Command) → StandsFor old commands → answer.bytes.items ≡ Reply commands request)
+    pub ends : IfOk result (λ answer. answer.ends ≡ Closes request)
+    pub cause : Counts new → IfErr result (λ fault. (commands : List Command) → StandsFor old commands → (fault ≡ Memory) ⊎ FailsToAnswer commands request fault)
+    pub store : Counts new → IfErr result (λ fault. fault ≡ Store → Refuses old new request)
+    pub kept : Counts new → OnOk result ((commands : List Command) → StandsFor old commands → StandsFor new commands)
+    pub unchanged : Counts new → Lives new → OnErr result ((commands : List Command) → StandsFor old commands → StandsFor new commands)
+    pub clean : Counts new → Counts old

@@ -1,0 +1,70 @@
+-- What a piece of a connection's bytes brings (RFC 9112, section 9.3.2: pipelining; own profile: refusals).
+use Rattle.std.specs.Prelude.{◌≡◌, ◌⊎◌, ℕ, ◌≤◌, List, ◌++◌, length, drop, Bool, Option, Some, None, option_map, Result, IfOk, IfErr, OnOk, OnErr}
+use Rattle.httparse.specs.Grammar.{RequestHead, print_request}
+use Rattle.cad_head.specs.Heads.{Fits, IsHopeless, IsIncomplete}
+use Rattle.cad_versions.specs.declared.command.Command.{Command}
+use Rattle.cad_versions.specs.declared.fault.RegisterFault.{RegisterFault}
+use Rattle.cad_versions.specs.declared.fault.RegisterFault.TheVariants.{Store, Memory}
+use Rattle.cad_request.specs.Request.{Request, request_of}
+use Rattle.cad_stream.specs.declared.connection.Connection.{Connection}
+use Rattle.cad_stream.specs.declared.connection.Fed.{Fed}
+use Rattle.cad_stream.specs.declared.replies.Next.{Next}
+use Rattle.cad_stream.specs.declared.replies.Next.TheVariants.{Waiting, Hopeless, Answered}
+use Rattle.cad_stream.specs.declared.replies.Replies.{Replies}
+use Rattle.cad_stream.specs.declared.responder.Responder.{Ghosts}
+use Rattle.cad_stream.specs.Streams.{Outcome, rest_of, IsStream}
+use Rattle.cad_stream.specs.Replies.{replies_to, last_reply, Fails}
+
+-- the bytes that no request took yet
+abbrev pub bytes_held : Connection → List ℕ
+bytes_held connection = connection.held.items
+
+-- the same, if the connection did not end
+abbrev pub bytes_left : Option Connection → Option (List ℕ)
+bytes_left connection = option_map bytes_held connection
+
+module _ {R : Type 0} (g : Ghosts R) where
+  -- what holds of all commands for which the responder stands before and after
+  abbrev pub Under : R → R → (List Command → Type 0) → Type 0
+  Under old new Holds = g.counts new → (commands : List Command) → g.stands_for old commands → Holds commands
+
+  -- a call stays with the commands, and what is answered counts if what is answered later does
+  pub record Stays {T : Type 0} (old : R) (result : Result T RegisterFault) (new : R) : Type 0 where
+    pub kept : g.counts new → OnOk result ((commands : List Command) → g.stands_for old commands → g.stands_for new commands)
+    pub unchanged : g.counts new → g.lives new → OnErr result ((commands : List Command) → g.stands_for old commands → g.stands_for new commands)
+    pub store : g.counts new → IfErr result (λ fault. fault ≡ Store → (before : R) × (request : Request) × g.refuses_answer before new request)
+    pub clean : g.counts new → g.counts old
+
+  -- these are the replies, and that comes of the connection
+  abbrev pub IsReplied : R → R → List ℕ → List ℕ → Outcome → Type 0
+  IsReplied old new bytes out last =
+      (heads : List RequestHead) × IsStream g.closes heads bytes last
+      × Under old new (λ commands. out ≡ replies_to g.reply commands heads ++ last_reply g.bad_head last)
+
+  -- a piece that follows the bytes held
+  pub record Feeds (held piece : List ℕ) (old : R) (result : Result Fed RegisterFault) (new : R) : Type 0 where
+    pub replied : IfOk result (λ fed. (last : Outcome) × IsReplied old new (held ++ piece) fed.bytes.items last × (bytes_left fed.connection ≡ rest_of last))
+    pub cause : IfErr result (λ fault. Under old new (λ commands. (fault ≡ Memory) ⊎ Fails g.closes g.fails_to_answer (held ++ piece) fault commands))
+    pub stays : Stays old result new
+
+  -- all requests that the bytes come to
+  pub record RepliesTo (bytes : List ℕ) (old : R) (result : Result Replies RegisterFault) (new : R) : Type 0 where
+    pub replied : IfOk result (λ replies. (last : Outcome) × IsReplied old new bytes replies.bytes.items last × (option_map (λ used. drop used bytes) replies.used ≡ rest_of last))
+    pub within : IfOk result (λ replies. (used : ℕ) → replies.used ≡ Some used → used ≤ length bytes)
+    pub cause : IfErr result (λ fault. Under old new (λ commands. (fault ≡ Memory) ⊎ Fails g.closes g.fails_to_answer bytes fault commands))
+    pub stays : Stays old result new
+
+  -- what the bytes begin with
+  abbrev pub IsNextOf : List ℕ → R → Next → R → Type 0
+  IsNextOf bytes old Waiting new = IsIncomplete bytes
+  IsNextOf bytes old (Hopeless reply) new = IsHopeless bytes × (reply.items ≡ g.bad_head)
+  IsNextOf bytes old (Answered answer used) new =
+      (head : RequestHead) × Fits bytes head (drop used bytes) × (used ≡ length (print_request head))
+      × (answer.ends ≡ g.closes (request_of head))
+      × Under old new (λ commands. answer.bytes.items ≡ g.reply commands (request_of head))
+
+  -- the first request that the bytes come to
+  pub record IsNext (bytes : List ℕ) (old : R) (result : Result Next RegisterFault) (new : R) : Type 0 where
+    pub next : IfOk result (λ next. IsNextOf bytes old next new)
+    pub cause : IfErr result (λ fault. Under old new (λ commands. (fault ≡ Memory) ⊎ Fails g.closes g.fails_to_answer bytes fault commands))
+    pub stays : Stays old result new

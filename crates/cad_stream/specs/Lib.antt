@@ -1,0 +1,6 @@
+pub mod Streams
+pub mod Replies
+pub mod Answering
+pub mod Feeding
+pub mod Conversations
+pub mod Laws

@@ -1,0 +1,75 @@
+//! A connection, and what the next piece of its bytes brings.
+
+ghost use Rattle.cad_head.specs.Heads.{IsIncomplete};
+
+use crate::replies::reply_to_requests;
+use crate::responder::Responder;
+use cad_head::may_settle;
+use cad_versions::RegisterFault;
+use std::alloc::Global;
+
+/// The bytes of a connection that no request took yet. A request may still come of them.
+#[derive(Debug, Drop)]
+pub struct Connection {
+    held: Vec<u8>,
+    pub ghost waits: { IsIncomplete held.items },
+}
+
+/// What a piece brings.
+#[derive(Debug, Drop)]
+pub struct Fed {
+    /// The replies, one after the other.
+    pub bytes: Vec<u8>,
+    /// The connection since, if it did not end.
+    pub connection: Option<Connection>,
+}
+
+impl Connection {
+    ghost use Rattle.std.specs.Prelude.{◌≡◌, []};
+    ghost use Rattle.cad_stream.specs.Feeding.{bytes_held, Feeds};
+
+    /// A connection that has sent nothing.
+    pub fn new(alloc: Global) -> Connection
+        ensures { bytes_held result ≡ [] }
+    {
+        Connection {
+            held: Vec::new(alloc),
+        }
+    }
+
+    /// Takes the next piece. Each request that is whole now is answered, one after the other. One that ends the
+    /// connection is the last, and so is the reply to bytes that no request can begin with.
+    ///
+    /// Only a piece that can settle what stands at the front is parsed, so that bytes which trickle in are not read
+    /// again for each of them.
+    pub fn feed<R: Responder>(
+        self,
+        alloc: Global,
+        piece: &[u8],
+        responder: &mut R,
+    ) -> Result<Fed, RegisterFault>
+        ensures { Feeds R.Responder (bytes_held self) piece.now responder.old result responder.new }
+    {
+        let Connection { mut held } = self;
+        let may_settle = may_settle(&held, piece);
+        held.extend_from_slice(piece)?;
+        if !may_settle {
+            return Ok(Fed {
+                bytes: Vec::new(alloc),
+                connection: Some(Connection { held }),
+            });
+        }
+        let replies = reply_to_requests(alloc, &held, responder)?;
+        let connection = match replies.used {
+            None => None,
+            Some(used) => {
+                drop(held.drain(..used));
+                Some(Connection { held })
+            }
+        };
+        Ok(Fed {
+            bytes: replies.bytes,
+            connection,
+        })
+    }
+}

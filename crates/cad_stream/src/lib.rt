@@ -1,0 +1,26 @@
+//! The replies to the requests of a connection's bytes, in whatever pieces they come.
+//!
+//! - `Responder`: what answers requests, and enters the land office's commands between them
+//! - `Answer`: the reply to one request
+//! - `Connection`: the bytes of a connection that no request took yet, and what the next piece brings
+//! - `Fed`: the replies to a piece, and what is left of the connection
+//! - `laws`: what holds of every connection, however its bytes were cut
+//!
+//! ```text
+//! let connection = Connection::new(alloc);
+//! let fed = connection.feed(alloc, b"GET / HTTP/1.1\r\nHost: x\r\n", &mut responder)?;
+//! // No bytes; `fed.connection` holds the piece.
+//! let fed = fed.connection?.feed(alloc, b"\r\nGET /a HTTP/1.0\r\n\r\nGET /b", &mut responder)?;
+//! // The replies to both requests. The second one closed the connection: `fed.connection` is `None`.
+//! ```
+#![tactic(auto)]
+
+mod answer;
+mod connection;
+pub mod laws;
+mod replies;
+mod responder;
+
+pub use answer::Answer;
+pub use connection::{Connection, Fed};
+pub use responder::Responder;

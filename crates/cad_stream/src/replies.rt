@@ -1,0 +1,98 @@
+//! The replies to the requests that bytes begin with.
+
+ghost use Rattle.std.specs.Prelude.{◌≡◌, ◌≤◌, drop, length};
+ghost use Rattle.cad_stream.specs.Feeding.{IsNext, RepliesTo};
+
+use crate::answer::Answer;
+use crate::responder::Responder;
+use cad_head::{FIELD_ROOM, HeadState, front_bytes, front_of};
+use cad_versions::RegisterFault;
+use httparse::spans::EMPTY_HEADER_SPAN;
+use std::alloc::Global;
+
+/// What bytes begin with.
+#[derive(Debug, Drop)]
+pub(crate) enum Next {
+    /// A request may still come.
+    Waiting,
+    /// No request can come, and this is the reply to that.
+    Hopeless(Vec<u8>),
+    /// The answer to a request whose head has `used` bytes.
+    Answered { answer: Answer, used: usize },
+}
+
+/// The replies to bytes.
+#[derive(Debug, Drop)]
+pub(crate) struct Replies {
+    /// The replies, one after the other.
+    pub(crate) bytes: Vec<u8>,
+    /// How many bytes were answered, if the rest still waits.
+    pub(crate) used: Option<usize>,
+}
+
+/// The answer to the request that the bytes begin with.
+fn answer_next<R: Responder>(bytes: &[u8], responder: &mut R) -> Result<Next, RegisterFault>
+    ensures { IsNext R.Responder bytes.now responder.old result responder.new }
+{
+    let mut headers = [EMPTY_HEADER_SPAN; FIELD_ROOM];
+    match front_of(bytes, &mut headers) {
+        HeadState::Incomplete => Ok(Next::Waiting),
+        HeadState::Invalid => {
+            let reply = responder.bad_head()?;
+            Ok(Next::Hopeless(reply))
+        }
+        HeadState::Complete(spans) => {
+            let answer = responder.answer(front_bytes(bytes), &headers, &spans)?;
+            Ok(Next::Answered {
+                answer,
+                used: spans.len,
+            })
+        }
+    }
+}
+
+fn after(bytes: &[u8], count: usize) -> &[u8]
+    requires { count ≤ length bytes.now }
+    ensures { result.now ≡ drop count bytes.now }
+{
+    &bytes[count..]
+}
+
+/// The replies to the requests that the bytes begin with, up to one that ends the connection.
+pub(crate) fn reply_to_requests<R: Responder>(
+    alloc: Global,
+    bytes: &[u8],
+    responder: &mut R,
+) -> Result<Replies, RegisterFault>
+    ensures { RepliesTo R.Responder bytes.now responder.old result responder.new }
+{
+    let mut replies = Vec::new(alloc);
+    let mut used = 0;
+    loop {
+        match answer_next(after(bytes, used), responder)? {
+            Next::Waiting => {
+                return Ok(Replies {
+                    bytes: replies,
+                    used: Some(used),
+                });
+            }
+            Next::Hopeless(reply) => {
+                replies.extend_from_slice(&reply)?;
+                return Ok(Replies {
+                    bytes: replies,
+                    used: None,
+                });
+            }
+            Next::Answered { answer, used: len } => {
+                replies.extend_from_slice(&answer.bytes)?;
+                if answer.ends {
+                    return Ok(Replies {
+                        bytes: replies,
+                        used: None,
+                    });
+                }
+                used += len;
+            }
+        }
+    }
+}

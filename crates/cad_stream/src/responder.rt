@@ -1,0 +1,74 @@
+//! What answers the requests of connections.
+
+use crate::answer::Answer;
+use cad_versions::{Command, RegisterFault};
+use httparse::spans::{HeaderSpan, RequestSpans};
+use std::alloc::AllocError;
+
+/// What answers the requests of connections, and enters the land office's commands between them.
+pub trait Responder {
+    ghost use Rattle.std.specs.Prelude.{◌≡◌, ℕ, List, Bool, IfOk};
+    ghost use Rattle.httparse.specs.Spans.{IsRequestWithin};
+    ghost use Rattle.cad_versions.specs.declared.command.Command.{Command as CommandOf};
+    ghost use Rattle.cad_versions.specs.declared.fault.RegisterFault.{RegisterFault as Fault};
+    ghost use Rattle.cad_versions.specs.Keeping.{IsOfKeeping};
+    ghost use Rattle.cad_versions.specs.Ledgers.{Applied};
+    ghost use Rattle.cad_request.specs.Request.{Request, request_at};
+    ghost use Rattle.cad_stream.specs.Answering.{Answered};
+
+    // It stands for these commands.
+    ghost stands_for: { Self → List CommandOf → Type 0 };
+
+    // What it answered counts, as that of a database whose disk is clean.
+    ghost counts: { Self → Type 0 };
+
+    // It may be asked again, as a database that is open.
+    ghost lives: { Self → Type 0 };
+
+    // The reply to a request, with these commands in force.
+    ghost reply: { List CommandOf → Request → List ℕ };
+
+    // The connection ends after the reply to this request.
+    ghost closes: { Request → Bool };
+
+    // The reply to bytes that no request can begin with.
+    ghost bad_head: { List ℕ };
+
+    // Why a request has no reply.
+    ghost fails_to_answer: { List CommandOf → Request → Fault → Type 0 };
+
+    // Why a command is refused that the commands before it allow.
+    ghost fails_to_enter: { List CommandOf → CommandOf → Fault → Type 0 };
+
+    // What keeps the commands refuses to tell what a request asks for.
+    ghost refuses_answer: { Self → Self → Request → Type 0 };
+
+    // What keeps the commands refuses the command, asked at this revision.
+    ghost refuses_command: { Self → Self → CommandOf → ℕ → Type 0 };
+
+    /// The reply to the request that `spans` show in the bytes of a head.
+    fn answer(
+        &mut self,
+        bytes: &[u8],
+        headers: &[HeaderSpan],
+        spans: &RequestSpans,
+    ) -> Result<Answer, RegisterFault>
+        requires { IsRequestWithin bytes.now headers.now spans.now }
+        ensures { Answered stands_for counts lives reply closes fails_to_answer refuses_answer
+            self.old (request_at bytes.now headers.now spans.now) result self.new };
+
+    /// The reply to bytes that no request can begin with.
+    fn bad_head(&self) -> Result<Vec<u8>, AllocError>
+        ensures { IfOk result (λ bytes. bytes.items ≡ bad_head) };
+
+    /// Enters a command, and answers the revision since, or refuses it and stays as it was.
+    fn enter(&mut self, command: Command) -> Result<u64, RegisterFault>
+        ensures { Applied stands_for counts lives fails_to_enter refuses_command self.old command result self.new };
+
+    // What it fails for is a fault of what keeps the commands.
+    ghost answer_keeps: { (commands : List CommandOf) (request : Request) (fault : Fault) →
+        fails_to_answer commands request fault → IsOfKeeping fault };
+
+    ghost enter_keeps: { (commands : List CommandOf) (command : CommandOf) (fault : Fault) →
+        fails_to_enter commands command fault → IsOfKeeping fault };
+}
