@@ -1,93 +1,108 @@
 //! What a filter is answered.
 
-use cad_feature::Collection;
-use cad_sample::sample_parcels;
+ghost use Rattle.cad_versions.specs.Listing.{IsListing};
+
+use cad_day::{DatetimeFault, Interval, Relation, asked, holds};
+use cad_feature::{Collection, Feature, Value, flatten};
+use cad_versions::Version;
 use cql_filter::{FilterFault, read};
-use cql_lexer::{LexFault, tokens};
-use cql_meaning::check::{TypeFault, check};
-use cql_meaning::filter::Filter;
-use cql_meaning::schema::Collection as Served;
-use cql_meaning::select;
-use cql_parser::{ParseFault, parse};
+use cql_truth::{Truth, truth};
+use cql_types::Filter;
 use std::alloc::{AllocError, Global};
 
-/// Why a filter of parcels is not asked of the sample.
-#[derive(Clone, Copy, Debug, PartialEq, Eq)]
-enum Unasked {
-    /// A part of it is not served yet.
-    NotServed,
-    Memory,
+/// What a case asks, but for its filter.
+#[derive(Clone, Copy)]
+enum Question {
+    /// The features of a collection; where days are asked, those alone whose lifespan meets them.
+    Of(Collection, Option<Interval>),
+    NoCollection,
+    NoDays,
 }
 
-impl From<LexFault> for Unasked {
-    fn from(fault: LexFault) -> Unasked {
-        match fault {
-            LexFault::Memory => Unasked::Memory,
-            LexFault::At(_) => Unasked::NotServed,
+/// The days that a text asks for, or none where it asks for none.
+fn days_of(text: &str) -> Result<Option<Interval>, AllocError> {
+    match asked(text) {
+        Ok(days) => Ok(Some(days)),
+        Err(DatetimeFault::Memory) => Err(AllocError),
+        Err(_) => Ok(None),
+    }
+}
+
+/// What is asked by the name of a collection, maybe with `/` and days behind it.
+fn question_of(name: &str) -> Result<Question, AllocError> {
+    let (name, days) = match name.split_once('/') {
+        Some((name, days)) => (name, Some(days)),
+        None => (name, None),
+    };
+    let Some(collection) = Collection::read(name) else {
+        return Ok(Question::NoCollection);
+    };
+    let Some(days) = days else {
+        return Ok(Question::Of(collection, None));
+    };
+    match days_of(days)? {
+        Some(days) => Ok(Question::Of(collection, Some(days))),
+        None => Ok(Question::NoDays),
+    }
+}
+
+/// Whether the feature's lifespan meets the days.
+fn lives_on(feature: &Feature, days: Interval) -> bool {
+    for value in &feature.values {
+        if let Value::Span(lifespan) = value {
+            return holds(Relation::Intersects, *lifespan, days);
         }
     }
+    false
 }
 
-impl From<ParseFault> for Unasked {
-    fn from(fault: ParseFault) -> Unasked {
-        match fault {
-            ParseFault::Memory => Unasked::Memory,
-            ParseFault::At(_) => Unasked::NotServed,
+/// Whether the feature is taken: it lives on the asked days, and the filter is true of it.
+fn is_taken(
+    alloc: Global,
+    filter: &Filter,
+    days: Option<Interval>,
+    feature: &Feature,
+) -> Result<bool, AllocError> {
+    if let Some(days) = days {
+        if !lives_on(feature, days) {
+            return Ok(false);
         }
     }
+    Ok(truth(alloc, filter, feature)? == Truth::Yes)
 }
 
-impl From<TypeFault> for Unasked {
-    fn from(fault: TypeFault) -> Unasked {
-        match fault {
-            TypeFault::Memory => Unasked::Memory,
-            TypeFault::Refused => Unasked::NotServed,
-        }
-    }
-}
-
-/// A filter of parcels, as it can be asked of features so far.
-fn served_filter(alloc: Global, text: &str) -> Result<Filter, Unasked> {
-    let tokens = tokens(alloc, text)?;
-    let tree = parse(alloc, &tokens)?;
-    Ok(check(alloc, &tree, Served::Parcels)?)
-}
-
-/// The collection of a name.
-fn collection_of(name: &[u8]) -> Option<Collection> {
-    match str::from_utf8(name) {
-        Ok(name) => Collection::read(name),
-        Err(_) => None,
-    }
-}
-
-/// Appends the identifiers of the sample's features that a filter takes.
-fn push_features(alloc: Global, line: &mut String, filter: &Filter) -> Result<(), AllocError> {
-    let features = sample_parcels(alloc)?;
-    for feature in select(alloc, Some(filter), &features, features.len())? {
-        let identifier = format!(in alloc; " {}.{}", feature.object, feature.number)?;
-        line.push_str(identifier.as_str())?;
-    }
-    Ok(())
-}
-
-/// The word, and behind it the identifiers where the filter is asked of features. The sample has features of parcels
-/// alone.
-fn accepted(alloc: Global, collection: Collection, text: &str) -> Result<String, AllocError> {
+/// The word, and behind it the identifiers of the features that are taken.
+fn accepted(
+    alloc: Global,
+    filter: &Filter,
+    days: Option<Interval>,
+    features: &[Feature],
+) -> Result<String, AllocError> {
     let mut line = String::from_str(alloc, "accepted")?;
-    if collection == Collection::Parcels {
-        match served_filter(alloc, text) {
-            Ok(filter) => push_features(alloc, &mut line, &filter)?,
-            Err(Unasked::NotServed) => {}
-            Err(Unasked::Memory) => return Err(AllocError),
+    for feature in features {
+        if is_taken(alloc, filter, days, feature)? {
+            let object = feature.object.number();
+            let identifier = format!(in alloc; " {object}.{}", feature.number)?;
+            line.push_str(identifier.as_str())?;
         }
     }
     Ok(line)
 }
 
-fn answer_filter(alloc: Global, collection: Collection, text: &str) -> Result<String, AllocError> {
+fn answer_filter(
+    alloc: Global,
+    versions: &[Version],
+    collection: Collection,
+    days: Option<Interval>,
+    text: &str,
+) -> Result<String, AllocError>
+    requires { IsListing versions.now }
+{
     match read(alloc, text, collection) {
-        Ok(_) => accepted(alloc, collection, text),
+        Ok(filter) => {
+            let features = flatten(alloc, versions, collection)?;
+            accepted(alloc, &filter, days, &features)
+        }
         Err(FilterFault::Refused(cause)) => {
             Ok(format!(in alloc; "{} {}", cause.name(), cause.place())?)
         }
@@ -95,16 +110,24 @@ fn answer_filter(alloc: Global, collection: Collection, text: &str) -> Result<St
     }
 }
 
-/// What is printed for a case.
-pub fn answer(alloc: Global, case: &[u8]) -> Result<String, AllocError> {
+/// What is printed for a case, asked of these versions.
+pub fn answer(alloc: Global, versions: &[Version], case: &[u8]) -> Result<String, AllocError>
+    requires { IsListing versions.now }
+{
     let end = case.iter().position(|byte| *byte == b' ' || *byte == b'\t');
     let (name, text) = match end {
         Some(end) => (&case[..end], &case[end + 1..]),
         None => (case, b"".as_slice()),
     };
-    match (collection_of(name), str::from_utf8(text)) {
-        (None, _) => String::from_str(alloc, "no collection"),
-        (Some(_), Err(_)) => String::from_str(alloc, "no text"),
-        (Some(collection), Ok(text)) => answer_filter(alloc, collection, text),
+    let Ok(name) = str::from_utf8(name) else {
+        return String::from_str(alloc, "no collection");
+    };
+    match (question_of(name)?, str::from_utf8(text)) {
+        (Question::NoCollection, _) => String::from_str(alloc, "no collection"),
+        (Question::NoDays, _) => String::from_str(alloc, "no days"),
+        (Question::Of(..), Err(_)) => String::from_str(alloc, "no text"),
+        (Question::Of(collection, days), Ok(text)) => {
+            answer_filter(alloc, versions, collection, days, text)
+        }
     }
 }
