@@ -1,10 +1,12 @@
-//! How many commands a second the office enters into a ledger in memory, how long a revision takes to read, and how long
-//! the filter of a text takes to read.
+//! How many commands a second the office enters into a ledger in memory, how long a revision takes to read, how long its
+//! features take, and how long the filter of a text takes to read.
 //!
-//! `cad_bench [COUNT]` enters COUNT units and then, in another ledger, twice as many: 100 where no count is given. It writes what it measured to standard error. The office's speed in a file is measured by scripts/bench.
+//! `cad_bench [COUNT]` enters COUNT units and then, in another ledger, twice as many: 100 where no count is given. It makes features of ten parcels for each of COUNT units, and of twice as many. It writes what it measured to standard error. The office's speed in a file is measured by scripts/bench.
 #![tactic(auto)]
 
 mod filters;
+mod flattening;
+mod register;
 
 use anyhow::{Context, Result, ensure};
 use cad_office::office;
@@ -35,6 +37,7 @@ fn main(rt: HostRuntime) -> Result<()> {
     let once = measured(&rt, count)?;
     let more = measured(&rt, count * 2)?;
     tell(&rt, count, once, more)?;
+    flattening::measure(&rt, count)?;
     filters::tell(&rt)
 }
 

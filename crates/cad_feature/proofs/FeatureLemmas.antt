@@ -1,5 +1,5 @@
 -- What a version says fits the schema of its collection.
-use Rattle.std.proofs.Common.{◌≡◌, ℕ, ◌+◌, ◌≤◌, ◌<◌, zero, suc, List, [], ◌∷◌, length, map, take, refl, subst, get_or, arith}
+use Rattle.std.proofs.Common.{◌≡◌, ℕ, ◌+◌, ◌≤◌, ◌<◌, suc, List, [], ◌∷◌, length, map, take, refl, subst, get_or, arith}
 use Rattle.std.specs.List.{All, AllWithin}
 use Rattle.std.proofs.lemmas.List.{take_all, get_or_default}
 use Rattle.std.proofs.lemmas.List.Elements.{AllWithin-more}

@@ -1,25 +1,24 @@
 -- Laws of features.
-use Rattle.std.proofs.Common.{◌≡◌, ℕ, zero, suc, ◌<◌, pos, ◌≤ℤ◌, Bool, true, false, ◌&&◌, List, [], ◌∷◌, length, map, filter, find, cond, Option, Some, None, refl, sym, ap, ◌∙◌, subst, arith, get_or, true≢false, int_le, Contains}
+use Rattle.std.proofs.Common.{◌≡◌, ℕ, zero, suc, ◌≤ℤ◌, Bool, true, false, ◌&&◌, List, [], ◌∷◌, find, cond, Option, Some, None, refl, sym, ap, ◌∙◌, subst, arith, true≢false, int_le, Contains}
 use Rattle.std.specs.List.{All}
-use Rattle.std.specs.Option.{ForSome, option_and_then}
+use Rattle.std.specs.Option.{ForSome}
 use Rattle.std.specs.Str.{chars}
 use Rattle.std.proofs.lemmas.Int.{ints}
 use Rattle.std.proofs.lemmas.Option.{option_and_then_some}
 use Rattle.cad_day.specs.declared.day.Day.{Day}
 use Rattle.cad_day.specs.declared.interval.Interval.{Interval}
-use Rattle.cad_day.specs.Days.{number_of, IsTurned}
+use Rattle.cad_day.specs.Days.{number_of}
 use Rattle.cad_versions.specs.declared.object_id.ObjectId.{ObjectId}
 use Rattle.cad_versions.specs.declared.words.Words.{Words}
 use Rattle.cad_versions.specs.BodyParts.{name_in}
-use Rattle.cad_versions.specs.Objects.{object_number}
 use Rattle.cad_versions.specs.SameLemmas.{same_object}
 use Rattle.cad_versions.specs.Texts.{bytes_of}
 use Rattle.cad_versions.specs.VersionedObject.{VersionedObject, IsVersion}
 use Rattle.cad_versions.specs.Versions.{is_of, history}
-use Rattle.cad_feature.specs.Flatten.{or_null, text_of, version_on, name_on, joined_name}
+use Rattle.cad_feature.specs.Flatten.{or_null, as_text, version_on, name_on, joined_name}
 use Rattle.cad_feature.specs.Laws.{HoldsDay, WasNamed}
 use Rattle.cad_feature.specs.Lifespans.{holds_on, is_up_to, between, between_if, is_turned, not_turned}
-use Rattle.cad_feature.specs.Values.{Datum, null, a_text, a_span}
+use Rattle.cad_feature.specs.Values.{null, a_text, a_span}
 
 -- ---- lifespans
 
@@ -84,11 +83,11 @@ was_named vs day words o e =
     let of = found_of object (holds_on day) vs w found in
     (object, is, record { version = w; stands = of.0; of_object = it_is object w of.1; holds = holds_says day w of.2; says = says })))
 
-text_joined : (o : Option Words) (characters : List ℕ) → or_null text_of o ≡ a_text characters → (words : Words) × (o ≡ Some words) × (characters ≡ chars (bytes_of words))
+text_joined : (o : Option Words) (characters : List ℕ) → or_null as_text o ≡ a_text characters → (words : Words) × (o ≡ Some words) × (characters ≡ chars (bytes_of words))
 text_joined None characters e = absurd cc
 text_joined (Some words) characters e = (words, refl, cc)
 
-pub names_told : (vs : List VersionedObject) (day : Day) (named : Option ObjectId) (characters : List ℕ) → or_null text_of (joined_name vs day named) ≡ a_text characters
+pub names_told : (vs : List VersionedObject) (day : Day) (named : Option ObjectId) (characters : List ℕ) → or_null as_text (joined_name vs day named) ≡ a_text characters
     → (object : ObjectId) × (words : Words) × (named ≡ Some object) × (characters ≡ chars (bytes_of words)) × WasNamed vs day object words
 names_told vs day named characters e =
     let text = text_joined (joined_name vs day named) characters e in
@@ -110,5 +109,5 @@ none_found object day (v ∷ vs) none = go (is_of object v) refl (none_found obj
     go true e rest = rw (not_held day v (none 0 v (omega arith) (it_is object v e))) rest
     go false e rest = rest
 
-pub none_told : (vs : List VersionedObject) (day : Day) (named : Option ObjectId) (object : ObjectId) → named ≡ Some object → All (λ w. w.object ≡ object → ¬ HoldsDay day w) vs → or_null text_of (joined_name vs day named) ≡ null
+pub none_told : (vs : List VersionedObject) (day : Day) (named : Option ObjectId) (object : ObjectId) → named ≡ Some object → All (λ w. w.object ≡ object → ¬ HoldsDay day w) vs → or_null as_text (joined_name vs day named) ≡ null
 none_told vs day named object is none = rw (is, none_found object day vs none) refl

@@ -1,5 +1,5 @@
 -- What the properties of a collection say of a version (ISO 19152:2012, attributes of VersionedObject, LA_Party, LA_BAUnit, LA_SpatialUnit and LA_RRR).
-use Rattle.std.specs.Prelude.{ℕ, List, [], ◌∷◌, codes}
+use Rattle.std.specs.Prelude.{List, [], ◌∷◌, codes}
 use Rattle.cad_feature.specs.declared.attribute.Attribute.{Attribute}
 use Rattle.cad_feature.specs.declared.attribute.Attribute.TheVariants as attribute
 use Rattle.cad_feature.specs.declared.collection.Collection.{Collection}

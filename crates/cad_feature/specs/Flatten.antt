@@ -1,10 +1,9 @@
 -- The features of a register (OGC 17-069r4, 7.15: items; ISO 19152:2012, VersionedObject).
-use Rattle.std.specs.Prelude.{ℕ, pos, ◌==◌, Bool, List, map, filter, find, Option, Some, None, option_and_then, chars}
+use Rattle.std.specs.Prelude.{ℕ, pos, ◌==◌, Bool, List, map, filter, find, Option, Some, None, option_and_then, option_map, chars}
 use Rattle.cad_day.specs.declared.day.Day.{Day}
 use Rattle.cad_versions.specs.declared.body.Class.{Class}
 use Rattle.cad_versions.specs.declared.body.Class.TheVariants as class
 use Rattle.cad_versions.specs.declared.object_id.ObjectId.{ObjectId}
-use Rattle.cad_versions.specs.declared.share.Share.{Share}
 use Rattle.cad_versions.specs.declared.words.Words.{Words}
 use Rattle.cad_versions.specs.BodyParts.{name_in, code_in, label_in, area_in, unit_named, party_named, share_in, required_in, spot_in, shape_in}
 use Rattle.cad_versions.specs.Class.{class_of, class_number}
@@ -53,40 +52,31 @@ or_null value None = null
 or_null value (Some x) = value x
 
 -- the characters of the words
-abbrev pub text_of : Words → Datum
-text_of words = a_text (chars (bytes_of words))
+abbrev pub as_text : Words → Datum
+as_text words = a_text (chars (bytes_of words))
 
-abbrev pub count_of : ℕ → Datum
-count_of n = a_whole (pos n)
-
-abbrev pub object_of : ObjectId → Datum
-object_of object = count_of (object_number object)
-
-abbrev pub parts_of : Share → Datum
-parts_of share = count_of (num_of share)
-
-abbrev pub whole_of : Share → Datum
-whole_of share = count_of (den_of share)
+abbrev pub as_whole : ℕ → Datum
+as_whole n = a_whole (pos n)
 
 -- what a version says; names are joined on its first day
 abbrev pub value_in : List VersionedObject → VersionedObject → Attribute → Datum
-value_in vs v attribute.Object = object_of v.object
-value_in vs v attribute.Number = count_of v.number
+value_in vs v attribute.Object = as_whole (object_number v.object)
+value_in vs v attribute.Number = as_whole v.number
 value_in vs v attribute.Begin = a_day v.first
 value_in vs v attribute.End = or_null a_day v.last
 value_in vs v attribute.Lifespan = or_null a_span (between (Some v.first) v.last)
-value_in vs v attribute.Name = or_null text_of (name_in v.body)
-value_in vs v attribute.Type = or_null text_of (code_in v.body)
-value_in vs v attribute.Label = or_null text_of (label_in v.body)
-value_in vs v attribute.Area = or_null count_of (area_in v.body)
+value_in vs v attribute.Name = or_null as_text (name_in v.body)
+value_in vs v attribute.Type = or_null as_text (code_in v.body)
+value_in vs v attribute.Label = or_null as_text (label_in v.body)
+value_in vs v attribute.Area = or_null as_whole (area_in v.body)
 value_in vs v attribute.Geometry = or_null an_area (shape_in v.body)
 value_in vs v attribute.ReferencePoint = or_null a_spot (spot_in v.body)
-value_in vs v attribute.Unit = or_null object_of (unit_named v.body)
-value_in vs v attribute.UnitName = or_null text_of (joined_name vs v.first (unit_named v.body))
-value_in vs v attribute.Party = or_null object_of (party_named v.body)
-value_in vs v attribute.PartyName = or_null text_of (joined_name vs v.first (party_named v.body))
-value_in vs v attribute.ShareNum = or_null parts_of (share_in v.body)
-value_in vs v attribute.ShareDen = or_null whole_of (share_in v.body)
+value_in vs v attribute.Unit = or_null as_whole (option_map object_number (unit_named v.body))
+value_in vs v attribute.UnitName = or_null as_text (joined_name vs v.first (unit_named v.body))
+value_in vs v attribute.Party = or_null as_whole (option_map object_number (party_named v.body))
+value_in vs v attribute.PartyName = or_null as_text (joined_name vs v.first (party_named v.body))
+value_in vs v attribute.ShareNum = or_null as_whole (option_map num_of (share_in v.body))
+value_in vs v attribute.ShareDen = or_null as_whole (option_map den_of (share_in v.body))
 value_in vs v attribute.PartyRequired = or_null a_flag (required_in v.body)
 
 -- ---- features

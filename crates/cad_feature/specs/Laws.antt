@@ -1,5 +1,5 @@
 -- What holds of the features of every register (OGC 17-069r4, 7.15: items; ISO 19152:2012, VersionedObject).
-use Rattle.std.specs.Prelude.{◌≡◌, ℕ, ◌≤ℤ◌, List, map, filter, Contains, Option, Some, None, chars, true, false}
+use Rattle.std.specs.Prelude.{◌≡◌, ℕ, ◌≤ℤ◌, List, map, filter, Contains, Option, Some, chars}
 use Rattle.std.specs.List.{All}
 use Rattle.std.specs.Option.{ForSome}
 use Rattle.cad_day.specs.declared.day.Day.{Day}
@@ -19,7 +19,7 @@ use Rattle.cad_feature.specs.Attributes.{attributes_of, named}
 use Rattle.cad_feature.specs.Features.{identifier_of}
 use Rattle.cad_feature.specs.Flatten.{is_in, value_in, features_in}
 use Rattle.cad_feature.specs.Schema.{schema_of}
-use Rattle.cad_feature.specs.Values.{Datum, null, a_text, a_span}
+use Rattle.cad_feature.specs.Values.{null, a_text, a_span}
 
 -- the values stand in the order of the schema's names
 abbrev pub ValuesAreNamed : Collection → Type 0

@@ -1,5 +1,5 @@
 -- The days of a version (ISO 19152:2012, VersionedObject: beginLifespanVersion and endLifespanVersion).
-use Rattle.std.specs.Prelude.{◌≡◌, int_le, int_lt, Bool, true, false, ◌&&◌, Option, Some, None, MatchOption, refl}
+use Rattle.std.specs.Prelude.{◌≡◌, int_le, int_lt, Bool, true, false, ◌&&◌, Option, Some, None, refl}
 use Rattle.std.proofs.Common.{arith, ap, subst, true≢false, sym, ◌∙◌}
 use Rattle.std.proofs.lemmas.Int.{ints}
 use Rattle.cad_day.specs.declared.day.Day.{Day}

@@ -5,7 +5,7 @@ ghost use Rattle.std.specs.Option.{option_copied};
 ghost use Rattle.cad_versions.specs.Listing.{IsListing};
 ghost use Rattle.cad_feature.specs.declared.property.PropertyKind.TheVariants as kind;
 ghost use Rattle.cad_feature.specs.Attributes.{named};
-ghost use Rattle.cad_feature.specs.Flatten.{or_null, text_of, count_of, object_of, value_in};
+ghost use Rattle.cad_feature.specs.Flatten.{or_null, as_text, as_whole, value_in};
 ghost use Rattle.cad_feature.specs.Lifespans.{between};
 ghost use Rattle.cad_feature.specs.Values.{Shows, a_day, a_span, a_flag, a_spot, an_area};
 
@@ -14,11 +14,11 @@ use crate::attribute::Attribute;
 use crate::joining::joined_name;
 use cad_day::{Day, Interval};
 use cad_shape::{Point, Ring};
-use cad_versions::{ObjectId, Version, Words};
+use cad_versions::{Version, Words};
 use std::alloc::{AllocError, Global};
 
 fn text(alloc: Global, words: Option<&Words>) -> Result<Value, AllocError>
-    ensures { IfOk result (Shows kind.Text (or_null text_of (option_copied words.entry))) }
+    ensures { IfOk result (Shows kind.Text (or_null as_text (option_copied words.entry))) }
 {
     match words {
         None => Ok(Value::Null),
@@ -30,20 +30,11 @@ fn text(alloc: Global, words: Option<&Words>) -> Result<Value, AllocError>
 }
 
 fn whole(number: Option<u32>) -> Value
-    ensures { Shows kind.Whole (or_null count_of number) result }
+    ensures { Shows kind.Whole (or_null as_whole number) result }
 {
     match number {
         None => Value::Null,
         Some(number) => Value::Whole(i64::from(number)),
-    }
-}
-
-fn object(object: Option<ObjectId>) -> Value
-    ensures { Shows kind.Whole (or_null object_of object) result }
-{
-    match object {
-        None => Value::Null,
-        Some(object) => Value::Whole(i64::from(object.number())),
     }
 }
 
@@ -107,7 +98,7 @@ pub(crate) fn value(
 {
     let body = &version.body;
     match attribute {
-        Attribute::Object => Ok(object(Some(version.object))),
+        Attribute::Object => Ok(whole(Some(version.object.number()))),
         Attribute::Number => Ok(whole(Some(version.number))),
         Attribute::Begin => Ok(day(Some(version.first))),
         Attribute::End => Ok(day(version.last)),
@@ -118,12 +109,12 @@ pub(crate) fn value(
         Attribute::Area => Ok(whole(body.area())),
         Attribute::Geometry => Ok(region(alloc, body.shape())?),
         Attribute::ReferencePoint => Ok(spot(body.spot())),
-        Attribute::Unit => Ok(object(body.unit())),
+        Attribute::Unit => Ok(whole(body.unit().map(|unit| unit.number()))),
         Attribute::UnitName => {
             let name = joined_name(versions, version.first, body.unit());
             Ok(text(alloc, name)?)
         }
-        Attribute::Party => Ok(object(body.party())),
+        Attribute::Party => Ok(whole(body.party().map(|party| party.number()))),
         Attribute::PartyName => {
             let name = joined_name(versions, version.first, body.party());
             Ok(text(alloc, name)?)

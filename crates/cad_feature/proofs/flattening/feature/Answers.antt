@@ -1,4 +1,3 @@
-use Rattle.std.proofs.Common.{rules, arith}
 use Rattle.cad_feature.specs.Values.{datum_of}
 use Rattle.cad_feature.proofs.FeatureLemmas.{says, fit_more, all_fit}
 use Rattle.cad_feature.proofs.ListLemmas.{map_more}
