@@ -67,6 +67,7 @@ fn text_answer(alloc: Global, text: &str, pattern: &str) -> Result<String, Alloc
     format!(in alloc; "{likeness} {order} {folded}")
 }
 
+/// What a line is answered: see the head of the program.
 pub fn answer(alloc: Global, sample: &Sample, line: &str) -> Result<String, AllocError> {
     let Some((name, rest)) = line.split_once(' ') else {
         return String::from_str(alloc, "unread");

@@ -78,6 +78,7 @@ fn tell_like(rt: &HostRuntime, name: &str, text: &str, pattern: &str) -> Result<
 pub fn tell_times(rt: &HostRuntime) -> Result<()> {
     let alloc = rt.alloc();
     let parcels = parcels(alloc)?;
+    tell_filter(rt, parcels.as_slice(), "label IS NULL")?;
     tell_filter(rt, parcels.as_slice(), "area > 390 AND label LIKE 'A%'")?;
     tell_filter(
         rt,
