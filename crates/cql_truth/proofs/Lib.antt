@@ -1,3 +1,4 @@
 mod Exclusion
 mod IntervalLemmas
 mod PartLemmas
+mod FoldingLemmas

@@ -7,3 +7,4 @@ pub mod Contents
 pub mod Terms
 pub mod Nodes
 pub mod Laws
+pub mod Folding

@@ -1,6 +1,7 @@
 //! Whether a filter is true or false of a feature, or neither.
 
-ghost use Rattle.std.specs.Prelude.{◌≡◌, map, IfOk};
+ghost use Rattle.std.specs.Prelude.{◌≡◌, false, map, IfOk, IsOk};
+ghost use Rattle.cql_truth.specs.Folding.{folds_case, folds_term, some};
 ghost use Rattle.cql_truth.specs.Said.{said};
 ghost use Rattle.cql_truth.specs.Sides.{conjunction, disjunction, is_null as is_null_of, sides};
 
@@ -15,7 +16,8 @@ use cql_types::{AnyTerm, Filter};
 use std::alloc::{AllocError, Global};
 
 fn is_null(alloc: Global, term: &AnyTerm, feature: &Feature) -> Result<bool, AllocError>
-    ensures { IfOk result (λ null. null ≡ is_null_of feature.now term.now) }
+    ensures value { IfOk result (λ null. null ≡ is_null_of feature.now term.now) }
+    ensures lent { folds_term term.now ≡ false → IsOk result }
 {
     match term {
         AnyTerm::Whole(term) => Ok(whole(term, feature).is_none()),
@@ -27,10 +29,12 @@ fn is_null(alloc: Global, term: &AnyTerm, feature: &Feature) -> Result<bool, All
     }
 }
 
-/// What the filter says of the feature. Memory is taken for texts whose case is folded alone.
+/// What the filter says of the feature, or want of memory, which is taken for texts whose case is folded alone: a filter
+/// without CASEI is always answered.
 #[cycle(truth)]
 pub fn truth(alloc: Global, filter: &Filter, feature: &Feature) -> Result<Truth, AllocError>
-    ensures { IfOk result (λ t. said t ≡ sides feature.now filter.now) }
+    ensures said { IfOk result (λ t. said t ≡ sides feature.now filter.now) }
+    ensures answers { folds_case filter.now ≡ false → IsOk result }
 {
     match filter {
         Filter::Truth(is_true) => Ok(told(Some(*is_true))),
@@ -80,7 +84,8 @@ pub fn truth(alloc: Global, filter: &Filter, feature: &Feature) -> Result<Truth,
 
 #[cycle(truth)]
 fn all_of(alloc: Global, parts: &[Filter], feature: &Feature) -> Result<Truth, AllocError>
-    ensures { IfOk result (λ t. said t ≡ conjunction (map (sides feature.now) parts.now)) }
+    ensures said { IfOk result (λ t. said t ≡ conjunction (map (sides feature.now) parts.now)) }
+    ensures answers { some (map folds_case parts.now) ≡ false → IsOk result }
 {
     let mut all = Truth::Yes;
     for part in parts {
@@ -91,7 +96,8 @@ fn all_of(alloc: Global, parts: &[Filter], feature: &Feature) -> Result<Truth, A
 
 #[cycle(truth)]
 fn some_of(alloc: Global, parts: &[Filter], feature: &Feature) -> Result<Truth, AllocError>
-    ensures { IfOk result (λ t. said t ≡ disjunction (map (sides feature.now) parts.now)) }
+    ensures said { IfOk result (λ t. said t ≡ disjunction (map (sides feature.now) parts.now)) }
+    ensures answers { some (map folds_case parts.now) ≡ false → IsOk result }
 {
     let mut some = Truth::No;
     for part in parts {

@@ -1,8 +1,10 @@
 //! Texts.
 
-ghost use Rattle.std.specs.Prelude.{◌≡◌, IfOk};
+ghost use Rattle.std.specs.Prelude.{◌≡◌, false, IfOk, IsOk};
+ghost use Rattle.std.specs.List.{list_any};
 ghost use Rattle.cad_feature.specs.Values.{datum_of};
 ghost use Rattle.cql_truth.specs.Contents.{content};
+ghost use Rattle.cql_truth.specs.Folding.{folds_text};
 ghost use Rattle.cql_truth.specs.Said.{said};
 ghost use Rattle.cql_truth.specs.Sides.{among, compared, is_like, texts};
 ghost use Rattle.cql_truth.specs.Values.{datum_at, folded_content, text_in as text_in_of, text_value};
@@ -49,7 +51,8 @@ pub(crate) fn text<'a>(
     term: &'a TextTerm,
     feature: &'a Feature,
 ) -> Result<Option<CowStr<'a>>, AllocError>
-    ensures { IfOk result (λ text. content text ≡ text_value feature.now term.now) }
+    ensures value { IfOk result (λ text. content text ≡ text_value feature.now term.now) }
+    ensures lent { folds_text term.now ≡ false → IsOk result }
 {
     match term {
         TextTerm::Constant(text) => Ok(Some(CowStr::Borrowed(text.as_str()))),
@@ -82,7 +85,8 @@ pub(crate) fn in_texts(
     items: &[TextTerm],
     feature: &Feature,
 ) -> Result<Truth, AllocError>
-    ensures { IfOk result (λ t. said t ≡ among (texts Equal) (text_value feature.now) (content value.now) items.now) }
+    ensures said { IfOk result (λ t. said t ≡ among (texts Equal) (text_value feature.now) (content value.now) items.now) }
+    ensures lent { list_any folds_text items.now ≡ false → IsOk result }
 {
     let mut found = Truth::No;
     for item in items {

@@ -1,0 +1,254 @@
+#!/usr/bin/env python3
+"""A second reading of what filters say of features, in Python and not from the crates.
+
+It answers the cases of crates/cql_truth_cases: of which features a filter is true, of which false, and of which
+neither. Its own code reads days, texts, sums and shapes; trees are those of filter_model.py.
+
+    scripts/truth_model.py < crates/cql_truth_cases/stdin | cmp - crates/cql_truth_cases/stdout
+"""
+import sys
+from fractions import Fraction
+from functools import lru_cache
+
+import filter_model
+
+OPEN_START, OPEN_END = (0,), (2,)
+
+
+def at(text):
+    return (1, filter_model.day_of(text))
+
+
+def span(begin, end):
+    return (at(begin), OPEN_END if end is None else at(end))
+
+
+def head(object_, number, begin, end=None):
+    return {"object": object_, "number": number, "begin": span(begin, begin), "end": end and span(end, end),
+            "lifespan": span(begin, end)}
+
+
+def parcel(first, label, area, corners, spot, unit, unit_name):
+    return {**first, "label": label, "area": area, "geometry": corners and ("area", corners),
+            "reference_point": spot and ("spot", [spot]), "unit": unit, "unit_name": unit_name}
+
+
+SQUARE = [(0, 0), (20000, 0), (20000, 20000), (0, 20000)]
+FEATURES = {
+    "parcels": [
+        parcel(head(1, 1, "2001-01-01", "2009-12-31"), "A-1", 400, SQUARE, None, 10, "Mill"),
+        parcel(head(1, 2, "2010-01-01"), "A-1", 380, SQUARE, None, 10, "Mill"),
+        parcel(head(2, 1, "2005-06-01"), "A-2", None, [(x + 20000, y) for x, y in SQUARE], None, 10, "Mill"),
+        parcel(head(3, 1, "2003-01-01"), "b-7", 900, [(0, 30000), (30000, 30000), (0, 60000)], None, 11, None),
+        parcel(head(4, 1, "2003-01-01"), "C%1", 0, None, (10000, 10000), 11, None),
+    ],
+    "rights": [{**head(30, 1, "2005-01-01"), "type": "ownership", "share_num": 1, "share_den": 2, "unit": 10,
+                "unit_name": "Mill", "party": 20, "party_name": "Ana Straße"}],
+    "restrictions": [{**head(31, 1, "2006-01-01"), "type": "noBuilding", "share_num": None, "share_den": None, "unit": 11,
+                      "unit_name": None, "party": None, "party_name": None, "party_required": False}],
+}
+
+
+def like(text, pattern):
+    @lru_cache(None)
+    def rest(i, j):
+        if j == len(pattern):
+            return i == len(text)
+        if pattern[j] == "%":
+            return any(rest(k, j + 1) for k in range(i, len(text) + 1))
+        if i == len(text):
+            return False
+        if pattern[j] == "_":
+            return rest(i + 1, j + 1)
+        if pattern[j] == "\\" and j + 1 < len(pattern):
+            return text[i] == pattern[j + 1] and rest(i + 1, j + 2)
+        return text[i] == pattern[j] and rest(i + 1, j + 1)
+    return rest(0, 0)
+
+
+def step(sign, a, b):
+    if a is None or b is None or (sign in ("DIV", "%") and b == 0):
+        return None
+    if sign in ("DIV", "%"):
+        quotient = int(Fraction(a, b))
+        result = quotient if sign == "DIV" else a - b * quotient
+    else:
+        result = {"+": a + b, "-": a - b, "*": a * b}[sign]
+    return result if -2**63 <= result < 2**63 else None
+
+
+# ---- shapes: a kind and its corners
+
+def edges(shape):
+    corners = shape[1]
+    return [] if shape[0] == "spot" else list(zip(corners, corners[1:] + corners[:1]))
+
+
+def on_edge(p, a, b):
+    turn = (b[0] - a[0]) * (p[1] - a[1]) - (b[1] - a[1]) * (p[0] - a[0])
+    return turn == 0 and min(a[0], b[0]) <= p[0] <= max(a[0], b[0]) and min(a[1], b[1]) <= p[1] <= max(a[1], b[1])
+
+
+def share_point(e, f):
+    """Whether two segments share a point, by the point where their lines cross."""
+    (a, b), (c, d) = e, f
+    if any(on_edge(p, c, d) for p in e) or any(on_edge(p, a, b) for p in f):
+        return True
+    u, v = (b[0] - a[0], b[1] - a[1]), (d[0] - c[0], d[1] - c[1])
+    cross = u[0] * v[1] - u[1] * v[0]
+    if cross == 0:
+        return False
+    s = Fraction((c[0] - a[0]) * v[1] - (c[1] - a[1]) * v[0], cross)
+    t = Fraction((c[0] - a[0]) * u[1] - (c[1] - a[1]) * u[0], cross)
+    return 0 <= s <= 1 and 0 <= t <= 1
+
+
+def inside(p, shape):
+    if shape[0] == "spot":
+        return p == shape[1][0]
+    if any(on_edge(p, *e) for e in edges(shape)):
+        return True
+    crossed = 0
+    for a, b in edges(shape):
+        if (a[1] <= p[1]) != (b[1] <= p[1]):
+            crossed += a[0] + Fraction((p[1] - a[1]) * (b[0] - a[0]), b[1] - a[1]) > p[0]
+    return crossed % 2 == 1
+
+
+def meet(a, b):
+    if "spot" in (a[0], b[0]):
+        return inside(a[1][0], b) if a[0] == "spot" else inside(b[1][0], a)
+    return (any(share_point(e, f) for e in edges(a) for f in edges(b)) or any(inside(p, b) for p in a[1])
+            or any(inside(p, a) for p in b[1]))
+
+
+def within(a, b):
+    if a[0] == "spot":
+        return inside(a[1][0], b) and not any(on_edge(a[1][0], *e) for e in edges(b))
+    return b[1][0][0] <= min(x for x, _ in a[1]) and max(x for x, _ in a[1]) <= b[1][2][0] and \
+        b[1][0][1] <= min(y for _, y in a[1]) and max(y for _, y in a[1]) <= b[1][2][1]
+
+
+SPATIAL = {"S_INTERSECTS": meet, "S_DISJOINT": lambda a, b: not meet(a, b), "S_WITHIN": within,
+           "S_CONTAINS": lambda a, b: within(b, a)}
+TEMPORAL = {
+    "T_AFTER": lambda s, e, t, f: s > f, "T_BEFORE": lambda s, e, t, f: e < t,
+    "T_DISJOINT": lambda s, e, t, f: s > f or e < t, "T_INTERSECTS": lambda s, e, t, f: s <= f and t <= e,
+    "T_EQUALS": lambda s, e, t, f: (s, e) == (t, f), "T_CONTAINS": lambda s, e, t, f: s < t and f < e,
+    "T_DURING": lambda s, e, t, f: t < s and e < f, "T_MEETS": lambda s, e, t, f: e == t,
+    "T_METBY": lambda s, e, t, f: s == f, "T_STARTS": lambda s, e, t, f: s == t and e < f,
+    "T_STARTEDBY": lambda s, e, t, f: s == t and e > f, "T_FINISHES": lambda s, e, t, f: e == f and s > t,
+    "T_FINISHEDBY": lambda s, e, t, f: e == f and s < t, "T_OVERLAPS": lambda s, e, t, f: s < t < e < f,
+    "T_OVERLAPPEDBY": lambda s, e, t, f: t < s < f < e,
+}
+
+
+# ---- values, and conditions as True, False or None
+
+def value(tree, x):
+    operator, _, parts, extra = tree
+    if operator == "name":
+        return x[extra]
+    if operator == "number":
+        return filter_model.whole_of(extra)
+    if operator in ("text", "truth"):
+        return extra
+    if operator == "casei":
+        inner = value(parts[0], x)
+        return None if inner is None else inner.casefold()
+    if operator == "date":
+        return span(parts[0][3], parts[0][3])
+    if operator == "interval":
+        ends = [bound(part, x, i) for i, part in enumerate(parts)]
+        return None if None in ends or ends[0] > ends[1] else tuple(ends)
+    if operator in ("sum", "product"):
+        total = value(parts[0], x)
+        for sign, part in zip(extra, parts[1:]):
+            total = step(sign, total, value(part, x))
+        return total
+    numbers = [filter_model.whole_of(part[3]) for part in parts]
+    points = list(zip(numbers[::2], numbers[1::2]))
+    if operator == "point":
+        return ("spot", points)
+    if operator == "polygon":
+        return ("area", points[:-1])
+    (x0, y0), (x1, y1) = points
+    return ("frame", [(x0, y0), (x1, y0), (x1, y1), (x0, y1)])
+
+
+def bound(tree, x, side):
+    if tree[0] == "bound":
+        return (OPEN_START, OPEN_END)[side] if tree[3] == ".." else at(tree[3])
+    day = x[tree[3]]
+    return day and day[side]
+
+
+def both(test, *values):
+    return None if None in values else test(*values)
+
+
+def compare(sign, a, b):
+    return {"=": a == b, "<>": a != b, "<": a < b, ">": a > b, "<=": a <= b, ">=": a >= b}[sign]
+
+
+def negation(truth):
+    return None if truth is None else not truth
+
+
+def conjunction(truths):
+    return False if False in truths else None if None in truths else True
+
+
+def condition(tree, x):
+    operator, _, parts, extra = tree
+    if operator == "truth":
+        return extra
+    if operator in ("and", "or", "not"):
+        truths = [condition(part, x) for part in parts]
+        if operator == "not":
+            return negation(truths[0])
+        return conjunction(truths) if operator == "and" else negation(conjunction([negation(it) for it in truths]))
+    values = [value(part, x) for part in parts]
+    if operator == "compare":
+        return both(lambda a, b: compare(extra, a, b), *values)
+    if operator == "spatial":
+        return both(SPATIAL[extra], *values)
+    if operator == "temporal":
+        return both(lambda a, b: TEMPORAL[extra](*a, *b), *values)
+    if operator == "null":
+        found = values[0] is None
+    elif operator == "like":
+        found = both(like, *values)
+    elif operator == "between":
+        found = conjunction([both(lambda a, b: a >= b, values[0], values[1]), both(lambda a, b: a <= b, values[0], values[2])])
+    else:
+        found = negation(conjunction([negation(both(lambda a, b: a == b, values[0], it)) for it in values[1:]]))
+    return negation(found) if extra else found
+
+
+def answer(collection, text):
+    if filter_model.answer(collection, text) != "accepted":
+        return "refused"
+    tree = filter_model.tree_of(text)
+    said = [(condition(tree, x), f"{x['object']}.{x['number']}") for x in FEATURES.get(collection, [])]
+    words = []
+    for name, wanted in (("yes", True), ("no", False), ("unknown", None)):
+        words += [name] + [identifier for truth, identifier in said if truth is wanted]
+    return " ".join(words)
+
+
+def main():
+    for line in sys.stdin.buffer.read().split(b"\n"):
+        if not line or line.startswith(b"#"):
+            continue
+        name, _, rest = line.partition(b" ")
+        if name == b"texts":
+            text, pattern = rest.decode().split("|", 1)
+            order = "less" if text < pattern else "equal" if text == pattern else "greater"
+            print("like" if like(text, pattern) else "unlike", order, text.casefold())
+        else:
+            print(answer(name.decode(), rest))
+
+
+if __name__ == "__main__":
+    main()
