@@ -3,7 +3,7 @@ RT ?= rt
 # How many crates `make check` proves side by side.
 JOBS ?= $(shell nproc)
 
-.PHONY: sample test check refused bench register-file office-file clean
+.PHONY: sample cases test check refused bench register-file office-file clean
 
 # Proves and builds the program, and answers the request in crates/cadastre/stdin.
 sample:
@@ -14,8 +14,12 @@ sample:
 prove-%:
 	cd crates/$* && $(RT) check
 
+# Holds the stored answers of the filter cases, and the examples of docs/FILTERS.md, against a second reading of the rules.
+cases:
+	scripts/check_filter_cases
+
 # The whole gate: every proof from nothing, the must-fail edits, the tests, and each program as two compilers build it.
-test:
+test: cases
 	$(RT) ci
 
 # Every crate, over what earlier checks kept.

@@ -3,7 +3,7 @@
 
 It tells of a filter's text, for a collection, its first fault with its place, or that it is accepted, so that the
 crates' definitions can be looked at from a second side. Cases are lines `COLLECTION FILTER`; scripts/filter_cases.py
-writes some 1,100 of them.
+writes some 1,100 of them, which stand in crates/cql_cases/stdin, and scripts/check_filter_cases compares the answers.
 
     scripts/filter_cases.py | scripts/filter_model.py
 """

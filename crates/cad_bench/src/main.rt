@@ -1,7 +1,10 @@
-//! How many commands a second the office enters into a ledger in memory, and how long a revision takes to read.
+//! How many commands a second the office enters into a ledger in memory, how long a revision takes to read, and how long
+//! the filter of a text takes to read.
 //!
 //! `cad_bench [COUNT]` enters COUNT units and then, in another ledger, twice as many: 100 where no count is given. It writes what it measured to standard error. The office's speed in a file is measured by scripts/bench.
 #![tactic(auto)]
+
+mod filters;
 
 use anyhow::{Context, Result, ensure};
 use cad_office::office;
@@ -31,7 +34,8 @@ fn main(rt: HostRuntime) -> Result<()> {
     ensure!(0 < count && count <= MOST, "COUNT is 1 to 1,000,000");
     let once = measured(&rt, count)?;
     let more = measured(&rt, count * 2)?;
-    tell(&rt, count, once, more)
+    tell(&rt, count, once, more)?;
+    filters::tell(&rt)
 }
 
 /// So many units to enter, one a line.

@@ -1,91 +1,97 @@
 //! What a filter is answered.
 
+use cad_feature::Collection;
 use cad_sample::sample_parcels;
+use cql_filter::{FilterFault, read};
 use cql_lexer::{LexFault, tokens};
 use cql_meaning::check::{TypeFault, check};
-use cql_meaning::feature::Feature;
 use cql_meaning::filter::Filter;
-use cql_meaning::schema::Collection;
+use cql_meaning::schema::Collection as Served;
 use cql_meaning::select;
 use cql_parser::{ParseFault, parse};
 use std::alloc::{AllocError, Global};
 
-/// Why a text gives no filter.
+/// Why a filter of parcels is not asked of the sample.
 #[derive(Clone, Copy, Debug, PartialEq, Eq)]
-enum Refusal {
-    Refused,
+enum Unasked {
+    /// A part of it is not served yet.
+    NotServed,
     Memory,
 }
 
-impl From<LexFault> for Refusal {
-    fn from(fault: LexFault) -> Refusal {
+impl From<LexFault> for Unasked {
+    fn from(fault: LexFault) -> Unasked {
         match fault {
-            LexFault::Memory => Refusal::Memory,
-            _ => Refusal::Refused,
+            LexFault::Memory => Unasked::Memory,
+            LexFault::At(_) => Unasked::NotServed,
         }
     }
 }
 
-impl From<ParseFault> for Refusal {
-    fn from(fault: ParseFault) -> Refusal {
+impl From<ParseFault> for Unasked {
+    fn from(fault: ParseFault) -> Unasked {
         match fault {
-            ParseFault::Memory => Refusal::Memory,
-            _ => Refusal::Refused,
+            ParseFault::Memory => Unasked::Memory,
+            ParseFault::At(_) => Unasked::NotServed,
         }
     }
 }
 
-impl From<TypeFault> for Refusal {
-    fn from(fault: TypeFault) -> Refusal {
+impl From<TypeFault> for Unasked {
+    fn from(fault: TypeFault) -> Unasked {
         match fault {
-            TypeFault::Memory => Refusal::Memory,
-            _ => Refusal::Refused,
+            TypeFault::Memory => Unasked::Memory,
+            TypeFault::Refused => Unasked::NotServed,
         }
     }
 }
 
-fn read_filter(alloc: Global, text: &str, collection: Collection) -> Result<Filter, Refusal> {
+/// A filter of parcels, as it can be asked of features so far.
+fn served_filter(alloc: Global, text: &str) -> Result<Filter, Unasked> {
     let tokens = tokens(alloc, text)?;
     let tree = parse(alloc, &tokens)?;
-    Ok(check(alloc, &tree, collection)?)
+    Ok(check(alloc, &tree, Served::Parcels)?)
 }
 
 /// The collection of a name.
 fn collection_of(name: &[u8]) -> Option<Collection> {
     match str::from_utf8(name) {
-        Ok("parcels") => Some(Collection::Parcels),
-        Ok("rights") => Some(Collection::Rights),
-        Ok("restrictions") => Some(Collection::Restrictions),
-        Ok("units") => Some(Collection::Units),
-        Ok("parties") => Some(Collection::Parties),
-        _ => None,
+        Ok(name) => Collection::read(name),
+        Err(_) => None,
     }
 }
 
-/// The features of the sample: its parcels, and none of the other collections.
-fn features_of(alloc: Global, collection: Collection) -> Result<Vec<Feature>, AllocError> {
-    if collection == Collection::Parcels {
-        sample_parcels(alloc)
-    } else {
-        Ok(Vec::new(alloc))
-    }
-}
-
-/// The identifiers that a filter takes, behind the word.
-fn accepted(alloc: Global, filter: &Filter, features: &[Feature]) -> Result<String, AllocError> {
-    let mut line = String::from_str(alloc, "accepted")?;
-    for feature in select(alloc, Some(filter), features, features.len())? {
+/// Appends the identifiers of the sample's features that a filter takes.
+fn push_features(alloc: Global, line: &mut String, filter: &Filter) -> Result<(), AllocError> {
+    let features = sample_parcels(alloc)?;
+    for feature in select(alloc, Some(filter), &features, features.len())? {
         let identifier = format!(in alloc; " {}.{}", feature.object, feature.number)?;
         line.push_str(identifier.as_str())?;
+    }
+    Ok(())
+}
+
+/// The word, and behind it the identifiers where the filter is asked of features. The sample has features of parcels
+/// alone.
+fn accepted(alloc: Global, collection: Collection, text: &str) -> Result<String, AllocError> {
+    let mut line = String::from_str(alloc, "accepted")?;
+    if collection == Collection::Parcels {
+        match served_filter(alloc, text) {
+            Ok(filter) => push_features(alloc, &mut line, &filter)?,
+            Err(Unasked::NotServed) => {}
+            Err(Unasked::Memory) => return Err(AllocError),
+        }
     }
     Ok(line)
 }
 
 fn answer_filter(alloc: Global, collection: Collection, text: &str) -> Result<String, AllocError> {
-    match read_filter(alloc, text, collection) {
-        Ok(filter) => accepted(alloc, &filter, &features_of(alloc, collection)?),
-        Err(Refusal::Refused) => String::from_str(alloc, "refused"),
-        Err(Refusal::Memory) => Err(AllocError),
+    match read(alloc, text, collection) {
+        Ok(_) => accepted(alloc, collection, text),
+        Err(FilterFault::Refused(cause)) => {
+            Ok(format!(in alloc; "{} {}", cause.name(), cause.place())?)
+        }
+        Err(FilterFault::Memory) => Err(AllocError),
     }
 }
 

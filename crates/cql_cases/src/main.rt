@@ -3,8 +3,9 @@
 //! A case is the name of a collection, a space or a tab, and the text of a filter, as `parcels area > 400`. It is
 //! answered by
 //!
-//! - `accepted` and the identifiers of the sample's features for which the filter is true, as `accepted 3.1`,
-//! - `refused`, where the text is no filter of that collection,
+//! - `accepted`, where the text is a filter of that collection; of parcels, where it can be asked of features so far, with
+//!   the identifiers of the sample's features for which it is true, as `accepted 3.1`,
+//! - the name and the place of its first fault, as `WrongKind 8`, where it is none,
 //! - `no text`, where its bytes are no UTF-8,
 //! - `no collection`, where the line begins with the name of none.
 //!

@@ -9,8 +9,8 @@ use Rattle.cql_lexer.specs.Spelling.{Leads, here, blank, token_first, is_blank, 
 use Rattle.cql_lexer.specs.Lexed.{IsSpelt, HasFault}
 use Rattle.cql_lexer.specs.Scan.{after_run, begins_number, character_front, symbol_front}
 use Rattle.cql_lexer.specs.Laws.{HasTokensOrFault}
-use Rattle.cql_lexer.specs.declared.fault.LexFault.{LexFault}
-use Rattle.cql_lexer.specs.declared.fault.LexFault.TheVariants.{TooLong}
+use Rattle.cql_lexer.specs.declared.fault.SpellingFault.{SpellingFault}
+use Rattle.cql_lexer.specs.declared.fault.SpellingFault.TheVariants.{TooLong}
 use Rattle.cql_lexer.proofs.Longest.{finds_at, FindsToken, longest_number, name_longest, quoted_end, quoted_longest, quoted_none, text_longest, text_none, token_shorter}
 use Rattle.cql_lexer.proofs.Symbols.{finds_symbol}
 use Rattle.cql_lexer.proofs.Texts.{IsAtEnd, nothing_left, at_quote, ReadsCharacter, character_is, character_shorter, behind_character, content_shorter}
@@ -76,9 +76,9 @@ first_of_bytes x xs = first_by x xs (x == byte "\"") (x == byte "'") (is_name_st
 -- ---- a text has tokens or a fault
 
 abbrev pub Outcome : List ℕ → Type 0
-Outcome bytes = ((tokens : List Mark) × IsSpelt bytes tokens) ⊎ ((fault : LexFault) × HasFault bytes fault)
+Outcome bytes = ((tokens : List Mark) × IsSpelt bytes tokens) ⊎ ((fault : SpellingFault) × HasFault bytes fault)
 
-stops : {bytes : List ℕ} {tokens : List Mark} {left : List ℕ} {fault : LexFault} → length bytes ≤ 8192 → length tokens ≤ 2000 → Leads (length bytes) bytes tokens left → FaultOf (length tokens) (length bytes - length left) left fault → Outcome bytes
+stops : {bytes : List ℕ} {tokens : List Mark} {left : List ℕ} {fault : SpellingFault} → length bytes ≤ 8192 → length tokens ≤ 2000 → Leads (length bytes) bytes tokens left → FaultOf (length tokens) (length bytes - length left) left fault → Outcome bytes
 stops {fault = fault} few_bytes few_tokens leads of =
     inr (fault, has_fault (record { leads = leads; place_is = refl; few_bytes = few_bytes; few_tokens = few_tokens }) of)
 

@@ -1,5 +1,5 @@
 -- A text ends in one way: by its last token, or by one fault.
-use Rattle.std.proofs.Common.{◌≡◌, ℕ, ◌+◌, ◌-◌, ◌≤◌, ◌<◌, Bool, true, false, ◌==◌, ◌||◌, List, [], ◌∷◌, ◌++◌, length, if◌then◌else◌, Result, Ok, Err, IfOk, IsOk, ◌⊎◌, inl, inr, refl, sym, ap, subst, ◌∙◌, append-nil, length-append, arith}
+use Rattle.std.proofs.Common.{◌≡◌, ℕ, ◌+◌, ◌-◌, ◌≤◌, ◌<◌, Bool, true, false, ◌==◌, ◌||◌, List, [], ◌∷◌, ◌++◌, length, if◌then◌else◌, Result, Ok, Err, IfOk, IsOk, inl, inr, refl, sym, ap, subst, ◌∙◌, append-nil, length-append, arith}
 use Rattle.std.proofs.lemmas.Bool.Decides.{nat_tests}
 use Rattle.std.specs.Str.{byte}
 use Rattle.cql_lexer.specs.Mark.{Sort, Mark, marks, name, text}
@@ -8,7 +8,9 @@ use Rattle.cql_lexer.specs.Lexed.{Answers, OrMemory, IsSpelt, Reaches, IsUnclose
 use Rattle.cql_lexer.specs.Scan.{IsPast, no_token_fault}
 use Rattle.cql_lexer.specs.Laws.{HasFaultOrTokens, HasOneFault}
 use Rattle.cql_lexer.specs.declared.fault.LexFault.{LexFault}
-use Rattle.cql_lexer.specs.declared.fault.LexFault.TheVariants.{Unterminated, StrangeCharacter, TooLong, TooMany, Memory}
+use Rattle.cql_lexer.specs.declared.fault.LexFault.TheVariants.{At, Memory}
+use Rattle.cql_lexer.specs.declared.fault.SpellingFault.{SpellingFault}
+use Rattle.cql_lexer.specs.declared.fault.SpellingFault.TheVariants.{Unterminated, StrangeCharacter, TooLong, TooMany}
 use Rattle.cql_lexer.specs.declared.token.Tokens.{Tokens}
 use Rattle.cql_lexer.proofs.Longest.{token_no_blank, token_shorter, kind_of, only_text, only_quoted}
 use Rattle.cql_lexer.proofs.Spellings.{HasBack, Meets, goes_on, went_on, meet, none_of, one_spelling}
@@ -39,7 +41,7 @@ one_end this that end other_end = ends_meet end other_end (meet this that)
 -- ---- the faults of a place
 
 -- the fault that stands where these bytes are left, behind so many tokens
-pub data FaultOf (count place : ℕ) (left : List ℕ) : LexFault → Type 0 where
+pub data FaultOf (count place : ℕ) (left : List ℕ) : SpellingFault → Type 0 where
   unterminated : IsUnclosed left → FaultOf count place left (Unterminated place)
   strange_character : IsStrange left → FaultOf count place left (StrangeCharacter place)
   too_many : {s : Sort} {ys : List ℕ} → count ≡ 2000 → IsLongest left s ys → FaultOf count place left (TooMany place)
@@ -55,7 +57,7 @@ unclosed_no_strange (unclosed_name _) (strange _ no_quote _) = opposite refl no_
 strange_none : {xs : List ℕ} → IsStrange xs → IsNoToken xs
 strange_none (strange _ _ none) = none
 
-fault_same : {count other_count place : ℕ} {left : List ℕ} {fault other : LexFault} → FaultOf count place left fault → FaultOf other_count place left other → fault ≡ other
+fault_same : {count other_count place : ℕ} {left : List ℕ} {fault other : SpellingFault} → FaultOf count place left fault → FaultOf other_count place left other → fault ≡ other
 fault_same (unterminated _) (unterminated _) = refl
 fault_same (unterminated gap) (strange_character odd) = absurd (unclosed_no_strange gap odd)
 fault_same (unterminated gap) (too_many _ longest) = absurd (unclosed_none gap _ _ longest.token)
@@ -67,7 +69,7 @@ fault_same (too_many _ longest) (strange_character odd) = absurd (strange_none o
 fault_same (too_many _ _) (too_many _ _) = refl
 
 -- where nothing is left there is none
-nothing_faulty : {count place : ℕ} {fault : LexFault} → FaultOf count place [] fault → ⊥
+nothing_faulty : {count place : ℕ} {fault : SpellingFault} → FaultOf count place [] fault → ⊥
 nothing_faulty (unterminated gap) = elim gap [ ]
 nothing_faulty (strange_character odd) = elim odd [ ]
 nothing_faulty (too_many _ longest) = omega (arith, token_shorter longest.token)
@@ -91,7 +93,7 @@ full_nowhere longest back zs here few = (refl, refl)
 full_nowhere longest back zs (blank is _) few = absurd (token_no_blank longest.token is)
 full_nowhere longest back zs (token_first _ _) few = absurd (omega arith)
 
-fault_end : {size place : ℕ} {tokens : List Mark} {left : List ℕ} {fault : LexFault} → length tokens ≤ 2000 → FaultOf (length tokens) place left fault → IsEnd size tokens left
+fault_end : {size place : ℕ} {tokens : List Mark} {left : List ℕ} {fault : SpellingFault} → length tokens ≤ 2000 → FaultOf (length tokens) place left fault → IsEnd size tokens left
 fault_end few (unterminated gap) = record { few = few; last = λ back zs leads within. unclosed_nowhere gap back zs leads }
 fault_end few (strange_character odd) = record { few = few; last = λ back zs leads within. strange_nowhere odd back zs leads }
 fault_end few (too_many full longest) = record { few = few; last = λ back zs leads within. full_nowhere longest back zs leads (omega arith) }
@@ -99,27 +101,26 @@ fault_end few (too_many full longest) = record { few = few; last = λ back zs le
 -- ---- the faults of a text
 
 -- a text is too long, or leads to the place of its fault
-pub data Faulty (bytes : List ℕ) : LexFault → Type 0 where
+pub data Faulty (bytes : List ℕ) : SpellingFault → Type 0 where
   too_long : 8192 < length bytes → Faulty bytes (TooLong 8192)
-  faulty_at : {fault : LexFault} (tokens : List Mark) (place : ℕ) (left : List ℕ) → Reaches bytes tokens place left → FaultOf (length tokens) place left fault → Faulty bytes fault
+  faulty_at : {fault : SpellingFault} (tokens : List Mark) (place : ℕ) (left : List ℕ) → Reaches bytes tokens place left → FaultOf (length tokens) place left fault → Faulty bytes fault
 
-pub faulty : (bytes : List ℕ) (fault : LexFault) → HasFault bytes fault → Faulty bytes fault
+pub faulty : (bytes : List ℕ) (fault : SpellingFault) → HasFault bytes fault → Faulty bytes fault
 faulty bytes (Unterminated place) is = faulty_at is.tokens place is.left is.reaches (unterminated is.unclosed)
 faulty bytes (StrangeCharacter place) is = faulty_at is.tokens place is.left is.reaches (strange_character is.is_strange)
 faulty bytes (TooLong place) is = subst (λ (p : ℕ). Faulty bytes (TooLong p)) (sym is.1) (too_long is.0)
 faulty bytes (TooMany place) is = faulty_at is.tokens place is.left is.reaches (too_many is.full is.token)
-faulty bytes Memory is = absurd is
 
-pub has_fault : {bytes : List ℕ} {tokens : List Mark} {place : ℕ} {left : List ℕ} {fault : LexFault} → Reaches bytes tokens place left → FaultOf (length tokens) place left fault → HasFault bytes fault
+pub has_fault : {bytes : List ℕ} {tokens : List Mark} {place : ℕ} {left : List ℕ} {fault : SpellingFault} → Reaches bytes tokens place left → FaultOf (length tokens) place left fault → HasFault bytes fault
 has_fault {tokens = tokens} {left = left} reaches (unterminated gap) = record { tokens = tokens; left = left; reaches = reaches; unclosed = gap }
 has_fault {tokens = tokens} {left = left} reaches (strange_character odd) = record { tokens = tokens; left = left; reaches = reaches; is_strange = odd }
 has_fault {tokens = tokens} {left = left} reaches (too_many {s} {ys} full longest) = record { tokens = tokens; left = left; reaches = reaches; full = full; sort = s; next = ys; token = longest }
 
-moved_fault : {count other_count : ℕ} (place other_place : ℕ) (left other_left : List ℕ) {fault other : LexFault} → left ≡ other_left → place ≡ other_place → FaultOf count place left fault → FaultOf other_count other_place other_left other → fault ≡ other
+moved_fault : {count other_count : ℕ} (place other_place : ℕ) (left other_left : List ℕ) {fault other : SpellingFault} → left ≡ other_left → place ≡ other_place → FaultOf count place left fault → FaultOf other_count other_place other_left other → fault ≡ other
 moved_fault {count} place other_place left other_left {fault = fault} same_left same_place this that =
     fault_same (subst (λ (p : ℕ). FaultOf count p other_left fault) same_place (subst (λ (l : List ℕ). FaultOf count place l fault) same_left this)) that
 
-faulty_same : {bytes : List ℕ} {fault other : LexFault} → Faulty bytes fault → Faulty bytes other → fault ≡ other
+faulty_same : {bytes : List ℕ} {fault other : SpellingFault} → Faulty bytes fault → Faulty bytes other → fault ≡ other
 faulty_same (too_long _) (too_long _) = refl
 faulty_same (too_long long) (faulty_at _ _ _ reaches _) = absurd (omega (arith, reaches.few_bytes))
 faulty_same (faulty_at _ _ _ reaches _) (too_long long) = absurd (omega (arith, reaches.few_bytes))
@@ -133,7 +134,7 @@ one_fault bytes fault other this that = faulty_same (faulty bytes fault this) (f
 spelt_end : {bytes : List ℕ} {tokens : List Mark} → IsSpelt bytes tokens → IsEnd (length bytes) tokens []
 spelt_end spelt = record { few = spelt.few_tokens; last = λ back zs leads within. none_of leads }
 
-faulty_no_tokens : {bytes : List ℕ} {fault : LexFault} {tokens : List Mark} → Faulty bytes fault → IsSpelt bytes tokens → ⊥
+faulty_no_tokens : {bytes : List ℕ} {fault : SpellingFault} {tokens : List Mark} → Faulty bytes fault → IsSpelt bytes tokens → ⊥
 faulty_no_tokens (too_long long) spelt = omega (arith, spelt.few_bytes)
 faulty_no_tokens {fault = fault} (faulty_at tokens place left reaches of) spelt =
     let same = one_end reaches.leads spelt.spells (fault_end reaches.few_tokens of) (spelt_end spelt) in
@@ -166,42 +167,23 @@ no_token_is count place x xs no_blank none = no_token_at count place x xs (is_qu
 
 -- ---- what the answers say
 
-pub answers_fault : (bytes : List ℕ) (fault : LexFault) → HasFault bytes fault → Answers bytes (Err fault)
-answers_fault bytes (Unterminated place) has = has
-answers_fault bytes (StrangeCharacter place) has = has
-answers_fault bytes (TooLong place) has = has
-answers_fault bytes (TooMany place) has = has
-answers_fault bytes Memory has = absurd has
-
-fault_answered : (bytes : List ℕ) (fault : LexFault) → Answers bytes (Err fault) → (fault ≡ Memory) ⊎ HasFault bytes fault
-fault_answered bytes (Unterminated place) answer = inr answer
-fault_answered bytes (StrangeCharacter place) answer = inr answer
-fault_answered bytes (TooLong place) answer = inr answer
-fault_answered bytes (TooMany place) answer = inr answer
-fault_answered bytes Memory answer = inl refl
-
 -- a token should begin here and none does
-pub stuck : {bytes : List ℕ} {tokens : List Mark} {place : ℕ} (left : List ℕ) (fault : LexFault) → Reaches bytes tokens place left → IsPast is_blank left → (length left == 0) ≡ false → IsNoToken left → fault ≡ no_token_fault place left → Answers bytes (Err fault)
+pub stuck : {bytes : List ℕ} {tokens : List Mark} {place : ℕ} (left : List ℕ) (fault : SpellingFault) → Reaches bytes tokens place left → IsPast is_blank left → (length left == 0) ≡ false → IsNoToken left → fault ≡ no_token_fault place left → HasFault bytes fault
 stuck [] fault reaches past filled none is = absurd (opposite refl filled)
 stuck {bytes} {tokens} {place} (x ∷ xs) fault reaches past filled none is =
-    rw is (answers_fault bytes (no_token_fault place (x ∷ xs)) (has_fault reaches (no_token_is (length tokens) place x xs past none)))
-
-accepted_at : (bytes : List ℕ) (fault : LexFault) (result : Result Tokens LexFault) → result ≡ Err fault → (fault ≡ Memory) ⊎ HasFault bytes fault → (list : List Mark) → IsSpelt bytes list → OrMemory result (IsOk result)
-accepted_at bytes fault result is (inl memory) list spelt = inl (is ∙ ap Err memory)
-accepted_at bytes fault result is (inr has) list spelt = absurd (fault_or_tokens bytes fault list has spelt)
+    rw is (has_fault reaches (no_token_is (length tokens) place x xs past none))
 
 pub accepted : (bytes : List ℕ) (result : Result Tokens LexFault) → Answers bytes result → (list : List Mark) → IsSpelt bytes list → OrMemory result (IsOk result)
 accepted bytes (Ok t) answer list spelt = inr refl
-accepted bytes (Err fault) answer list spelt = accepted_at bytes fault (Err fault) refl (fault_answered bytes fault answer) list spelt
+accepted bytes (Err Memory) answer list spelt = inl refl
+accepted bytes (Err (At fault)) answer list spelt = absurd (fault_or_tokens bytes fault list answer spelt)
 
-refused_at : (bytes : List ℕ) (other fault : LexFault) (result : Result Tokens LexFault) → result ≡ Err other → (other ≡ Memory) ⊎ HasFault bytes other → HasFault bytes fault → OrMemory result (result ≡ Err fault)
-refused_at bytes other fault result is (inl memory) has = inl (is ∙ ap Err memory)
-refused_at bytes other fault result is (inr has_other) has = inr (is ∙ ap Err (one_fault bytes other fault has_other has))
-
-pub refused : (bytes : List ℕ) (result : Result Tokens LexFault) → Answers bytes result → (fault : LexFault) → HasFault bytes fault → OrMemory result (result ≡ Err fault)
+pub refused : (bytes : List ℕ) (result : Result Tokens LexFault) → Answers bytes result → (fault : SpellingFault) → HasFault bytes fault → OrMemory result (result ≡ Err (At fault))
 refused bytes (Ok t) answer fault has = absurd (fault_or_tokens bytes fault (marks t.list.items) has answer.0)
-refused bytes (Err other) answer fault has = refused_at bytes other fault (Err other) refl (fault_answered bytes other answer) has
+refused bytes (Err Memory) answer fault has = inl refl
+refused bytes (Err (At other)) answer fault has = inr (ap (λ f. Err (At f)) (one_fault bytes other fault answer has))
 
 pub only : (bytes : List ℕ) (result : Result Tokens LexFault) → Answers bytes result → (list : List Mark) → IsSpelt bytes list → IfOk result (λ read. list ≡ marks read.list.items)
 only bytes (Ok t) answer list spelt = one_spelling bytes list (marks t.list.items) spelt.spells answer.0.spells
-only bytes (Err fault) answer list spelt = tt
+only bytes (Err Memory) answer list spelt = tt
+only bytes (Err (At fault)) answer list spelt = tt

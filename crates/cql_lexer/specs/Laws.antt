@@ -3,7 +3,7 @@ use Rattle.std.specs.Prelude.{◌≡◌, ℕ, ◌+◌, ◌<◌, ◌≤◌, ◌�
 use Rattle.cql_lexer.specs.Lexed.{IsSpelt, HasFault}
 use Rattle.cql_lexer.specs.Mark.{Mark, at}
 use Rattle.cql_lexer.specs.Spelling.{IsLongest, Spells}
-use Rattle.cql_lexer.specs.declared.fault.LexFault.{LexFault}
+use Rattle.cql_lexer.specs.declared.fault.SpellingFault.{SpellingFault}
 
 -- a text has one list of tokens
 abbrev pub HasOneSpelling : Type 0
@@ -29,12 +29,12 @@ HasTokensAtPlaces = (bytes : List ℕ) (tokens : List Mark) → Spells bytes tok
 
 -- a text with a fault has no tokens
 abbrev pub HasFaultOrTokens : Type 0
-HasFaultOrTokens = (bytes : List ℕ) (fault : LexFault) (tokens : List Mark) → HasFault bytes fault → ¬ (IsSpelt bytes tokens)
+HasFaultOrTokens = (bytes : List ℕ) (fault : SpellingFault) (tokens : List Mark) → HasFault bytes fault → ¬ (IsSpelt bytes tokens)
 
 -- a text has at most one fault
 abbrev pub HasOneFault : Type 0
-HasOneFault = (bytes : List ℕ) (fault other : LexFault) → HasFault bytes fault → HasFault bytes other → fault ≡ other
+HasOneFault = (bytes : List ℕ) (fault other : SpellingFault) → HasFault bytes fault → HasFault bytes other → fault ≡ other
 
 -- each text has tokens within the limits, or a fault
 abbrev pub HasTokensOrFault : Type 0
-HasTokensOrFault = (bytes : List ℕ) → ((tokens : List Mark) × IsSpelt bytes tokens) ⊎ ((fault : LexFault) × HasFault bytes fault)
+HasTokensOrFault = (bytes : List ℕ) → ((tokens : List Mark) × IsSpelt bytes tokens) ⊎ ((fault : SpellingFault) × HasFault bytes fault)

@@ -7,7 +7,9 @@ use Rattle.cql_lexer.specs.Names.{is_unquoted}
 use Rattle.cql_lexer.specs.Texts.{IsContent}
 use Rattle.cql_lexer.specs.Spelling.{IsLongest, IsNoToken, Leads, Spells, is_blank}
 use Rattle.cql_lexer.specs.declared.fault.LexFault.{LexFault}
-use Rattle.cql_lexer.specs.declared.fault.LexFault.TheVariants.{Unterminated, StrangeCharacter, TooLong, TooMany, Memory}
+use Rattle.cql_lexer.specs.declared.fault.LexFault.TheVariants.{At, Memory}
+use Rattle.cql_lexer.specs.declared.fault.SpellingFault.{SpellingFault}
+use Rattle.cql_lexer.specs.declared.fault.SpellingFault.TheVariants.{Unterminated, StrangeCharacter, TooLong, TooMany}
 use Rattle.cql_lexer.specs.declared.token.Tokens.{Tokens}
 
 -- the text is spelled by these tokens, and is no larger than is read (own profile)
@@ -61,13 +63,12 @@ pub record HasTooMany (bytes : List ℕ) (place : ℕ) : Type 0 where
   pub next : List ℕ
   pub token : IsLongest left sort next
 
--- the text has the fault; want of memory is no fault of a text
-abbrev pub HasFault : List ℕ → LexFault → Type 0
+-- the text has the fault
+abbrev pub HasFault : List ℕ → SpellingFault → Type 0
 HasFault bytes (Unterminated place) = IsUnterminated bytes place
 HasFault bytes (StrangeCharacter place) = HasStrangeCharacter bytes place
 HasFault bytes (TooLong place) = (8192 < length bytes) × (place ≡ 8192)
 HasFault bytes (TooMany place) = HasTooMany bytes place
-HasFault bytes Memory = ⊥
 
 -- ---- answers
 
@@ -76,7 +77,7 @@ HasFault bytes Memory = ⊥
 abbrev pub Answers : List ℕ → Result Tokens LexFault → Type 0
 Answers bytes (Ok t) = IsSpelt bytes (marks t.list.items) × (t.end ≡ length bytes)
 Answers bytes (Err Memory) = Unit {0}
-Answers bytes (Err fault) = HasFault bytes fault
+Answers bytes (Err (At fault)) = HasFault bytes fault
 
 -- the answer is as said, unless memory ran out
 abbrev pub OrMemory : Result Tokens LexFault → Type 0 → Type 0

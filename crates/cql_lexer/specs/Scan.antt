@@ -11,8 +11,8 @@ use Rattle.cql_lexer.specs.Spelling.{is_blank, IsLongest, IsNoToken}
 use Rattle.cql_lexer.specs.Lexed.{is_quote}
 use Rattle.cql_lexer.specs.declared.class.ByteClass.{ByteClass}
 use Rattle.cql_lexer.specs.declared.class.ByteClass.TheVariants.{Blank, NamePart, Digit, Unquoted}
-use Rattle.cql_lexer.specs.declared.fault.LexFault.{LexFault}
-use Rattle.cql_lexer.specs.declared.fault.LexFault.TheVariants.{Unterminated, StrangeCharacter}
+use Rattle.cql_lexer.specs.declared.fault.SpellingFault.{SpellingFault}
+use Rattle.cql_lexer.specs.declared.fault.SpellingFault.TheVariants.{Unterminated, StrangeCharacter}
 use Rattle.cql_lexer.specs.declared.token.Kind.{Kind}
 
 -- whether the class has the byte
@@ -122,6 +122,6 @@ IsPast passes [] = Unit {0}
 IsPast passes (x ∷ xs) = passes x ≡ false
 
 -- the fault of a place where no token begins
-abbrev pub no_token_fault : ℕ → List ℕ → LexFault
+abbrev pub no_token_fault : ℕ → List ℕ → SpellingFault
 no_token_fault place [] = StrangeCharacter place
 no_token_fault place (x ∷ xs) = if is_quote x then Unterminated place else StrangeCharacter place

@@ -1,16 +1,16 @@
 // Why a text has no tokens.
 
 ghost use Rattle.std.specs.Prelude.{◌≡◌};
-ghost use Rattle.cql_lexer.specs.Faults.{label_of};
+ghost use Rattle.cql_lexer.specs.Faults.{label_of, name_of, number_of, place_of};
 ghost use Rattle.cql_lexer.specs.declared.fault.LexFault.TheVariants.{Memory};
 
 use crate::token::Token;
 use std::alloc::{AllocError, AllocFailed};
 use thiserror::Error;
 
-/// Why a text gave no tokens. A place is a byte of the text.
+/// What is wrong with the spelling of a text. A place is a byte of the text.
 #[derive(Clone, Copy, PartialEq, Eq, Debug, Error)]
-pub enum LexFault {
+pub enum SpellingFault {
     /// The quote at the place is never closed.
     #[error("the quote at byte {place} is never closed")]
     Unterminated { place: usize },
@@ -23,22 +23,29 @@ pub enum LexFault {
     /// The text has more than 2,000 tokens: the place is that of the next one.
     #[error("a token begins at byte {place}, and no more are read")]
     TooMany { place: usize },
+}
+
+/// Why a text gave no tokens.
+#[derive(Clone, Copy, PartialEq, Eq, Debug, Error)]
+pub enum LexFault {
+    /// The text is misspelt.
+    #[error(transparent)]
+    At(SpellingFault),
     /// Memory ran out, whatever the text is.
     #[error("out of memory")]
     Memory,
 }
 
-impl LexFault {
+impl SpellingFault {
     /// The number by which programs tell the fault.
     pub fn number(&self) -> u8
         ensures { result ≡ (label_of self.now).number }
     {
         match self {
-            LexFault::Unterminated { .. } => 1,
-            LexFault::StrangeCharacter { .. } => 2,
-            LexFault::TooLong { .. } => 3,
-            LexFault::TooMany { .. } => 4,
-            LexFault::Memory => 5,
+            SpellingFault::Unterminated { .. } => 1,
+            SpellingFault::StrangeCharacter { .. } => 2,
+            SpellingFault::TooLong { .. } => 3,
+            SpellingFault::TooMany { .. } => 4,
         }
     }
 
@@ -47,23 +54,53 @@ impl LexFault {
         ensures { result.now ≡ (label_of self.now).name }
     {
         match self {
-            LexFault::Unterminated { .. } => "Unterminated",
-            LexFault::StrangeCharacter { .. } => "StrangeCharacter",
-            LexFault::TooLong { .. } => "TooLong",
-            LexFault::TooMany { .. } => "TooMany",
+            SpellingFault::Unterminated { .. } => "Unterminated",
+            SpellingFault::StrangeCharacter { .. } => "StrangeCharacter",
+            SpellingFault::TooLong { .. } => "TooLong",
+            SpellingFault::TooMany { .. } => "TooMany",
+        }
+    }
+
+    /// The byte of the text at which the fault stands.
+    pub fn place(&self) -> usize
+        ensures { result ≡ (label_of self.now).place }
+    {
+        match self {
+            SpellingFault::Unterminated { place }
+            | SpellingFault::StrangeCharacter { place }
+            | SpellingFault::TooLong { place }
+            | SpellingFault::TooMany { place } => *place,
+        }
+    }
+}
+
+impl LexFault {
+    /// The number by which programs tell the fault.
+    pub fn number(&self) -> u8
+        ensures { result ≡ number_of self.now }
+    {
+        match self {
+            LexFault::At(fault) => fault.number(),
+            LexFault::Memory => 5,
+        }
+    }
+
+    /// The name that programs print.
+    pub fn name(&self) -> &'static str
+        ensures { result.now ≡ name_of self.now }
+    {
+        match self {
+            LexFault::At(fault) => fault.name(),
             LexFault::Memory => "Memory",
         }
     }
 
     /// The byte of the text at which the fault stands, or `None` where memory ran out.
     pub fn place(&self) -> Option<usize>
-        ensures { result ≡ (label_of self.now).place }
+        ensures { result ≡ place_of self.now }
     {
         match self {
-            LexFault::Unterminated { place }
-            | LexFault::StrangeCharacter { place }
-            | LexFault::TooLong { place }
-            | LexFault::TooMany { place } => Some(*place),
+            LexFault::At(fault) => Some(fault.place()),
             LexFault::Memory => None,
         }
     }

@@ -6,10 +6,11 @@ ghost use Rattle.cql_lexer.specs.Lexed.{Answers, HasFault, IsSpelt, OrMemory};
 ghost use Rattle.cql_lexer.specs.Mark.{Mark, marks};
 ghost use Rattle.cql_lexer.specs.Scan.{IsPast, no_token_fault};
 ghost use Rattle.cql_lexer.specs.Spelling.{Leads, is_blank};
-ghost use Rattle.cql_lexer.specs.declared.fault.LexFault.{LexFault};
+ghost use Rattle.cql_lexer.specs.declared.fault.LexFault.TheVariants.{At};
+ghost use Rattle.cql_lexer.specs.declared.fault.SpellingFault.{SpellingFault};
 
 use crate::class::ByteClass;
-use crate::fault::LexFault;
+use crate::fault::{LexFault, SpellingFault};
 use crate::scan::token_at;
 use crate::token::{Token, Tokens};
 use std::alloc::Global;
@@ -29,8 +30,8 @@ pub fn tokens(alloc: Global, text: &str) -> Result<Tokens, LexFault>
     ensures accepted { (list : List Mark) → IsSpelt text.now list → OrMemory result (IsOk result) }
     ensures only { (list : List Mark) → IsSpelt text.now list
         → IfOk result (λ read. list ≡ marks read.list.items) }
-    ensures refused { (fault : LexFault) → HasFault text.now fault
-        → OrMemory result (result ≡ Err fault) }
+    ensures refused { (fault : SpellingFault) → HasFault text.now fault
+        → OrMemory result (result ≡ Err (At fault)) }
 {
     read_tokens(alloc, text)
 }
@@ -41,17 +42,17 @@ fn read_tokens(alloc: Global, text: &str) -> Result<Tokens, LexFault>
     let bytes = text.as_bytes();
     let end = bytes.len();
     if end > MOST_BYTES {
-        return Err(LexFault::TooLong { place: MOST_BYTES });
+        return Err(LexFault::At(SpellingFault::TooLong { place: MOST_BYTES }));
     }
     let mut list = Vec::new(alloc);
     let mut rest = skip_blanks(bytes);
     while !rest.is_empty() {
         let place = end - rest.len();
         let Some((kind, behind)) = token_at(alloc, rest)? else {
-            return Err(no_token(place, rest));
+            return Err(LexFault::At(no_token(place, rest)));
         };
         if list.len() == MOST_TOKENS {
-            return Err(LexFault::TooMany { place });
+            return Err(LexFault::At(SpellingFault::TooMany { place }));
         }
         list.push(Token { place, kind })?;
         rest = skip_blanks(behind);
@@ -71,11 +72,11 @@ fn skip_blanks(bytes: &[u8]) -> &[u8]
 }
 
 // Why no token begins with these bytes.
-fn no_token(place: usize, bytes: &[u8]) -> LexFault
+fn no_token(place: usize, bytes: &[u8]) -> SpellingFault
     ensures { result ≡ no_token_fault place bytes.now }
 {
     match bytes {
-        [b'\'' | b'"', ..] => LexFault::Unterminated { place },
-        _ => LexFault::StrangeCharacter { place },
+        [b'\'' | b'"', ..] => SpellingFault::Unterminated { place },
+        _ => SpellingFault::StrangeCharacter { place },
     }
 }

@@ -1,13 +1,15 @@
 -- What parsing answers.
-use Rattle.std.specs.Prelude.{◌≡◌, ℕ, List, [], ◌∷◌, Result, Ok, Err, Some, None}
+use Rattle.std.specs.Prelude.{◌≡◌, ℕ, ◌⊎◌, List, [], ◌∷◌, Result, Ok, Err, None}
 use Rattle.cql_lexer.specs.Mark.{Mark, at}
 use Rattle.cql_parser.specs.Syntax.{Syntax}
 use Rattle.cql_parser.specs.Grammar.{Reads}
-use Rattle.cql_parser.specs.Faults.{deep_at, IsUnexpected, IsUnfinished}
+use Rattle.cql_parser.specs.Faults.{deep_at, HasFault}
 use Rattle.cql_parser.specs.Views.{syntax_of}
 use Rattle.cql_parser.specs.declared.tree.Tree.{Tree}
+use Rattle.cql_parser.specs.declared.fault.GrammarFault.{GrammarFault}
+use Rattle.cql_parser.specs.declared.fault.GrammarFault.TheVariants.{NotExpected, EndOfFilter}
 use Rattle.cql_parser.specs.declared.fault.ParseFault.{ParseFault}
-use Rattle.cql_parser.specs.declared.fault.ParseFault.TheVariants.{TooDeep, NotExpected, EndOfFilter, Memory}
+use Rattle.cql_parser.specs.declared.fault.ParseFault.TheVariants.{At, Memory}
 
 -- the tokens spell this tree and no other
 pub record IsReading (tokens : List Mark) (tree : Syntax) : Type 0 where
@@ -19,23 +21,18 @@ pub record IsParsed (tokens : List Mark) (tree : Syntax) : Type 0 where
   pub shallow : deep_at 0 tokens ≡ None
   pub reads : Reads tokens tree
 
--- The tree, or the first fault of the tokens of a text that ends there: depth is asked before the grammar.
+-- The tree, or the first fault of the tokens of a text that ends there.
 -- Where memory ran out, nothing is said of the tokens.
 abbrev pub Answers : List Mark → ℕ → Result Tree ParseFault → Type 0
 Answers tokens end (Ok tree) = (deep_at 0 tokens ≡ None) × IsReading tokens (syntax_of tree)
-Answers tokens end (Err (TooDeep place)) = deep_at 0 tokens ≡ Some place
-Answers tokens end (Err (NotExpected place)) = (deep_at 0 tokens ≡ None) × IsUnexpected tokens place
-Answers tokens end (Err (EndOfFilter place)) = (deep_at 0 tokens ≡ None) × (place ≡ end) × IsUnfinished tokens
 Answers tokens end (Err Memory) = Unit {0}
+Answers tokens end (Err (At fault)) = HasFault tokens end fault
 
--- the tokens are no filter, unless memory ran out
-abbrev pub Refuses : List Mark → ParseFault → Type 0
-Refuses tokens Memory = Unit {0}
-Refuses tokens (TooDeep place) = (tree : Syntax) → ¬ IsParsed tokens tree
-Refuses tokens (NotExpected place) = (tree : Syntax) → ¬ IsParsed tokens tree
-Refuses tokens (EndOfFilter place) = (tree : Syntax) → ¬ IsParsed tokens tree
+-- the answer is as said, unless memory ran out
+abbrev pub OrMemory : Result Tree ParseFault → Type 0 → Type 0
+OrMemory result said = (result ≡ Err Memory) ⊎ said
 
 -- the fault of a filter that stops before these tokens
-abbrev pub fault_of : List Mark → ℕ → ParseFault
+abbrev pub fault_of : List Mark → ℕ → GrammarFault
 fault_of [] end = EndOfFilter end
 fault_of (at p s ∷ xs) end = NotExpected p

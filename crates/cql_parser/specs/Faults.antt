@@ -3,8 +3,10 @@ use Rattle.std.specs.Prelude.{◌≡◌, ℕ, ◌+◌, ◌-◌, ◌≤◌, List,
 use Rattle.cql_lexer.specs.Mark.{Sort, Mark, at, opening, closing}
 use Rattle.cql_parser.specs.Syntax.{Syntax}
 use Rattle.cql_parser.specs.Grammar.{Reads, IsViable}
+use Rattle.cql_parser.specs.declared.fault.GrammarFault.{GrammarFault}
+use Rattle.cql_parser.specs.declared.fault.GrammarFault.TheVariants.{TooDeep, NotExpected, EndOfFilter}
 use Rattle.cql_parser.specs.declared.fault.ParseFault.{ParseFault}
-use Rattle.cql_parser.specs.declared.fault.ParseFault.TheVariants.{TooDeep, NotExpected, EndOfFilter, Memory}
+use Rattle.cql_parser.specs.declared.fault.ParseFault.TheVariants.{At, Memory}
 
 -- the place of the parenthesis that is the 65th open at one time, with n open before (own profile)
 abbrev pub deep_at : ℕ → List Mark → Option ℕ
@@ -44,14 +46,32 @@ pub record IsUnfinished (tokens : List Mark) : Type 0 where
   pub viable : IsViable tokens
   pub unread : (tree : Syntax) → Reads tokens tree → ⊥
 
+-- the tokens of a text that ends there have the fault: depth is asked before the grammar
+abbrev pub HasFault : List Mark → ℕ → GrammarFault → Type 0
+HasFault tokens end (TooDeep place) = deep_at 0 tokens ≡ Some place
+HasFault tokens end (NotExpected place) = (deep_at 0 tokens ≡ None) × IsUnexpected tokens place
+HasFault tokens end (EndOfFilter place) = (deep_at 0 tokens ≡ None) × (place ≡ end) × IsUnfinished tokens
+
 -- what programs tell of a fault
 pub record Label : Type 0 where
   pub number : ℕ
   pub name : List ℕ
-  pub place : Option ℕ
+  pub place : ℕ
 
-abbrev pub label_of : ParseFault → Label
-label_of (TooDeep place) = record { number = 1; name = codes "TooDeep"; place = Some place }
-label_of (NotExpected place) = record { number = 2; name = codes "NotExpected"; place = Some place }
-label_of (EndOfFilter place) = record { number = 3; name = codes "EndOfFilter"; place = Some place }
-label_of Memory = record { number = 4; name = codes "Memory"; place = None }
+abbrev pub label_of : GrammarFault → Label
+label_of (TooDeep place) = record { number = 1; name = codes "TooDeep"; place = place }
+label_of (NotExpected place) = record { number = 2; name = codes "NotExpected"; place = place }
+label_of (EndOfFilter place) = record { number = 3; name = codes "EndOfFilter"; place = place }
+
+abbrev pub number_of : ParseFault → ℕ
+number_of (At fault) = (label_of fault).number
+number_of Memory = 4
+
+abbrev pub name_of : ParseFault → List ℕ
+name_of (At fault) = (label_of fault).name
+name_of Memory = codes "Memory"
+
+-- want of memory has no place
+abbrev pub place_of : ParseFault → Option ℕ
+place_of (At fault) = Some (label_of fault).place
+place_of Memory = None

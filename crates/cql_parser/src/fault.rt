@@ -1,13 +1,13 @@
 // Why tokens are not read.
 
 ghost use Rattle.std.specs.Prelude.{◌≡◌};
-ghost use Rattle.cql_parser.specs.Faults.{label_of};
+ghost use Rattle.cql_parser.specs.Faults.{label_of, name_of, number_of, place_of};
 
 use thiserror::Error;
 
-/// Why tokens are no filter. A place is a byte of the text.
+/// What is wrong with the grammar of tokens. A place is a byte of the text.
 #[derive(Clone, Copy, PartialEq, Eq, Debug, Error)]
-pub enum ParseFault {
+pub enum GrammarFault {
     /// The parenthesis at the place is the 65th that is open at one time.
     #[error("more than 64 parentheses are open at byte {place}")]
     TooDeep { place: usize },
@@ -17,21 +17,28 @@ pub enum ParseFault {
     /// The tokens begin a filter and end before it does: the place is the text's length.
     #[error("the text ends at byte {place}, before the filter does")]
     EndOfFilter { place: usize },
+}
+
+/// Why tokens gave no tree.
+#[derive(Clone, Copy, PartialEq, Eq, Debug, Error)]
+pub enum ParseFault {
+    /// The tokens are no filter.
+    #[error(transparent)]
+    At(GrammarFault),
     /// Memory ran out, whatever the tokens are.
     #[error("out of memory")]
     Memory,
 }
 
-impl ParseFault {
+impl GrammarFault {
     /// The number by which programs tell the fault.
     pub fn number(&self) -> u8
         ensures { result ≡ (label_of self.now).number }
     {
         match self {
-            ParseFault::TooDeep { .. } => 1,
-            ParseFault::NotExpected { .. } => 2,
-            ParseFault::EndOfFilter { .. } => 3,
-            ParseFault::Memory => 4,
+            GrammarFault::TooDeep { .. } => 1,
+            GrammarFault::NotExpected { .. } => 2,
+            GrammarFault::EndOfFilter { .. } => 3,
         }
     }
 
@@ -40,21 +47,51 @@ impl ParseFault {
         ensures { result.now ≡ (label_of self.now).name }
     {
         match self {
-            ParseFault::TooDeep { .. } => "TooDeep",
-            ParseFault::NotExpected { .. } => "NotExpected",
-            ParseFault::EndOfFilter { .. } => "EndOfFilter",
+            GrammarFault::TooDeep { .. } => "TooDeep",
+            GrammarFault::NotExpected { .. } => "NotExpected",
+            GrammarFault::EndOfFilter { .. } => "EndOfFilter",
+        }
+    }
+
+    /// The byte of the text at which the fault stands.
+    pub fn place(&self) -> usize
+        ensures { result ≡ (label_of self.now).place }
+    {
+        match self {
+            GrammarFault::TooDeep { place }
+            | GrammarFault::NotExpected { place }
+            | GrammarFault::EndOfFilter { place } => *place,
+        }
+    }
+}
+
+impl ParseFault {
+    /// The number by which programs tell the fault.
+    pub fn number(&self) -> u8
+        ensures { result ≡ number_of self.now }
+    {
+        match self {
+            ParseFault::At(fault) => fault.number(),
+            ParseFault::Memory => 4,
+        }
+    }
+
+    /// The name that programs print.
+    pub fn name(&self) -> &'static str
+        ensures { result.now ≡ name_of self.now }
+    {
+        match self {
+            ParseFault::At(fault) => fault.name(),
             ParseFault::Memory => "Memory",
         }
     }
 
     /// The byte of the text at which the fault stands, or `None` where memory ran out.
     pub fn place(&self) -> Option<usize>
-        ensures { result ≡ (label_of self.now).place }
+        ensures { result ≡ place_of self.now }
     {
         match self {
-            ParseFault::TooDeep { place }
-            | ParseFault::NotExpected { place }
-            | ParseFault::EndOfFilter { place } => Some(*place),
+            ParseFault::At(fault) => Some(fault.place()),
             ParseFault::Memory => None,
         }
     }

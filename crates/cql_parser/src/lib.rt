@@ -6,8 +6,8 @@
 //! may be open at one time.
 //!
 //! - [`Tree`]: a filter, each name, literal and keyword at its place.
-//! - [`ParseFault`]: the first fault, with its place.
-//! - [`laws`]: a list of tokens has at most one tree, and its places ascend.
+//! - [`ParseFault`]: why tokens are no filter; a [`GrammarFault`] is the first fault, with its place.
+//! - [`laws`]: a list of tokens has one tree or one fault, and never both, and a tree's places ascend.
 #![tactic(auto)]
 
 mod descent;
@@ -22,6 +22,6 @@ mod start;
 mod stop;
 mod tree;
 
-pub use fault::ParseFault;
+pub use fault::{GrammarFault, ParseFault};
 pub use parser::parse;
 pub use tree::{Addition, Bound, Corner, Factor, Multiplication, Number, Ring, Term, Tree};

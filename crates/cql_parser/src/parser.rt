@@ -1,14 +1,17 @@
 // From tokens to a tree, or the first fault.
 
-ghost use Rattle.std.specs.Prelude.{◌≡◌, IfErr, IfOk};
+ghost use Rattle.std.specs.Prelude.{◌≡◌, Err, IfOk, IsOk};
 ghost use Rattle.cql_lexer.specs.Mark.{marks};
-ghost use Rattle.cql_parser.specs.Answer.{Answers, Refuses, fault_of};
-ghost use Rattle.cql_parser.specs.Faults.{deep_at};
+ghost use Rattle.cql_parser.specs.Answer.{Answers, IsParsed, OrMemory, fault_of};
+ghost use Rattle.cql_parser.specs.Faults.{deep_at, HasFault};
 ghost use Rattle.cql_parser.specs.Order.{Ascend, IsOrdered};
+ghost use Rattle.cql_parser.specs.Syntax.{Syntax};
 ghost use Rattle.cql_parser.specs.Views.{syntax_of};
+ghost use Rattle.cql_parser.specs.declared.fault.GrammarFault.{GrammarFault};
+ghost use Rattle.cql_parser.specs.declared.fault.ParseFault.TheVariants.{At};
 
 use crate::descent::parse_filter;
-use crate::fault::ParseFault;
+use crate::fault::{GrammarFault, ParseFault};
 use crate::stop::Stop;
 use crate::tree::Tree;
 use cql_lexer::{Kind, Token, Tokens};
@@ -21,8 +24,9 @@ const MOST_OPEN: usize = 64;
 /// else the first token after which no filter can come, else the end.
 pub fn parse(alloc: Global, tokens: &Tokens) -> Result<Tree, ParseFault>
     ensures answer { Answers (marks tokens.now.list.items) tokens.now.end result }
-    // Tokens that spell a filter are refused for want of memory alone.
-    ensures refused { IfErr result (Refuses (marks tokens.now.list.items)) }
+    ensures accepted { (tree : Syntax) → IsParsed (marks tokens.now.list.items) tree → OrMemory result (IsOk result) }
+    ensures refused { (fault : GrammarFault) → HasFault (marks tokens.now.list.items) tokens.now.end fault
+        → OrMemory result (result ≡ Err (At fault)) }
     // The tree's places ascend where the tokens' do.
     ensures ordered { IfOk result (λ tree. Ascend 0 (marks tokens.now.list.items) → IsOrdered (syntax_of tree)) }
 {
@@ -34,22 +38,22 @@ fn first_answer(alloc: Global, tokens: &Tokens) -> Result<Tree, ParseFault>
 {
     let list = tokens.list.as_slice();
     if let Some(place) = too_deep(list) {
-        return Err(ParseFault::TooDeep { place });
+        return Err(ParseFault::At(GrammarFault::TooDeep { place }));
     }
     match parse_filter(alloc, list) {
         Ok(tree) => Ok(Box::into_inner(tree)),
         Err(Stop::Memory) => Err(ParseFault::Memory),
-        Err(Stop::At(rest)) => Err(fault_at(rest, tokens.end)),
+        Err(Stop::At(rest)) => Err(ParseFault::At(fault_at(rest, tokens.end))),
     }
 }
 
 // The fault of a filter that stops before these tokens.
-fn fault_at(rest: &[Token], end: usize) -> ParseFault
+fn fault_at(rest: &[Token], end: usize) -> GrammarFault
     ensures { result ≡ fault_of (marks rest.now) end }
 {
     match rest.split_first() {
-        None => ParseFault::EndOfFilter { place: end },
-        Some((first, _)) => ParseFault::NotExpected { place: first.place },
+        None => GrammarFault::EndOfFilter { place: end },
+        Some((first, _)) => GrammarFault::NotExpected { place: first.place },
     }
 }
 

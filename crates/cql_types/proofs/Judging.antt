@@ -1,8 +1,6 @@
 -- From what the parts are to what the node is.
 use Rattle.std.proofs.Common.{◌≡◌, refl, ap, sym, subst, ◌∙◌, ℕ, ◌≤◌, List, [], ◌∷◌, ◌++◌, length, get_or, ◌<◌, ◌+◌, drop, drop-cons, add-one, drop_of_length-le, append-nil, append_assoc, map, true, false, Some, Result, Ok, Err, IfOk, IfErr, OnOk, MatchResult, arith}
 use Rattle.std.specs.Option.{is_some}
-use Rattle.std.proofs.Math.Logic.{∥∥₁_elim}
-use Rattle.std.proofs.Math.Bridge.{le_prop}
 use Rattle.cad_feature.specs.Schema.{Named}
 use Rattle.cql_parser.specs.Syntax.{Syntax, Parts, none, part, parts_of, node, Op, keyed, place_in, place_of}
 use Rattle.cql_types.specs.declared.fault.Fault.{Fault}
@@ -109,63 +107,3 @@ pub by_all : {A S : Type 0} (sign : A → S) (by : S → Operation) (ts : List A
 by_all sign by ts i before all past so_far =
     let none_left : drop i ts ≡ [] = drop_of_length-le ts past in
     rw append-nil at (rw none_left at so_far)
-
--- the answer for the whole
-not_before : {s : List Named} {t : Syntax} {f : Fault} (g : Fault) → IsOrdered t → IsFirst s t f → IsFault s t g → f.place ≤ g.place
-not_before g o i (in_tree w) = ∥∥₁_elim o le_prop (λ h. first_least h.2 i w)
-not_before g o i (no_condition h e) = absurd (no_fault h (first_wrong i))
-
-pub whole_least : {s : List Named} {t : Syntax} {f : Fault} → IsOrdered t → IsFirst s t f → IsLeast s t f
-whole_least o i = record {
-  fault = in_tree (first_wrong i);
-  least = λ g. not_before g o i;
-}
-
-pub whole_wrong : (s : List Named) (t : Syntax) (e : TypeFault) → ForFault (IsFirst s t) e → ForFault (IsFault s t) e
-whole_wrong s t Memory h = tt
-whole_wrong s t (At f) h = in_tree (first_wrong h)
-
-pub least_is_fault : (s : List Named) (t : Syntax) (e : TypeFault) → ForFault (IsLeast s t) e → ForFault (IsFault s t) e
-least_is_fault s t Memory h = tt
-least_is_fault s t (At f) h = h.fault
-
-pub whole_faults : (s : List Named) (t : Syntax) (e : TypeFault) → IsOrdered t → ForFault (IsFirst s t) e → ForFault (IsLeast s t) e
-whole_faults s t Memory o h = tt
-whole_faults s t (At f) o h = whole_least o h
-
-no_lesser : {s : List Named} {t : Syntax} {k : Kind} (g : Fault) → Has s t k → IsFault s t g → place_of t ≤ g.place
-no_lesser g h (in_tree w) = absurd (no_fault h w)
-no_lesser g h (no_condition k e) = omega arith
-
-pub whole_answer : {s : List Named} {t : Syntax} {j : Judged} (r : Result Filter TypeFault) → IsJudged s t j →
-    IfOk r (λ x. condition_of j.node ≡ Some x) → IfErr r (λ e. (e ≡ At (wrong_kind j.place)) × (is_condition (kind_of j.node) ≡ false)) →
-    MatchResult r (IsFilter s t) (ForFault (IsLeast s t))
-whole_answer {j = j} (Ok f) h ok err = (j.node, h.means, ok)
-whole_answer (Err e) h ok err =
-    rw (err.0, ← h.place) (record { fault = no_condition (means_has h.means) err.1; least = λ g. no_lesser g (means_has h.means) })
-
-filter_kind : (x : Node) {f : Filter} → condition_of x ≡ Some f → is_condition (kind_of x) ≡ true
-filter_kind x e = sym (condition_fits x) ∙ ap is_some e
-
-pub filter_is_condition : {s : List Named} {t : Syntax} {f : Filter} → IsFilter s t f → IsCondition s t
-filter_is_condition h = (kind_of h.0, means_has h.1, filter_kind h.0 h.2)
-
-pub condition_has_no_fault : {s : List Named} {t : Syntax} {f : Fault} → IsCondition s t → IsFault s t f → ⊥
-condition_has_no_fault h (in_tree w) = no_fault h.1 w
-condition_has_no_fault h (no_condition k e) = let f = sym e ∙ (ap is_condition (same_kind k h.1) ∙ h.2) in absurd cc
-
-pub match_ok : {A E : Type 0} (r : Result A E) (P : A → Type 0) (Q : E → Type 0) → MatchResult r P Q → IfOk r P
-match_ok (Ok x) P Q h = h
-match_ok (Err e) P Q h = tt
-
-pub match_err : {A E : Type 0} (r : Result A E) (P : A → Type 0) (Q : E → Type 0) → MatchResult r P Q → IfErr r Q
-match_err (Ok x) P Q h = tt
-match_err (Err e) P Q h = h
-
-pub match_condition : (s : List Named) (t : Syntax) (r : Result Filter TypeFault) (Q : TypeFault → Type 0) → MatchResult r (IsFilter s t) Q → OnOk r (IsCondition s t)
-match_condition s t (Ok x) Q h = filter_is_condition h
-match_condition s t (Err e) Q h = tt
-
-pub match_fault : (s : List Named) (t : Syntax) (r : Result Filter TypeFault) (P : Filter → Type 0) → MatchResult r P (ForFault (IsLeast s t)) → IfErr r (ForFault (IsFault s t))
-match_fault s t (Ok x) P h = tt
-match_fault s t (Err e) P h = least_is_fault s t e h

@@ -7,3 +7,4 @@ mod NumberLemmas
 mod Relating
 mod Terms
 mod Trees
+mod Verdict

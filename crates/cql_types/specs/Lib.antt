@@ -2,6 +2,7 @@ pub mod Contract
 pub mod Faults
 pub mod Fits
 pub mod Kinds
+pub mod Laws
 pub mod Literals
 pub mod Means
 pub mod Numbers

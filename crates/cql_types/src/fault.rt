@@ -100,6 +100,13 @@ impl TypeFault {
 impl Misuse {
     ghost use Rattle.cql_types.specs.Faults.{misuse_row};
 
+    /// The name that programs print.
+    pub fn name(self) -> &'static str
+        ensures { result.now ≡ (misuse_row self).1 }
+    {
+        self.row().1
+    }
+
     fn row(self) -> (u8, &'static str)
         ensures number { result.0 ≡ (misuse_row self).0 }
         ensures name { result.1.now ≡ (misuse_row self).1 }

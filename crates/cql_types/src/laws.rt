@@ -3,11 +3,10 @@
 ghost use Rattle.std.specs.Prelude.{◌≡◌, ℕ, List};
 ghost use Rattle.cad_feature.specs.Schema.{Named};
 ghost use Rattle.cql_parser.specs.Syntax.{Syntax};
-ghost use Rattle.cql_types.specs.Kinds.{Kind, Has, IsWrong, IsFault};
+ghost use Rattle.cql_types.specs.Kinds.{Kind, Has, IsWrong};
 ghost use Rattle.cql_parser.specs.Order.{InOrder};
-ghost use Rattle.cql_types.specs.Means.{IsFilter};
+ghost use Rattle.cql_types.specs.Laws.{HasConditionOrFault, HasFaultOrCondition, HasFiltersOfConditions, HasOneLeastFault};
 ghost use Rattle.cql_types.specs.declared.fault.Fault.{Fault};
-ghost use Rattle.cql_types.specs.declared.filter.Filter.{Filter};
 
 /// A tree has at most one kind, TRUE and FALSE that of both.
 pub fn tree_has_one_kind()
@@ -29,7 +28,22 @@ pub fn one_place_has_one_cause()
     ensures { (s : List Named) (t : Syntax) (f g : Fault) (from to : ℕ) → InOrder from t to → IsWrong s t f → IsWrong s t g → f.place ≡ g.place → f ≡ g }
 {}
 
-/// What a tree means is a filter where its kind is Condition, and then no fault is there.
-pub fn filter_excludes_faults()
-    ensures { (s : List Named) (t : Syntax) (x : Filter) (f : Fault) → IsFilter s t x → ¬ IsFault s t f }
+/// A condition has no fault.
+pub fn fault_or_condition()
+    ensures { HasFaultOrCondition }
+{}
+
+/// A tree whose places ascend cannot be without both: it is a condition, or has a fault with the least place.
+pub fn condition_or_fault()
+    ensures { HasConditionOrFault }
+{}
+
+/// The fault with the least place is one.
+pub fn one_least_fault()
+    ensures { HasOneLeastFault }
+{}
+
+/// What a tree means is a filter only where the tree is a condition, and then no fault is there.
+pub fn filters_are_of_conditions()
+    ensures { HasFiltersOfConditions }
 {}

@@ -1,0 +1,4 @@
+pub mod Causes
+pub mod Filters
+pub mod Answer
+pub mod Laws

@@ -1,0 +1,46 @@
+//! The three readings of a text, one after the other.
+
+ghost use Rattle.std.specs.Prelude.{◌≡◌, Err, IsOk};
+ghost use Rattle.cad_feature.specs.Schema.{schema_of};
+ghost use Rattle.cql_filter.specs.Answer.{Answers, OrMemory};
+ghost use Rattle.cql_filter.specs.Filters.{IsAccepted, IsFirstFault};
+ghost use Rattle.cql_filter.specs.declared.cause.Cause.{Cause};
+ghost use Rattle.cql_filter.specs.declared.cause.FilterFault.TheVariants.{Refused};
+
+use crate::cause::FilterFault;
+use crate::laws::{fault_or_filter, one_first_fault};
+use cad_feature::Collection;
+use cql_lexer::laws::places_in_order;
+use cql_lexer::tokens;
+use cql_parser::parse;
+use cql_types::laws::filters_are_of_conditions;
+use cql_types::{Filter, check};
+use std::alloc::Global;
+
+/// The filter of the collection that a text writes, or the first fault of the text.
+///
+/// Spelling is asked first, then how many parentheses are open at one time, then the grammar, and at last the kinds, of
+/// which the fault with the least place is told.
+pub fn read(alloc: Global, text: &str, collection: Collection) -> Result<Filter, FilterFault>
+    ensures answer { Answers (schema_of collection) text.now result }
+    ensures accepted { IsAccepted (schema_of collection) text.now → OrMemory result (IsOk result) }
+    ensures refused { (cause : Cause) → IsFirstFault (schema_of collection) text.now cause
+        → OrMemory result (result ≡ Err (Refused cause)) }
+{
+    // A text that has a fault is no filter, and has no other.
+    fault_or_filter();
+    one_first_fault();
+    read_filter(alloc, text, collection)
+}
+
+fn read_filter(alloc: Global, text: &str, collection: Collection) -> Result<Filter, FilterFault>
+    ensures { Answers (schema_of collection) text.now result }
+{
+    // The least fault is asked of a tree whose places ascend, as those of tokens do.
+    places_in_order();
+    filters_are_of_conditions();
+    let tokens = tokens(alloc, text)?;
+    let tree = parse(alloc, &tokens)?;
+    let filter = check(alloc, &tree, collection)?;
+    Ok(filter)
+}

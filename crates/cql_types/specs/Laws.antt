@@ -1,0 +1,29 @@
+-- What holds of every tree and its faults.
+use Rattle.std.specs.Prelude.{◌≡◌, ◌⊎◌, List}
+use Rattle.cad_feature.specs.Schema.{Named}
+use Rattle.cql_parser.specs.Order.{IsOrdered}
+use Rattle.cql_parser.specs.Syntax.{Syntax}
+use Rattle.cql_types.specs.Kinds.{Kind, Has, IsWrong, IsCondition, IsFault, IsLeast}
+use Rattle.cql_types.specs.Means.{IsFilter}
+use Rattle.cql_types.specs.declared.fault.Fault.{Fault}
+use Rattle.cql_types.specs.declared.filter.Filter.{Filter}
+
+-- a tree has at most one kind
+abbrev pub HasOneKind : Type 0
+HasOneKind = (s : List Named) (t : Syntax) (k l : Kind) → Has s t k → Has s t l → k ≡ l
+
+-- a condition has no fault
+abbrev pub HasFaultOrCondition : Type 0
+HasFaultOrCondition = (s : List Named) (t : Syntax) (f : Fault) → IsCondition s t → ¬ IsFault s t f
+
+-- a tree whose places ascend is a condition or has a fault with the least place: it cannot be that neither holds
+abbrev pub HasConditionOrFault : Type 0
+HasConditionOrFault = (s : List Named) (t : Syntax) → IsOrdered t → ¬ ¬ (IsCondition s t ⊎ ((f : Fault) × IsLeast s t f))
+
+-- and of all faults one alone has the least place
+abbrev pub HasOneLeastFault : Type 0
+HasOneLeastFault = (s : List Named) (t : Syntax) (f g : Fault) → IsOrdered t → IsLeast s t f → IsLeast s t g → f ≡ g
+
+-- what a tree means is a filter only where the tree is a condition
+abbrev pub HasFiltersOfConditions : Type 0
+HasFiltersOfConditions = (s : List Named) (t : Syntax) (x : Filter) → IsFilter s t x → IsCondition s t
