@@ -112,7 +112,7 @@ digits_lack_point (d ∷ digits) all =
 
 -- the same with the point before the number
 text_is : (numbers : Numbers) → identifier_text numbers ≡ decimal numbers.0 ++ 46 ∷ decimal numbers.1
-text_is numbers = append_assoc (decimal numbers.0) (46 ∷ []) (decimal numbers.1)
+text_is numbers = refl
 
 named_if : (text : List ℕ) (numbers : Numbers) → Identifies text numbers → identifier_named text ≡ Some numbers
 named_if text numbers is =

@@ -70,9 +70,8 @@ text_of_decimal n small = IsUtf8-from_ascii (decimal n) (IsAscii-decimal n small
 
 identifier_is_text : (last : Numbers) → Identifies (identifier_text last) last → IsUtf8 (identifier_text last)
 identifier_is_text last is =
-    IsUtf8-append (decimal last.0 ++ codes ".") (decimal last.1)
-    (IsUtf8-append (decimal last.0) (codes ".") (text_of_decimal last.0 (omega (arith, is.object.1))) (point_text))
-    (text_of_decimal last.1 (omega (arith, is.number.1)))
+    IsUtf8-append (decimal last.0) (codes "." ++ decimal last.1) (text_of_decimal last.0 (omega (arith, is.object.1)))
+    (IsUtf8-append (codes ".") (decimal last.1) point_text (text_of_decimal last.1 (omega (arith, is.number.1))))
 
 continued_texts : (pairs : List PairText) (revision : ℕ) (last : Numbers) → All IsPairOfTexts pairs → revision < 10 ^ 18
     → Identifies (identifier_text last) last → All IsPairOfTexts (continued revision last pairs)

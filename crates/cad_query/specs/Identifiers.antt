@@ -19,7 +19,7 @@ IsVersionNumber number = (1 ≤ number) × (number ≤ 2147483647)
 
 -- object, point, number
 abbrev pub identifier_text : Numbers → List ℕ
-identifier_text numbers = decimal numbers.0 ++ codes "." ++ decimal numbers.1
+identifier_text numbers = decimal numbers.0 ++ (codes "." ++ decimal numbers.1)
 
 -- the text is the identifier of that version of that object
 pub record Identifies (text : List ℕ) (numbers : Numbers) : Type 0 where

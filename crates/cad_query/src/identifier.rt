@@ -46,7 +46,12 @@ impl Identifier {
     pub fn text(self, alloc: Global) -> Result<String, AllocError>
         ensures { IfOk result (λ text. string_bytes text ≡ identifier_text (numbers_of self)) }
     {
-        let object = self.object.number();
-        format!(in alloc; "{object}.{}", self.number)
+        Identifier::joined(alloc, self.object.number(), self.number)
+    }
+
+    fn joined(alloc: Global, object: u32, number: u32) -> Result<String, AllocError>
+        ensures { IfOk result (λ text. string_bytes text ≡ identifier_text (object, number)) }
+    {
+        format!(in alloc; "{object}.{number}")
     }
 }

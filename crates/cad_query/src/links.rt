@@ -1,6 +1,7 @@
 //! The targets of the links of a page.
 
-ghost use Rattle.std.specs.Prelude.{◌≡◌, ◌++◌, codes, map, string_bytes, IfOk};
+ghost use Rattle.std.specs.Prelude.{◌≡◌, ◌++◌, codes, map, string_bytes, IfOk, OnOk};
+ghost use Rattle.form_urlencoded.specs.Form.{append_pair};
 ghost use Rattle.cad_query.specs.Pairs.{pair_text, written};
 ghost use Rattle.cad_query.specs.Identifiers.{numbers_of};
 ghost use Rattle.cad_query.specs.Links as spec;
@@ -63,9 +64,18 @@ fn write_continued(
             form.append_pair(pair.name.as_str(), pair.value.as_str())?;
         }
     }
-    form.append_pair("revision", revision.as_str())?;
-    form.append_pair("after", after.as_str())?;
+    append_beginning(&mut form, revision.as_str(), after.as_str())?;
     Ok(form.finish())
+}
+
+fn append_beginning(form: &mut Serializer, revision: &str, after: &str) -> Result<(), AllocError>
+    ensures { OnOk result (form.new ≡ record form.old {
+      form =
+          append_pair (append_pair form.old.form (codes "revision") revision.now) (codes "after") after.now;
+    }) }
+{
+    form.append_pair("revision", revision)?;
+    form.append_pair("after", after)
 }
 
 fn is_beginning(pair: &Pair) -> bool

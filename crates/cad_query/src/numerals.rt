@@ -1,6 +1,6 @@
 //! Decimal numbers in texts.
 
-ghost use Rattle.std.specs.Prelude.{◌≡◌, ◌≤◌, ◌+◌, ◌*◌, min, option_map, IfSome};
+ghost use Rattle.std.specs.Prelude.{◌≡◌, ◌≤◌, ◌+◌, ◌*◌, nat_le, min, length, option_map, IfSome};
 ghost use Rattle.cad_versions.specs.Objects.{IsObjectNumber};
 ghost use Rattle.cad_query.specs.Numerals as spec;
 ghost use Rattle.cad_query.specs.Numerals.{number_in, limit_of, revision_of};
@@ -67,8 +67,15 @@ pub(crate) fn limit_in(text: &str) -> Option<u32>
 pub(crate) fn revision_in(text: &str) -> Option<u64>
     ensures { result ≡ revision_of text.now }
 {
-    if text.len() > 18 {
+    if !is_short(text) {
         return None;
     }
     number(text.as_bytes())
+}
+
+/// At most 18 bytes.
+fn is_short(text: &str) -> bool
+    ensures { result ≡ nat_le (length text.now) 18 }
+{
+    text.len() <= 18
 }
