@@ -1,5 +1,5 @@
 -- What is answered to a query.
-use Rattle.std.proofs.Common.{◌≡◌, ◌≢◌, ℕ, ◌⊎◌, inl, inr, Bool, true, false, cond, List, [], ◌∷◌, ◌++◌, Option, Some, None, Result, Ok, Err, refl, sym, ap, subst, ◌∙◌}
+use Rattle.std.proofs.Common.{◌≡◌, ◌≢◌, ℕ, ◌⊎◌, inl, inr, Bool, true, false, cond, List, [], ◌∷◌, Option, Some, None, Result, Ok, Err, refl, sym, ap, subst, ◌∙◌}
 use Rattle.std.specs.Prelude.{codes, IfSome, IsOk}
 use Rattle.std.specs.Option.{option_and_then, option_or}
 use Rattle.std.specs.Result.{result_err}
@@ -20,14 +20,13 @@ use Rattle.cql_filter.specs.Laws as filter_laws
 use Rattle.cad_query.specs.declared.fault.ParameterFault.{ParameterFault}
 use Rattle.cad_query.specs.declared.fault.ParameterFault.TheVariants as parameter
 use Rattle.cad_query.specs.Pairs.{PairText, given}
-use Rattle.cad_query.specs.Identifiers.{Numbers, Identifies, identifier_text}
 use Rattle.cad_query.specs.Parameters.{any_text, have, first_of, selection_faults, continuation_faults, first_fault, is_wrong}
 use Rattle.cad_query.specs.Links.{continued}
-use Rattle.cad_query.specs.Laws.{ContinuedGoesOn, AsksToGoOn}
+use Rattle.cad_query.specs.Laws.{ContinuedGoesOn}
 use Rattle.cad_ask.specs.declared.ask.Ask.{Ask}
 use Rattle.cad_ask.specs.declared.fault.AskFault.{AskFault}
 use Rattle.cad_ask.specs.declared.fault.AskFault.TheVariants as fault
-use Rattle.cad_ask.specs.Faults.{of_parameter, of_filter as fault_of_filter, selection_fault, continuation_fault}
+use Rattle.cad_ask.specs.Faults.{of_parameter, of_filter as fault_of_filter, selection_fault}
 use Rattle.cad_ask.specs.Answers.{filter_given, IsFilterGiven, IsFilterFault, IsAsk, FiltersWell, AsksWell, IsFirstFault, of_selection, of_filter, of_continuation, AnswersFilter, Answers, OrMemory}
 use Rattle.cad_ask.specs.Laws.{HasOneFirstFault, HasFaultOrAsks, NextAsksTheSame}
 

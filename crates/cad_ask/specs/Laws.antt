@@ -1,5 +1,5 @@
 -- What holds of every query.
-use Rattle.std.specs.Prelude.{◌≡◌, ℕ, ◌⊎◌, ◌<◌, ◌^◌, List}
+use Rattle.std.specs.Prelude.{◌≡◌, ℕ, ◌<◌, ◌^◌, List}
 use Rattle.cad_feature.specs.declared.collection.Collection.{Collection}
 use Rattle.cad_query.specs.Pairs.{PairText}
 use Rattle.cad_query.specs.Identifiers.{Numbers, Identifies, identifier_text}
