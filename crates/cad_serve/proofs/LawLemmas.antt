@@ -1,24 +1,21 @@
 -- What was served is a stream.
-use Rattle.std.proofs.Common.{◌≡◌, ℕ, Bool, true, false, cond, nat_eq, is_none, List, [], ◌∷◌, ◌++◌, Option, Some, None, Result, Ok, map, refl, sym, ap, ap₂, subst, ◌∙◌, append_assoc, append-nil, arith}
+use Rattle.std.proofs.Common.{◌≡◌, ℕ, true, false, cond, nat_eq, is_none, List, [], ◌∷◌, ◌++◌, Some, map, refl, sym, ap, ap₂, subst, ◌∙◌, append-nil, arith}
 use Rattle.std.specs.Global.{Vec}
-use Rattle.std.specs.List.{flat_map}
 use Rattle.std.proofs.lemmas.Bool.Decides.{nat_tests}
 use Rattle.std.proofs.lemmas.List.{map-append}
 use Rattle.std.proofs.lemmas.List.Concat.{flat_map-append}
 use Rattle.httparse.specs.Grammar.{RequestHead}
 use Rattle.cad_versions.specs.declared.command.Command.{Command}
-use Rattle.cad_request.specs.Request.{Request, request_of}
+use Rattle.cad_request.specs.Request.{request_of}
 use Rattle.cad_stream.specs.declared.responder.Responder.{Ghosts}
 use Rattle.cad_stream.specs.Streams.{Outcome, waits, closed, refused, rest_of, IsStream}
 use Rattle.cad_stream.specs.Replies.{replies_to, last_reply}
-use Rattle.cad_stream.specs.Conversations.{Piece, HeadAt, bytes_of, heads_of, heads_at, IsConversation}
+use Rattle.cad_stream.specs.Conversations.{Piece, bytes_of, heads_of, heads_at, IsConversation}
 use Rattle.cad_stream.specs.Laws.{PiecesAreOneStream}
 use Rattle.cad_desk.specs.declared.desk.Desk.{Desk}
-use Rattle.cad_desk.specs.declared.event.Event.TheVariants.{Bytes}
-use Rattle.cad_desk.specs.declared.event.Reply.TheVariants.{Sent}
 use Rattle.cad_desk.specs.Connections.{rest_at}
-use Rattle.cad_desk.specs.Desks.{responder_of, connections_of, Steps}
-use Rattle.cad_serve.specs.Serving.{bytes_read, GoesOn, IsUnderWay}
+use Rattle.cad_desk.specs.Desks.{responder_of, connections_of}
+use Rattle.cad_serve.specs.Serving.{bytes_read, GoesOn}
 use Rattle.cad_serve.specs.Laws.{ServedIsAStream}
 
 same_self : (c : ℕ) → nat_eq c c ≡ true

@@ -1,27 +1,24 @@
 -- What is read and written over several turns.
-use Rattle.std.proofs.Common.{◌≡◌, ◌⊎◌, ℕ, ◌+◌, ◌<◌, ◌≤◌, Bool, true, false, cond, nat_eq, is_some, is_none, List, [], ◌∷◌, ◌++◌, Option, Some, None, IsSome, Result, Ok, Err, length, take, refl, sym, ap, ap₂, subst, ◌∙◌, append_assoc, append-nil, arith, length-append, inl, inr}
+use Rattle.std.proofs.Common.{◌≡◌, ℕ, ◌+◌, ◌≤◌, Bool, true, false, cond, nat_eq, is_some, is_none, List, [], ◌∷◌, ◌++◌, Option, Some, None, IsSome, Result, Ok, Err, length, refl, sym, ap, ap₂, subst, ◌∙◌, append_assoc, append-nil, arith, length-append, inl, inr}
 use Rattle.std.specs.Global.{Vec}
-use Rattle.std.specs.List.{flat_map}
 use Rattle.std.proofs.lemmas.Bool.Decides.{nat_tests}
 use Rattle.std.proofs.lemmas.List.Concat.{flat_map-append}
 use Rattle.std.proofs.KnownBytes.{Appends-trans, Consumes-trans, Consumes-nil, Appends-nil}
-use Rattle.std.specs.Io.KnownBytes.{Appends, Consumes}
 use Rattle.cad_stream.specs.declared.responder.Responder.{Ghosts}
-use Rattle.cad_stream.specs.Streams.{Outcome, rest_of}
+use Rattle.cad_stream.specs.Streams.{rest_of}
 use Rattle.cad_desk.specs.declared.desk.Desk.{Desk}
-use Rattle.cad_desk.specs.declared.event.Event.{Event}
-use Rattle.cad_desk.specs.declared.event.Event.TheVariants.{Open, Bytes, Close, Office}
+use Rattle.cad_desk.specs.declared.event.Event.TheVariants.{Open, Bytes, Close}
 use Rattle.cad_desk.specs.declared.event.Reply.{Reply}
 use Rattle.cad_desk.specs.declared.event.Reply.TheVariants.{Opened, Closed, Sent, Entered}
 use Rattle.cad_desk.specs.declared.fault.DeskFault.{DeskFault}
 use Rattle.cad_desk.specs.declared.fault.DeskFault.TheVariants.{UnknownConnection, KnownConnection, TooManyConnections, Memory, Register}
-use Rattle.cad_desk.specs.Connections.{rest_at, Changes}
+use Rattle.cad_desk.specs.Connections.{rest_at}
 use Rattle.cad_desk.specs.Desks.{connections_of, Steps}
 use Rattle.cad_serve.specs.declared.ending.Ending.{Ending}
 use Rattle.cad_serve.specs.declared.ending.Ending.TheVariants.{PeerEnded, WeEnded, Refused}
 use Rattle.cad_serve.specs.declared.serve_fault.ServeFault.{ServeFault}
 use Rattle.cad_serve.specs.declared.serve_fault.ServeFault.TheVariants.{Read, Write, TurnsSpent}
-use Rattle.cad_serve.specs.Serving.{IsPiece, bytes_read, IsOpen, IsRefusedSo, Closes, Sends, GoesOn, IsUnderWay, IsNotOpened, IsNotTaken, IsOver, IsSent, IsCutOff, IsWhole, IsTaken, IsLeft, IsTurn, EndsWith, EndsClosed, IsRefused, IsServed, Writes, ReadsAndWrites}
+use Rattle.cad_serve.specs.Serving.{IsPiece, IsOpen, IsRefusedSo, Closes, Sends, GoesOn, IsUnderWay, IsNotTaken, IsSent, IsWhole, IsTaken, IsTurn, IsRefused, IsServed, Writes, ReadsAndWrites}
 
 -- what is open is not unknown
 open_or_none : {A : Type 0} (o : Option A) → IsSome o → ¬ (o ≡ None)

@@ -1,5 +1,5 @@
 -- On writes one after the other.
-use Rattle.std.proofs.Common.{◌≡◌, ℕ, ◌+◌, ◌<◌, List, Option, Result, Ok, Err, length, take, drop, sym, subst, arith, take_all}
+use Rattle.std.proofs.Common.{ℕ, ◌+◌, List, Option, Result, Ok, Err, length, take, drop, sym, subst, arith, take_all}
 use Rattle.std.proofs.Math.Seq.{take-add}
 use Rattle.std.proofs.KnownBytes.{Appends-trans}
 use Rattle.std.specs.Io.KnownBytes.{Appends}
