@@ -3,7 +3,7 @@
 ghost use Rattle.cql_meaning.specs.declared.schema.Collection.TheVariants.{Parcels};
 ghost use Rattle.cql_meaning.specs.Features.{AreFeatures};
 
-use crate::bytes::json_of;
+use cad_case_bytes::json_of;
 use cad_http::{Ending, First, first_reply, serve};
 use cad_sample::sample_parcels;
 use cql_meaning::feature::Feature;

@@ -14,15 +14,13 @@
 //! `served REPLY`, or `served nothing`. A line without bytes is passed over. Where memory is refused the program ends with
 //! status 7.
 //!
-//! - `bytes`: bytes, and the JSON that writes them
 //! - `answer`: what a connection is answered
 #![tactic(auto)]
 
 mod answer;
-mod bytes;
 
 use answer::answer;
-use bytes::bytes_of;
+use cad_case_bytes::bytes_of;
 use std::alloc::{AllocError, Global};
 use std::io::{Error, ErrorKind, Read, Result};
 use std::process::ExitCode;

@@ -1,5 +1,5 @@
 -- A piece that is refused closes its connection.
-use Rattle.std.proofs.Common.{◌≡◌, ◌≢◌, ◌⊎◌, ℕ, Bool, true, false, cond, nat_eq, List, Option, Some, None, is_some, Result, Err, refl, sym, ap, subst, ◌∙◌, inl, inr}
+use Rattle.std.proofs.Common.{◌≡◌, ◌≢◌, ◌⊎◌, ℕ, Bool, true, false, cond, nat_eq, List, Some, None, is_some, Err, refl, sym, ap, subst, ◌∙◌, inl, inr}
 use Rattle.std.specs.Global.{Vec}
 use Rattle.std.specs.HashMap.{get}
 use Rattle.cad_versions.specs.declared.fault.RegisterFault.{RegisterFault}

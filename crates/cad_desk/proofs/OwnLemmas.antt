@@ -1,14 +1,12 @@
 -- What goes out to a connection is its own, by recursion on the events of a run.
-use Rattle.std.proofs.Common.{◌≡◌, ◌⊎◌, ℕ, Bool, true, false, cond, nat_eq, List, [], ◌∷◌, ◌++◌, Option, Some, None, Result, Ok, Err, refl, sym, ap, ap₂, ◌∙◌, subst, arith, append_assoc, append-nil, inl, inr}
+use Rattle.std.proofs.Common.{◌≡◌, ℕ, Bool, true, false, cond, nat_eq, List, [], ◌∷◌, ◌++◌, Option, Some, None, Result, Ok, Err, refl, sym, ap, ap₂, ◌∙◌, subst, arith, append_assoc, append-nil, inl, inr}
 use Rattle.std.proofs.lemmas.Bool.Decides.{nat_tests}
 use Rattle.std.proofs.lemmas.List.Concat.{flat_map-append}
-use Rattle.std.specs.HashMap.{get, hash_map_len}
 use Rattle.httparse.specs.Grammar.{RequestHead}
 use Rattle.cad_versions.specs.declared.command.Command.{Command}
 use Rattle.cad_request.specs.Request.{Request, request_of}
 use Rattle.cad_stream.specs.Streams.{Outcome, waits, closed, refused, rest_of, IsStream, DiffersInMoment, IsSameOutcome}
 use Rattle.cad_stream.specs.Replies.{replies_to, replies_at, last_reply}
-use Rattle.cad_stream.specs.Feeding.{bytes_left}
 use Rattle.cad_stream.specs.Conversations.{Piece, HeadAt, heads_at, IsConversation}
 use Rattle.cad_stream.specs.Laws as stream
 use Rattle.cad_desk.specs.declared.event.Event.{Event}

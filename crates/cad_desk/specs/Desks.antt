@@ -1,5 +1,5 @@
 -- What clauses see of a desk, and what its step does (own profile).
-use Rattle.std.specs.Prelude.{◌≡◌, ℕ, List, length, Result, IfErr, OnOk, OnErr}
+use Rattle.std.specs.Prelude.{◌≡◌, List, length, Result, IfErr, OnOk, OnErr}
 use Rattle.cad_versions.specs.declared.command.Command.{Command}
 use Rattle.cad_versions.specs.declared.fault.RegisterFault.TheVariants.{Store}
 use Rattle.cad_request.specs.Request.{Request}

@@ -1,13 +1,12 @@
 -- On the replies to bytes, request by request.
-use Rattle.std.proofs.Common.{◌≡◌, ◌⊎◌, ℕ, ◌+◌, ◌<◌, ◌≤◌, List, [], ◌∷◌, ◌++◌, Bool, true, false, Option, Some, None, Result, Ok, Err, OnErr, length, drop, refl, sym, ap, subst, ◌∙◌, append_assoc, append-nil, arith, length-drop, inl, inr}
+use Rattle.std.proofs.Common.{◌≡◌, ◌⊎◌, ℕ, ◌+◌, ◌<◌, ◌≤◌, List, [], ◌∷◌, ◌++◌, true, false, Some, None, Ok, Err, length, drop, refl, sym, ap, subst, ◌∙◌, append-nil, arith, length-drop, inl, inr}
 use Rattle.std.specs.Global.{Vec}
-use Rattle.std.specs.List.{flat_map}
 use Rattle.std.proofs.lemmas.List.{drop-drop}
 use Rattle.std.proofs.lemmas.List.Concat.{flat_map-append}
-use Rattle.httparse.specs.Grammar.{RequestHead, print_request}
+use Rattle.httparse.specs.Grammar.{RequestHead}
 use Rattle.httparse.specs.declared.spans.HeaderSpan.{HeaderSpan}
 use Rattle.httparse.specs.declared.spans.RequestSpans.{RequestSpans}
-use Rattle.cad_head.specs.Heads.{Fits, IsHopeless, IsIncomplete}
+use Rattle.cad_head.specs.Heads.{Fits, IsIncomplete}
 use Rattle.cad_head.specs.Front.{front_bytes, IsHeadAt}
 use Rattle.cad_versions.specs.declared.command.Command.{Command}
 use Rattle.cad_versions.specs.declared.fault.RegisterFault.{RegisterFault}
@@ -17,12 +16,11 @@ use Rattle.cad_stream.specs.declared.answer.Answer.{Answer}
 use Rattle.cad_stream.specs.declared.connection.Fed.{Fed}
 use Rattle.cad_stream.specs.declared.replies.Next.{Next}
 use Rattle.cad_stream.specs.declared.replies.Next.TheVariants as next
-use Rattle.cad_stream.specs.declared.replies.Replies.{Replies}
 use Rattle.cad_stream.specs.declared.responder.Responder.{Ghosts}
-use Rattle.cad_stream.specs.Streams.{Outcome, waits, closed, refused, Passes, Reaches, IsStream}
-use Rattle.cad_stream.specs.Replies.{replies_to, last_reply, Fails}
+use Rattle.cad_stream.specs.Streams.{waits, closed, Passes}
+use Rattle.cad_stream.specs.Replies.{replies_to, Fails}
 use Rattle.cad_stream.specs.Answering.{Answered}
-use Rattle.cad_stream.specs.Feeding.{bytes_left, Under, Stays, IsNext, IsNextOf, IsReplied, RepliesTo, Feeds}
+use Rattle.cad_stream.specs.Feeding.{bytes_left, Under, Stays, IsNext, RepliesTo, Feeds}
 use Rattle.cad_stream.proofs.StreamLemmas.{fits_some, passes_push, passes_join}
 
 -- the spans of a head show its request

@@ -1,9 +1,9 @@
 -- On the heads that bytes begin with, one after the other.
-use Rattle.std.proofs.Common.{◌≡◌, ℕ, ◌+◌, ◌<◌, ◌≤◌, List, [], ◌∷◌, ◌++◌, ◌⊎◌, Bool, true, false, length, refl, sym, ap, ap₂, subst, ◌∙◌, append_assoc, append-nil, arith, length-append, lit<, inl, inr}
+use Rattle.std.proofs.Common.{◌≡◌, ℕ, ◌+◌, ◌<◌, List, [], ◌∷◌, ◌++◌, ◌⊎◌, Bool, true, false, length, refl, sym, ap, ap₂, subst, ◌∙◌, append_assoc, append-nil, arith, length-append, lit<, inl, inr}
 use Rattle.httparse.specs.Grammar.{RequestHead, IsRequestHead, ReadsRequest, print_request}
 use Rattle.cad_head.specs.Heads.{Fits, HasNone, IsHopeless, IsIncomplete, HaveOneHead, HeadsStay}
 use Rattle.cad_request.specs.Request.{Request, request_of}
-use Rattle.cad_stream.specs.Streams.{Outcome, waits, closed, refused, Passes, Reaches, IsStream, IsSameOutcome}
+use Rattle.cad_stream.specs.Streams.{Outcome, waits, closed, refused, Passes, IsStream, IsSameOutcome}
 
 -- with no bytes a request is waited for
 print_some : (head : RequestHead) → IsRequestHead head → 0 < length (print_request head)

@@ -1,5 +1,5 @@
 -- What a piece of a connection's bytes brings (RFC 9112, section 9.3.2: pipelining; own profile: refusals).
-use Rattle.std.specs.Prelude.{◌≡◌, ◌⊎◌, ℕ, ◌≤◌, List, ◌++◌, length, drop, Bool, Option, Some, None, option_map, Result, IfOk, IfErr, OnOk, OnErr}
+use Rattle.std.specs.Prelude.{◌≡◌, ◌⊎◌, ℕ, ◌≤◌, List, ◌++◌, length, drop, Option, Some, option_map, Result, IfOk, IfErr, OnOk, OnErr}
 use Rattle.httparse.specs.Grammar.{RequestHead, print_request}
 use Rattle.cad_head.specs.Heads.{Fits, IsHopeless, IsIncomplete}
 use Rattle.cad_versions.specs.declared.command.Command.{Command}

@@ -1,5 +1,5 @@
 -- What goes out to a connection (RFC 9112, section 9.3.2: replies come in the order of the requests).
-use Rattle.std.specs.Prelude.{ℕ, List, [], ◌∷◌, ◌++◌, Bool}
+use Rattle.std.specs.Prelude.{ℕ, List, [], Bool}
 use Rattle.std.specs.List.{flat_map}
 use Rattle.httparse.specs.Grammar.{RequestHead}
 use Rattle.cad_versions.specs.declared.command.Command.{Command}

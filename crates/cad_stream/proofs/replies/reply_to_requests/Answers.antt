@@ -1,4 +1,4 @@
-use Rattle.std.proofs.Common.{◌≡◌, ◌+◌, ◌<◌, ◌≤◌, length, arith}
+use Rattle.std.proofs.Common.{◌≡◌, arith}
 use Rattle.std.proofs.lemmas.Result.{err_from_is_err_and}
 use Rattle.cad_stream.proofs.FeedLemmas.{fails_here, waits_here, closes_here, passes_here, advances}
 use Rattle.cad_stream.proofs.replies.reply_to_requests.Goals as goal

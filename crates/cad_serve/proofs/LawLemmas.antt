@@ -1,0 +1,85 @@
+-- What was served is a stream.
+use Rattle.std.proofs.Common.{◌≡◌, ℕ, true, false, cond, nat_eq, is_none, List, [], ◌∷◌, ◌++◌, Some, map, refl, sym, ap, ap₂, subst, ◌∙◌, append-nil, arith}
+use Rattle.std.specs.Global.{Vec}
+use Rattle.std.proofs.lemmas.Bool.Decides.{nat_tests}
+use Rattle.std.proofs.lemmas.List.{map-append}
+use Rattle.std.proofs.lemmas.List.Concat.{flat_map-append}
+use Rattle.httparse.specs.Grammar.{RequestHead}
+use Rattle.cad_versions.specs.declared.command.Command.{Command}
+use Rattle.cad_request.specs.Request.{request_of}
+use Rattle.cad_stream.specs.declared.responder.Responder.{Ghosts}
+use Rattle.cad_stream.specs.Streams.{Outcome, waits, closed, refused, rest_of, IsStream}
+use Rattle.cad_stream.specs.Replies.{replies_to, last_reply}
+use Rattle.cad_stream.specs.Conversations.{Piece, bytes_of, heads_of, heads_at, IsConversation}
+use Rattle.cad_stream.specs.Laws.{PiecesAreOneStream}
+use Rattle.cad_desk.specs.declared.desk.Desk.{Desk}
+use Rattle.cad_desk.specs.Connections.{rest_at}
+use Rattle.cad_desk.specs.Desks.{responder_of, connections_of}
+use Rattle.cad_serve.specs.Serving.{bytes_read, GoesOn}
+use Rattle.cad_serve.specs.Laws.{ServedIsAStream}
+
+same_self : (c : ℕ) → nat_eq c c ≡ true
+same_self c = grind (arith, nat_tests)
+
+-- pieces with the same commands in force
+abbrev pub pieces_at : List Command → List (Vec ℕ) → List Piece
+pieces_at commands pieces = map (λ (piece : Vec ℕ). (commands, piece.items)) pieces
+
+bytes_of-at : (commands : List Command) (pieces : List (Vec ℕ)) → bytes_of (pieces_at commands pieces) ≡ bytes_read pieces
+bytes_of-at commands [] = refl
+bytes_of-at commands (piece ∷ pieces) = ap (λ (l : List ℕ). piece.items ++ l) (bytes_of-at commands pieces)
+
+heads_of-at : (commands : List Command) (heads : List RequestHead) → heads_of (heads_at commands heads) ≡ heads
+heads_of-at commands [] = refl
+heads_of-at commands (head ∷ heads) = ap (λ (l : List RequestHead). head ∷ l) (heads_of-at commands heads)
+
+-- a connection that goes on waits
+goes_on_waits : (last : Outcome) → false ≡ is_none (rest_of last) → (rest : List ℕ) × (last ≡ waits rest)
+goes_on_waits (waits rest) h = (rest, refl)
+goes_on_waits closed h = absurd cc
+goes_on_waits refused h = absurd cc
+
+module _ {R : Type 0} (g : Ghosts R) (c : ℕ) (commands : List Command) where
+  counted : (pieces : List (Vec ℕ)) (old new : Desk R) (out : List ℕ) → GoesOn g c old pieces out new → g.counts (responder_of new) → g.counts (responder_of old)
+  counted [] old new out x counts = subst (λ (d : Desk R). g.counts (responder_of d)) x.1 counts
+  counted (piece ∷ pieces) old new out x counts = x.3.1.clean (counted pieces x.2 new x.1 x.5 counts)
+
+  -- what was sent for these pieces, from what was held on
+  abbrev pub IsTold : List (Vec ℕ) → List ℕ → List ℕ → Type 0
+  IsTold pieces held out =
+      (heads : List RequestHead) × (rest : List ℕ)
+      × IsConversation g.closes (waits held) (pieces_at commands pieces) (heads_at commands heads) (waits rest) × (out ≡ replies_to g.reply commands heads)
+
+  told : (pieces : List (Vec ℕ)) (old new : Desk R) (out held : List ℕ) → GoesOn g c old pieces out new → rest_at (connections_of old) c ≡ Some held
+      → g.counts (responder_of new) → g.stands_for (responder_of old) commands → IsTold pieces held out
+  told [] old new out held x known counts stands = ([], held, (refl, refl), x.0)
+  told (piece ∷ pieces) old new out held x known counts stands =
+      let s = x.3.1.stepped in
+      let now = counted pieces x.2 new x.1 x.5 counts in
+      let here : s.0 ≡ held = let e = sym s.3 ∙ known in cc in
+      let next = goes_on_waits s.2 s.5 in
+      let left : rest_at (connections_of x.2) c ≡ Some next.0 =
+      s.6 c ∙ ap (λ b. cond b (rest_of s.2) (rest_at (connections_of old) c)) (same_self c) ∙ ap rest_of next.1 in
+      let later = told pieces x.2 new x.1 next.0 x.5 left counts (x.3.1.kept now commands stands) in
+      let stream : IsStream g.closes s.1 (held ++ piece.items) (waits next.0) =
+      subst (λ (o : Outcome). IsStream g.closes s.1 (held ++ piece.items) o) next.1 (subst (λ (h : List ℕ). IsStream g.closes s.1 (h ++ piece.items) s.2) here s.4) in
+      let sent : x.0.items ≡ replies_to g.reply commands s.1 =
+      s.7 now commands stands ∙ ap (λ (o : Outcome). replies_to g.reply commands s.1 ++ last_reply g.bad_head o) next.1 ∙ append-nil _ in (
+        s.1 ++ later.0,
+        later.1,
+        (s.1, heads_at commands later.0, waits next.0, map-append (λ (h : RequestHead). (commands, h)) s.1 later.0, stream, later.2),
+        x.4 ∙ ap₂ ◌++◌ sent later.3 ∙ sym (flat_map-append (λ (h : RequestHead). g.reply commands (request_of h)) s.1 later.0),
+      )
+
+pub served_is_a_stream : {R : Type 0} (g : Ghosts R) → PiecesAreOneStream → ServedIsAStream g
+served_is_a_stream g all c old new read written commands u counts stands =
+    let first = counted g c commands u.pieces u.opened new written u.goes_on counts in
+    let known : rest_at (connections_of u.opened) c ≡ Some [] = u.opens.stepped.2 c ∙ ap (λ b. cond b (Some []) (rest_at (connections_of old) c)) (same_self c) in
+    let t = told g c commands u.pieces u.opened new written [] u.goes_on known counts (u.opens.kept first commands stands) in
+    let stream = all g.closes (pieces_at commands u.pieces) (heads_at commands t.0) (waits t.1) t.2 in (
+      t.0,
+      t.1,
+      subst (λ (b : List ℕ). IsStream g.closes t.0 b (waits t.1)) (bytes_of-at commands u.pieces ∙ sym u.joined)
+          (subst (λ (l : List RequestHead). IsStream g.closes l (bytes_of (pieces_at commands u.pieces)) (waits t.1)) (heads_of-at commands t.0) stream),
+      t.3,
+    )

@@ -1,0 +1,139 @@
+//! Serving a connection.
+
+ghost use Rattle.std.specs.Prelude.{◌≡◌, Some, Ok, false};
+ghost use Rattle.std.specs.Io.KnownBytes.{IsAtEnd};
+ghost use Rattle.cad_serve.specs.Serving.{Closes, IsOpen, IsPiece, IsRefusedSo, IsSent, IsServed, IsTaken, IsTurn, ReadsAndWrites, Writes};
+
+use crate::ending::Ending;
+use crate::serve_fault::ServeFault;
+use crate::writing::{write_fixed_head, write_whole};
+use cad_desk::{Desk, DeskFault, Event, Reply};
+use cad_stream::Responder;
+use std::alloc::Global;
+use std::io::{Read, Write};
+
+/// The most reads of a connection.
+const TURNS: u32 = 100_000;
+
+/// The most bytes of a read.
+const PIECE_LEN: usize = 4096;
+
+fn close<R: Responder>(desk: &mut Desk<R>, c: u32)
+    requires { IsOpen c desk.old }
+    ensures { Closes R.Responder c desk.old desk.new }
+{
+    drop(desk.step(Event::Close(c)));
+}
+
+/// Tells the fault, if it has a head. Where that write fails, the fault stands all the same.
+fn refuse<W: Write>(writer: &mut W, fault: DeskFault) -> Ending
+    ensures refused { result ≡ Ending.Refused fault }
+    ensures head { Writes (W.contents writer.old) (W.contents writer.new) (IsRefusedSo fault) }
+{
+    let _ = write_fixed_head(writer, fault);
+    Ending::Refused(fault)
+}
+
+/// Writes what the desk sends. Where that fails, a connection that goes on is closed.
+fn send<W: Write, R: Responder>(
+    writer: &mut W,
+    desk: &mut Desk<R>,
+    c: u32,
+    bytes: &[u8],
+    ends: bool,
+) -> Result<Option<Ending>, ServeFault>
+    requires { ends ≡ false → IsOpen c desk.old }
+    ensures { Writes (W.contents writer.old) (W.contents writer.new)
+        (IsSent R.Responder c bytes.now ends desk.old result desk.new) }
+{
+    if write_whole(writer, bytes).is_err() {
+        if !ends {
+            close(desk, c);
+        }
+        return Err(ServeFault::Write);
+    }
+    if ends {
+        return Ok(Some(Ending::WeEnded));
+    }
+    Ok(None)
+}
+
+/// Has the desk take a piece, and writes what it sends. `None`: the connection goes on.
+fn take_piece<W: Write, R: Responder>(
+    alloc: Global,
+    writer: &mut W,
+    desk: &mut Desk<R>,
+    c: u32,
+    piece: &[u8],
+) -> Result<Option<Ending>, ServeFault>
+    requires open { IsOpen c desk.old }
+    requires piece { IsPiece piece.now }
+    ensures { Writes (W.contents writer.old) (W.contents writer.new)
+        (IsTaken R.Responder c desk.old result desk.new piece.now) }
+{
+    let Ok(bytes) = Vec::from_slice(alloc, piece) else {
+        close(desk, c);
+        return Ok(Some(refuse(writer, DeskFault::Memory)));
+    };
+    match desk.step(Event::Bytes(c, bytes)) {
+        Ok(Reply::Sent { bytes, ends }) => send(writer, desk, c, &bytes, ends),
+        Ok(Reply::Opened | Reply::Closed | Reply::Entered(_)) => unreachable!(),
+        Err(fault) => Ok(Some(refuse(writer, fault))),
+    }
+}
+
+/// One read, and what the desk sends for it. `None`: the connection goes on.
+fn turn<I: Read, W: Write, R: Responder>(
+    alloc: Global,
+    reader: &mut I,
+    writer: &mut W,
+    desk: &mut Desk<R>,
+    c: u32,
+) -> Result<Option<Ending>, ServeFault>
+    requires { IsOpen c desk.old }
+    ensures turn { ReadsAndWrites (I.remaining reader.old) (I.remaining reader.new)
+        (W.contents writer.old) (W.contents writer.new) (IsTurn R.Responder c desk.old result desk.new) }
+    ensures all { result ≡ Ok (Some Ending.PeerEnded) → IsAtEnd (I.remaining reader.new) }
+{
+    let mut buffer = [0; PIECE_LEN];
+    match reader.read(&mut buffer) {
+        Ok(0) => {
+            close(desk, c);
+            Ok(Some(Ending::PeerEnded))
+        }
+        Ok(count) => take_piece(alloc, writer, desk, c, &buffer[..count]),
+        Err(_) => {
+            close(desk, c);
+            Err(ServeFault::Read)
+        }
+    }
+}
+
+/// Serves connection `c` of the desk: opens it, reads its bytes in pieces of at most 4,096, has the desk take each
+/// and writes what it sends, until the peer sends no more, a reply ends the connection, the desk refuses, a read or a
+/// write fails, or 100,000 reads were made. The connection is closed then, if the desk opened it and it is still open.
+/// Where memory is refused or the register refuses, a fixed head tells it.
+pub fn serve<I: Read, W: Write, R: Responder>(
+    alloc: Global,
+    reader: &mut I,
+    writer: &mut W,
+    desk: &mut Desk<R>,
+    c: u32,
+) -> Result<Ending, ServeFault>
+    ensures served { ReadsAndWrites (I.remaining reader.old) (I.remaining reader.new)
+        (W.contents writer.old) (W.contents writer.new) (IsServed R.Responder c desk.old result desk.new) }
+    ensures all { result ≡ Ok Ending.PeerEnded → IsAtEnd (I.remaining reader.new) }
+{
+    if let Err(fault) = desk.step(Event::Open(c)) {
+        return Ok(refuse(writer, fault));
+    }
+    for turn_count in 0..TURNS {
+        match turn(alloc, reader, writer, desk, c) {
+            Ok(None) => {}
+            Ok(Some(ending)) => return Ok(ending),
+            Err(fault) => return Err(fault),
+        }
+    }
+    close(desk, c);
+    Err(ServeFault::TurnsSpent)
+}

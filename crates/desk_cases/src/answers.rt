@@ -1,0 +1,42 @@
+//! What is printed for a line.
+
+use crate::echo::Echo;
+use crate::lines::{Line, line_of};
+use crate::served::served;
+use cad_case_bytes::json_of;
+use cad_desk::{Desk, DeskFault, Reply};
+use std::alloc::{AllocError, Global};
+
+/// What tells a refusal of the desk.
+pub fn refusal(alloc: Global, fault: DeskFault) -> Result<String, AllocError> {
+    let mut text = format!(in alloc; "refused {} {}", fault.number(), fault.name())?;
+    if let DeskFault::Register(cause) = fault {
+        text.push_str(" ")?;
+        text.push_str(cause.name())?;
+    }
+    Ok(text)
+}
+
+fn told(alloc: Global, reply: Reply) -> Result<String, AllocError> {
+    match reply {
+        Reply::Opened => String::from_str(alloc, "opened"),
+        Reply::Closed => String::from_str(alloc, "closed"),
+        Reply::Entered(revision) => format!(in alloc; "revision {revision}"),
+        Reply::Sent { bytes, ends } => {
+            let word = if ends { "ends" } else { "sent" };
+            format!(in alloc; "{word} {}", json_of(alloc, &bytes)?.as_str())
+        }
+    }
+}
+
+/// What is printed for a line.
+pub fn answer(alloc: Global, desk: &mut Desk<Echo>, line: &[u8]) -> Result<String, AllocError> {
+    match line_of(alloc, line)? {
+        None => String::from_str(alloc, "no case"),
+        Some(Line::Serve(number, bytes)) => served(alloc, desk, number, &bytes),
+        Some(Line::Event(event)) => match desk.step(event) {
+            Ok(reply) => told(alloc, reply),
+            Err(fault) => refusal(alloc, fault),
+        },
+    }
+}
