@@ -1,0 +1,4 @@
+mod PathLemmas
+mod ResourceLemmas
+mod TargetLemmas
+mod RouteLemmas

@@ -1,0 +1,7 @@
+pub mod Heads
+pub mod Places
+pub mod Checks
+pub mod Asking
+pub mod RouteRows
+pub mod Parts
+pub mod Laws

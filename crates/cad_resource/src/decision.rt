@@ -1,0 +1,93 @@
+//! What a request asks for, or the first check that it fails.
+
+ghost use Rattle.std.specs.Prelude.{◌≡◌, Some, option_map};
+ghost use Rattle.httparse.specs.Spans.{IsRequestWithin};
+ghost use Rattle.cad_request.specs.Request.{request_at};
+ghost use Rattle.cad_resource.specs.Asking as spec;
+ghost use Rattle.cad_resource.specs.Asking.{asked_text, asked_in, ends_by_check, ends_after};
+ghost use Rattle.cad_resource.specs.Places.{place_of, resource_of};
+ghost use Rattle.cad_resource.specs.RouteRows.{route_of};
+
+use crate::asked::Asked;
+use crate::check::Check;
+use crate::fields::{has_body, lacks_host};
+use crate::parts::cut;
+use crate::resource::resource_at;
+use crate::route::Route;
+use crate::router::Routes;
+use crate::target::target_text;
+use cad_request::closes_connection;
+use httparse::spans::{HeaderSpan, RequestSpans};
+
+/// What a request asks for or fails, and what comes of its connection.
+#[derive(Clone, Copy, Debug)]
+pub struct Decision<'a> {
+    /// What it asks for, or the first check that it fails.
+    pub asked: Result<Asked<'a>, Check>,
+    /// Whether the connection ends after the reply: that of HTTP/1.0 does, one that asks for it, and after some checks.
+    pub ends: bool,
+}
+
+/// Decides a request, which `spans` show in the bytes of its head.
+pub fn decide<'a>(
+    routes: &Routes,
+    bytes: &'a [u8],
+    headers: &[HeaderSpan],
+    spans: &RequestSpans,
+) -> Decision<'a>
+    requires { IsRequestWithin bytes.now headers.now spans.now }
+    ensures asked { asked_text result.asked ≡ spec.asked (request_at bytes.now headers.now spans.now) }
+    ensures ends { result.ends ≡ ends_after (request_at bytes.now headers.now spans.now) }
+{
+    let asked = asked(routes, bytes, headers, spans);
+    let ends = closes_connection(bytes, headers, spans) || ends_by(&asked);
+    Decision { asked, ends }
+}
+
+fn ends_by(asked: &Result<Asked<'_>, Check>) -> bool
+    ensures { result ≡ ends_by_check (asked_text asked.now) }
+{
+    match asked {
+        Ok(_) => false,
+        Err(check) => check.ends_connection(),
+    }
+}
+
+fn asked<'a>(
+    routes: &Routes,
+    bytes: &'a [u8],
+    headers: &[HeaderSpan],
+    spans: &RequestSpans,
+) -> Result<Asked<'a>, Check>
+    requires { IsRequestWithin bytes.now headers.now spans.now }
+    ensures { asked_text result ≡ spec.asked (request_at bytes.now headers.now spans.now) }
+{
+    if lacks_host(bytes, headers, spans) {
+        return Err(Check::Host);
+    }
+    if has_body(bytes, headers, spans) {
+        return Err(Check::Body);
+    }
+    let Some(target) = target_text(spans.path.of(bytes)) else {
+        return Err(Check::Target);
+    };
+    let (path, query) = cut(target, '?');
+    let Some(route) = routes.route(path) else {
+        return Err(Check::NoResource);
+    };
+    if spans.method.of(bytes) != b"GET".as_slice() {
+        return Err(Check::Method);
+    }
+    asked_by(route, path, query)
+}
+
+/// What a GET of a path of this route asks for.
+fn asked_by<'a>(route: Route, path: &'a str, query: &'a str) -> Result<Asked<'a>, Check>
+    requires { option_map route_of (place_of path.now) ≡ Some route }
+    ensures { asked_text result ≡ asked_in (resource_of path.now) query.now }
+{
+    match resource_at(route, path) {
+        Some(resource) => Ok(Asked { resource, query }),
+        None => Err(Check::NoCollection),
+    }
+}
