@@ -1,0 +1,31 @@
+-- The lifespan and the geometry of a feature, by their names (OGC 17-069r4, 7.15.3 and 7.15.4: what bbox and datetime speak of; the names: own profile).
+use Rattle.std.specs.Prelude.{ℕ, List, codes, Option, Some, None, option_map}
+use Rattle.cad_day.specs.declared.interval.Interval.{Interval}
+use Rattle.cad_shape.specs.declared.shape.Shape.{Shape}
+use Rattle.cad_feature.specs.declared.collection.Collection.{Collection}
+use Rattle.cad_feature.specs.declared.property.PropertyKind.{PropertyKind}
+use Rattle.cad_feature.specs.Features.{Item}
+use Rattle.cad_feature.specs.Schema.{schema_of, find}
+use Rattle.cad_feature.specs.Values.{Datum, null}
+use Rattle.cql_truth.specs.Values.{datum_at, span_in, shape_in}
+use Rattle.cad_answer.specs.declared.places.Places.{Places}
+
+-- the place of the collection's property of that name
+abbrev pub place_named : Collection → List ℕ → Option ℕ
+place_named collection name = option_map (λ (found : ℕ × PropertyKind). found.0) (find (schema_of collection) name)
+
+abbrev pub places_of : Collection → Places
+places_of collection = record { lifespan = place_named collection (codes "lifespan"); geometry = place_named collection (codes "geometry") }
+
+-- the value at the place; where there is no place there is no value
+abbrev pub value_at : Option ℕ → Item → Datum
+value_at None x = null
+value_at (Some place) x = datum_at x place
+
+-- the days of the version
+abbrev pub lifespan_of : Places → Item → Option Interval
+lifespan_of places x = span_in (value_at places.lifespan x)
+
+-- its shape, where it has one
+abbrev pub geometry_of : Places → Item → Option Shape
+geometry_of places x = shape_in (value_at places.geometry x)

@@ -1,0 +1,67 @@
+//! Whether a feature answers a question.
+
+ghost use Rattle.std.specs.Prelude.{◌≡◌, IfOk, option_map};
+ghost use Rattle.cad_shape.specs.Shapes.{lent_shape};
+ghost use Rattle.cad_answer.specs.Answers as spec;
+ghost use Rattle.cad_answer.specs.Answers.{asked_of, is_true_of, if_asked, answers};
+ghost use Rattle.cql_truth.specs.Sides.{yes};
+
+use crate::places::Places;
+use crate::question::Question;
+use cad_day::{Interval, Relation, holds};
+use cad_feature::Feature;
+use cad_shape::{Bounds, ShapeRef};
+use cql_truth::{Truth, truth};
+use cql_types::Filter;
+use std::alloc::{AllocError, Global};
+
+fn meets_days(days: Option<Interval>, lifespan: Option<Interval>) -> bool
+    ensures { result ≡ if_asked (spec.meets_days lifespan) days }
+{
+    match (days, lifespan) {
+        (None, _) => true,
+        (Some(_), None) => false,
+        (Some(days), Some(lifespan)) => holds(Relation::Intersects, lifespan, days),
+    }
+}
+
+fn meets_bounds(bounds: Option<Bounds>, geometry: Option<ShapeRef>) -> bool
+    ensures { result ≡ if_asked (spec.meets_bounds (option_map lent_shape geometry.entry)) bounds }
+{
+    match (bounds, geometry) {
+        (None, _) => true,
+        (Some(_), None) => false,
+        (Some(bounds), Some(geometry)) => geometry.meets(ShapeRef::Frame(bounds)),
+    }
+}
+
+fn is_true(alloc: Global, filter: &Filter, feature: &Feature) -> Result<bool, AllocError>
+    ensures { IfOk result (λ is_true. is_true ≡ yes filter.now feature.now) }
+{
+    let truth = truth(alloc, filter, feature)?;
+    Ok(truth == Truth::Yes)
+}
+
+/// Whether the feature, with its lifespan and geometry at these places, answers the question.
+pub(crate) fn is_answer(
+    alloc: Global,
+    places: Places,
+    question: Question,
+    feature: &Feature,
+) -> Result<bool, AllocError>
+    ensures { IfOk result (λ is_answer. is_answer ≡ answers places (asked_of question.entry) feature.now) }
+{
+    if !meets_days(question.days, places.lifespan(feature)) {
+        return Ok(false);
+    }
+    if !meets_bounds(question.bounds, places.geometry(feature)) {
+        return Ok(false);
+    }
+    match question.filter {
+        None => Ok(true),
+        Some(filter) => {
+            let is_true = is_true(alloc, filter, feature)?;
+            Ok(is_true)
+        }
+    }
+}

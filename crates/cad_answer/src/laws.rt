@@ -1,0 +1,18 @@
+//! What holds of pages, whatever is asked. Each contract is a law; the functions do nothing.
+
+ghost use Rattle.cad_answer.specs.Laws.{PagesAscend, PagesAreFull, WalksAreWhole};
+
+/// The features of a page ascend by identifier, and come after the one that the page begins after.
+pub fn pages_ascend()
+    ensures { PagesAscend }
+{}
+
+/// A page has as many features as are wanted at most, and fewer only where none is left.
+pub fn pages_are_full()
+    ensures { PagesAreFull }
+{}
+
+/// The pages of a walk, each asked for after the last feature of the one before, are the whole answer when they are joined.
+pub fn walks_are_whole()
+    ensures { WalksAreWhole }
+{}
