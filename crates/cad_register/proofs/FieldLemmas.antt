@@ -1,5 +1,5 @@
 -- A row has its fields and no others.
-use Rattle.std.proofs.Common.{◌≡◌, ℕ, ℤ, pos, Bool, true, false, List, Option, Some, None, refl, sym, ap, ◌∙◌, option_map, arith}
+use Rattle.std.proofs.Common.{◌≡◌, ℕ, ℤ, pos, Bool, true, false, List, Option, Some, None, refl, sym, ap, subst, ◌∙◌, option_map, arith}
 use Rattle.sqlite_value.specs.declared.value.Value.{Value}
 use Rattle.sqlite_value.specs.declared.value.Value.TheVariants.{Null, Int, Text, Blob}
 use Rattle.sqlite_value.specs.Order.{Row}
@@ -14,8 +14,9 @@ use Rattle.cad_versions.specs.declared.share.Share.{Share}
 use Rattle.cad_versions.specs.Objects.{object_number}
 use Rattle.cad_versions.specs.Texts.{bytes_of}
 use Rattle.cad_versions.specs.Fractions.{num_of, den_of}
+use Rattle.cad_versions.specs.ShapeBytes.{IsShapeOf}
 use Rattle.cad_versions.specs.ShapeLemmas.{same_point}
-use Rattle.cad_versions.specs.SameLemmas.{same_object, same_day, same_share, same_words, same_shape}
+use Rattle.cad_versions.specs.SameLemmas.{same_object, same_day, same_share, same_words, one_shape}
 use Rattle.cad_register.specs.declared.fields.Fields.{Fields}
 use Rattle.cad_register.specs.Rows.{flag_number, x_of, y_of}
 use Rattle.cad_register.specs.Fields.{HasFields, HasShape}
@@ -95,7 +96,7 @@ shapes_same : (v : Value) (a b : Option Ring) → HasShape v a → HasShape v b 
 shapes_same v None None h k = refl
 shapes_same v None (Some ring) h k = absurd (blob_some k.0 (sym k.1 ∙ h))
 shapes_same v (Some ring) None h k = absurd (blob_some h.0 (sym h.1 ∙ k))
-shapes_same v (Some one) (Some other) h k = ap Some (same_shape one other (sym h.2 ∙ blob_same h.0 k.0 (sym h.1 ∙ k.1) ∙ k.2))
+shapes_same v (Some one) (Some other) h k = ap Some (one_shape k.0 one other (subst (λ bytes. IsShapeOf bytes one) (blob_same h.0 k.0 (sym h.1 ∙ k.1)) h.2) k.2)
 
 pub fields_same : (row : Row) (f g : Fields) → HasFields row f → HasFields row g → f ≡ g
 fields_same row f g h k =
