@@ -5,3 +5,4 @@ pub mod CommandLemmas
 pub mod OneValue
 pub mod OneCommand
 pub mod OrderLemmas
+pub mod SaidLemmas

@@ -1,8 +1,9 @@
 -- What holds of every text, beyond what a call says.
 use Rattle.std.specs.Prelude.{◌≡◌, ℕ, List, IsUtf8}
 use Rattle.cad_versions.specs.declared.command.Command.{Command}
-use Rattle.cad_commands.specs.Commands.{Says}
+use Rattle.cad_commands.specs.Commands.{Says, SaysCommand}
 use Rattle.cad_commands.specs.MemberOrder.{DifferInOrder}
+use Rattle.cad_commands.specs.Writing.{command_members}
 
 -- a text says at most one command
 abbrev pub TextSaysOneCommand : Type 0
@@ -11,3 +12,7 @@ TextSaysOneCommand = (text : List ℕ) (a b : Command) → Says text a → Says 
 -- a text whose members stand in another order says the same command
 abbrev pub MembersInAnyOrder : Type 0
 MembersInAnyOrder = (text other : List ℕ) → DifferInOrder text other → IsUtf8 other → (command : Command) → Says text command → Says other command
+
+-- the object with these members says the command, so each command is said by some object
+abbrev pub IsSaid : Command → Type 0
+IsSaid command = SaysCommand (command_members command) command

@@ -4,4 +4,5 @@ pub mod Values
 pub mod Bodies
 pub mod Commands
 pub mod MemberOrder
+pub mod Writing
 pub mod Laws

@@ -1,5 +1,5 @@
 -- A plain ledger stands for its commands, and for one more when that is applied.
-use Rattle.std.proofs.Common.{◌≡◌, ◌≢◌, ℕ, ◌+◌, List, [], ◌∷◌, ◌++◌, length, length-append, map, fold, Option, Some, None, Bool, true, false, refl, sym, ap, ◌∙◌, subst, arith, zero-add}
+use Rattle.std.proofs.Common.{◌≡◌, ◌≢◌, ◌+◌, List, [], ◌∷◌, ◌++◌, length, length-append, map, fold, Option, Some, None, Bool, true, false, sym, ap, ◌∙◌, zero-add}
 use Rattle.cad_day.specs.declared.day.Day.{Day}
 use Rattle.cad_versions.specs.declared.body.Body.{Body}
 use Rattle.cad_versions.specs.declared.body.Class.{Class}
@@ -11,7 +11,7 @@ use Rattle.cad_versions.specs.Command.{object_named, body_added}
 use Rattle.cad_versions.specs.VersionedObject.{VersionedObject}
 use Rattle.cad_versions.specs.Versions.{after, versions}
 use Rattle.cad_versions.specs.Refusals.{class_at, open_since, refuse_if, or_else, refuses_closing, refuses_object, refuses_body, refusal, AreAccepted}
-use Rattle.cad_versions.specs.Entries.{version_in, entries_after, entries_from, entries_of}
+use Rattle.cad_versions.specs.Entries.{version_in, entries_after, entries_of}
 use Rattle.cad_versions.specs.EntryLemmas.{versions_of_entries, entries_append}
 use Rattle.cad_plain.specs.declared.ledger.PlainLedger.{PlainLedger}
 use Rattle.cad_plain.specs.Ledgers.{IsLedgerOf}

@@ -1,6 +1,6 @@
 -- What a revision lists is a listing.
-use Rattle.std.proofs.Common.{◌≡◌, ℕ, suc, ◌+◌, ◌≤◌, ◌<◌, pos, Bool, true, false, cond, List, [], ◌∷◌, ◌++◌, length, map, filter, refl, sym, ap, ◌∙◌, subst, arith, get_or, drop, append_assoc, Ordering, is_gt, int_cmp, int_le, nat_cmp, is_lt, IsPermutation, IsSorted}
-use Rattle.std.specs.List.{All, AllByRecursion}
+use Rattle.std.proofs.Common.{◌≡◌, ℕ, suc, ◌+◌, ◌≤◌, ◌<◌, pos, Bool, true, false, cond, List, [], ◌∷◌, ◌++◌, length, map, filter, refl, sym, ap, ◌∙◌, subst, arith, get_or, drop, append_assoc, Ordering, is_gt, int_cmp, int_le, nat_cmp, IsPermutation, IsSorted}
+use Rattle.std.specs.List.{All}
 use Rattle.std.specs.List.Sorted.{IsSortedByKey}
 use Rattle.std.specs.Cmp.{IsTotalOrder}
 use Rattle.std.specs.Ordering.{ordering_then}
@@ -11,7 +11,6 @@ use Rattle.std.proofs.lemmas.List.{length-map}
 use Rattle.std.proofs.lemmas.List.Elements.{All-push}
 use Rattle.cad_versions.specs.Objects.{object_number}
 use Rattle.cad_versions.specs.VersionedObject.{VersionedObject, IsVersion}
-use Rattle.cad_versions.specs.Refusals.{most_versions}
 use Rattle.cad_versions.specs.Entries.{Entry, entries_at, seen_at}
 use Rattle.cad_versions.specs.Sorting.{insert_sorted, sort_by}
 use Rattle.cad_versions.specs.Identifiers.{by_identifier}

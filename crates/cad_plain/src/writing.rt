@@ -4,8 +4,7 @@ ghost use Rattle.std.specs.Prelude.{◌≡◌, ◌∷◌, [], ◌++◌, ◌<◌,
 ghost use Rattle.std.specs.List.{AllByRecursion};
 ghost use Rattle.cad_versions.specs.DayBefore.{day_before as before};
 ghost use Rattle.cad_versions.specs.Versions.{begun, history};
-ghost use Rattle.cad_versions.specs.Entries.{version_in, entered_at, close_entry};
-ghost use Rattle.cad_plain.specs.Plain.{ClosesInTime};
+ghost use Rattle.cad_versions.specs.Entries.{version_in, entered_at, close_entry, ClosesInTime};
 
 use crate::days::day_before;
 use crate::kept::KeptVersion;

@@ -1,5 +1,5 @@
 -- Each version came with a command.
-use Rattle.std.proofs.Common.{◌≡◌, ℕ, ◌+◌, ◌≤◌, ◌<◌, true, false, cond, List, [], ◌∷◌, length, map, fold, take, refl, ap, ◌∙◌, arith, is_gt, Ordering, length-append}
+use Rattle.std.proofs.Common.{◌≡◌, ℕ, ◌+◌, ◌≤◌, ◌<◌, Bool, true, false, cond, List, [], ◌∷◌, length, map, filter, fold, take, refl, ap, ◌∙◌, arith, is_gt, Ordering, length-append}
 use Rattle.std.proofs.lemmas.List.{length-map}
 use Rattle.std.proofs.lemmas.Bool.Decides.{nat_tests}
 use Rattle.cad_versions.specs.Sorting.{sort_by, insert_sorted}
@@ -33,7 +33,7 @@ length-insert_sorted : {A : Type 0} (cmp : A → A → Ordering) (x : A) (xs : L
 length-insert_sorted cmp x [] = refl
 length-insert_sorted cmp x (y ∷ ys) = elim (is_gt (cmp x y)) as (λ b. length (cond b (y ∷ insert_sorted cmp x ys) (x ∷ (y ∷ ys))) ≡ length (y ∷ ys) + 1) [ true ↦ omega (arith, length-insert_sorted cmp x ys) | false ↦ omega arith ]
 
-length-sort_by : {A : Type 0} (cmp : A → A → Ordering) (xs : List A) → length (sort_by cmp xs) ≡ length xs
+pub length-sort_by : {A : Type 0} (cmp : A → A → Ordering) (xs : List A) → length (sort_by cmp xs) ≡ length xs
 length-sort_by cmp [] = refl
 length-sort_by cmp (x ∷ xs) = omega (arith, length-insert_sorted cmp x (sort_by cmp xs), length-sort_by cmp xs)
 
@@ -45,6 +45,9 @@ take_all (x ∷ xs) = ap (λ l. x ∷ l) (take_all xs)
 pub counted : (cs : List Command) → length (as_of (length cs) cs) ≡ length (versions cs)
 counted cs = length-sort_by by_identifier (versions (take (length cs) cs)) ∙ ap (λ l. length (versions l)) (take_all cs)
 
+pub length-filter : {A : Type 0} (p : A → Bool) (xs : List A) → length (filter p xs) ≤ length xs
+length-filter p [] = omega arith
+length-filter p (x ∷ xs) = elim (p x) as (λ b. length (cond b (x ∷ filter p xs) (filter p xs)) ≤ length (x ∷ xs)) [ true ↦ omega (arith, length-filter p xs) | false ↦ omega (arith, length-filter p xs) ]
+
 pub history_few : (object : ObjectId) (vs : List VersionedObject) → length (history object vs) ≤ length vs
-history_few object [] = omega arith
-history_few object (v ∷ vs) = elim (is_of object v) as (λ b. length (cond b (v ∷ history object vs) (history object vs)) ≤ length (v ∷ vs)) [ true ↦ omega (arith, history_few object vs) | false ↦ omega (arith, history_few object vs) ]
+history_few object vs = length-filter (is_of object) vs

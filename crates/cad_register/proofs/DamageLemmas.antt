@@ -3,13 +3,10 @@ use Rattle.std.proofs.Common.{◌≡◌, ℕ, ◌+◌, ◌<◌, ◌≤◌, ℤ, 
 use Rattle.std.proofs.Math.Seq.{drop-cons}
 use Rattle.std.proofs.lemmas.List.{map-append}
 use Rattle.sqlite_value.specs.Order.{Row}
-use Rattle.cad_tables.specs.VersionRow.{cells_of}
 use Rattle.cad_versions.specs.VersionedObject.{VersionedObject}
 use Rattle.cad_versions.specs.Entries.{Entry, seen_at}
-use Rattle.cad_register.specs.Rows.{line_of}
-use Rattle.cad_register.specs.Kept.{IsRowOf, entry_of}
+use Rattle.cad_register.specs.Kept.{IsRowOf, AreRowsOf}
 use Rattle.cad_register.specs.Damage.{identifier_in, IsNext, AreSound, AreSeenAt, IsFirstDamaged}
-use Rattle.cad_register.specs.declared.kept.StoredVersion.{StoredVersion}
 use Rattle.cad_register.proofs.KeptLemmas.{entry_same}
 
 drop_row : (rows : List Row) (at : ℕ) (row : Row) → at < length rows → row ≡ get_or rows at row → drop at rows ≡ row ∷ drop (at + 1) rows
@@ -24,35 +21,48 @@ damaged_step id rows at row before h is next rest = subst (IsFirstDamaged id bef
 pub damaged_here : (rows : List Row) (at : ℕ) (row : Row) (before : Option (ℤ × ℤ)) → at < length rows → row ≡ get_or rows at row → (IsNext before at row → ⊥) → IsFirstDamaged (identifier_in row) before at (drop at rows)
 damaged_here rows at row before h is bad = subst (IsFirstDamaged (identifier_in row) before at) (sym (drop_row rows at row h is)) (inl (refl, bad))
 
-abbrev cells_in : Entry → Row
-cells_in e = cells_of (line_of e)
+take_all : {X : Type 0} (rows : List X) (n : ℕ) → length rows ≤ n → take n rows ≡ rows
+take_all [] zero h = refl
+take_all [] (suc n) h = refl
+take_all (r ∷ rows) zero h = absurd (omega arith)
+take_all (r ∷ rows) (suc n) h = ap (λ l. r ∷ l) (take_all rows n (omega arith))
 
--- the entry in a place, and the row there
+-- the entry in a place, for which the row there stands
 pub record At (entries : List Entry) (at : ℕ) (row : Row) : Type 0 where
   pub entry : Entry
   pub taken : take (at + 1) entries ≡ take at entries ++ entry ∷ []
-  pub here : get_or (map cells_in entries) at row ≡ cells_in entry
+  pub stands : IsRowOf row entry
 
-entry_at : (entries : List Entry) (at : ℕ) (row : Row) → at < length (map cells_in entries) → At entries at row
-entry_at [] at row h = absurd (omega arith)
-entry_at (e ∷ entries) zero row h = record { entry = e; taken = refl; here = refl }
-entry_at (e ∷ entries) (suc at) row h =
-    let rest = entry_at entries at row (omega arith) in
+entry_at : (rows : List Row) (entries : List Entry) (at : ℕ) (row : Row) → AreRowsOf rows entries → at < length rows → row ≡ get_or rows at row → At entries at row
+entry_at [] entries at row are h is = absurd (omega arith)
+entry_at (r ∷ rows) [] at row are h is = absurd are
+entry_at (r ∷ rows) (e ∷ entries) zero row are h is = record { entry = e; taken = refl; stands = subst (λ x. IsRowOf x e) (sym is) are.0 }
+entry_at (r ∷ rows) (e ∷ entries) (suc at) row are h is =
+    let rest = entry_at rows entries at row are.1 (omega arith) is in
     record {
       entry = rest.entry;
       taken = ap (λ n. take n (e ∷ entries)) (add-one (suc at)) ∙ ap (λ l. e ∷ l) (ap (λ n. take n entries) (sym (add-one at)) ∙ rest.taken);
-      here = rest.here;
+      stands = rest.stands;
     }
 
-pub seen_step : (revision : ℕ) (rows : List Row) (entries : List Entry) (at : ℕ) (row : Row) (e : Entry) (items : List VersionedObject) → rows ≡ map cells_in entries → at < length rows → row ≡ get_or rows at row → IsRowOf row e
+pub seen_step : (revision : ℕ) (rows : List Row) (entries : List Entry) (at : ℕ) (row : Row) (e : Entry) (items : List VersionedObject) → AreRowsOf rows entries → at < length rows → row ≡ get_or rows at row → IsRowOf row e
     → items ≡ map (seen_at revision) (take at entries) → items ++ seen_at revision e ∷ [] ≡ map (seen_at revision) (take (at + 1) entries)
-seen_step revision rows entries at row e items is h here shown so_far =
-    let found = entry_at entries at row (subst (λ l. at < length l) is h) in
-    let same = entry_same row e found.entry shown (here ∙ ap (λ l. get_or l at row) is ∙ found.here) in
+seen_step revision rows entries at row e items are h here shown so_far =
+    let found = entry_at rows entries at row are h here in
+    let same = entry_same row e found.entry shown found.stands in
     ap₂ (λ l x. l ++ seen_at revision x ∷ []) so_far same ∙ sym (ap (map (seen_at revision)) found.taken ∙ map-append (seen_at revision) (take at entries) (found.entry ∷ []))
 
+rows_long : (rows : List Row) (entries : List Entry) → AreRowsOf rows entries → length rows ≡ length entries
+rows_long [] [] are = refl
+rows_long [] (e ∷ entries) are = absurd are
+rows_long (r ∷ rows) [] are = absurd are
+rows_long (r ∷ rows) (e ∷ entries) are = omega (arith, rows_long rows entries are.1)
+
+pub seen_all : (revision : ℕ) (rows : List Row) (entries : List Entry) (n : ℕ) (items : List VersionedObject) → AreRowsOf rows entries → length rows ≤ n → items ≡ map (seen_at revision) (take n entries) → items ≡ map (seen_at revision) entries
+seen_all revision rows entries n items are h so_far = so_far ∙ ap (map (seen_at revision)) (take_all entries n (omega (arith, rows_long rows entries are)))
+
 -- one version more is what its row shows
-seen_push : (revision : ℕ) (rows : List Row) (vs : List VersionedObject) (row : Row) (v : VersionedObject) → AreSeenAt revision rows vs → ((kept : StoredVersion) × IsRowOf row (entry_of kept) × (v ≡ seen_at revision (entry_of kept))) → AreSeenAt revision (rows ++ row ∷ []) (vs ++ v ∷ [])
+seen_push : (revision : ℕ) (rows : List Row) (vs : List VersionedObject) (row : Row) (v : VersionedObject) → AreSeenAt revision rows vs → ((e : Entry) × IsRowOf row e × (v ≡ seen_at revision e)) → AreSeenAt revision (rows ++ row ∷ []) (vs ++ v ∷ [])
 seen_push revision [] [] row v so_far here = (here, tt)
 seen_push revision [] (w ∷ vs) row v so_far here = absurd so_far
 seen_push revision (r ∷ rows) [] row v so_far here = absurd so_far
@@ -63,15 +73,9 @@ take_row [] at row h is = absurd (omega arith)
 take_row (r ∷ rows) zero row h is = ap (λ x. x ∷ []) (sym is)
 take_row (r ∷ rows) (suc at) row h is = ap (λ n. take n (r ∷ rows)) (add-one (suc at)) ∙ ap (λ l. r ∷ l) (ap (λ n. take n rows) (sym (add-one at)) ∙ take_row rows at row (omega arith) is)
 
-pub shown_step : (revision : ℕ) (rows : List Row) (at : ℕ) (row : Row) (kept : StoredVersion) (v : VersionedObject) (vs : List VersionedObject) → at < length rows → row ≡ get_or rows at row → IsRowOf row (entry_of kept) → v ≡ seen_at revision (entry_of kept)
+pub shown_step : (revision : ℕ) (rows : List Row) (at : ℕ) (row : Row) (e : Entry) (v : VersionedObject) (vs : List VersionedObject) → at < length rows → row ≡ get_or rows at row → IsRowOf row e → v ≡ seen_at revision e
     → AreSeenAt revision (take at rows) vs → AreSeenAt revision (take (at + 1) rows) (vs ++ v ∷ [])
-shown_step revision rows at row kept v vs h here is seen so_far = subst (λ l. AreSeenAt revision l (vs ++ v ∷ [])) (sym (take_row rows at row h here)) (seen_push revision (take at rows) vs row v so_far (kept, is, seen))
-
-take_all : (rows : List Row) (n : ℕ) → length rows ≤ n → take n rows ≡ rows
-take_all [] zero h = refl
-take_all [] (suc n) h = refl
-take_all (r ∷ rows) zero h = absurd (omega arith)
-take_all (r ∷ rows) (suc n) h = ap (λ l. r ∷ l) (take_all rows n (omega arith))
+shown_step revision rows at row e v vs h here is seen so_far = subst (λ l. AreSeenAt revision l (vs ++ v ∷ [])) (sym (take_row rows at row h here)) (seen_push revision (take at rows) vs row v so_far (e, is, seen))
 
 pub shown_all : (revision : ℕ) (rows : List Row) (n : ℕ) (vs : List VersionedObject) → length rows ≤ n → AreSeenAt revision (take n rows) vs → AreSeenAt revision rows vs
 shown_all revision rows n vs h so_far = subst (λ l. AreSeenAt revision l vs) (take_all rows n h) so_far

@@ -1,8 +1,8 @@
 -- A row has its fields and no others.
-use Rattle.std.proofs.Common.{◌≡◌, ℕ, ℤ, pos, Bool, true, false, List, Option, Some, None, refl, sym, ap, ◌∙◌, option_map, arith}
+use Rattle.std.proofs.Common.{◌≡◌, ℕ, ℤ, pos, Bool, true, false, List, Option, Some, None, refl, sym, ap, subst, ◌∙◌, option_map, arith}
 use Rattle.sqlite_value.specs.declared.value.Value.{Value}
 use Rattle.sqlite_value.specs.declared.value.Value.TheVariants.{Null, Int, Text, Blob}
-use Rattle.sqlite_value.specs.Order.{Row, column}
+use Rattle.sqlite_value.specs.Order.{Row}
 use Rattle.sqlite_typed.specs.Columns.{or_null}
 use Rattle.cad_day.specs.declared.day.Day.{Day}
 use Rattle.cad_day.specs.Days.{number_of}
@@ -14,11 +14,12 @@ use Rattle.cad_versions.specs.declared.share.Share.{Share}
 use Rattle.cad_versions.specs.Objects.{object_number}
 use Rattle.cad_versions.specs.Texts.{bytes_of}
 use Rattle.cad_versions.specs.Fractions.{num_of, den_of}
+use Rattle.cad_versions.specs.ShapeBytes.{IsShapeOf}
 use Rattle.cad_versions.specs.ShapeLemmas.{same_point}
-use Rattle.cad_versions.specs.SameLemmas.{same_object, same_day, same_share, same_words, same_shape}
+use Rattle.cad_versions.specs.SameLemmas.{same_object, same_day, same_share, same_words, one_shape}
 use Rattle.cad_register.specs.declared.fields.Fields.{Fields}
-use Rattle.cad_register.specs.Rows.{flag_number, x_of, y_of, bytes_of_ring}
-use Rattle.cad_register.specs.Fields.{HasFields}
+use Rattle.cad_register.specs.Rows.{flag_number, x_of, y_of}
+use Rattle.cad_register.specs.Fields.{HasFields, HasShape}
 
 -- one cell is one value, or none
 or_null_same : {X T : Type 0} (cell : T → Value) (f : X → T) → ((x y : X) → cell (f x) ≡ cell (f y) → x ≡ y) → ((t : T) → ¬ (cell t ≡ Null)) → (a b : Option X) → or_null cell (option_map f a) ≡ or_null cell (option_map f b) → a ≡ b
@@ -42,8 +43,8 @@ number_some n e = cc
 words_cell : (v w : Words) → Text (bytes_of v) ≡ Text (bytes_of w) → v ≡ w
 words_cell v w e = same_words v w cc
 
-ring_cell : (v w : Ring) → Blob (bytes_of_ring v) ≡ Blob (bytes_of_ring w) → v ≡ w
-ring_cell v w e = same_shape v w cc
+blob_same : (m n : List ℕ) → Blob m ≡ Blob n → m ≡ n
+blob_same m n e = cc
 
 pub count_cell : (m n : ℕ) → Int (pos m) ≡ Int (pos n) → m ≡ n
 count_cell m n e = cc
@@ -90,50 +91,23 @@ spots_same None (Some q) e f = absurd (number_some (x_of q) (sym e))
 spots_same (Some p) None e f = absurd (number_some (x_of p) e)
 spots_same (Some p) (Some q) e f = ap Some (same_point p q (number_cell _ _ e) (number_cell _ _ f))
 
--- the row has these fields in its columns, however large they are
-pub record HasColumns (row : Row) (f : Fields) : Type 0 where
-  pub name : column row 7 ≡ or_null Text (option_map bytes_of f.name)
-  pub code : column row 8 ≡ or_null Text (option_map bytes_of f.code)
-  pub label : column row 9 ≡ or_null Text (option_map bytes_of f.label)
-  pub area : column row 10 ≡ or_null (λ n. Int (pos n)) f.area
-  pub unit : column row 11 ≡ or_null (λ n. Int (pos n)) (option_map object_number f.unit)
-  pub party : column row 12 ≡ or_null (λ n. Int (pos n)) (option_map object_number f.party)
-  pub num : column row 13 ≡ or_null (λ n. Int (pos n)) (option_map num_of f.share)
-  pub den : column row 14 ≡ or_null (λ n. Int (pos n)) (option_map den_of f.share)
-  pub required : column row 15 ≡ or_null (λ n. Int (pos n)) (option_map flag_number f.required)
-  pub x : column row 16 ≡ or_null Int (option_map x_of f.spot)
-  pub y : column row 17 ≡ or_null Int (option_map y_of f.spot)
-  pub shape : column row 18 ≡ or_null Blob (option_map bytes_of_ring f.shape)
+-- the bytes of a shape are of one shape, in whatever form
+shapes_same : (v : Value) (a b : Option Ring) → HasShape v a → HasShape v b → a ≡ b
+shapes_same v None None h k = refl
+shapes_same v None (Some ring) h k = absurd (blob_some k.0 (sym k.1 ∙ h))
+shapes_same v (Some ring) None h k = absurd (blob_some h.0 (sym h.1 ∙ k))
+shapes_same v (Some one) (Some other) h k = ap Some (one_shape k.0 one other (subst (λ bytes. IsShapeOf bytes one) (blob_same h.0 k.0 (sym h.1 ∙ k.1)) h.2) k.2)
 
-pub columns_of : (row : Row) (f : Fields) → HasFields row f → HasColumns row f
-columns_of row f h = record {
-  name = h.name;
-  code = h.code;
-  label = h.label;
-  area = h.area.0;
-  unit = h.unit;
-  party = h.party;
-  num = h.share.0;
-  den = h.share.1;
-  required = h.required;
-  x = h.spot.0;
-  y = h.spot.1;
-  shape = h.shape;
-}
-
-pub columns_same : (row : Row) (f g : Fields) → HasColumns row f → HasColumns row g → f ≡ g
-columns_same row f g h k =
+pub fields_same : (row : Row) (f g : Fields) → HasFields row f → HasFields row g → f ≡ g
+fields_same row f g h k =
     let name = words_same f.name g.name _ h.name k.name in
     let code = words_same f.code g.code _ h.code k.code in
     let label = words_same f.label g.label _ h.label k.label in
-    let area = counts_same f.area g.area _ h.area k.area in
+    let area = counts_same f.area g.area _ h.area.0 k.area.0 in
     let unit = objects_same f.unit g.unit _ h.unit k.unit in
     let party = objects_same f.party g.party _ h.party k.party in
-    let share = shares_same f.share g.share (sym h.num ∙ k.num) (sym h.den ∙ k.den) in
+    let share = shares_same f.share g.share (sym h.share.0 ∙ k.share.0) (sym h.share.1 ∙ k.share.1) in
     let required = or_null_same (λ n. Int (pos n)) flag_number flag_cell count_some f.required g.required (sym h.required ∙ k.required) in
-    let spot = spots_same f.spot g.spot (sym h.x ∙ k.x) (sym h.y ∙ k.y) in
-    let shape = or_null_same Blob bytes_of_ring ring_cell blob_some f.shape g.shape (sym h.shape ∙ k.shape) in
+    let spot = spots_same f.spot g.spot (sym h.spot.0 ∙ k.spot.0) (sym h.spot.1 ∙ k.spot.1) in
+    let shape = shapes_same _ f.shape g.shape h.shape k.shape in
     λ i. record { name = name i; code = code i; label = label i; area = area i; unit = unit i; party = party i; share = share i; required = required i; spot = spot i; shape = shape i }
-
-pub fields_same : (row : Row) (f g : Fields) → HasFields row f → HasFields row g → f ≡ g
-fields_same row f g h k = columns_same row f g (columns_of row f h) (columns_of row g k)

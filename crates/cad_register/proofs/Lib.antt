@@ -3,7 +3,9 @@ pub mod FieldLemmas
 pub mod KeptLemmas
 pub mod DamageLemmas
 pub mod ListedLemmas
+pub mod RowLemmas
 pub mod OrderLemmas
+pub mod SoundLemmas
 pub mod StandingLemmas
 pub mod StandLemmas
 pub mod CountLemmas
@@ -12,4 +14,5 @@ pub mod WriteLemmas
 pub mod SurvivingLemmas
 pub mod LeavingLemmas
 pub mod RefusingLemmas
+pub mod NamingLemmas
 pub mod OpeningLemmas

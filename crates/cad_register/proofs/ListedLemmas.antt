@@ -27,7 +27,7 @@ after_all : (before : Option (ℤ × ℤ)) (b c : ℤ × ℤ) → comes_after be
 after_all None b c p q = refl
 after_all (Some a) b c p q = before_all a b c p q
 
-row_identifier : (row : Row) (revision : ℕ) (e : Entry) → IsRowOf row e → identifier_of (seen_at revision e) ≡ identifier_in row
+pub row_identifier : (row : Row) (revision : ℕ) (e : Entry) → IsRowOf row e → identifier_of (seen_at revision e) ≡ identifier_in row
 row_identifier row revision e is = λ i. (sym (ap number_in is.object) i, sym (ap number_in is.number) i)
 
 -- ---- lists

@@ -29,7 +29,7 @@ of_register cause is = subst IsOfTheRegister (sym is) tt
 
 -- where neither table stands, they stand for nothing
 stands_free : (s : State) (cs : List Command) → StandsFor s cs → is_standing s.now.schema ≡ false → ⊥
-stands_free s cs stands free = true≢false (sym (ap is_standing stands.holds.schema ∙ register_stands) ∙ free)
+stands_free s cs stands free = true≢false (sym (ap is_standing stands.holds.holds.schema ∙ register_stands) ∙ free)
 
 module _ {S : Type 0} (g : Ghosts S) (lent : Held S) where
   -- the register is made

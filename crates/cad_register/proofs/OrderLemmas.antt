@@ -1,14 +1,13 @@
 -- The versions of an object rise by their numbers, so no two rows have one key.
-use Rattle.std.proofs.Common.{◌≡◌, ℕ, ◌+◌, ◌≤◌, ◌<◌, pos, Bool, true, false, cond, List, [], ◌∷◌, map, filter, refl, sym, ap, ◌∙◌, subst, arith, true≢false, is_eq, is_gt, Ordering, Less, Equal, Greater, int_cmp, int_eq}
+use Rattle.std.proofs.Common.{◌≡◌, ℕ, ◌+◌, ◌≤◌, ◌<◌, pos, Bool, true, false, cond, List, [], ◌∷◌, map, filter, refl, sym, ap, ◌∙◌, subst, arith, true≢false, is_eq, Ordering, Less, Equal, Greater, int_cmp, int_eq}
 use Rattle.std.specs.List.{AllByRecursion}
 use Rattle.std.specs.Ordering.{ordering_then}
 use Rattle.std.proofs.lemmas.Int.{ints}
 use Rattle.sqlite_trees.specs.Tree.{IsAscending}
 use Rattle.sqlite_keyed.specs.Lists.{sort_by, insert_sorted}
-use Rattle.sqlite_keyed.proofs.ListLemmas.{map-map, filter-map, all_kept, all_weaker, all-filter}
-use Rattle.sqlite_keyed.proofs.SortLemmas.{sort_by-map}
-use Rattle.cad_tables.specs.VersionRow.{VersionRow, cells_of}
-use Rattle.cad_tables.specs.Listing.{identifier_order, number_order, HaveNoTies, lines_at, listing, lines_of_object, history as known, outline_of}
+use Rattle.sqlite_keyed.proofs.ListLemmas.{filter-map, all_kept, all_weaker, all-filter}
+use Rattle.cad_tables.specs.VersionRow.{VersionRow}
+use Rattle.cad_tables.specs.Listing.{identifier_order, number_order, HaveNoTies, lines_at, lines_of_object, history as known, outline_of}
 use Rattle.cad_versions.specs.declared.object_id.ObjectId.{ObjectId}
 use Rattle.cad_versions.specs.declared.command.Command.{Command}
 use Rattle.cad_versions.specs.Objects.{object_number}
@@ -16,13 +15,12 @@ use Rattle.cad_versions.specs.VersionedObject.{VersionedObject}
 use Rattle.cad_versions.specs.Versions.{is_of, history, versions}
 use Rattle.cad_versions.specs.Histories.{IsHistory}
 use Rattle.cad_versions.specs.Entries.{Entry, version_in, entries_of, entries_at}
-use Rattle.cad_versions.specs.Sorting.{insert_sorted as insert_in_order, sort_by as in_order}
 use Rattle.cad_versions.specs.Identifiers.{by_identifier}
-use Rattle.cad_versions.specs.AsOf.{entry_order, entries_listed}
+use Rattle.cad_versions.specs.AsOf.{entry_order}
 use Rattle.cad_versions.specs.EntryLemmas.{versions_of_entries}
 use Rattle.cad_versions.specs.HistoryLemmas.{HasHistories}
-use Rattle.cad_register.specs.Rows.{line_of}
 use Rattle.cad_register.specs.Outlines.{outline}
+use Rattle.cad_register.proofs.RowLemmas.{IsLineOf, AreLinesOf, object_same, number_same, order_same, lines_filtered, lines_ascend, outlines_same}
 
 module _ {A B : Type 0} (R : B → B → Type 0) (f : A → B) where
   all_mapped : (P : B → Type 0) (xs : List A) → AllByRecursion (λ x. P (f x)) xs → AllByRecursion P (map f xs)
@@ -111,32 +109,23 @@ no_ties (v ∷ vs) up =
 
 -- ---- the rows of a revision
 
-abbrev lines_of : List Command → List VersionRow
-lines_of cs = map line_of (entries_of cs)
-
 rise : (cs : List Command) → HasHistories (versions cs) → Rise (map version_in (entries_of cs))
 rise cs all object = subst (λ vs. IsAscending Below (history object vs)) (sym (versions_of_entries cs)) (numbers_rise 1 (history object (versions cs)) (all object))
 
-pub listing_untied : (r : ℕ) (cs : List Command) → HasHistories (versions cs) → HaveNoTies identifier_order (lines_at r (lines_of cs))
-listing_untied r cs all =
-    ascending-filter (λ a b. is_eq (identifier_order a b) ≡ false) _ (lines_of cs)
-    (ascending-map (λ a b. is_eq (identifier_order a b) ≡ false) line_of (entries_of cs) (ascending_unmap (λ a b. is_eq (by_identifier a b) ≡ false) version_in (entries_of cs) (no_ties _ (rise cs all))))
+abbrev Apart : Entry → Entry → Type 0
+Apart a b = is_eq (entry_order a b) ≡ false
 
--- the database sorts as revisions do
-insert_same : {A : Type 0} (cmp : A → A → Ordering) (x : A) (xs : List A) → insert_sorted cmp x xs ≡ insert_in_order cmp x xs
-insert_same cmp x [] = refl
-insert_same cmp x (y ∷ ys) = ap (λ l. cond (is_gt (cmp x y)) (y ∷ l) (x ∷ (y ∷ ys))) (insert_same cmp x ys)
+all_untied : (cs : List Command) → HasHistories (versions cs) → IsAscending Apart (entries_of cs)
+all_untied cs all = ascending_unmap (λ a b. is_eq (by_identifier a b) ≡ false) version_in (entries_of cs) (no_ties _ (rise cs all))
 
-sorts_same : {A : Type 0} (cmp : A → A → Ordering) (xs : List A) → sort_by cmp xs ≡ in_order cmp xs
-sorts_same cmp [] = refl
-sorts_same cmp (x ∷ xs) = insert_same cmp x (sort_by cmp xs) ∙ ap (insert_in_order cmp x) (sorts_same cmp xs)
+-- no two of the entries of a revision have one identifier
+pub entries_untied : (r : ℕ) (cs : List Command) → HasHistories (versions cs) → IsAscending Apart (entries_at r (entries_of cs))
+entries_untied r cs all = ascending-filter Apart _ (entries_of cs) (all_untied cs all)
 
-pub listing_rows : (r : ℕ) (cs : List Command) → map cells_of (listing r (lines_of cs)) ≡ map (λ entry. cells_of (line_of entry)) (entries_listed r (entries_of cs))
-listing_rows r cs =
-    ap (λ ls. map cells_of (sort_by identifier_order ls)) (filter-map _ line_of (entries_of cs))
-    ∙ ap (map cells_of) (sort_by-map identifier_order line_of (entries_at r (entries_of cs)))
-    ∙ map-map cells_of line_of _
-    ∙ ap (map (λ entry. cells_of (line_of entry))) (sorts_same entry_order (entries_at r (entries_of cs)))
+pub listing_untied : (r : ℕ) (lines : List VersionRow) (cs : List Command) → AreLinesOf lines (entries_of cs) → HasHistories (versions cs) → HaveNoTies identifier_order (lines_at r lines)
+listing_untied r lines cs rows all =
+    ascending-filter (λ a b. is_eq (identifier_order a b) ≡ false) _ lines
+    (lines_ascend (λ a b. is_eq (identifier_order a b) ≡ false) Apart (λ l m e f h k apart. ap is_eq (order_same l m e f h k) ∙ apart) lines (entries_of cs) rows (all_untied cs all))
 
 -- ---- the rows of an object
 
@@ -155,22 +144,26 @@ versions_kept object cs = sym (filter-map (is_of object) version_in (entries_of 
 numbers_kept : (object : ObjectId) (cs : List Command) → HasHistories (versions cs) → IsAscending (λ (a b : Entry). a.version.number < b.version.number) (kept_of object (entries_of cs))
 numbers_kept object cs all = ascending_unmap Below version_in (kept_of object (entries_of cs)) (subst (IsAscending Below) (sym (versions_kept object cs)) (numbers_rise 1 (history object (versions cs)) (all object)))
 
-ascending_weaker : {A : Type 0} (R S : A → A → Type 0) → ((a b : A) → R a b → S a b) → (xs : List A) → IsAscending R xs → IsAscending S xs
-ascending_weaker R S f [] h = tt
-ascending_weaker R S f (x ∷ xs) h = (all_weaker (R x) (S x) (f x) xs h.0, ascending_weaker R S f xs h.1)
-
 cmp_not_equal : (m n : ℕ) → m < n → is_eq (int_cmp (pos m) (pos n)) ≡ false
 cmp_not_equal m n h = rw (cmp_less m n h) refl
 
-pub history_untied : (object : ObjectId) (cs : List Command) → HasHistories (versions cs) → HaveNoTies number_order (lines_of_object (object_number object) (lines_of cs))
-history_untied object cs all =
-    subst (HaveNoTies number_order) (sym (filter-map _ line_of (entries_of cs)))
-    (ascending-map (λ a b. is_eq (number_order a b) ≡ false) line_of (kept_of object (entries_of cs))
-    (ascending_weaker _ _ (λ a b h. cmp_not_equal a.version.number b.version.number h) (kept_of object (entries_of cs)) (numbers_kept object cs all)))
+-- the lines of an object are those of its versions
+own_lines : (object : ObjectId) (lines : List VersionRow) (cs : List Command) → AreLinesOf lines (entries_of cs) → AreLinesOf (lines_of_object (object_number object) lines) (kept_of object (entries_of cs))
+own_lines object lines cs rows = lines_filtered _ _ (λ l e h. ap (λ n. int_eq (pos n) (pos (object_number object))) (object_same l e h)) lines (entries_of cs) rows
 
-pub history_rows : (object : ObjectId) (cs : List Command) → HasHistories (versions cs) → map outline_of (known (object_number object) (lines_of cs)) ≡ map outline (history object (versions cs))
-history_rows object cs all =
-    ap (λ ls. map outline_of (sort_by number_order ls)) (filter-map _ line_of (entries_of cs))
-    ∙ ap (map outline_of) (sorted number_order _ (ascending-map (λ a b. number_order a b ≡ Less) line_of (kept_of object (entries_of cs))
-    (ascending_weaker _ _ (λ a b h. cmp_less a.version.number b.version.number h) (kept_of object (entries_of cs)) (numbers_kept object cs all))))
-    ∙ map-map outline_of line_of (kept_of object (entries_of cs)) ∙ sym (map-map outline version_in (kept_of object (entries_of cs))) ∙ ap (map outline) (versions_kept object cs)
+abbrev Lower : Entry → Entry → Type 0
+Lower a b = a.version.number < b.version.number
+
+rises : (l m : VersionRow) (e f : Entry) → IsLineOf l e → IsLineOf m f → Lower e f → l.number < m.number
+rises l m e f h k low = omega (arith, number_same l e h, number_same m f k, low)
+
+pub history_untied : (object : ObjectId) (lines : List VersionRow) (cs : List Command) → AreLinesOf lines (entries_of cs) → HasHistories (versions cs) → HaveNoTies number_order (lines_of_object (object_number object) lines)
+history_untied object lines cs rows all =
+    lines_ascend (λ a b. is_eq (number_order a b) ≡ false) Lower (λ l m e f h k low. cmp_not_equal l.number m.number (rises l m e f h k low))
+    (lines_of_object (object_number object) lines) (kept_of object (entries_of cs)) (own_lines object lines cs rows) (numbers_kept object cs all)
+
+pub history_rows : (object : ObjectId) (lines : List VersionRow) (cs : List Command) → AreLinesOf lines (entries_of cs) → HasHistories (versions cs) → map outline_of (known (object_number object) lines) ≡ map outline (history object (versions cs))
+history_rows object lines cs rows all =
+    let own = own_lines object lines cs rows in
+    let risen = lines_ascend (λ a b. number_order a b ≡ Less) Lower (λ l m e f h k low. cmp_less l.number m.number (rises l m e f h k low)) (lines_of_object (object_number object) lines) (kept_of object (entries_of cs)) own (numbers_kept object cs all) in
+    ap (map outline_of) (sorted number_order (lines_of_object (object_number object) lines) risen) ∙ outlines_same (lines_of_object (object_number object) lines) (kept_of object (entries_of cs)) own ∙ ap (map outline) (versions_kept object cs)

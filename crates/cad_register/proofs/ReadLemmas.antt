@@ -1,14 +1,15 @@
 -- Refusals of a part refuse the whole.
-use Rattle.std.proofs.Common.{◌≡◌, ℕ, List, Err, Option, Some, None, option_map}
+use Rattle.std.proofs.Common.{◌≡◌, ℕ, List, Err, Option, Some, None, option_map, sym, subst, ◌∙◌}
 use Rattle.sqlite_value.specs.declared.value.Value.{Value}
 use Rattle.sqlite_value.specs.declared.value.Value.TheVariants.{Text, Blob}
 use Rattle.sqlite_typed.specs.Columns.{or_null}
 use Rattle.cad_shape.specs.declared.ring.Ring.{Ring}
 use Rattle.cad_versions.specs.declared.words.Words.{Words}
 use Rattle.cad_versions.specs.Texts.{bytes_of}
+use Rattle.cad_versions.specs.ShapeBytes.{IsShapeOf}
 use Rattle.cad_register.specs.declared.columns.ReadFault.{ReadFault}
 use Rattle.cad_register.specs.declared.columns.ReadFault.TheVariants.{Damaged, Memory}
-use Rattle.cad_register.specs.Rows.{bytes_of_ring}
+use Rattle.cad_register.specs.Fields.{HasShape}
 use Rattle.cad_register.specs.Reading.{Reads}
 
 -- where no part fits, no whole does
@@ -20,6 +21,9 @@ pub no_words : (bytes : List ℕ) (v : Value) → Text bytes ≡ v → ((words :
 no_words bytes v is none None e = absurd cc
 no_words bytes v is none (Some words) e = none words cc
 
-pub no_ring : (bytes : List ℕ) (v : Value) → Blob bytes ≡ v → ((ring : Ring) → ¬ (bytes ≡ bytes_of_ring ring)) → (o : Option Ring) → ¬ (v ≡ or_null Blob (option_map bytes_of_ring o))
-no_ring bytes v is none None e = absurd cc
-no_ring bytes v is none (Some ring) e = none ring cc
+blob_same : (m n : List ℕ) → Blob m ≡ Blob n → m ≡ n
+blob_same m n e = cc
+
+pub no_shape : (bytes : List ℕ) (v : Value) → Blob bytes ≡ v → ((ring : Ring) → ¬ IsShapeOf bytes ring) → (o : Option Ring) → ¬ HasShape v o
+no_shape bytes v is none None e = absurd cc
+no_shape bytes v is none (Some ring) e = none ring (subst (λ t. IsShapeOf t ring) (sym (blob_same bytes e.0 (is ∙ e.1))) e.2)

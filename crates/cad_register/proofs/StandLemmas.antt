@@ -5,10 +5,8 @@ use Rattle.sqlite.specs.Effect.{IsDatabase}
 use Rattle.sqlite.specs.State.{State, IsUnchanged}
 use Rattle.sqlite.specs.Held.{Held, state}
 use Rattle.sqlite_trees.specs.declared.store.Store.{Ghosts}
-use Rattle.cad_tables.specs.Holding.{Holds}
 use Rattle.cad_tables.specs.Opening.{TellsRegister}
 use Rattle.cad_tables.specs.Steps.{KeepsAll}
-use Rattle.cad_tables.specs.VersionRow.{cells_of}
 use Rattle.cad_versions.specs.declared.fault.RegisterFault.{RegisterFault}
 use Rattle.cad_versions.specs.declared.fault.RegisterFault.TheVariants as fault
 use Rattle.cad_day.specs.declared.day.Day.{Day}
@@ -23,15 +21,16 @@ use Rattle.cad_versions.specs.AsOf.{as_of, entries_listed}
 use Rattle.cad_versions.specs.EntryLemmas.{listing_is}
 use Rattle.cad_versions.specs.declared.command.Command.{Command}
 use Rattle.cad_versions.specs.Entries.{Entry, entries_of, seen_at}
-use Rattle.cad_register.specs.Rows.{line_of}
+use Rattle.cad_register.specs.Kept.{AreRowsOf, HoldsEntries}
 use Rattle.cad_register.specs.Damage.{IsCauseIn}
-use Rattle.cad_register.specs.Stands.{StandsFor, IsStoreFault, IsListingFault, IsRefusal, rows_at}
+use Rattle.cad_register.specs.Stands.{StandsFor, IsStoreFault, IsRefusal}
 use Rattle.cad_register.specs.Registers.{IsRefused}
+use Rattle.cad_register.proofs.SoundLemmas.{listed_sound, sound_cause}
 
 pub stands_kept : (old new : State) (cs : List Command) → KeepsAll old new → IsTrue new.is_open → StandsFor old cs → StandsFor new cs
 stands_kept old new cs keeps still stands = record {
   accepted = stands.accepted;
-  holds = subst (Holds (length cs) (map line_of (entries_of cs))) (sym keeps.0) stands.holds;
+  holds = subst (HoldsEntries (length cs) (entries_of cs)) (sym keeps.0) stands.holds;
   sound = subst IsDatabase (sym keeps.0) stands.sound;
   settled = keeps.1 ∙ stands.settled ∙ sym keeps.0;
   live = still;
@@ -45,21 +44,12 @@ pub told_while_open : {S : Type 0} (g : Ghosts S) (old new : Held S) (revision :
 told_while_open g old new revision (inl lacking) = absurd (cc lacking.1)
 told_while_open g old new revision (inr told) = told.2.same.0.was_open
 
-listing_cause : (revision : ℕ) (cs : List Command) (f : RegisterFault) → IsCauseIn (rows_at revision cs) f → IsListingFault revision cs f
-listing_cause revision cs fault.Store h = tt
-listing_cause revision cs f h = h
-
-pub store_cause : (revision : ℕ) (cs : List Command) (f : RegisterFault) → IsStoreFault f → IsListingFault revision cs f
-store_cause revision cs fault.Store h = tt
-store_cause revision cs fault.Memory h = tt
-store_cause revision cs f h = absurd h
-
 -- what the rows of a revision show is the register at the revision
-pub listing_told : (revision : ℕ) (cs : List Command) (rows : List Row) (new : State) (r : Result (Vec VersionedObject Global) RegisterFault) → rows ≡ rows_at revision cs → StandsFor new cs
-    → IfOk r (λ vs. (entries : List Entry) → rows ≡ map (λ entry. cells_of (line_of entry)) entries → vs.items ≡ map (seen_at revision) entries) → IfErr r (IsCauseIn rows)
-    → MatchResult r (λ vs. (revision ≤ length cs → vs.items ≡ as_of revision cs) × StandsFor new cs) (λ f. IsListingFault revision cs f × (IsTrue new.is_open → StandsFor new cs))
-listing_told revision cs rows new (Ok vs) is stands seen cause = (λ h. seen (entries_listed revision (entries_of cs)) is ∙ listing_is revision cs h, stands)
-listing_told revision cs rows new (Err f) is stands seen cause = (listing_cause revision cs f (subst (λ l. IsCauseIn l f) is cause), λ _. stands)
+pub listing_told : (revision : ℕ) (cs : List Command) (rows : List Row) (new : State) (r : Result (Vec VersionedObject Global) RegisterFault) → AreRowsOf rows (entries_listed revision (entries_of cs)) → StandsFor new cs
+    → IfOk r (λ vs. (entries : List Entry) → AreRowsOf rows entries → vs.items ≡ map (seen_at revision) entries) → IfErr r (IsCauseIn rows)
+    → MatchResult r (λ vs. (revision ≤ length cs → vs.items ≡ as_of revision cs) × StandsFor new cs) (λ f. IsStoreFault f × (IsTrue new.is_open → StandsFor new cs))
+listing_told revision cs rows new (Ok vs) are stands seen cause = (λ h. seen (entries_listed revision (entries_of cs)) are ∙ listing_is revision cs h, stands)
+listing_told revision cs rows new (Err f) are stands seen cause = (sound_cause rows f (listed_sound revision cs rows stands.accepted are) cause, λ _. stands)
 
 -- causes that the fold never has: its own are others
 module _ (k : RegisterFault) where
@@ -97,7 +87,7 @@ pub object_answers_for_itself : (class : Option Class) (begun : Option Day) (c :
 object_answers_for_itself class begun c h = object_foreign fault.Store (λ e. cc) (λ day e. cc) (λ e. cc) (λ e. cc) (λ e. cc) class begun c h
 
 -- what decides never answers that there is no register
-pub refused_as : (cs : List Command) (c : Command) (f : RegisterFault) → IsRefusal (refusal (versions cs) c) cs f → IsRefused cs c f
+pub refused_as : (cs : List Command) (c : Command) (f : RegisterFault) → IsRefusal (refusal (versions cs) c) f → IsRefused cs c f
 refused_as cs c fault.NotARegister (inl h) = absurd (never_foreign (versions cs) c h)
 refused_as cs c fault.NotARegister (inr h) = absurd h
 refused_as cs c f h = h

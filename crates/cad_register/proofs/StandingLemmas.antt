@@ -1,5 +1,5 @@
 -- What the rows of an object tell of it.
-use Rattle.std.proofs.Common.{◌≡◌, ℕ, ◌+◌, ◌-◌, zero, suc, Bool, true, false, cond, ◌&&◌, List, [], ◌∷◌, length, map, find, slice_get, Option, Some, None, is_none, refl, sym, ap, ◌∙◌, subst, arith, option_map}
+use Rattle.std.proofs.Common.{◌≡◌, ℕ, ◌+◌, ◌-◌, zero, suc, Bool, true, false, cond, ◌&&◌, List, [], ◌∷◌, length, map, find, slice_get, Option, Some, None, is_none, refl, sym, ap, ◌∙◌, subst, arith, option_map, Result, Ok, Err, IfOk, IfErr, MatchResult, IsTrue}
 use Rattle.std.specs.List.{AllByRecursion}
 use Rattle.std.specs.Option.{option_and_then}
 use Rattle.std.proofs.lemmas.List.{length-map}
@@ -15,7 +15,17 @@ use Rattle.cad_versions.specs.Versions.{is_of, is_open_of, history}
 use Rattle.cad_versions.specs.Refusals.{class_at, open_since}
 use Rattle.cad_versions.specs.Histories.{EndsBefore, IsHistory}
 use Rattle.cad_versions.specs.HistoryLemmas.{find-filter, closed_is_not_open}
-use Rattle.cad_register.specs.Outlines.{outline, class_of_version, class_of_first, if_open, opened_last}
+use Rattle.sqlite.specs.State.{State}
+use Rattle.cad_versions.specs.declared.command.Command.{Command}
+use Rattle.cad_versions.specs.declared.fault.RegisterFault.{RegisterFault}
+use Rattle.cad_versions.specs.declared.fault.RegisterFault.TheVariants as fault
+use Rattle.cad_versions.specs.Versions.{versions}
+use Rattle.cad_register.specs.declared.columns.ReadFault.{ReadFault}
+use Rattle.cad_register.specs.declared.columns.ReadFault.TheVariants.{Damaged, Memory}
+use Rattle.cad_register.specs.declared.standing.ObjectState.{ObjectState}
+use Rattle.cad_register.specs.Naming.{IsBroken, IsFaultIn, fault_of_row}
+use Rattle.cad_register.specs.Stands.{StandsFor, IsStoreFault}
+use Rattle.cad_register.specs.Outlines.{outline, class_of_version, class_of_first, if_open, opened_last, IsStanding}
 use Rattle.cad_register.proofs.FieldLemmas.{day_cell}
 
 -- the version of a row
@@ -36,6 +46,17 @@ pub last_at : (rows : List Row) (vs : List VersionedObject) (row : Row) → rows
 last_at rows vs row is here =
     let long : length rows ≡ length vs = ap length is ∙ length-map vs outline in
     version_at rows vs (length vs - 1) row is (here ∙ ap (λ n. slice_get rows (n - 1)) long)
+
+-- a row that tells nothing is a fault in the rows
+pub fault_in : (object : ObjectId) (rows : List Row) (i : ℕ) (row : Row) (f : ReadFault) (why : RegisterFault) → why ≡ fault_of_row object row f → Some row ≡ slice_get rows i → (f ≡ Damaged → IsBroken row) → IsFaultIn object rows why
+fault_in object rows i row Damaged why is here bad = subst (IsFaultIn object rows) (sym is) (refl, record { place = i; row = row; stands = sym here; numbered = refl; broken = bad refl })
+fault_in object rows i row Memory why is here bad = subst (IsFaultIn object rows) (sym is) tt
+
+-- and there is none in the outlines of versions
+no_fault : (object : ObjectId) (rows : List Row) (vs : List VersionedObject) (why : RegisterFault) → rows ≡ map outline vs → IsFaultIn object rows why → IsStoreFault why
+no_fault object rows vs (fault.Damaged named number) is bad = let at = version_at rows vs bad.1.place bad.1.row is (sym bad.1.stands) in absurd (bad.1.broken at.version at.is)
+no_fault object rows vs fault.Memory is bad = tt
+no_fault object rows vs why is bad = absurd bad
 
 pub class_is : (vs : List VersionedObject) (row : Row) (class : Class) (at : At vs 0 row) → class ≡ class_of_version at.version → Some class ≡ class_of_first vs
 class_is vs row class at e = ap Some e ∙ sym (ap (option_map class_of_version) at.place)
@@ -94,3 +115,12 @@ opened object n (v ∷ (w ∷ xs)) h own = go v.last refl (opened object (n + 1)
 
 pub opened_stands : (vs : List VersionedObject) (object : ObjectId) → IsHistory 1 (history object vs) → opened_last (history object vs) ≡ open_since vs object
 opened_stands vs object h = opened object 1 (history object vs) h (all_own object vs) ∙ sym (ap (option_map first_of) (find-filter object vs))
+
+-- the outlines of a history tell what stands
+pub standing_told : (object : ObjectId) (cs : List Command) (rows : List Row) (new : State) (r : Result ObjectState RegisterFault) → IsHistory 1 (history object (versions cs)) → rows ≡ map outline (history object (versions cs)) → StandsFor new cs
+    → IfOk r (λ (s : ObjectState). (vs : List VersionedObject) → rows ≡ map outline vs → (s.class ≡ class_of_first vs) × (s.open_since ≡ opened_last vs) × (s.count ≡ length vs)) → IfErr r (IsFaultIn object rows)
+    → MatchResult r (λ s. IsStanding (versions cs) object s × StandsFor new cs) (λ f. IsStoreFault f × (IsTrue new.is_open → StandsFor new cs))
+standing_told object cs rows new (Ok s) h is stands known bad =
+    let told = known (history object (versions cs)) is in
+    (record { class = told.0 ∙ class_stands (versions cs) object; open_since = told.1 ∙ opened_stands (versions cs) object h; count = told.2 }, stands)
+standing_told object cs rows new (Err f) h is stands known bad = (no_fault object rows (history object (versions cs)) f is bad, λ _. stands)

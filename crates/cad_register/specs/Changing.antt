@@ -9,12 +9,18 @@ use Rattle.cad_versions.specs.Objects.{object_number}
 use Rattle.cad_versions.specs.VersionedObject.{VersionedObject}
 use Rattle.cad_versions.specs.Versions.{begun}
 use Rattle.cad_versions.specs.Entries.{entered_at}
-use Rattle.cad_tables.specs.VersionRow.{VersionRow}
+use Rattle.cad_tables.specs.VersionRow.{VersionRow, cells_of}
 use Rattle.cad_register.specs.Rows.{line_of}
+use Rattle.cad_register.specs.Kept.{IsRowOf}
 use Rattle.cad_register.specs.declared.writing.NewEntry.{NewEntry}
 
+-- the line of a new entry
+abbrev pub line_written : NewEntry → VersionRow
+line_written n = line_of (entered_at n.entered n.version)
+
+-- the new entry is of this version and this revision, and the row that is written stands for it
 abbrev pub IsNew : VersionedObject → ℕ → NewEntry → Type 0
-IsNew v revision entry = (entry.version ≡ v) × (entry.entered ≡ revision)
+IsNew v revision entry = (entry.version ≡ v) × (entry.entered ≡ revision) × IsRowOf (cells_of (line_written entry)) (entered_at revision v)
 
 -- the change writes what the command makes at this revision, where the new version of an object that stands has this number
 abbrev pub IsChangeOf : Command → ℕ → ℕ → Change NewEntry → Type 0
@@ -23,7 +29,3 @@ IsChangeOf (Amend object first body) number revision (change.Amend closing entry
     (closing.object ≡ object_number object) × (closing.last ≡ number_of first -ℤ pos 1) × IsNew (begun object number first body) revision entry
 IsChangeOf (Retire object last) number revision (change.Retire closing) = (closing.object ≡ object_number object) × (closing.last ≡ number_of last)
 IsChangeOf command number revision other = ⊥
-
--- the line of a new entry
-abbrev pub line_written : NewEntry → VersionRow
-line_written n = line_of (entered_at n.entered n.version)

@@ -7,13 +7,12 @@ use Rattle.sqlite_value.specs.Order.{Row, column}
 use Rattle.cad_versions.specs.Identifiers.{identifier_cmp}
 use Rattle.cad_versions.specs.declared.fault.RegisterFault.{RegisterFault}
 use Rattle.cad_versions.specs.declared.fault.RegisterFault.TheVariants as fault
-use Rattle.cad_register.specs.declared.kept.StoredVersion.{StoredVersion}
 use Rattle.cad_versions.specs.VersionedObject.{VersionedObject}
-use Rattle.cad_versions.specs.Entries.{seen_at}
+use Rattle.cad_versions.specs.Entries.{Entry, seen_at}
 use Rattle.sqlite.specs.State.{State, HasCleanDisk, Shown}
 use Rattle.cad_tables.specs.Texts.{listing_text}
 use Rattle.std.specs.Global.{Global}
-use Rattle.cad_register.specs.Kept.{IsRowOf, entry_of}
+use Rattle.cad_register.specs.Kept.{IsRowOf}
 
 abbrev pub number_in : Value → ℤ
 number_in (Int n) = n
@@ -30,9 +29,9 @@ abbrev pub comes_after : Option (ℤ × ℤ) → ℤ × ℤ → Bool
 comes_after None id = true
 comes_after (Some before) id = comes_before before id
 
--- a version can be made of the row, it comes after the row before it, and there are not too many before it
+-- the row stands for an entry, it comes after the row before it, and there are not too many before it
 pub record IsNext (before : Option (ℤ × ℤ)) (count : ℕ) (row : Row) : Type 0 where
-  pub shows : (kept : StoredVersion) × IsRowOf row (entry_of kept)
+  pub shows : (e : Entry) × IsRowOf row e
   pub later : comes_after before (identifier_in row) ≡ true
   pub room : count < 2147483647
 
@@ -58,7 +57,7 @@ damage_of row = fault.Damaged (number_in (column row 0)) (number_in (column row 
 -- each version is what its row shows at the revision
 abbrev pub AreSeenAt : ℕ → List Row → List VersionedObject → Type 0
 AreSeenAt revision [] [] = Unit {0}
-AreSeenAt revision (row ∷ rows) (v ∷ vs) = ((kept : StoredVersion) × IsRowOf row (entry_of kept) × (v ≡ seen_at revision (entry_of kept))) × AreSeenAt revision rows vs
+AreSeenAt revision (row ∷ rows) (v ∷ vs) = ((e : Entry) × IsRowOf row e × (v ≡ seen_at revision e)) × AreSeenAt revision rows vs
 AreSeenAt revision rows vs = ⊥
 
 -- the database shows these rows for the revision, by its own account

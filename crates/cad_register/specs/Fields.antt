@@ -1,16 +1,24 @@
 -- The columns that differ by class (own profile).
-use Rattle.std.specs.Prelude.{◌≡◌, ◌<◌, ◌^◌, pos, None, option_map}
+use Rattle.std.specs.Prelude.{◌≡◌, ◌<◌, ◌^◌, ℕ, List, pos, Option, Some, None, option_map}
 use Rattle.std.specs.Option.{ForSome}
-use Rattle.sqlite_value.specs.declared.value.Value.TheVariants.{Int, Text, Blob}
+use Rattle.sqlite_value.specs.declared.value.Value.{Value}
+use Rattle.sqlite_value.specs.declared.value.Value.TheVariants.{Null, Int, Text, Blob}
 use Rattle.sqlite_value.specs.Order.{Row, column}
 use Rattle.sqlite_typed.specs.Columns.{or_null}
+use Rattle.cad_shape.specs.declared.ring.Ring.{Ring}
 use Rattle.cad_versions.specs.declared.body.Body.{Body}
 use Rattle.cad_versions.specs.Objects.{object_number}
 use Rattle.cad_versions.specs.Texts.{bytes_of}
+use Rattle.cad_versions.specs.ShapeBytes.{IsShapeOf}
 use Rattle.cad_versions.specs.Fractions.{num_of, den_of}
 use Rattle.cad_versions.specs.BodyParts.{name_in, code_in, label_in, area_in, unit_named, party_named, share_in, required_in, spot_in, shape_in}
 use Rattle.cad_register.specs.declared.fields.Fields.{Fields}
-use Rattle.cad_register.specs.Rows.{flag_number, x_of, y_of, bytes_of_ring}
+use Rattle.cad_register.specs.Rows.{flag_number, x_of, y_of}
+
+-- NULL where there is no shape, else bytes that stand for it, in any form that shapes are stored in
+abbrev pub HasShape : Value → Option Ring → Type 0
+HasShape cell None = cell ≡ Null
+HasShape cell (Some ring) = (bytes : List ℕ) × (cell ≡ Blob bytes) × IsShapeOf bytes ring
 
 -- the row has these fields in its columns
 pub record HasFields (row : Row) (f : Fields) : Type 0 where
@@ -23,7 +31,7 @@ pub record HasFields (row : Row) (f : Fields) : Type 0 where
   pub share : (column row 13 ≡ or_null (λ n. Int (pos n)) (option_map num_of f.share)) × (column row 14 ≡ or_null (λ n. Int (pos n)) (option_map den_of f.share))
   pub required : column row 15 ≡ or_null (λ n. Int (pos n)) (option_map flag_number f.required)
   pub spot : (column row 16 ≡ or_null Int (option_map x_of f.spot)) × (column row 17 ≡ or_null Int (option_map y_of f.spot))
-  pub shape : column row 18 ≡ or_null Blob (option_map bytes_of_ring f.shape)
+  pub shape : HasShape (column row 18) f.shape
 
 abbrev pub fields_of : Body → Fields
 fields_of b = record {

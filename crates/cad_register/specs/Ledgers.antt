@@ -14,7 +14,7 @@ use Rattle.cad_versions.specs.Refusals.{refusal}
 use Rattle.cad_register.specs.declared.register.Register.{Register}
 use Rattle.cad_register.specs.Refusing.{IsNotForMemory, RefusesToApply}
 use Rattle.cad_register.specs.Registers.{connection_of, state_of}
-use Rattle.cad_register.specs.Stands.{IsListingFault}
+use Rattle.cad_register.specs.Stands.{IsStoreFault}
 
 -- the connection is open
 abbrev pub IsOpen : {S : Type 0} → Ghosts S → Register S → Type 0
@@ -23,7 +23,7 @@ IsOpen g register = IsTrue (state_of g register).is_open
 -- why a command is refused that the commands before it allow
 abbrev pub IsCut : List Command → Command → RegisterFault → Type 0
 IsCut commands command fault.NotARegister = (refusal (versions commands) command ≡ None) × (4294967294 ≤ length commands)
-IsCut commands command other = IsListingFault (length commands) commands other
+IsCut commands command other = IsStoreFault other
 
 -- what the database refuses of a command
 abbrev pub RefusesCommand : {S : Type 0} → Ghosts S → Register S → Register S → Command → ℕ → Type 0
@@ -34,30 +34,13 @@ abbrev pub RefusesListing : {S : Type 0} → Ghosts S → Register S → Registe
 RefusesListing g old new revision =
     (e : Error) × IsNotForMemory e × FailsToQuery listing_text (Int (pos revision) ∷ []) (state_of g old) (state_of g new) e
 
-pub listing_keeps : (revision : ℕ) (commands : List Command) (why : RegisterFault) → IsListingFault revision commands why → IsOfKeeping why
-listing_keeps revision commands fault.KnownObject h = absurd h
-listing_keeps revision commands fault.UnknownObject h = absurd h
-listing_keeps revision commands fault.OtherClass h = absurd h
-listing_keeps revision commands (fault.DayNotAfter day) h = absurd h
-listing_keeps revision commands fault.Retired h = absurd h
-listing_keeps revision commands fault.UnknownReference h = absurd h
-listing_keeps revision commands fault.Full h = absurd h
-listing_keeps revision commands (fault.Damaged object number) h = tt
-listing_keeps revision commands fault.NotARegister h = absurd h
-listing_keeps revision commands fault.Store h = tt
-listing_keeps revision commands fault.Memory h = tt
-listing_keeps revision commands fault.UnknownRevision h = absurd h
+pub store_keeps : (why : RegisterFault) → IsStoreFault why → IsOfKeeping why
+store_keeps fault.Store h = tt
+store_keeps fault.Memory h = tt
+store_keeps why h = absurd h
 
 pub cut_keeps : (commands : List Command) (command : Command) (why : RegisterFault) → IsCut commands command why → IsOfKeeping why
-cut_keeps commands command fault.KnownObject h = absurd h
-cut_keeps commands command fault.UnknownObject h = absurd h
-cut_keeps commands command fault.OtherClass h = absurd h
-cut_keeps commands command (fault.DayNotAfter day) h = absurd h
-cut_keeps commands command fault.Retired h = absurd h
-cut_keeps commands command fault.UnknownReference h = absurd h
-cut_keeps commands command fault.Full h = absurd h
-cut_keeps commands command (fault.Damaged object number) h = tt
 cut_keeps commands command fault.NotARegister h = tt
 cut_keeps commands command fault.Store h = tt
 cut_keeps commands command fault.Memory h = tt
-cut_keeps commands command fault.UnknownRevision h = absurd h
+cut_keeps commands command why h = absurd h

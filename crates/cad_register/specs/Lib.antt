@@ -9,7 +9,8 @@ pub mod Changing
 pub mod Refusing
 pub mod Surviving
 pub mod Leaving
+pub mod Naming
 pub mod Registers
 pub mod Opening
-pub mod Applying
 pub mod Ledgers
+pub mod Laws

@@ -32,7 +32,7 @@ pub record IsRegisterOf {S : Type 0} (g : Ghosts S) (register : Register S) (com
 abbrev pub IsStill : {S : Type 0} → Ghosts S → Register S → Register S → Type 0
 IsStill g old new = IsAsBefore (state_of g old) (state_of g new) × (revision_of new ≡ revision_of old)
 
--- why apply refuses a command: the cause of the fold, what a listing may fail for, or a revision beyond which none is stored, where the fold has no cause
+-- why apply refuses a command: the cause of the fold, a refusal by the database, or a revision beyond which none is stored, where the fold has no cause
 abbrev pub IsRefused : List Command → Command → RegisterFault → Type 0
 IsRefused commands command fault.NotARegister = (refusal (versions commands) command ≡ None) × (4294967294 ≤ length commands)
-IsRefused commands command other = IsRefusal (refusal (versions commands) command) commands other
+IsRefused commands command other = IsRefusal (refusal (versions commands) command) other

@@ -1,4 +1,4 @@
--- A version as a row of the table (own profile).
+-- A version as a row of the table, as it is written today (own profile).
 use Rattle.std.specs.Prelude.{Vec, ℕ, ℤ, Bool, true, false, List, option_map}
 use Rattle.std.specs.Global.{Global}
 use Rattle.cad_day.specs.Days.{number_of}
@@ -27,6 +27,7 @@ y_of point = point.y
 abbrev pub bytes_of_ring : Ring → List ℕ
 bytes_of_ring ring = shape_bytes (corners_of ring)
 
+-- the row that is written for an entry; rows of earlier forms may stand beside it
 abbrev pub line_of : Entry → VersionRow
 line_of entry = record {
   object = object_number entry.version.object;

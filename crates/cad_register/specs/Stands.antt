@@ -1,26 +1,21 @@
 -- The tables of a register.
-use Rattle.std.specs.Prelude.{◌≡◌, ℕ, List, length, map, [], IsTrue, Result, MatchResult, ◌⊎◌, ◌≤◌, ◌+◌, ◌++◌, ◌∷◌, Option, Some, None}
-use Rattle.sqlite_value.specs.Order.{Row}
-use Rattle.cad_tables.specs.VersionRow.{cells_of}
+use Rattle.std.specs.Prelude.{◌≡◌, ℕ, List, length, [], IsTrue, Result, MatchResult, ◌⊎◌, ◌≤◌, ◌+◌, ◌++◌, ◌∷◌, Option, Some, None}
 use Rattle.cad_versions.specs.declared.fault.RegisterFault.{RegisterFault}
 use Rattle.cad_versions.specs.declared.fault.RegisterFault.TheVariants as fault
-use Rattle.cad_versions.specs.AsOf.{entries_listed}
-use Rattle.cad_register.specs.Damage.{IsCauseIn}
 use Rattle.sqlite.specs.Effect.{IsDatabase}
 use Rattle.sqlite.specs.State.{State}
-use Rattle.cad_tables.specs.Holding.{Holds}
 use Rattle.cad_tables.specs.Steps.{KeepsAll}
 use Rattle.cad_versions.specs.declared.command.Command.{Command}
 use Rattle.cad_versions.specs.declared.command.Command.TheVariants.{Amend}
 use Rattle.cad_versions.specs.Versions.{history, versions}
 use Rattle.cad_versions.specs.Refusals.{refusal, AreAccepted}
 use Rattle.cad_versions.specs.Entries.{entries_of}
-use Rattle.cad_register.specs.Rows.{line_of}
+use Rattle.cad_register.specs.Kept.{HoldsEntries}
 
--- the tables stand for the commands: these were accepted one after the other, and their entries are stored and committed in a database whose catalog lists its tables and whose rows keep their constraints, as each open connection's does (own profile)
+-- the tables stand for the commands: these were accepted one after the other, and rows that stand for their entries are stored and committed in a database whose catalog lists its tables and whose rows keep their constraints, as each open connection's does (own profile)
 pub record StandsFor (s : State) (commands : List Command) : Type 0 where
   pub accepted : AreAccepted [] commands
-  pub holds : Holds (length commands) (map line_of (entries_of commands)) s.now
+  pub holds : HoldsEntries (length commands) (entries_of commands) s.now
   pub sound : IsDatabase s.now
   pub settled : s.committed ≡ s.now
   pub live : IsTrue s.is_open
@@ -49,18 +44,9 @@ IsReadingFault fault.Store = Unit {0}
 IsReadingFault fault.Memory = Unit {0}
 IsReadingFault other = ⊥
 
--- the rows that a revision lists
-abbrev pub rows_at : ℕ → List Command → List Row
-rows_at revision commands = map (λ entry. cells_of (line_of entry)) (entries_listed revision (entries_of commands))
-
--- the database refused, or the first row that breaks a rule is named
-abbrev pub IsListingFault : ℕ → List Command → RegisterFault → Type 0
-IsListingFault revision commands fault.Store = Unit {0}
-IsListingFault revision commands other = IsCauseIn (rows_at revision commands) other
-
--- why a command is refused: the cause of the fold, or what a listing may fail for
-abbrev pub IsRefusal : Option RegisterFault → List Command → RegisterFault → Type 0
-IsRefusal cause commands fault = (cause ≡ Some fault) ⊎ IsListingFault (length commands) commands fault
+-- why a command is refused: the cause of the fold, or the database refused; damage never comes to tables that stand for commands
+abbrev pub IsRefusal : Option RegisterFault → RegisterFault → Type 0
+IsRefusal cause fault = (cause ≡ Some fault) ⊎ IsStoreFault fault
 
 -- the next number of an object, for an amendment
 abbrev pub IsNumbered : List Command → Command → ℕ → Type 0

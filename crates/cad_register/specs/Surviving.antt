@@ -1,25 +1,24 @@
 -- What an open after a crash may find of a register (SQLite, Atomic Commit; own profile).
-use Rattle.std.specs.Prelude.{◌≡◌, ◌⊎◌, ℕ, ◌+◌, ◌<◌, List, [], ◌∷◌, ◌++◌, length, map, None}
+use Rattle.std.specs.Prelude.{◌≡◌, ◌⊎◌, ℕ, ◌+◌, ◌<◌, List, [], ◌∷◌, ◌++◌, length, None}
 use Rattle.sqlite_trees.specs.Tree.{Trees}
 use Rattle.sqlite.specs.Effect.{Database, IsDatabase}
 use Rattle.sqlite.specs.State.{State, Opens, IsLive}
 use Rattle.cad_tables.specs.Tables.{no_schema, register_schema}
-use Rattle.cad_tables.specs.Holding.{Holds}
 use Rattle.cad_tables.specs.Opening.{most_revision}
 use Rattle.cad_versions.specs.declared.command.Command.{Command}
 use Rattle.cad_versions.specs.Versions.{versions}
 use Rattle.cad_versions.specs.Refusals.{refusal, AreAccepted}
 use Rattle.cad_versions.specs.Entries.{entries_of}
-use Rattle.cad_register.specs.Rows.{line_of}
+use Rattle.cad_register.specs.Kept.{HoldsEntries}
 use Rattle.cad_register.specs.Stands.{StandsFor, IsNumbered}
 
 abbrev pub database_of : Trees → Database
 database_of trees = record { schema = register_schema; trees = trees }
 
--- the catalog on the disk lists the register's tables and the rows keep their constraints, and the trees hold what the commands made; these were accepted one after the other
+-- the catalog on the disk lists the register's tables and the rows keep their constraints, and the trees hold rows that stand for what the commands made; these were accepted one after the other
 pub record IsDiskOf (commands : List Command) (trees : Trees) : Type 0 where
   pub accepted : AreAccepted [] commands
-  pub holds : Holds (length commands) (map line_of (entries_of commands)) (database_of trees)
+  pub holds : HoldsEntries (length commands) (entries_of commands) (database_of trees)
   pub sound : IsDatabase (database_of trees)
 
 -- the connection is as an open gives it (SQLite, Opening A New Database Connection), over such a disk

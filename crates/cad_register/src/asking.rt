@@ -11,14 +11,14 @@ ghost use Rattle.cad_versions.specs.Versions.{versions};
 ghost use Rattle.cad_versions.specs.AsOf.{as_of};
 ghost use Rattle.cad_versions.specs.Listing.{IsListing};
 ghost use Rattle.cad_register.specs.Outlines.{IsStanding};
-ghost use Rattle.cad_register.specs.Stands.{Tells, IsStoreFault, IsListingFault, IsReadingFault};
+ghost use Rattle.cad_register.specs.Stands.{Tells, IsStoreFault, IsReadingFault};
 ghost use Rattle.cad_register.specs.Damage.{ReadsRows};
 ghost use Rattle.cad_register.specs.Leaving.{AsksOnly};
+ghost use Rattle.cad_register.specs.Naming.{NamesShown};
 ghost use Rattle.cad_register.specs.Refusing.{Asks, IsForObject, IsForLines, IsNotForMemory, register_fault_of};
 
-use crate::columns::ReadFault;
 use crate::listing::versions_at;
-use crate::standing::{ObjectState, damaged_number};
+use crate::standing::ObjectState;
 use cad_tables::TableFault;
 use cad_versions::{ObjectId, RegisterFault, Version};
 use sqlite::{Alter, Connection};
@@ -47,18 +47,12 @@ pub(crate) fn standing_of<S: Alter>(
         Asks S.Store connection.old connection.new (IsForObject object) result }
     ensures leaves { AsksOnly (state S.Store connection.old) (state S.Store connection.new) result }
     ensures known { IfErr result (λ fault. fault ≢ RegisterFault.UnknownRevision) }
+    ensures damaged { IfErr result
+        (NamesShown S.Store connection.old connection.new (IsForObject object)) }
 {
-    let rows = match cad_tables::history(connection, object.number()) {
-        Ok(rows) => rows,
-        Err(fault) => return Err(store_fault(fault)),
-    };
-    match ObjectState::read(&rows) {
-        Ok(standing) => Ok(standing),
-        Err(ReadFault::Memory) => Err(RegisterFault::Memory),
-        Err(ReadFault::Damaged) => Err(RegisterFault::Damaged(
-            i64::from(object.number()),
-            damaged_number(&rows),
-        )),
+    match cad_tables::history(connection, object.number()) {
+        Ok(rows) => ObjectState::read(object, &rows),
+        Err(fault) => Err(store_fault(fault)),
     }
 }
 
@@ -71,7 +65,7 @@ pub(crate) fn versions_of<S: Alter>(
     ensures told { HasCleanDisk (state S.Store connection.new) →
         Tells (state S.Store connection.old) (state S.Store connection.new) result
         (λ commands found. revision ≤ length commands → found.items ≡ as_of revision commands)
-        (λ commands fault. IsListingFault revision commands fault) }
+        (λ commands fault. IsStoreFault fault) }
     ensures listed { IfOk result (λ found. IsListing found.items) }
     ensures store { HasCleanDisk (state S.Store connection.new) → result ≡ Err RegisterFault.Store →
         (e : Error) × IsNotForMemory e ×

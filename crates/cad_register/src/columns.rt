@@ -2,7 +2,7 @@
 
 ghost use Rattle.std.specs.Prelude.{◌≡◌, ◌≢◌, ◌<◌, ◌+◌, ◌^◌, ◌↔◌, ℕ, pos, IsTrue, MatchResult};
 ghost use Rattle.std.specs.Option.{ForSome, option_map};
-ghost use Rattle.sqlite_value.specs.declared.value.Value.TheVariants.{Null, Int, Text, Blob};
+ghost use Rattle.sqlite_value.specs.declared.value.Value.TheVariants.{Null, Int, Text};
 ghost use Rattle.sqlite_value.specs.Order.{column};
 ghost use Rattle.sqlite_value.specs.Value.{owned};
 ghost use Rattle.sqlite_typed.specs.Columns.{or_null};
@@ -13,7 +13,8 @@ ghost use Rattle.cad_versions.specs.Texts.{bytes_of};
 ghost use Rattle.cad_versions.specs.Fractions.{num_of, den_of};
 ghost use Rattle.cad_register.specs.Damage.{number_in};
 ghost use Rattle.cad_register.specs.Reading.{Reads};
-ghost use Rattle.cad_register.specs.Rows.{bytes_of_ring, flag_number, x_of, y_of};
+ghost use Rattle.cad_register.specs.Fields.{HasShape};
+ghost use Rattle.cad_register.specs.Rows.{flag_number, x_of, y_of};
 
 use cad_day::Day;
 use cad_shape::{Point, Ring};
@@ -182,7 +183,7 @@ pub(crate) fn flag_at(row: &Row, at: usize) -> Result<Option<bool>, ReadFault>
 
 pub(crate) fn shape_at(alloc: Global, row: &Row, at: usize) -> Result<Option<Ring>, ReadFault>
     ensures { Reads result
-        (λ ring. column row.now at ≡ or_null Blob (option_map bytes_of_ring ring)) }
+        (λ ring. HasShape (column row.now at) ring) }
 {
     match cell(row, at) {
         ValueRef::Null => Ok(None),

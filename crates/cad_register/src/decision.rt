@@ -7,8 +7,9 @@ ghost use Rattle.cad_versions.specs.declared.command.Command.{Command as Command
 ghost use Rattle.cad_versions.specs.Command.{object_named};
 ghost use Rattle.cad_versions.specs.Versions.{history, versions};
 ghost use Rattle.cad_versions.specs.Refusals.{is_entered as entered, are_entered as all_entered, is_full as filled, refuses_body, refusal};
-ghost use Rattle.cad_register.specs.Stands.{Tells, IsStoreFault, IsListingFault, IsRefusal};
+ghost use Rattle.cad_register.specs.Stands.{Tells, IsStoreFault, IsRefusal};
 ghost use Rattle.cad_register.specs.Leaving.{AsksOnly};
+ghost use Rattle.cad_register.specs.Naming.{NamesShown};
 ghost use Rattle.cad_register.specs.Refusing.{Asks, IsForNamed, IsForBody, IsForRoom, IsForAddition, IsForCommand};
 
 use crate::asking::{standing_of, versions_of};
@@ -32,6 +33,7 @@ fn is_entered<S: Alter>(
         Asks S.Store connection.old connection.new (IsForNamed object) result }
     ensures leaves { AsksOnly (state S.Store connection.old) (state S.Store connection.new) result }
     ensures known { IfErr result (λ fault. fault ≢ RegisterFault.UnknownRevision) }
+    ensures damaged { IfErr result (NamesShown S.Store connection.old connection.new (IsForNamed object)) }
 {
     match object {
         None => Ok(true),
@@ -55,6 +57,7 @@ fn are_entered<S: Alter>(connection: &mut Connection<S>, body: &Body) -> Result<
         Asks S.Store connection.old connection.new (IsForBody body.now) result }
     ensures leaves { AsksOnly (state S.Store connection.old) (state S.Store connection.new) result }
     ensures known { IfErr result (λ fault. fault ≢ RegisterFault.UnknownRevision) }
+    ensures damaged { IfErr result (NamesShown S.Store connection.old connection.new (IsForBody body.now)) }
 {
     if is_entered(connection, Class::Unit, body.unit())? {
         let known = is_entered(connection, Class::Party, body.party())?;
@@ -73,11 +76,12 @@ fn is_full<S: Alter>(
     ensures told { HasCleanDisk (state S.Store connection.new) →
         Tells (state S.Store connection.old) (state S.Store connection.new) result (λ commands full.
         revision ≡ length commands → full ≡ filled (versions commands)) (λ commands fault.
-        revision ≡ length commands → IsListingFault (length commands) commands fault) }
+        IsStoreFault fault) }
     ensures asked { HasCleanDisk (state S.Store connection.new) →
         Asks S.Store connection.old connection.new (IsForRoom revision) result }
     ensures leaves { AsksOnly (state S.Store connection.old) (state S.Store connection.new) result }
     ensures known { IfErr result (λ fault. fault ≢ RegisterFault.UnknownRevision) }
+    ensures damaged { IfErr result (NamesShown S.Store connection.old connection.new (IsForRoom revision)) }
 {
     if revision < MOST_VERSIONS {
         return Ok(false);
@@ -97,11 +101,12 @@ fn check_addition<S: Alter>(
         Tells (state S.Store connection.old) (state S.Store connection.new) result (λ commands _.
         revision ≡ length commands → refuses_body (versions commands) (Some body.now) ≡ None)
         (λ commands fault. revision ≡ length commands →
-        IsRefusal (refuses_body (versions commands) (Some body.now)) commands fault) }
+        IsRefusal (refuses_body (versions commands) (Some body.now)) fault) }
     ensures asked { HasCleanDisk (state S.Store connection.new) →
         Asks S.Store connection.old connection.new (IsForAddition (Some body.now) revision) result }
     ensures leaves { AsksOnly (state S.Store connection.old) (state S.Store connection.new) result }
     ensures known { IfErr result (λ fault. fault ≢ RegisterFault.UnknownRevision) }
+    ensures damaged { IfErr result (NamesShown S.Store connection.old connection.new (IsForAddition (Some body.now) revision)) }
 {
     if !are_entered(connection, body)? {
         return Err(RegisterFault::UnknownReference);
@@ -125,11 +130,12 @@ pub(crate) fn decide<S: Alter>(
         (refusal (versions commands) command.now ≡ None) ×
         (count ≡ length (history (object_named command.now) (versions commands))))
         (λ commands fault. revision ≡ length commands →
-        IsRefusal (refusal (versions commands) command.now) commands fault) }
+        IsRefusal (refusal (versions commands) command.now) fault) }
     ensures asked { HasCleanDisk (state S.Store connection.new) →
         Asks S.Store connection.old connection.new (IsForCommand command.now revision) result }
     ensures leaves { AsksOnly (state S.Store connection.old) (state S.Store connection.new) result }
     ensures known { IfErr result (λ fault. fault ≢ RegisterFault.UnknownRevision) }
+    ensures damaged { IfErr result (NamesShown S.Store connection.old connection.new (IsForCommand command.now revision)) }
 {
     let standing = standing_of(connection, command.object())?;
     if let Some(fault) = command.refused_by_object(standing.class, standing.open_since) {

@@ -2,8 +2,8 @@
 
 ghost use Rattle.sqlite.specs.State.{HasCleanDisk};
 ghost use Rattle.cad_register.specs.Registers.{state_of, IsRegisterOf};
-ghost use Rattle.cad_register.specs.Stands.{IsListingFault};
-ghost use Rattle.cad_register.specs.Ledgers.{IsOpen, IsCut, RefusesCommand, RefusesListing, cut_keeps, listing_keeps};
+ghost use Rattle.cad_register.specs.Stands.{IsStoreFault};
+ghost use Rattle.cad_register.specs.Ledgers.{IsOpen, IsCut, RefusesCommand, RefusesListing, cut_keeps, store_keeps};
 
 use crate::register::Register;
 use cad_versions::{Command, Ledger, RegisterFault, Version};
@@ -18,7 +18,7 @@ impl<S: Alter> Ledger for Register<S> {
 
     ghost fails_to_apply = { IsCut };
 
-    ghost fails_to_list = { IsListingFault };
+    ghost fails_to_list = { λ _ _. IsStoreFault };
 
     ghost refuses_command = { RefusesCommand S.Store };
 
@@ -26,7 +26,7 @@ impl<S: Alter> Ledger for Register<S> {
 
     ghost apply_keeps = { cut_keeps };
 
-    ghost list_keeps = { listing_keeps };
+    ghost list_keeps = { λ _ _. store_keeps };
 
     fn revision(&self) -> u64 {
         Register::revision(self)

@@ -1,6 +1,7 @@
 //! The land register: versions in SQLite, and the register at any revision.
 //!
 //! - `Register`: made by `create`, `open` or `open_or_create` over a connection, changed by `apply`, read by `as_of`.
+//! - `laws`: what holds of every register, and of the rows that it is kept in.
 //! - The types of versions, commands and faults are those of `cad_versions`.
 #![tactic(auto)]
 
@@ -11,13 +12,12 @@ mod columns;
 mod decision;
 mod fields;
 mod kept;
+pub mod laws;
 mod ledger;
 mod listing;
 mod register;
 mod standing;
 mod writing;
 
-pub use cad_versions::{
-    Body, Class, Command, ObjectId, RegisterFault, Share, Version, Words, laws,
-};
+pub use cad_versions::{Body, Class, Command, ObjectId, RegisterFault, Share, Version, Words};
 pub use register::{Register, Revision};

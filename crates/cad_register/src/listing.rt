@@ -1,10 +1,8 @@
 //! The rows of a revision as versions.
 
 ghost use Rattle.std.specs.Prelude.{◌≡◌, ◌<◌, ◌↔◌, List, IsTrue, IfOk, IfErr, true, map};
-ghost use Rattle.cad_tables.specs.VersionRow.{cells_of};
 ghost use Rattle.cad_versions.specs.Entries.{Entry, seen_at};
-ghost use Rattle.cad_register.specs.Kept.{entry_of, IsRowOf};
-ghost use Rattle.cad_register.specs.Rows.{line_of};
+ghost use Rattle.cad_register.specs.Kept.{entry_of, IsRowOf, AreRowsOf};
 ghost use Rattle.cad_register.specs.Reading.{Reads};
 ghost use Rattle.cad_register.specs.Damage.{identifier_in, damage_of, comes_after as is_after, IsNext, AreSound, AreSeenAt, IsCauseIn};
 ghost use Rattle.cad_versions.specs.Listing.{IsListing};
@@ -68,8 +66,7 @@ pub(crate) fn versions_at(
     ensures sound { IfOk result (λ _. AreSound None 0 rows.now) }
     ensures shown { IfOk result (λ versions. AreSeenAt revision rows.now versions.items) }
     ensures listed { IfOk result (λ versions. IsListing versions.items) }
-    ensures seen { IfOk result (λ versions. (entries : List Entry) → rows.now ≡ map
-        (λ entry. cells_of (line_of entry)) entries →
+    ensures seen { IfOk result (λ versions. (entries : List Entry) → AreRowsOf rows.now entries →
         versions.items ≡ map (seen_at revision) entries) }
     ensures cause { IfErr result (IsCauseIn rows.now) }
 {

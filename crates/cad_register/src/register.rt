@@ -42,8 +42,9 @@ impl<S: Alter> Register<S> {
     ghost use Rattle.cad_register.specs.Damage.{ReadsRows};
     ghost use Rattle.cad_register.specs.Leaving.{IsAnswered, IsOfTheRegister};
     ghost use Rattle.cad_register.specs.Opening.{Created, Opened, OpenedOrCreated};
-    ghost use Rattle.cad_register.specs.Stands.{IsListingFault, IsReadingFault};
-    ghost use Rattle.cad_register.specs.Refusing.{IsNotForMemory, RefusesToApply};
+    ghost use Rattle.cad_register.specs.Stands.{IsStoreFault, IsReadingFault};
+    ghost use Rattle.cad_register.specs.Naming.{NamesShown};
+    ghost use Rattle.cad_register.specs.Refusing.{IsNotForMemory, RefusesToApply, IsForCommand};
     ghost use Rattle.cad_register.specs.Surviving.{Leaves, LeavesEither};
     ghost use Rattle.cad_register.specs.Registers.{connection_of, state_of, revision_of, IsRegisterOf, IsStill, IsRefused};
 
@@ -133,7 +134,7 @@ impl<S: Alter> Register<S> {
             result ≢ Err RegisterFault.UnknownRevision }
         ensures cause { HasCleanDisk (state_of S.Store self.new) → IfErr result (λ fault.
             (commands : List CommandOf) → IsRegisterOf S.Store self.old commands →
-            revision ≤ length commands → IsListingFault revision commands fault) }
+            revision ≤ length commands → IsStoreFault fault) }
         // Whatever the disk returns.
         ensures named { IfErr result (λ fault. fault ≢ RegisterFault.UnknownRevision →
             IsReadingFault fault) }
@@ -175,6 +176,9 @@ impl<S: Alter> Register<S> {
             IsRefused commands command fault) }
         // Whatever the disk returns.
         ensures named { result ≢ Err RegisterFault.UnknownRevision }
+        // Whatever the disk returns, a row that is named is one that was asked for, and breaks a rule.
+        ensures damaged { IfErr result
+            (NamesShown S.Store (connection_of self.old) (connection_of self.new) (IsForCommand command (revision_of self.old))) }
         // Refused by neither the database nor want of memory.
         ensures same { HasCleanDisk (state_of S.Store self.new) → IfErr result (λ fault.
             IsOfTheRegister fault → IsStill S.Store self.old self.new) }

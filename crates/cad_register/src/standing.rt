@@ -3,10 +3,11 @@
 ghost use Rattle.std.specs.Prelude.{◌≡◌, ◌≢◌, List, length, map, IfOk, IfErr};
 ghost use Rattle.cad_versions.specs.VersionedObject.{VersionedObject};
 ghost use Rattle.cad_register.specs.Outlines.{outline, class_of_version, class_of_first, if_open, opened_last};
+ghost use Rattle.cad_register.specs.Naming.{IsBroken, IsFaultIn, fault_of_row};
 
 use crate::columns::{ReadFault, class_at, day_at, is_null, number_or_zero};
 use cad_day::Day;
-use cad_versions::Class;
+use cad_versions::{Class, ObjectId, RegisterFault};
 use sqlite::Row;
 
 /// What stands of an object: its class, where it was entered, the first day of its open version, where one is open, and how many versions it has.
@@ -20,8 +21,7 @@ pub(crate) struct ObjectState {
 fn row_class(row: &Row) -> Result<Class, ReadFault>
     ensures known { IfOk result (λ class. (v : VersionedObject) → row.now ≡ outline v →
         class ≡ class_of_version v) }
-    ensures damaged { IfErr result (λ fault. fault ≡ ReadFault.Damaged → (v : VersionedObject) →
-        row.now ≢ outline v) }
+    ensures damaged { IfErr result (λ fault. fault ≡ ReadFault.Damaged → IsBroken row.now) }
 {
     class_at(row, 1)
 }
@@ -30,8 +30,7 @@ fn row_class(row: &Row) -> Result<Class, ReadFault>
 fn row_opened(row: &Row) -> Result<Option<Day>, ReadFault>
     ensures known { IfOk result (λ day. (v : VersionedObject) → row.now ≡ outline v →
         day ≡ if_open v) }
-    ensures damaged { IfErr result (λ fault. fault ≡ ReadFault.Damaged → (v : VersionedObject) →
-        row.now ≢ outline v) }
+    ensures damaged { IfErr result (λ fault. fault ≡ ReadFault.Damaged → IsBroken row.now) }
 {
     if is_null(row, 3) {
         let first = day_at(row, 2)?;
@@ -41,59 +40,60 @@ fn row_opened(row: &Row) -> Result<Option<Day>, ReadFault>
     }
 }
 
-fn first_class(rows: &[Row]) -> Result<Option<Class>, ReadFault>
-    ensures known { IfOk result (λ class. (vs : List VersionedObject) → rows.now ≡ map outline vs →
-        class ≡ class_of_first vs) }
-    ensures damaged { IfErr result (λ fault. fault ≡ ReadFault.Damaged →
-        (vs : List VersionedObject) → rows.now ≢ map outline vs) }
+/// Why this row of the object tells nothing.
+fn row_fault(object: ObjectId, row: &Row, fault: ReadFault) -> RegisterFault
+    ensures { result ≡ fault_of_row object row.now fault }
 {
-    match rows.first() {
-        None => Ok(None),
-        Some(row) => {
-            let class = row_class(row)?;
-            Ok(Some(class))
+    match fault {
+        ReadFault::Damaged => {
+            RegisterFault::Damaged(i64::from(object.number()), number_or_zero(row, 0))
         }
+        ReadFault::Memory => RegisterFault::Memory,
     }
 }
 
-fn last_opened(rows: &[Row]) -> Result<Option<Day>, ReadFault>
+fn first_class(object: ObjectId, rows: &[Row]) -> Result<Option<Class>, RegisterFault>
+    ensures known { IfOk result (λ class. (vs : List VersionedObject) → rows.now ≡ map outline vs →
+        class ≡ class_of_first vs) }
+    ensures damaged { IfErr result (IsFaultIn object rows.now) }
+{
+    match rows.first() {
+        None => Ok(None),
+        Some(row) => match row_class(row) {
+            Ok(class) => Ok(Some(class)),
+            Err(fault) => Err(row_fault(object, row, fault)),
+        },
+    }
+}
+
+fn last_opened(object: ObjectId, rows: &[Row]) -> Result<Option<Day>, RegisterFault>
     ensures known { IfOk result (λ day. (vs : List VersionedObject) → rows.now ≡ map outline vs →
         day ≡ opened_last vs) }
-    ensures damaged { IfErr result (λ fault. fault ≡ ReadFault.Damaged →
-        (vs : List VersionedObject) → rows.now ≢ map outline vs) }
+    ensures damaged { IfErr result (IsFaultIn object rows.now) }
 {
     match rows.last() {
         None => Ok(None),
-        Some(row) => {
-            let day = row_opened(row)?;
-            Ok(day)
-        }
+        Some(row) => match row_opened(row) {
+            Ok(day) => Ok(day),
+            Err(fault) => Err(row_fault(object, row, fault)),
+        },
     }
 }
 
 impl ObjectState {
-    /// What the rows of an object tell of it.
-    pub(crate) fn read(rows: &[Row]) -> Result<ObjectState, ReadFault>
+    /// What the rows of an object tell of it. The first or the last of them is named, where it tells nothing.
+    pub(crate) fn read(object: ObjectId, rows: &[Row]) -> Result<ObjectState, RegisterFault>
         ensures known { IfOk result (λ s. (vs : List VersionedObject) → rows.now ≡ map outline vs →
             (s.class ≡ class_of_first vs) × (s.open_since ≡ opened_last vs) ×
             (s.count ≡ length vs)) }
-        ensures damaged { IfErr result (λ fault. fault ≡ ReadFault.Damaged →
-            (vs : List VersionedObject) → rows.now ≢ map outline vs) }
+        ensures damaged { IfErr result (IsFaultIn object rows.now) }
     {
-        let class = first_class(rows)?;
-        let open_since = last_opened(rows)?;
+        let class = first_class(object, rows)?;
+        let open_since = last_opened(object, rows)?;
         Ok(ObjectState {
             class,
             open_since,
             count: rows.len(),
         })
-    }
-}
-
-/// The number of the first row of an object that does not tell what it is read for.
-pub(crate) fn damaged_number(rows: &[Row]) -> i64 {
-    match rows.first() {
-        Some(row) if row_class(row).is_err() => number_or_zero(row, 0),
-        _ => rows.last().map_or(0, |row| number_or_zero(row, 0)),
     }
 }

@@ -27,8 +27,11 @@ pub(crate) struct NewEntry {
 }
 
 impl NewEntry {
+    ghost use Rattle.std.specs.Prelude.{IfOk};
+    ghost use Rattle.cad_register.specs.Changing.{IsNew};
+
     pub(crate) fn new(alloc: Global, version: Version, entered: u32) -> Result<NewEntry, AllocError>
-        ensures { IfOk result (λ new. (new.version ≡ version) × (new.entered ≡ entered)) }
+        ensures { IfOk result (IsNew version entered) }
     {
         let shape = match version.body.shape() {
             Some(ring) => Some(write_shape(alloc, ring)?),

@@ -1,6 +1,7 @@
 -- The versions as they are kept: with the revision that entered each, and the one that closed it (own profile).
-use Rattle.std.specs.Prelude.{ℕ, ◌+◌, pos, int_le, nat_le, Bool, false, if◌then◌else◌, List, [], ◌∷◌, ◌++◌, map, filter, Option, Some, None}
+use Rattle.std.specs.Prelude.{ℕ, ◌≡◌, ◌+◌, ◌≤ℤ◌, pos, int_le, nat_le, Bool, true, false, if◌then◌else◌, List, [], ◌∷◌, ◌++◌, map, filter, Option, Some, None}
 use Rattle.cad_day.specs.declared.day.Day.{Day}
+use Rattle.cad_day.specs.Days.{number_of}
 use Rattle.cad_versions.specs.declared.object_id.ObjectId.{ObjectId}
 use Rattle.cad_versions.specs.declared.command.Command.{Command}
 use Rattle.cad_versions.specs.declared.command.Command.TheVariants.{Enter, Amend, Retire}
@@ -22,6 +23,10 @@ entered_at revision v = record { version = v; entered = revision; closed = None 
 abbrev pub close_entry : ObjectId → Day → ℕ → Entry → Entry
 close_entry object day revision entry =
     if is_open_of object entry.version then record { version = closed_on day entry.version; entered = entry.entered; closed = Some revision } else entry
+
+-- it may be closed on this day, if it is an open version of the object
+abbrev pub ClosesInTime : ObjectId → Day → Entry → Type 0
+ClosesInTime object day entry = is_open_of object (version_in entry) ≡ true → number_of entry.version.first ≤ℤ number_of day
 
 -- the entries after the command that makes this revision
 abbrev pub entries_after : ℕ → List Entry → Command → List Entry

@@ -1,7 +1,12 @@
 -- What holds of every object's versions (ISO 19152:2012, VersionedObject: lifespans of one object follow one another).
-use Rattle.std.specs.Prelude.{◌≡◌, ℕ, ◌+◌, pos, ◌-ℤ◌, ◌≤ℤ◌, List, [], ◌∷◌, Option, Some, None}
+use Rattle.std.specs.Prelude.{◌≡◌, ℕ, ◌+◌, pos, ◌-ℤ◌, ◌≤ℤ◌, if◌then◌else◌, List, [], ◌∷◌, Option, Some, None}
+use Rattle.std.specs.Ordering.{int_eq}
 use Rattle.cad_day.specs.declared.day.Day.{Day}
 use Rattle.cad_day.specs.Days.{number_of}
+use Rattle.cad_versions.specs.declared.object_id.ObjectId.{ObjectId}
+use Rattle.cad_versions.specs.declared.command.Command.{Command}
+use Rattle.cad_versions.specs.declared.command.Command.TheVariants.{Retire}
+use Rattle.cad_versions.specs.Objects.{object_number}
 use Rattle.cad_versions.specs.VersionedObject.{VersionedObject}
 
 -- open, or closed on its first day or later
@@ -19,3 +24,15 @@ abbrev pub IsHistory : ℕ → List VersionedObject → Type 0
 IsHistory number [] = Unit {0}
 IsHistory number (v ∷ []) = (v.number ≡ number) × IsForward v v.last
 IsHistory number (v ∷ (w ∷ vs)) = (v.number ≡ number) × IsForward v v.last × EndsBefore v.last w × IsHistory (number + 1) (w ∷ vs)
+
+-- the day on which the last of these versions ends, where it ends
+abbrev pub last_day : List VersionedObject → Option Day
+last_day [] = None
+last_day (v ∷ []) = v.last
+last_day (v ∷ (w ∷ vs)) = last_day (w ∷ vs)
+
+-- the day on which a command retires the object, where one does
+abbrev pub retired_on : ObjectId → List Command → Option Day
+retired_on object [] = None
+retired_on object (Retire other last ∷ cs) = if int_eq (pos (object_number other)) (pos (object_number object)) then Some last else retired_on object cs
+retired_on object (c ∷ cs) = retired_on object cs

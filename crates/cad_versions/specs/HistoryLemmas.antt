@@ -161,7 +161,7 @@ lt_fails a b h = grind (arith, ints)
 pub under : (m n d : ℤ) → m <ℤ n → d ≡ n -ℤ pos 1 → m ≤ℤ d
 under m n d h e = grind (arith, ints)
 
-is_of_own : (object : ObjectId) (v : VersionedObject) → v.object ≡ object → is_of object v ≡ true
+pub is_of_own : (object : ObjectId) (v : VersionedObject) → v.object ≡ object → is_of object v ≡ true
 is_of_own object v e = let same : object_number v.object ≡ object_number object = ap object_number e in grind (arith, ints)
 
 -- closing the open version of an object keeps its history, and what begins later may follow
@@ -196,10 +196,10 @@ own vs (Retire object last) e h =
     let forward = lt_fails (number_of last) (number_of v.first) a.timely in
     subst (IsHistory 1) (append-nil _ ∙ sym (history-closed object object last vs)) (history_closing object last vs [] v h a.found forward tt tt)
 
-other : (vs : List VersionedObject) (c : Command) (object : ObjectId) → int_eq (pos (object_number (object_named c))) (pos (object_number object)) ≡ false → history object (after vs c) ≡ history object vs
-other vs (Enter o first body) object e = history-push object vs _ false e ∙ append-nil _
-other vs (Amend o first body) object e = history-push object _ _ false e ∙ append-nil _ ∙ history-closed object o (day_before first) vs ∙ others_stay object o (day_before first) e vs
-other vs (Retire o last) object e = history-closed object o last vs ∙ others_stay object o last e vs
+pub other_history : (vs : List VersionedObject) (c : Command) (object : ObjectId) → int_eq (pos (object_number (object_named c))) (pos (object_number object)) ≡ false → history object (after vs c) ≡ history object vs
+other_history vs (Enter o first body) object e = history-push object vs _ false e ∙ append-nil _
+other_history vs (Amend o first body) object e = history-push object _ _ false e ∙ append-nil _ ∙ history-closed object o (day_before first) vs ∙ others_stay object o (day_before first) e vs
+other_history vs (Retire o last) object e = history-closed object o last vs ∙ others_stay object o last e vs
 
 abbrev pub HasHistories : List VersionedObject → Type 0
 HasHistories vs = (object : ObjectId) → IsHistory 1 (history object vs)
@@ -209,7 +209,7 @@ histories_then vs c e h object = go (int_eq (pos (object_number (object_named c)
   where
     go : (t : Bool) → int_eq (pos (object_number (object_named c))) (pos (object_number object)) ≡ t → IsHistory 1 (history object (after vs c))
     go true is = subst (IsHistory 1) (sym (history_same object (object_named c) (same_number object (object_named c) is) (after vs c))) (own vs c e (h (object_named c)))
-    go false is = subst (IsHistory 1) (sym (other vs c object is)) (h object)
+    go false is = subst (IsHistory 1) (sym (other_history vs c object is)) (h object)
 
 pub histories_from : (vs : List VersionedObject) (cs : List Command) → AreAccepted vs cs → HasHistories vs → HasHistories (fold after vs cs)
 histories_from vs [] all h = h

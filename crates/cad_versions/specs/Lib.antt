@@ -22,6 +22,7 @@ pub mod ShapeBytes
 pub mod BodyParts
 pub mod ListLemmas
 pub mod HistoryLemmas
+pub mod ClosingLemmas
 pub mod EntryLemmas
 pub mod OrderLemmas
 pub mod ShapeLemmas

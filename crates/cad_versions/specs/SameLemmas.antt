@@ -1,5 +1,5 @@
 -- Values of the same ordinary fields are one value, since their facts have one proof each.
-use Rattle.std.proofs.Common.{◌≡◌, ℕ, ◌≤◌, ℤ, false, ◌==◌, List, length, ap, ap₂, subst}
+use Rattle.std.proofs.Common.{◌≡◌, ℕ, ◌≤◌, ℤ, false, ◌==◌, List, length, sym, ap, ap₂, ◌∙◌, subst}
 use Rattle.std.specs.Coded.{le_prop, Coded-set, coded_bool}
 use Rattle.std.specs.List.{list_any}
 use Rattle.std.specs.Prelude.{IsUtf8}
@@ -15,7 +15,7 @@ use Rattle.cad_versions.specs.declared.share.Share.{Share}
 use Rattle.cad_versions.specs.Objects.{object_number}
 use Rattle.cad_versions.specs.Texts.{bytes_of}
 use Rattle.cad_versions.specs.Fractions.{num_of, den_of}
-use Rattle.cad_versions.specs.ShapeBytes.{shape_bytes}
+use Rattle.cad_versions.specs.ShapeBytes.{shape_bytes, IsShapeOf}
 use Rattle.cad_versions.specs.ShapeLemmas.{shapes_same}
 
 pub same_object : (a b : ObjectId) → object_number a ≡ object_number b → a ≡ b
@@ -51,3 +51,6 @@ same_words a b e =
 
 pub same_shape : (a b : Ring) → shape_bytes (corners_of a) ≡ shape_bytes (corners_of b) → a ≡ b
 same_shape a b e = same_ring a b (shapes_same (corners_of a) (corners_of b) a.not_too_many b.not_too_many e)
+
+pub one_shape : (bytes : List ℕ) (a b : Ring) → IsShapeOf bytes a → IsShapeOf bytes b → a ≡ b
+one_shape bytes a b stands also = same_shape a b (sym stands ∙ also)

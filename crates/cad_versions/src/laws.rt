@@ -1,10 +1,15 @@
 //! What holds of every register, whatever commands made it. Each contract is a law; the functions do nothing.
 
-ghost use Rattle.cad_versions.specs.Laws.{VersionsAreHistories, RevisionsStay, RevisionsAreSeen};
+ghost use Rattle.cad_versions.specs.Laws.{VersionsAreHistories, ObjectsEndWhenRetired, RevisionsStay, RevisionsAreSeen, BytesAreOfOneShape};
 
 /// Each object's versions are numbered 1, 2 and so on. Each but the last is closed on the very day before the next one begins.
 pub fn versions_are_histories()
     ensures { VersionsAreHistories }
+{}
+
+/// The last version of an object ends on the day on which a command retired the object, and is open where none did.
+pub fn objects_end_when_retired()
+    ensures { ObjectsEndWhenRetired }
 {}
 
 /// What a revision was stays the same, whatever commands come later.
@@ -15,4 +20,9 @@ pub fn revisions_stay()
 /// The entries up to a revision, with closings of later revisions left out, are the register at that revision.
 pub fn revisions_are_seen()
     ensures { RevisionsAreSeen }
+{}
+
+/// Bytes stand for one shape at most, whatever the form that the first of them names.
+pub fn bytes_are_of_one_shape()
+    ensures { BytesAreOfOneShape }
 {}

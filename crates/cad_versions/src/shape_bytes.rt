@@ -6,7 +6,7 @@ ghost use Rattle.cad_shape.specs.declared.point.Point.{Point as Corner};
 ghost use Rattle.cad_shape.specs.declared.ring.Ring.{Ring as RingOfCorners};
 ghost use Rattle.cad_shape.specs.Outlines.{IsRing};
 ghost use Rattle.cad_shape.specs.Rings.{corners_of};
-ghost use Rattle.cad_versions.specs.ShapeBytes.{coordinate_bytes, corner_bytes, corners_bytes, shape_bytes};
+ghost use Rattle.cad_versions.specs.ShapeBytes.{coordinate_bytes, corner_bytes, corners_bytes, shape_bytes, IsShapeOf};
 
 use cad_shape::{Point, Ring};
 use std::alloc::{AllocError, Global};
@@ -120,8 +120,7 @@ fn ring_through(corners: Vec<Point>) -> Option<Ring>
 /// The shape that is stored under these bytes; `Ok(None)` where none is.
 pub fn read_shape(alloc: Global, bytes: &[u8]) -> Result<Option<Ring>, AllocError>
     ensures { IfOk result (λ found. MatchOption found ((ring : RingOfCorners) →
-        bytes.now ≢ shape_bytes (corners_of ring))
-        (λ ring. bytes.now ≡ shape_bytes (corners_of ring))) }
+        ¬ IsShapeOf bytes.now ring) (λ ring. IsShapeOf bytes.now ring)) }
 {
     let Some((count, rest)) = counted_corners(bytes) else {
         return Ok(None);

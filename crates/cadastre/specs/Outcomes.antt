@@ -7,6 +7,10 @@ use Rattle.cad_http.specs.Faults.{serve_fault_number, serve_fault_name, desk_fau
 use Rattle.cad_office.specs.declared.fault.OfficeFault.{OfficeFault}
 use Rattle.cad_office.specs.declared.fault.OfficeFault.TheVariants as office
 use Rattle.cad_office.specs.OfficeFaults.{fault_number as office_fault_number, fault_name as office_fault_name}
+use Rattle.sqlite.specs.declared.error.Error.{Error}
+use Rattle.sqlite.specs.declared.error.Error.TheVariants.{SqliteFailure}
+use Rattle.sqlite.specs.declared.error.ErrorCode.TheVariants.{OutOfMemory}
+use Rattle.cad_versions.specs.declared.fault.RegisterFault.{RegisterFault}
 use Rattle.cad_versions.specs.declared.fault.RegisterFault.TheVariants as register
 use Rattle.cad_versions.specs.Fault.{fault_number as register_fault_number, fault_name as register_fault_name}
 use Rattle.cadastre.specs.declared.outcome.Outcome.{Outcome}
@@ -47,3 +51,8 @@ office_outcome_of (Err office.Read) = outcome.Office office.Read
 office_outcome_of (Err office.Write) = outcome.Office office.Write
 office_outcome_of (Err office.TurnsSpent) = outcome.Office office.TurnsSpent
 office_outcome_of (Err office.Register) = outcome.Register register.Store
+
+-- why the file of a register is not opened: want of memory, or the database (SQLite, Result and Error Codes, SQLITE_NOMEM)
+abbrev pub opening_fault : Error → RegisterFault
+opening_fault (SqliteFailure OutOfMemory) = register.Memory
+opening_fault other = register.Store

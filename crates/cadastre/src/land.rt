@@ -2,18 +2,22 @@
 
 ghost use Rattle.std.specs.Io.KnownBytes.{IsAtEnd};
 ghost use Rattle.cad_versions.specs.LedgerCalls.{Applies};
-ghost use Rattle.cadastre.specs.Entering.{EndsOffice};
+ghost use Rattle.std.specs.Prelude.{◌≡◌};
+ghost use Rattle.cadastre.specs.Entering.{EndsOffice, RunsOffice};
+ghost use Rattle.cadastre.specs.Outcomes.{opening_fault};
 
 use crate::outcome::Outcome;
 use cad_office::office;
 use cad_register::{Register, RegisterFault};
 use cad_versions::Ledger;
-use sqlite::{Connection, Error, ErrorCode};
+use sqlite::{Alter, Connection, Error, ErrorCode};
 use std::alloc::Global;
 use std::io::{Read, Write};
 
 /// Why a file is not opened.
-fn open_fault(error: Error) -> RegisterFault {
+fn open_fault(error: Error) -> RegisterFault
+    ensures { result ≡ opening_fault error }
+{
     match error {
         Error::SqliteFailure(ErrorCode::OutOfMemory) => RegisterFault::Memory,
         _ => RegisterFault::Store,
@@ -33,21 +37,39 @@ pub fn enter_commands<R: Read, W: Write, L: Ledger>(
     Outcome::of_office(office(alloc, reader, writer, ledger))
 }
 
+/// Enters the commands of the lines into the register of a database, which is made where none stands, and gives the connection back.
+pub fn run_office_over<S: Alter, R: Read, W: Write>(
+    alloc: Global,
+    connection: Connection<S>,
+    reader: &mut R,
+    writer: &mut W,
+) -> (Outcome, Connection<S>)
+    ensures { RunsOffice S.Store (R.remaining reader.old) (R.remaining reader.new)
+        (W.contents writer.old) (W.contents writer.new) (IsAtEnd (R.remaining reader.new)) connection result }
+{
+    match Register::open_or_create(alloc, connection) {
+        Ok(register) => {
+            let mut register = register;
+            let outcome = enter_commands(alloc, reader, writer, &mut register);
+            (outcome, register.release())
+        }
+        Err((fault, connection)) => (Outcome::Register(fault), connection),
+    }
+}
+
 /// Enters the commands of standard input into the register of a file, and prints the answers.
 pub fn run_office(rt: &HostRuntime, file: &str) -> Outcome {
     let connection = match Connection::open(rt, file) {
         Ok(connection) => connection,
         Err(error) => return Outcome::Register(open_fault(error)),
     };
-    let mut register = match Register::open_or_create(rt.alloc(), connection) {
-        Ok(register) => register,
-        Err((fault, connection)) => {
-            let _ = connection.close();
-            return Outcome::Register(fault);
-        }
-    };
-    let outcome = enter_commands(rt.alloc(), &mut rt.stdin(), &mut rt.stdout(), &mut register);
+    let (outcome, connection) = run_office_over(
+        rt.alloc(),
+        connection,
+        &mut rt.stdin(),
+        &mut rt.stdout(),
+    );
     // The log holds what was accepted where closing fails to copy it into the file.
-    let _ = register.release().close();
+    let _ = connection.close();
     outcome
 }

@@ -1,10 +1,12 @@
-use Rattle.std.proofs.Common.{refl, ◌∙◌, length, map, sym, ap}
+use Rattle.std.proofs.Common.{refl, ◌∙◌, length, sym, ap, subst}
 use Rattle.sqlite.specs.Held.{state}
 use Rattle.cad_versions.specs.Entries.{entries_of}
 use Rattle.cad_versions.specs.HistoryLemmas.{histories}
-use Rattle.cad_register.specs.Rows.{line_of}
-use Rattle.cad_register.proofs.OrderLemmas.{listing_untied, listing_rows}
-use Rattle.cad_register.proofs.StandLemmas.{stands_kept, stands_same, store_cause, listing_told}
+use Rattle.cad_versions.specs.AsOf.{entries_listed}
+use Rattle.cad_register.specs.Kept.{AreRowsOf}
+use Rattle.cad_register.proofs.OrderLemmas.{listing_untied}
+use Rattle.cad_register.proofs.RowLemmas.{rows_listed}
+use Rattle.cad_register.proofs.StandLemmas.{stands_kept, stands_same, listing_told}
 use Rattle.cad_tables.specs.Texts.{listing_text}
 use Rattle.cad_register.proofs.RefusingLemmas.{settled_here, not_for_memory}
 use Rattle.cad_tables.specs.Faults.{fault_of}
@@ -16,11 +18,12 @@ use Rattle.cad_register.proofs.asking.versions_of.Goals as goal
 pub returns-in-Ok-clause-told : goal.returns-in-Ok-clause-told
 returns-in-Ok-clause-told g c clean cs stands =
     let all = histories cs stands.accepted in
-    let lines = map line_of (entries_of cs) in
+    let lines = stands.holds.lines in
+    let stored = stands.holds.rows in
     let revision = c.args.revision in
-    let rows = c.in-Ok.ensures.rows clean (length cs) lines stands.holds (listing_untied revision cs all) ∙ listing_rows revision cs in
+    let shown = c.deref.ensures.value ∙ c.in-Ok.ensures.rows clean (length cs) lines stands.holds.holds (listing_untied revision lines cs stored all) in
     let new = state g.S.Store c.listing.new.conn in
-    listing_told revision cs c.deref.result.now new c.versions_at.result (c.deref.ensures.value ∙ rows)
+    listing_told revision cs c.deref.result.now new c.versions_at.result (subst (λ rows. AreRowsOf rows (entries_listed revision (entries_of cs))) (sym shown) (rows_listed revision lines (entries_of cs) stored))
     (stands_same (state g.S.Store c.args.connection.now) new cs (c.in-Ok.ensures.reads.same clean) stands) c.versions_at.ensures.seen c.versions_at.ensures.cause
 
 pub returns-in-Err-clause-asked : goal.returns-in-Err-clause-asked
@@ -38,7 +41,7 @@ returns-in-Err-clause-asked g c clean cs stands e =
 
 pub returns-in-Err-clause-told : goal.returns-in-Err-clause-told
 returns-in-Err-clause-told g c clean cs stands = (
-  store_cause c.args.revision cs c.store_fault.result c.store_fault.ensures.cause,
+  c.store_fault.ensures.cause,
   λ live. stands_kept (state g.S.Store c.args.connection.now) (state g.S.Store c.listing.new.conn) cs (c.in-Err.ensures.reads.kept clean live stands.settled) live stands,
 )
 

@@ -2,6 +2,7 @@ use Rattle.std.proofs.Common.{subst, inl, inr}
 use Rattle.std.proofs.lemmas.Result.{err_from_is_err_and}
 use Rattle.cad_register.specs.Refusing.{IsForNamed, IsForBody}
 use Rattle.cad_register.proofs.RefusingLemmas.{refuses_then, refuses_more}
+use Rattle.cad_register.proofs.NamingLemmas.{named_more, named_then, named_on}
 use Rattle.cad_register.proofs.decision.are_entered.Goals as goal
 
 pub returns-in_err-is_entered-clause-asked : goal.returns-in_err-is_entered-clause-asked
@@ -21,3 +22,15 @@ returns-in_err-known-clause-asked g c clean cs stands =
     let new = c.is_entered-then-branch.new.connection in
     rw (p.1, p.2)
     (λ e. refuses_more g.S.Store old new (IsForNamed c.party.result) (IsForBody c.args.body.now) (λ question h. inr (subst (λ o. IsForNamed o question) c.party.ensures h)) (refuses_then g.S.Store old later new (IsForNamed c.party.result) same (c.in_err-known.ensures.asked clean cs mid.1 e)))
+
+pub returns-in_err-known-clause-damaged : goal.returns-in_err-known-clause-damaged
+returns-in_err-known-clause-damaged g c =
+    let old = c.args.connection.now in
+    let later = c.is_entered.new.connection in
+    let new = c.is_entered-then-branch.new.connection in
+    let cause = c.in_err-known.field-0.0 in
+    let asked = IsForNamed c.party.result in
+    let known = IsForBody c.args.body.now in
+    named_on g.S.Store old new known cause c.from_residual-in_err-known.result c.from_residual-in_err-known.ensures.1
+    (named_more g.S.Store old new asked known (λ question h. inr (subst (λ o. IsForNamed o question) c.party.ensures h)) cause
+    (named_then g.S.Store old later new asked _ _ c.in_ok-is_entered.ensures.leaves c.in_err-known.ensures.leaves cause c.in_err-known.ensures.damaged))

@@ -1,7 +1,6 @@
 use Rattle.std.proofs.Common.{◌≡◌, ◌≤◌, ℤ, List, None, length, map, take, drop, vec_len}
-use Rattle.cad_tables.specs.VersionRow.{cells_of}
 use Rattle.cad_versions.specs.Entries.{Entry, seen_at}
-use Rattle.cad_register.specs.Rows.{line_of}
+use Rattle.cad_register.specs.Kept.{AreRowsOf}
 use Rattle.cad_register.specs.Damage.{AreSound, IsFirstDamaged, AreSeenAt}
 use Rattle.cad_register.proofs.ListedLemmas.{AreListed}
 use Rattle.cad_register.proofs.listing.versions_at.Given as goal
@@ -14,5 +13,5 @@ invariant-loop-row l = record {
   sound : AreSound l.before l.row-index (drop l.row-index l.rows) → AreSound None 0 l.rows;
   damaged : (id : ℤ × ℤ) → IsFirstDamaged id l.before l.row-index (drop l.row-index l.rows) → IsFirstDamaged id None 0 l.rows;
   shown : AreSeenAt l.revision (take l.row-index l.rows) l.versions.items;
-  seen : (entries : List Entry) → l.rows ≡ map (λ entry. cells_of (line_of entry)) entries → l.versions.items ≡ map (seen_at l.revision) (take l.row-index entries);
+  seen : (entries : List Entry) → AreRowsOf l.rows entries → l.versions.items ≡ map (seen_at l.revision) (take l.row-index entries);
 }

@@ -1,13 +1,10 @@
-use Rattle.std.proofs.lemmas.Result.{err_from_is_err_and}
-use Rattle.cad_register.proofs.StandingLemmas.{version_at, class_is}
+use Rattle.cad_register.proofs.StandingLemmas.{version_at, class_is, fault_in}
 use Rattle.cad_register.proofs.standing.first_class.Goals as goal
 
-pub returns-in_err-class-in-Some-clause-damaged : goal.returns-in_err-class-in-Some-clause-damaged
-returns-in_err-class-in-Some-clause-damaged c =
-    let p = err_from_is_err_and c.from_residual.result c.from_residual.ensures.1 in
-    rw (p.1, p.2) (λ bad vs is. let at = version_at c.args.rows.now vs 0 c.in-Some.row.now is c.in-Some.ensures.value in c.in_err-class-in-Some.ensures.damaged bad at.version at.is)
+pub returns-in-Err-clause-damaged : goal.returns-in-Err-clause-damaged
+returns-in-Err-clause-damaged c = fault_in c.args.object c.args.rows.now 0 c.in-Some.row.now c.in-Err.fault c.row_fault.result c.row_fault.ensures c.in-Some.ensures.value c.in-Err.ensures.damaged
 
-pub returns-in_ok-class-in-Some-clause-known : goal.returns-in_ok-class-in-Some-clause-known
-returns-in_ok-class-in-Some-clause-known c vs is =
+pub returns-in-Ok-clause-known : goal.returns-in-Ok-clause-known
+returns-in-Ok-clause-known c vs is =
     let at = version_at c.args.rows.now vs 0 c.in-Some.row.now is c.in-Some.ensures.value in
-    class_is vs c.in-Some.row.now c.in_ok-class-in-Some.class at (c.in_ok-class-in-Some.ensures.known at.version at.is)
+    class_is vs c.in-Some.row.now c.in-Ok.class at (c.in-Ok.ensures.known at.version at.is)

@@ -5,7 +5,7 @@ use Rattle.cad_shape.specs.declared.point.Point.{Point}
 use Rattle.cad_shape.specs.declared.ring.Ring.{Ring}
 use Rattle.cad_shape.specs.Outlines.{IsRing}
 use Rattle.cad_shape.specs.Rings.{corners_of, ring_is}
-use Rattle.cad_versions.specs.ShapeBytes.{corners_bytes, shape_bytes}
+use Rattle.cad_versions.specs.ShapeBytes.{corners_bytes, shape_bytes, IsShapeOf}
 use Rattle.cad_versions.specs.ShapeLemmas.{shape_parts, corners_same}
 use Rattle.cad_versions.proofs.shape_bytes.read_shape.Goals as goal
 
@@ -19,7 +19,7 @@ returns-then-as_slice-count c ring e =
 
 -- a list of corners of the stored count is a ring, or no ring is stored
 read : (found : Option Ring) (corners : List Point) (bytes rest : List ℕ) (count : ℕ) → bytes ≡ 1 ∷ (to_be_bytes w16 count ++ rest) → count < 2 ^ 16 → rest ≡ corners_bytes corners → length corners ≡ count
-    → MatchOption found (¬ (IsRing corners)) (λ ring. corners_of ring ≡ corners) → MatchOption found ((ring : Ring) → bytes ≢ shape_bytes (corners_of ring)) (λ ring. bytes ≡ shape_bytes (corners_of ring))
+    → MatchOption found (¬ (IsRing corners)) (λ ring. corners_of ring ≡ corners) → MatchOption found ((ring : Ring) → ¬ IsShapeOf bytes ring) (λ ring. IsShapeOf bytes ring)
 read (Some ring) corners bytes rest count e small held counted h =
     e ∙ ap₂ (λ n xs. 1 ∷ (to_be_bytes w16 n ++ xs)) (sym counted ∙ ap length (sym h)) (held ∙ ap corners_bytes (sym h))
 read None corners bytes rest count e small held counted h = λ ring f.

@@ -1,4 +1,4 @@
-use Rattle.std.proofs.Common.{◌≡◌, ◌≤◌, ◌∙◌, ap, map, arith, length}
+use Rattle.std.proofs.Common.{◌≤◌, ◌∙◌, ap, map, arith, length}
 use Rattle.cad_versions.specs.Entries.{entries_at, seen_at}
 use Rattle.cad_versions.specs.Sorting.{sort_by}
 use Rattle.cad_versions.specs.Identifiers.{by_identifier}

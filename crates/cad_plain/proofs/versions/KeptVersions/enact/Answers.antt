@@ -1,8 +1,7 @@
-use Rattle.std.proofs.Common.{◌≡◌, map, None, refl}
+use Rattle.std.proofs.Common.{refl}
 use Rattle.cad_versions.specs.declared.command.Command.TheVariants.{Enter, Amend, Retire}
-use Rattle.cad_versions.specs.Refusals.{refusal}
-use Rattle.cad_versions.specs.Entries.{version_in}
-use Rattle.cad_plain.proofs.PlainLemmas.{allowed, entry_room, histories_after, amends_in_time, retires_in_time}
+use Rattle.cad_versions.specs.ClosingLemmas.{entry_room, amends_in_time, retires_in_time}
+use Rattle.cad_plain.proofs.PlainLemmas.{allowed, histories_after}
 use Rattle.cad_plain.proofs.versions.KeptVersions.enact.Goals as goal
 
 pub invariant_of-self : goal.invariant_of-self
@@ -19,7 +18,7 @@ amend-requires-clause-few c =
 pub amend-requires-clause-timely : goal.amend-requires-clause-timely
 amend-requires-clause-timely c =
     let command = Amend c.in-Amend.object c.in-Amend.first c.in-Amend.body in
-    amends_in_time c.self.inside.kept.items c.in-Amend.object c.in-Amend.first c.in-Amend.body c.self.invariant (allowed c.self.inside.kept.items c.args.self.now c.args.command command c.self.view_is c.in-Amend.is c.requires)
+    amends_in_time c.self.inside.kept.items c.in-Amend.object c.in-Amend.first c.in-Amend.body c.self.invariant.histories (allowed c.self.inside.kept.items c.args.self.now c.args.command command c.self.view_is c.in-Amend.is c.requires)
 
 pub invariant_of-self-in-Continue-branch-2 : goal.invariant_of-self-in-Continue-branch-2
 invariant_of-self-in-Continue-branch-2 c =
@@ -29,7 +28,7 @@ invariant_of-self-in-Continue-branch-2 c =
 
 pub retire-requires : goal.retire-requires
 retire-requires c =
-    retires_in_time c.self.inside.kept.items c.in-Retire.object c.in-Retire.last c.self.invariant (allowed c.self.inside.kept.items c.args.self.now c.args.command (Retire c.in-Retire.object c.in-Retire.last) c.self.view_is c.in-Retire.is c.requires)
+    retires_in_time c.self.inside.kept.items c.in-Retire.object c.in-Retire.last c.self.invariant.histories (allowed c.self.inside.kept.items c.args.self.now c.args.command (Retire c.in-Retire.object c.in-Retire.last) c.self.view_is c.in-Retire.is c.requires)
 
 pub invariant_of-self-in-Retire : goal.invariant_of-self-in-Retire
 invariant_of-self-in-Retire c =

@@ -2,6 +2,7 @@ use Rattle.std.proofs.Common.{ap, Ok, refl, arith}
 use Rattle.sqlite.specs.State.{HasCleanDisk}
 use Rattle.sqlite.specs.Held.{state}
 use Rattle.cad_register.proofs.SurvivingLemmas.{leaves_made}
+use Rattle.cad_register.proofs.WriteLemmas.{no_entries}
 use Rattle.cad_register.proofs.LeavingLemmas.{not_as_none}
 use Rattle.cad_register.proofs.register.Register.create.Goals as goal
 
@@ -14,7 +15,7 @@ returns-in-Ok-Made g c =
       made = λ clean none.
           let held = (creates clean).holds none in
           record {
-            stands = record { accepted = tt; holds = held.0; sound = held.1; settled = (creates clean).committed; live = (creates clean).is_open };
+            stands = record { accepted = tt; holds = no_entries new.now held.0; sound = held.1; settled = (creates clean).committed; live = (creates clean).is_open };
             counted = refl;
           };
       free = λ clean. (creates clean).free;

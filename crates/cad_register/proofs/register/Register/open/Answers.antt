@@ -1,10 +1,8 @@
-use Rattle.std.proofs.Common.{◌≡◌, ◌≤◌, List, length, map, refl}
+use Rattle.std.proofs.Common.{◌≡◌, ◌≤◌, List, length, refl}
 use Rattle.sqlite.specs.Held.{state}
 use Rattle.sqlite.specs.State.{HasCleanDisk}
 use Rattle.cad_tables.specs.Opening.{most_revision}
 use Rattle.cad_versions.specs.declared.command.Command.{Command}
-use Rattle.cad_versions.specs.Entries.{entries_of}
-use Rattle.cad_register.specs.Rows.{line_of}
 use Rattle.cad_register.specs.Registers.{IsRegisterOf}
 use Rattle.cad_register.specs.Stands.{StandsFor}
 use Rattle.cad_register.proofs.StandLemmas.{stands_same}
@@ -18,7 +16,7 @@ returns-in-Ok-Some g c =
     let new = state g.S.Store c.open.new.conn in
     let reads = c.in-Ok-Some.ensures.reads in
     let stands = λ (clean : HasCleanDisk new) (cs : List Command) (stood : StandsFor old cs) (low : length cs ≤ most_revision).
-    let told = rw c.in-Ok-Some.field-0-is at (c.in-Ok-Some.ensures.stands clean (length cs) (map line_of (entries_of cs)) stood.holds low) in
+    let told = rw c.in-Ok-Some.field-0-is at (c.in-Ok-Some.ensures.stands clean (length cs) stood.holds.lines stood.holds.holds low) in
     let same : c.in-Ok-Some.revision ≡ length cs = cc told in
     let it : IsRegisterOf g.S.Store (record { connection = c.open.new.conn; revision = c.in-Ok-Some.revision; alloc = c.args.alloc }) cs = record { stands = stands_same old new cs (reads.same clean) stood; counted = same } in
     it in
@@ -39,7 +37,7 @@ returns-in-Ok-None g c =
     let new = state g.S.Store c.open.new.conn in
     let reads = c.in-Ok-None.ensures.reads in
     let stands = λ (clean : HasCleanDisk new) (cs : List Command) (stood : StandsFor old cs) (low : length cs ≤ most_revision).
-    let told = rw c.in-Ok-None.field-0-is at (c.in-Ok-None.ensures.stands clean (length cs) (map line_of (entries_of cs)) stood.holds low) in
+    let told = rw c.in-Ok-None.field-0-is at (c.in-Ok-None.ensures.stands clean (length cs) stood.holds.lines stood.holds.holds low) in
     absurd (cc told) in
     record {
       found = λ clean. tt;

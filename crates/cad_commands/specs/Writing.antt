@@ -1,0 +1,86 @@
+-- Commands as the JSON objects that say them, members in byte order of their names (own profile).
+use Rattle.std.specs.Prelude.{ℕ, ℤ, Bool, List, [], ◌∷◌, codes, Option, Some, None}
+use Rattle.serde_json.specs.Data.{Data, Items, no_items, item, Members, no_members, member, unsigned}
+use Rattle.serde_json.specs.Data as json
+use Rattle.serde_json.specs.Find.{of_integer}
+use Rattle.cad_day.specs.declared.day.Day.{Day}
+use Rattle.cad_day.specs.Days.{number_of}
+use Rattle.cad_day.specs.DayTexts.{day_text}
+use Rattle.cad_shape.specs.declared.point.Point.{Point}
+use Rattle.cad_shape.specs.declared.ring.Ring.{Ring}
+use Rattle.cad_shape.specs.Rings.{corners_of}
+use Rattle.cad_versions.specs.declared.object_id.ObjectId.{ObjectId}
+use Rattle.cad_versions.specs.declared.share.Share.{Share}
+use Rattle.cad_versions.specs.declared.words.Words.{Words}
+use Rattle.cad_versions.specs.declared.body.Body.{Body}
+use Rattle.cad_versions.specs.declared.body.Body.TheVariants as body
+use Rattle.cad_versions.specs.declared.command.Command.{Command}
+use Rattle.cad_versions.specs.declared.command.Command.TheVariants.{Enter, Amend, Retire}
+use Rattle.cad_versions.specs.Objects.{object_number}
+use Rattle.cad_versions.specs.Texts.{bytes_of}
+use Rattle.cad_versions.specs.Fractions.{num_of, den_of}
+use Rattle.cad_versions.specs.Class.{class_of}
+use Rattle.cad_commands.specs.Bodies.{class_name}
+
+-- ---- values
+
+abbrev pub whole_json : ℕ → Data
+whole_json n = json.number (unsigned n)
+
+abbrev pub integer_json : ℤ → Data
+integer_json n = json.number (of_integer n)
+
+abbrev pub object_json : ObjectId → Data
+object_json object = whole_json (object_number object)
+
+abbrev pub words_json : Words → Data
+words_json words = json.string (bytes_of words)
+
+abbrev pub day_json : Day → Data
+day_json day = json.string (day_text (number_of day))
+
+abbrev pub pair_json : Data → Data → Data
+pair_json first second = json.array (item first (item second no_items))
+
+abbrev pub share_json : Share → Data
+share_json share = pair_json (whole_json (num_of share)) (whole_json (den_of share))
+
+abbrev pub point_json : Point → Data
+point_json point = pair_json (integer_json point.x) (integer_json point.y)
+
+abbrev pub points_json : List Point → Items
+points_json [] = no_items
+points_json (point ∷ points) = item (point_json point) (points_json points)
+
+abbrev pub ring_json : Ring → Data
+ring_json ring = json.array (points_json (corners_of ring))
+
+abbrev pub or_null : {X : Type 0} → (X → Data) → Option X → Data
+or_null json_of None = json.null
+or_null json_of (Some x) = json_of x
+
+-- ---- objects
+
+abbrev pub body_members : Body → Members
+body_members (body.Party name code) = member (codes "code") (words_json code) (member (codes "name") (or_null words_json name) no_members)
+body_members (body.Unit name) = member (codes "name") (or_null words_json name) no_members
+body_members (body.Parcel unit label area shape spot) =
+    member (codes "area") (or_null whole_json area) (member (codes "label") (words_json label) (member (codes "shape") (or_null ring_json shape)
+    (member (codes "spot") (or_null point_json spot) (member (codes "unit") (object_json unit) no_members))))
+body_members (body.Right unit party code share) =
+    member (codes "code") (words_json code) (member (codes "party") (or_null object_json party) (member (codes "share") (or_null share_json share) (member (codes "unit") (object_json unit) no_members)))
+body_members (body.Restriction unit party code share required) =
+    member (codes "code") (words_json code) (member (codes "party") (or_null object_json party) (member (codes "required") (or_null json.boolean required)
+    (member (codes "share") (or_null share_json share) (member (codes "unit") (object_json unit) no_members))))
+
+-- what begins a version
+abbrev pub beginning_members : List ℕ → ObjectId → Day → Body → Members
+beginning_members operation object first body =
+    member (codes "do") (json.string operation) (member (codes "first") (day_json first) (member (codes "object") (object_json object)
+    (member (class_name (class_of body)) (json.object (body_members body)) no_members)))
+
+abbrev pub command_members : Command → Members
+command_members (Enter object first body) = beginning_members (codes "enter") object first body
+command_members (Amend object first body) = beginning_members (codes "amend") object first body
+command_members (Retire object last) =
+    member (codes "do") (json.string (codes "retire")) (member (codes "last") (day_json last) (member (codes "object") (object_json object) no_members))
