@@ -18,12 +18,12 @@ kind_data Spot = object (member (codes "format") (string (codes "geometry-point"
 kind_data Area = object (member (codes "format") (string (codes "geometry-polygon")) no_members)
 
 -- the members, and one more for a property, in byte order of the names
-abbrev pub with_property : Members → Named → Members
-with_property members property = put property.0 (kind_data property.1) members
+abbrev pub with_queryable : Members → Named → Members
+with_queryable members property = put property.0 (kind_data property.1) members
 
 -- each property of the schema under its name
-abbrev pub properties_data : List Named → Data
-properties_data schema = object (fold with_property no_members schema)
+abbrev pub properties_schema : List Named → Data
+properties_schema schema = object (fold with_queryable no_members schema)
 
 -- the schema of a collection's features, which have no other properties
 abbrev pub queryables_data : Collection → Data
@@ -31,5 +31,5 @@ queryables_data c =
     object (member (codes "$id") (string (queryables_path c))
     (member (codes "$schema") (string (codes "https://json-schema.org/draft/2020-12/schema"))
     (member (codes "additionalProperties") (boolean false)
-    (member (codes "properties") (properties_data (schema_of c))
+    (member (codes "properties") (properties_schema (schema_of c))
     (member (codes "type") (string (codes "object")) no_members)))))

@@ -5,7 +5,7 @@ ghost use Rattle.serde_json.specs.Read.{read};
 ghost use Rattle.serde_json.specs.View.{view};
 ghost use Rattle.serde_json.specs.Written.{compact_text};
 ghost use Rattle.cad_feature.specs.Schema.{property_of};
-ghost use Rattle.cad_bodies.specs.Queryables.{kind_data, properties_data, queryables_data};
+ghost use Rattle.cad_bodies.specs.Queryables.{kind_data, properties_schema, queryables_data};
 
 use crate::paths::queryables_path;
 use cad_feature::{Collection, Property, PropertyKind, schema};
@@ -30,7 +30,7 @@ fn queryables_json(alloc: Global, collection: Collection) -> Result<Json, AllocE
 }
 
 fn properties_json(alloc: Global, schema: &[Property]) -> Result<Json, AllocError>
-    ensures { IfOk result (λ json. view json ≡ properties_data (map property_of schema.now)) }
+    ensures { IfOk result (λ json. view json ≡ properties_schema (map property_of schema.now)) }
 {
     let mut members = Map::new(alloc);
     for property in schema {

@@ -13,7 +13,7 @@ use Rattle.cad_query.specs.declared.fault.ParameterFault.{ParameterFault}
 use Rattle.cad_query.specs.declared.fault.ParameterFault.TheVariants.{Unknown, Repeated, Limit, Datetime, Bbox, FilterLang, Filter, Revision, After}
 use Rattle.cad_query.specs.Pairs.{PairText, given}
 use Rattle.cad_query.specs.Numerals.{limit_of, revision_of}
-use Rattle.cad_query.specs.Edges.{box_of}
+use Rattle.cad_query.specs.Boxes.{box_of}
 use Rattle.cad_query.specs.Identifiers.{Numbers, Identifies, identifier_text, identifier_named}
 use Rattle.cad_query.specs.Parameters.{is_unknown, has_twice, is_language, is_wrong, have, days_of}
 use Rattle.cad_query.specs.Links.{is_beginning, continued}

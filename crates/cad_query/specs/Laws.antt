@@ -6,7 +6,7 @@ use Rattle.cad_query.specs.Pairs.{PairText, pairs_of, written, given}
 use Rattle.cad_query.specs.Parts.{is_byte}
 use Rattle.cad_query.specs.Faults.{fault_number}
 use Rattle.cad_query.specs.Numerals.{limit_of, revision_of}
-use Rattle.cad_query.specs.Edges.{box_of}
+use Rattle.cad_query.specs.Boxes.{box_of}
 use Rattle.cad_query.specs.Identifiers.{Numbers, Identifies, identifier_text, identifier_named}
 use Rattle.cad_query.specs.Parameters.{have, first_fault, asked_for, days_of}
 use Rattle.cad_query.specs.Links.{continued, self_target, next_target}

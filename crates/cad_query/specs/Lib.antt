@@ -2,7 +2,7 @@ pub mod Pairs
 pub mod Parts
 pub mod Numerals
 pub mod Identifiers
-pub mod Edges
+pub mod Boxes
 pub mod Faults
 pub mod Parameters
 pub mod Links

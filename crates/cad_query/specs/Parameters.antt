@@ -11,7 +11,7 @@ use Rattle.cad_query.specs.declared.selection.Selection.{Selection}
 use Rattle.cad_query.specs.declared.continuation.Continuation.{Continuation}
 use Rattle.cad_query.specs.Pairs.{PairText, given}
 use Rattle.cad_query.specs.Numerals.{limit_of, revision_of}
-use Rattle.cad_query.specs.Edges.{box_of, edges_of}
+use Rattle.cad_query.specs.Boxes.{box_of, box_numbers}
 use Rattle.cad_query.specs.Identifiers.{identifier_named, numbers_of}
 
 -- the names that parameters have
@@ -79,7 +79,7 @@ asked_for read name pairs = option_and_then read (given name pairs)
 pub record IsSelection (pairs : List PairText) (selection : Selection) : Type 0 where
   pub limit_is : selection.limit ≡ unwrap_or (asked_for limit_of (codes "limit") pairs) 10
   pub datetime_is : option_map ends_of selection.datetime ≡ asked_for days_of (codes "datetime") pairs
-  pub bbox_is : option_map edges_of selection.bbox ≡ asked_for box_of (codes "bbox") pairs
+  pub bbox_is : option_map box_numbers selection.bbox ≡ asked_for box_of (codes "bbox") pairs
 
 -- the page begins where the pairs say
 pub record IsContinuation (pairs : List PairText) (continuation : Continuation) : Type 0 where

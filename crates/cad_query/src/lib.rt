@@ -13,8 +13,8 @@
 //! `/collections/parcels/items?limit=2&datetime=2012-05-01&revision=10&after=2.1`.
 #![tactic(auto)]
 
+mod boxes;
 mod continuation;
-mod edges;
 mod fault;
 mod identifier;
 pub mod laws;

@@ -5,10 +5,10 @@ ghost use Rattle.std.specs.Result.{result_err};
 ghost use Rattle.cad_day.specs.Moments.{numbers_of as ends_of};
 ghost use Rattle.cad_query.specs.Pairs.{pair_text};
 ghost use Rattle.cad_query.specs.Numerals.{limit_of};
-ghost use Rattle.cad_query.specs.Edges.{edges_of, box_of};
+ghost use Rattle.cad_query.specs.Boxes.{box_numbers, box_of};
 ghost use Rattle.cad_query.specs.Parameters.{any_text, first_of, selection_faults, days_of, asked_for, IsSelection};
 
-use crate::edges::bounds_in;
+use crate::boxes::bounds_in;
 use crate::fault::ParameterFault;
 use crate::names::{check_names, value_under};
 use crate::numerals::limit_in;
@@ -71,7 +71,7 @@ fn datetime(pairs: &[Pair]) -> Result<Option<Interval>, ParameterFault>
 
 fn bbox(pairs: &[Pair]) -> Result<Option<Bounds>, ParameterFault>
     ensures fault { result_err result ≡ first_of any_text (ParameterFault.Bbox ∷ []) (map pair_text pairs.now) }
-    ensures value { IfOk result (λ bounds. option_map edges_of bounds ≡ asked_for box_of (codes "bbox") (map pair_text pairs.now)) }
+    ensures value { IfOk result (λ bounds. option_map box_numbers bounds ≡ asked_for box_of (codes "bbox") (map pair_text pairs.now)) }
 {
     match value_under(pairs, "bbox") {
         Some(text) => match bounds_in(text) {

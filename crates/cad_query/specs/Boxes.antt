@@ -8,11 +8,11 @@ use Rattle.cad_query.specs.Numerals.{number_in}
 use Rattle.cad_query.specs.Parts.{is_byte, parted}
 
 -- x_min, y_min, x_max, y_max
-abbrev pub Edges : Type 0
-Edges = ℤ × ℤ × ℤ × ℤ
+abbrev pub BoxNumbers : Type 0
+BoxNumbers = ℤ × ℤ × ℤ × ℤ
 
-abbrev pub edges_of : Bounds → Edges
-edges_of bounds = (bounds.x_min, bounds.y_min, bounds.x_max, bounds.y_max)
+abbrev pub box_numbers : Bounds → BoxNumbers
+box_numbers bounds = (bounds.x_min, bounds.y_min, bounds.x_max, bounds.y_max)
 
 -- what stands before a point that has only zeros after it, or all where there is no point
 abbrev pub whole_part : List ℕ → Option (List ℕ × List ℕ) → Option (List ℕ)
@@ -33,17 +33,17 @@ coordinate_of text =
     if starts_with_minus text then option_map (λ n. neg_ℤ (pos n)) (magnitude_of (drop 1 text)) else option_map pos (magnitude_of text)
 
 -- the lower edges are not above the upper ones
-abbrev pub in_order : Edges → Option Edges
-in_order edges = if int_le edges.0 edges.2 && int_le edges.1 edges.3 then Some edges else None
+abbrev pub unless_turned : BoxNumbers → Option BoxNumbers
+unless_turned edges = if int_le edges.0 edges.2 && int_le edges.1 edges.3 then Some edges else None
 
-abbrev pub four_numbers : List ℕ → List ℕ → List ℕ → List ℕ → Option Edges
+abbrev pub four_numbers : List ℕ → List ℕ → List ℕ → List ℕ → Option BoxNumbers
 four_numbers a b c d =
     option_and_then (λ x_min. option_and_then (λ y_min. option_and_then (λ x_max. option_and_then (λ y_max.
-    in_order (x_min, y_min, x_max, y_max))
+    unless_turned (x_min, y_min, x_max, y_max))
     (coordinate_of d)) (coordinate_of c)) (coordinate_of b)) (coordinate_of a)
 
 -- four numbers with commas between them
-abbrev pub box_of : List ℕ → Option Edges
+abbrev pub box_of : List ℕ → Option BoxNumbers
 box_of text =
     option_and_then (λ first. option_and_then (λ second. option_and_then (λ third.
     four_numbers first.0 second.0 third.0 third.1)

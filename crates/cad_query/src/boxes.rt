@@ -4,8 +4,8 @@ ghost use Rattle.std.specs.Prelude.{◌≡◌, ◌≤◌, IfSome, option_map, op
 ghost use Rattle.std.specs.List.{list_all};
 ghost use Rattle.cad_shape.specs.Coordinates.{IsCoordinate};
 ghost use Rattle.cad_query.specs.Parts.{is_byte, parted};
-ghost use Rattle.cad_query.specs.Edges as spec;
-ghost use Rattle.cad_query.specs.Edges.{magnitude_of, coordinate_of, edges_of, in_order, four_numbers, box_of};
+ghost use Rattle.cad_query.specs.Boxes as spec;
+ghost use Rattle.cad_query.specs.Boxes.{magnitude_of, coordinate_of, box_numbers, unless_turned, four_numbers, box_of};
 
 use crate::numerals::number;
 use crate::parts::part;
@@ -13,7 +13,7 @@ use cad_shape::Bounds;
 
 /// The box of four numbers with commas: x_min,y_min,x_max,y_max.
 pub(crate) fn bounds_in(text: &str) -> Option<Bounds>
-    ensures { option_map edges_of result ≡ box_of text.now }
+    ensures { option_map box_numbers result ≡ box_of text.now }
 {
     let (x_min, others) = part(text.as_bytes(), b',')?;
     let (y_min, others) = part(others, b',')?;
@@ -22,19 +22,19 @@ pub(crate) fn bounds_in(text: &str) -> Option<Bounds>
 }
 
 fn bounds_between(x_min: &[u8], y_min: &[u8], x_max: &[u8], y_max: &[u8]) -> Option<Bounds>
-    ensures { option_map edges_of result ≡ four_numbers x_min.now y_min.now x_max.now y_max.now }
+    ensures { option_map box_numbers result ≡ four_numbers x_min.now y_min.now x_max.now y_max.now }
 {
     let x_min = coordinate(x_min)?;
     let y_min = coordinate(y_min)?;
     let x_max = coordinate(x_max)?;
     let y_max = coordinate(y_max)?;
-    bounds_in_order(x_min, y_min, x_max, y_max)
+    bounds_unless_turned(x_min, y_min, x_max, y_max)
 }
 
-fn bounds_in_order(x_min: i64, y_min: i64, x_max: i64, y_max: i64) -> Option<Bounds>
+fn bounds_unless_turned(x_min: i64, y_min: i64, x_max: i64, y_max: i64) -> Option<Bounds>
     requires lower { IsCoordinate x_min × IsCoordinate y_min }
     requires upper { IsCoordinate x_max × IsCoordinate y_max }
-    ensures { option_map edges_of result ≡ in_order (x_min, y_min, x_max, y_max) }
+    ensures { option_map box_numbers result ≡ unless_turned (x_min, y_min, x_max, y_max) }
 {
     Bounds::new(x_min, y_min, x_max, y_max)
 }
