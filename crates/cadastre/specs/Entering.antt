@@ -1,5 +1,5 @@
 -- Entering commands, and how that ends a run (own profile).
-use Rattle.std.specs.Prelude.{◌≡◌, ℕ, Bool, List, Option, Result, Ok, Err}
+use Rattle.std.specs.Prelude.{◌≡◌, ℕ, Bool, List, Option, Result, Ok, Err, IsOk}
 use Rattle.sqlite_trees.specs.declared.store.Store.{Ghosts}
 use Rattle.sqlite.specs.State.{HasCleanDisk}
 use Rattle.sqlite.specs.Held.{Held}
@@ -16,10 +16,10 @@ use Rattle.cadastre.specs.declared.outcome.Outcome.{Outcome}
 use Rattle.cadastre.specs.declared.outcome.Outcome.TheVariants as outcome
 use Rattle.cadastre.specs.Outcomes.{office_outcome_of}
 
--- the bytes written answer the lines read, and the run ends as the office's work did
+-- the bytes written answer the lines read, the run ends as the office's work did, and where that went to its end nothing is left unread
 abbrev pub EndsOffice : {L : Type 0} → (L → Command → Result ℕ RegisterFault → L → Type 0) → Option (List ℕ) → Option (List ℕ) → Option (List ℕ) → Option (List ℕ) → Type 0 → L → Outcome → L → Type 0
 EndsOffice applies from to before after AtEnd old outcome new =
-    (kept : Result Bool OfficeFault) × (outcome ≡ office_outcome_of kept) × ReadsAndWrites from to before after (λ read written. IsKept (AnswersLines applies old new) AtEnd kept read written × IsPaced kept read)
+    (kept : Result Bool OfficeFault) × (outcome ≡ office_outcome_of kept) × (IsOk kept → AtEnd) × ReadsAndWrites from to before after (λ read written. IsKept (AnswersLines applies old new) AtEnd kept read written × IsPaced kept read)
 
 module _ {S : Type 0} (g : Ghosts S) (from to before after : Option (List ℕ)) (AtEnd : Type 0) where
   -- what a land register does with a command
