@@ -11,6 +11,7 @@ const SHORT: &str = "area BETWEEN 100 AND 900 AND NOT label LIKE 'A%' OR unit = 
 
 /// How often a filter is read.
 const LONG_READINGS: u32 = 200;
+
 const SHORT_READINGS: u32 = 20_000;
 
 /// A filter of 8,192 bytes and 2,000 tokens, the most that are read.
