@@ -9,8 +9,10 @@ use std::time::Instant;
 /// A filter of sixty bytes.
 const SHORT: &str = "area BETWEEN 100 AND 900 AND NOT label LIKE 'A%' OR unit = 1";
 
-/// How often a filter is read.
+/// How often the longest filter is read.
 const LONG_READINGS: u32 = 200;
+
+/// How often the short one is read.
 const SHORT_READINGS: u32 = 20_000;
 
 /// A filter of 8,192 bytes and 2,000 tokens, the most that are read.
