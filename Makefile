@@ -26,6 +26,7 @@ check:
 refused:
 	cd crates/cql_cases && $(RT) run < stdin | cmp - stdout
 	cd crates/cad_cases && $(RT) run < stdin | cmp - stdout
+	cd crates/desk_cases && $(RT) run < stdin | cmp - stdout
 	scripts/refused
 
 # How many commands a second the office enters, in memory and in a file.

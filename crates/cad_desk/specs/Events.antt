@@ -25,8 +25,9 @@ pub record Rules : Type 1 where
   pub FailsToAnswer : List Command → Request → RegisterFault → Type 0
   pub FailsToEnter : List Command → Command → RegisterFault → Type 0
 
--- the replies to the bytes that came, and what is left; InForce says what holds of the commands in force
+-- what an event finds of the connections, what is answered, and what it leaves; InForce Holds says that Holds is true of the commands in force
 module _ (rules : Rules) (InForce : (List Command → Type 0) → Type 0) where
+  -- a connection opens, unless it is open, or as many are as may be; where memory is refused it is not open
   abbrev pub IsOpened : Connections → ℕ → Result Reply DeskFault → Connections → Type 0
   IsOpened old c (Ok Opened) new = (rest_at old c ≡ None) × (count_of old < connection_room) × Changes old new c (Some [])
   IsOpened old c (Ok other) new = ⊥
@@ -35,6 +36,7 @@ module _ (rules : Rules) (InForce : (List Command → Type 0) → Type 0) where
   IsOpened old c (Err Memory) new = (rest_at old c ≡ None) × (count_of old < connection_room) × Keeps old new
   IsOpened old c (Err other) new = ⊥
 
+  -- bytes of an open connection get the replies to the requests that they make whole, and what waits is kept; where they are refused the connection is closed
   abbrev pub IsTaken : Connections → ℕ → List ℕ → Result Reply DeskFault → Connections → Type 0
   IsTaken old c piece (Ok (Sent out ends)) new =
       (held : List ℕ) × (heads : List RequestHead) × (last : Outcome)
@@ -49,12 +51,14 @@ module _ (rules : Rules) (InForce : (List Command → Type 0) → Type 0) where
       × InForce (Fails rules.closes rules.FailsToAnswer (held ++ piece) fault)
   IsTaken old c piece (Err other) new = ⊥
 
+  -- an open connection closes
   abbrev pub IsClosed : Connections → ℕ → Result Reply DeskFault → Connections → Type 0
   IsClosed old c (Ok Closed) new = IsSome (rest_at old c) × Changes old new c None
   IsClosed old c (Ok other) new = ⊥
   IsClosed old c (Err UnknownConnection) new = (rest_at old c ≡ None) × Keeps old new
   IsClosed old c (Err other) new = ⊥
 
+  -- a command is entered and told with the revision since, or refused; the connections have no part in it
   abbrev pub IsEntered : Connections → Command → Result Reply DeskFault → Connections → Type 0
   IsEntered old command (Ok (Entered revision)) new =
       Keeps old new × InForce (λ commands. (refusal (versions commands) command ≡ None) × (revision ≡ length commands + 1))

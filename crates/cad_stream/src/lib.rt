@@ -6,12 +6,14 @@
 //! - `Fed`: the replies to a piece, and what is left of the connection
 //! - `laws`: what holds of every connection, however its bytes were cut
 //!
+//! Of a connection that sends two requests in two pieces, the second of which closes it:
+//!
 //! ```text
-//! let connection = Connection::new(alloc);
-//! let fed = connection.feed(alloc, b"GET / HTTP/1.1\r\nHost: x\r\n", &mut responder)?;
-//! // No bytes; `fed.connection` holds the piece.
-//! let fed = fed.connection?.feed(alloc, b"\r\nGET /a HTTP/1.0\r\n\r\nGET /b", &mut responder)?;
-//! // The replies to both requests. The second one closed the connection: `fed.connection` is `None`.
+//! let fed = Connection::new(alloc).feed(alloc, b"GET / HTTP/1.1\r\nHost: x\r\n", &mut responder)?;
+//! // fed.bytes is empty, and fed.connection holds the piece.
+//! let Some(connection) = fed.connection else { .. };
+//! let fed = connection.feed(alloc, b"\r\nGET /a HTTP/1.0\r\n\r\nGET /b", &mut responder)?;
+//! // fed.bytes are both replies, and fed.connection is None: what follows the second request is dropped.
 //! ```
 #![tactic(auto)]
 

@@ -12,7 +12,7 @@
 //! - any of them is answered by `refused N NAME` where the desk refuses, with the register's fault where that refused.
 //!
 //! The bytes are written as `cad_case_bytes` has it. Any other line is answered by `no case`, and one without bytes is passed
-//! over. Where memory is refused to the program itself, it ends with status 7.
+//! over. Where memory is refused, and no `/full` asked for that, the program ends with status 7.
 //!
 //! - `echo`: what answers the requests
 //! - `lines`: the event of a line

@@ -1,12 +1,15 @@
 //! What is printed for a connection that is served.
 
-use crate::answers::refusal;
+use crate::answers::{is_unasked, refusal};
 use crate::echo::Echo;
 use cad_case_bytes::json_of;
 use cad_desk::Desk;
 use cad_serve::{Ending, ServeFault, serve};
 use std::alloc::{AllocError, Global};
 use std::io::{Read, Result as IoResult, Write};
+
+/// The bytes for which a writer has room from the start.
+const REPLY_ROOM: usize = 4096;
 
 /// A reader that gives one byte a call.
 #[derive(Drop)]
@@ -49,10 +52,15 @@ impl Write for OneByOne {
     }
 }
 
-fn ending(alloc: Global, ended: Result<Ending, ServeFault>) -> Result<String, AllocError> {
+fn ending(
+    alloc: Global,
+    bytes: &[u8],
+    ended: Result<Ending, ServeFault>,
+) -> Result<String, AllocError> {
     match ended {
         Ok(Ending::PeerEnded) => String::from_str(alloc, "peer ended"),
         Ok(Ending::WeEnded) => String::from_str(alloc, "we ended"),
+        Ok(Ending::Refused(fault)) if is_unasked(bytes, fault) => Err(AllocError),
         Ok(Ending::Refused(fault)) => refusal(alloc, fault),
         Err(fault) => format!(in alloc; "stopped {} {}", fault.number(), fault.name()),
     }
@@ -66,10 +74,10 @@ pub fn served(
     bytes: &[u8],
 ) -> Result<String, AllocError> {
     let mut writer = OneByOne {
-        bytes: Vec::new(alloc),
+        bytes: Vec::with_capacity(alloc, REPLY_ROOM)?,
     };
     let ended = serve(alloc, &mut ByteByByte { bytes }, &mut writer, desk, number);
-    let mut line = ending(alloc, ended)?;
+    let mut line = ending(alloc, bytes, ended)?;
     line.push_str(" ")?;
     line.push_str(json_of(alloc, &writer.bytes)?.as_str())?;
     Ok(line)
