@@ -6,11 +6,11 @@ ghost use Rattle.cql_meaning.specs.declared.schema.Collection.TheVariants.{Parce
 ghost use Rattle.cql_meaning.specs.Accepted.{IsAccepted};
 
 use cql_lexer::laws::{fault_or_tokens, one_spelling};
-use cql_parser::laws::fault_or_tree;
 use cql_lexer::{LexFault, tokens};
 use cql_meaning::check::{TypeFault, check};
 use cql_meaning::filter::Filter;
 use cql_meaning::schema::Collection;
+use cql_parser::laws::fault_or_tree;
 use cql_parser::{ParseFault, parse};
 use std::alloc::Global;
 
