@@ -2,7 +2,7 @@
 
 use crate::echo::Echo;
 use crate::lines::{Line, line_of};
-use crate::served::served;
+use crate::served::answer_served;
 use cad_case_bytes::json_of;
 use cad_desk::{Desk, DeskFault, Reply};
 use std::alloc::{AllocError, Global};
@@ -38,7 +38,7 @@ fn told(alloc: Global, reply: Reply) -> Result<String, AllocError> {
 pub fn answer(alloc: Global, desk: &mut Desk<Echo>, line: &[u8]) -> Result<String, AllocError> {
     match line_of(alloc, line)? {
         None => String::from_str(alloc, "no case"),
-        Some(Line::Serve(number, bytes)) => served(alloc, desk, number, &bytes),
+        Some(Line::Serve(served)) => answer_served(alloc, desk, &served),
         Some(Line::Event(event)) => match desk.step(event) {
             Ok(reply) => told(alloc, reply),
             Err(fault) if is_unasked(line, fault) => Err(AllocError),

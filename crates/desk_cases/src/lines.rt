@@ -5,13 +5,34 @@ use cad_commands::{CommandError, read_command};
 use cad_desk::Event;
 use std::alloc::{AllocError, Global};
 
+/// Which call of a reader or a writer goes wrong, from 1 on.
+#[derive(Clone, Copy)]
+pub enum Failure {
+    /// No call does.
+    Never,
+    /// This read fails.
+    Read(u32),
+    /// This write fails.
+    Write(u32),
+    /// This write takes nothing.
+    EmptyWrite(u32),
+}
+
+/// A connection that sends these bytes.
+#[derive(Drop)]
+pub struct Served {
+    pub number: u32,
+    pub bytes: Vec<u8>,
+    pub failure: Failure,
+}
+
 /// What a line asks for.
 #[derive(Drop)]
 pub enum Line {
     /// An event of the desk.
     Event(Event),
-    /// A connection that sends these bytes is served.
-    Serve(u32, Vec<u8>),
+    /// A connection is served.
+    Serve(Served),
 }
 
 fn command_line(alloc: Global, text: &str) -> Result<Option<Line>, AllocError> {
@@ -22,19 +43,47 @@ fn command_line(alloc: Global, text: &str) -> Result<Option<Line>, AllocError> {
     }
 }
 
-fn sending_line(alloc: Global, word: &str, rest: &str) -> Result<Option<Line>, AllocError> {
+/// A number of a connection, and the bytes that it sends.
+fn sent_by(alloc: Global, rest: &str) -> Result<Option<(u32, Vec<u8>)>, AllocError> {
     let Some((number, json)) = rest.split_once(' ') else {
         return Ok(None);
     };
     let Ok(number) = number.parse() else {
         return Ok(None);
     };
-    let Some(bytes) = bytes_of(alloc, json.as_bytes())? else {
+    match bytes_of(alloc, json.as_bytes())? {
+        Some(bytes) => Ok(Some((number, bytes))),
+        None => Ok(None),
+    }
+}
+
+fn bytes_line(alloc: Global, rest: &str) -> Result<Option<Line>, AllocError> {
+    match sent_by(alloc, rest)? {
+        Some((number, bytes)) => Ok(Some(Line::Event(Event::Bytes(number, bytes)))),
+        None => Ok(None),
+    }
+}
+
+fn serve_line(alloc: Global, failure: Failure, rest: &str) -> Result<Option<Line>, AllocError> {
+    match sent_by(alloc, rest)? {
+        Some((number, bytes)) => Ok(Some(Line::Serve(Served {
+            number,
+            bytes,
+            failure,
+        }))),
+        None => Ok(None),
+    }
+}
+
+/// A connection that is served while a call goes wrong.
+fn failing_line(alloc: Global, word: &str, rest: &str) -> Result<Option<Line>, AllocError> {
+    let Some((at, rest)) = rest.split_once(' ') else {
         return Ok(None);
     };
-    match word {
-        "bytes" => Ok(Some(Line::Event(Event::Bytes(number, bytes)))),
-        "serve" => Ok(Some(Line::Serve(number, bytes))),
+    match (word, at.parse()) {
+        ("fail-read", Ok(at)) => serve_line(alloc, Failure::Read(at), rest),
+        ("fail-write", Ok(at)) => serve_line(alloc, Failure::Write(at), rest),
+        ("empty-write", Ok(at)) => serve_line(alloc, Failure::EmptyWrite(at), rest),
         _ => Ok(None),
     }
 }
@@ -51,6 +100,8 @@ pub fn line_of(alloc: Global, line: &[u8]) -> Result<Option<Line>, AllocError> {
         ("open", Ok(number)) => Ok(Some(Line::Event(Event::Open(number)))),
         ("close", Ok(number)) => Ok(Some(Line::Event(Event::Close(number)))),
         ("office", _) => command_line(alloc, rest),
-        _ => sending_line(alloc, word, rest),
+        ("bytes", _) => bytes_line(alloc, rest),
+        ("serve", _) => serve_line(alloc, Failure::Never, rest),
+        _ => failing_line(alloc, word, rest),
     }
 }

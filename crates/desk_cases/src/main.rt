@@ -9,6 +9,8 @@
 //! - `office LINE` enters the command of a line of the land office, and is answered by `revision N`;
 //! - `serve C JSON` serves connection C from a reader that gives one byte a read to a writer that takes one byte a write,
 //!   and is answered by how that ended and the bytes written;
+//! - `fail-read K C JSON` and `fail-write K C JSON` do so where the Kth read or write fails, and `empty-write K C JSON`
+//!   where the Kth write takes nothing;
 //! - any of them is answered by `refused N NAME` where the desk refuses, with the register's fault where that refused.
 //!
 //! The bytes are written as `cad_case_bytes` has it. Any other line is answered by `no case`, and one without bytes is passed
