@@ -1,5 +1,5 @@
 -- Resources and their collections, and the parts of their paths.
-use Rattle.std.proofs.Common.{◌≡◌, ◌≢◌, ℕ, ◌+◌, ◌==◌, if◌then◌else◌, cond, not, List, [], ◌∷◌, ◌++◌, Bool, true, false, Option, Some, None, option_map, length, take, drop, codes, refl, sym, ap, subst, ◌∙◌, arith, take_all}
+use Rattle.std.proofs.Common.{◌≡◌, ◌≢◌, ℕ, ◌+◌, ◌==◌, if◌then◌else◌, cond, List, [], ◌∷◌, ◌++◌, Bool, true, false, Option, Some, None, option_map, length, take, drop, codes, refl, sym, ap, subst, ◌∙◌, arith, take_all}
 use Rattle.std.specs.Prelude.{MatchOption}
 use Rattle.std.specs.Option.{option_and_then}
 use Rattle.std.specs.List.{position_or_len, before_first, after_first}
@@ -12,9 +12,8 @@ use Rattle.cad_feature.specs.declared.collection.Collection.{Collection}
 use Rattle.cad_feature.specs.declared.collection.Collection.TheVariants.{Parcels, Rights, Restrictions, Units, Parties}
 use Rattle.cad_feature.specs.Collections.{name_of}
 use Rattle.cad_resource.specs.declared.route.Route.{Route}
-use Rattle.cad_request.specs.Request.{Request, path, query}
-use Rattle.cad_resource.specs.Asking.{asked_in, asked_at, asked}
-use Rattle.cad_resource.specs.Heads.{lacks_host, has_body, is_target}
+use Rattle.cad_resource.specs.Asking.{asked_in}
+use Rattle.cad_resource.specs.Heads.{is_target}
 use Rattle.cad_resource.specs.Parts.{identifier_part, found_by}
 use Rattle.cad_resource.specs.Places.{Place, landing, collections, collection, queryables, items, item, place_of, collection_named, known, resource_of, path_of, named}
 use Rattle.cad_resource.specs.RouteRows.{route_of}
@@ -179,7 +178,7 @@ resource_found path r e = by_place (place_of path) refl e
 pub asked_by_parts : (path text : List ℕ) (r : Route) → option_map route_of (place_of path) ≡ Some r → asked_in (found_by r path) text ≡ asked_in (resource_of path) text
 asked_by_parts path text r e = ap (λ (o : Option (Place Collection)). asked_in o text) (sym (resource_found path r e))
 
--- ---- requests
+-- ---- targets
 
 -- a text that is given of a target is the target
 pub target_found : (target text : List ℕ) → Some text ≡ (if is_target target then Some target else None) → (is_target target ≡ true) × (text ≡ target)
@@ -188,13 +187,3 @@ target_found target text e = by_target (is_target target) refl e
     by_target : (t : Bool) → is_target target ≡ t → Some text ≡ (if t then Some target else None) → (is_target target ≡ true) × (text ≡ target)
     by_target true is e = (is, let told : Some text ≡ Some target = e in cc)
     by_target false is e = absurd (let told : Some text ≡ None = e in cc)
-
--- a GET of a path with a route is decided by its collection
-pub asked_as_get : (r : Request) (t : Route) → lacks_host r ≡ false → has_body r ≡ false → is_target r.target ≡ true
-    → option_map route_of (place_of (path r)) ≡ Some t → not (bytes_eq r.method (codes "GET")) ≡ false → asked r ≡ asked_in (resource_of (path r)) (query r)
-asked_as_get r t host body target routed method =
-    rw (host, body, target) (by_place (place_of (path r)) routed)
-  where
-    by_place : (o : Option (Place (List ℕ))) → option_map route_of o ≡ Some t → asked_at o r ≡ asked_in (option_and_then known o) (query r)
-    by_place None e = absurd (let told : None ≡ Some t = e in cc)
-    by_place (Some place) e = rw method refl

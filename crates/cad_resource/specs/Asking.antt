@@ -1,8 +1,9 @@
 -- What a request asks for, or the first check that it fails (own profile of OGC 17-069r4, section 7).
-use Rattle.std.specs.Prelude.{ℕ, List, codes, not, Bool, false, ◌||◌, Option, Some, None, Result, Ok, Err, if◌then◌else◌}
+use Rattle.std.specs.Prelude.{ℕ, List, codes, not, Bool, false, ◌||◌, ◌==◌, Option, Some, None, Result, Ok, Err, if◌then◌else◌}
+use Rattle.std.specs.List.{before_first, after_first}
 use Rattle.std.specs.Str.{bytes_eq}
 use Rattle.cad_feature.specs.declared.collection.Collection.{Collection}
-use Rattle.cad_request.specs.Request.{Request, path, query, closes_connection}
+use Rattle.cad_request.specs.Request.{Request, closes_connection}
 use Rattle.cad_resource.specs.declared.asked.Asked.{Asked}
 use Rattle.cad_resource.specs.declared.check.Check.{Check}
 use Rattle.cad_resource.specs.declared.check.Check.TheVariants.{Host, Body, Target, NoResource, Method, NoCollection}
@@ -22,17 +23,22 @@ asked_in None text = Err NoCollection
 asked_in (Some place) text = Ok (place, text)
 
 -- by the one method that there is (RFC 9110, section 9.3.1: GET)
-abbrev pub asked_at : Option (Place (List ℕ)) → Request → Result AskedText Check
-asked_at None r = Err NoResource
-asked_at (Some place) r = if not (bytes_eq r.method (codes "GET")) then Err Method else asked_in (known place) (query r)
+abbrev pub asked_at : Option (Place (List ℕ)) → List ℕ → List ℕ → Result AskedText Check
+asked_at None method text = Err NoResource
+asked_at (Some place) method text = if not (bytes_eq method (codes "GET")) then Err Method else asked_in (known place) text
+
+-- by the target's path and query, which its first question mark parts (RFC 9112, section 3.2.1: origin form)
+abbrev pub asked_of : List ℕ → List ℕ → Result AskedText Check
+asked_of method target =
+    if not (is_target target) then Err Target
+    else asked_at (place_of (before_first (λ b. b == 63) target)) method (after_first (λ b. b == 63) target)
 
 -- the first check that fails decides
 abbrev pub asked : Request → Result AskedText Check
 asked r =
     if lacks_host r then Err Host
     else (if has_body r then Err Body
-    else (if not (is_target r.target) then Err Target
-    else asked_at (place_of (path r)) r))
+    else asked_of r.method r.target)
 
 -- a check that fails ends the connection
 abbrev pub ends_by_check : Result AskedText Check → Bool

@@ -68,20 +68,40 @@ fn asked<'a>(
     if has_body(bytes, headers, spans) {
         return Err(Check::Body);
     }
-    let Some(target) = target_text(spans.path.of(bytes)) else {
+    asked_of(routes, spans.method.of(bytes), spans.path.of(bytes))
+}
+
+/// What a request with this method and target asks for, where its head is sound.
+fn asked_of<'a>(routes: &Routes, method: &[u8], target: &'a [u8]) -> Result<Asked<'a>, Check>
+    ensures { asked_text result ≡ spec.asked_of method.now target.now }
+{
+    let Some(text) = target_text(target) else {
         return Err(Check::Target);
     };
-    let (path, query) = cut(target, '?');
+    let (path, query) = cut(text, '?');
+    asked_at(routes, method, path, query)
+}
+
+/// What a request with this method, path and query asks for.
+fn asked_at<'a>(
+    routes: &Routes,
+    method: &[u8],
+    path: &'a str,
+    query: &'a str,
+) -> Result<Asked<'a>, Check>
+    ensures { asked_text result ≡ spec.asked_at (place_of path.now) method.now query.now }
+{
     let Some(route) = routes.route(path) else {
         return Err(Check::NoResource);
     };
-    if spans.method.of(bytes) != b"GET".as_slice() {
+    if method != b"GET".as_slice() {
         return Err(Check::Method);
     }
     asked_by(route, path, query)
 }
 
 /// What a GET of a path of this route asks for.
+#[tactic(auto, using(crate::proofs::ResourceLemmas::asked_by_parts))]
 fn asked_by<'a>(route: Route, path: &'a str, query: &'a str) -> Result<Asked<'a>, Check>
     requires { option_map route_of (place_of path.now) ≡ Some route }
     ensures { asked_text result ≡ asked_in (resource_of path.now) query.now }
