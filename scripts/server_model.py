@@ -1,0 +1,443 @@
+#!/usr/bin/env python3
+"""A second reading of the server's rules, in Python and not from the crates.
+
+It tells what a desk over a ledger in memory answers to events, one a line: `open C`, `bytes C JSON`, `close C` and
+`office COMMAND`, as crates/desk_cases has them. Filters and features are judged by scripts/filter_model.py and
+scripts/filter_meaning.py. No stored answers are held against it yet: it waits for the server over the desk.
+
+    scripts/server_model.py < EVENTS
+"""
+import json
+import re
+import sys
+from urllib.parse import quote_plus, unquote_to_bytes
+
+import filter_model
+from filter_meaning import asked_days, meets, related, shape_of, span, truth
+from filter_model import COMMON, SCHEMAS, day_of, is_ring, tree_of
+
+FRONT = 32768
+CLASSES = {"parcels": "parcel", "rights": "right", "restrictions": "restriction", "units": "unit", "parties": "party"}
+ROUTES = [("landing", r"/"), ("collections", r"/collections"), ("collection", r"/collections/([^/]+)"),
+          ("queryables", r"/collections/([^/]+)/queryables"), ("items", r"/collections/([^/]+)/items"),
+          ("item", r"/collections/([^/]+)/items/([^/]+)")]
+IDENTIFIER = re.compile(r"([1-9][0-9]{0,9})\.([1-9][0-9]{0,9})", re.ASCII)
+MOST = 2147483647
+
+
+# ---- the register: versions are dicts, in the order of their entry; `entered` and `closed` are revisions
+
+class Register:
+    def __init__(self):
+        self.versions, self.revision = [], 0
+
+    def refusal(self, command):
+        mine = [it for it in self.versions if it["object"] == command["object"]]
+        body = next((it for it in CLASSES.values() if it in command), None)
+        if command["do"] == "enter":
+            if mine:
+                return "KnownObject"
+        else:
+            if not mine:
+                return "UnknownObject"
+            if command["do"] == "amend" and mine[0]["class"] != body:
+                return "OtherClass"
+            if mine[-1]["last"] is not None:
+                return "Retired"
+            if command["do"] == "amend" and command["first"] <= mine[-1]["first"]:
+                return "DayNotAfter"
+            if command["do"] == "retire" and command["last"] < mine[-1]["first"]:
+                return "DayNotAfter"
+        for name in ("unit", "party"):
+            named = command.get(body, {}).get(name) if body and body != name else None
+            if named is not None and not any(it["object"] == named and it["class"] == name for it in self.versions):
+                return "UnknownReference"
+        return None
+
+    def apply(self, command):
+        why = self.refusal(command)
+        if why:
+            return f"refused 5 Register {why}"
+        self.revision += 1
+        mine = [it for it in self.versions if it["object"] == command["object"]]
+        if command["do"] == "retire":
+            mine[-1].update(last=command["last"], closed=self.revision)
+            return f"revision {self.revision}"
+        if command["do"] == "amend":
+            mine[-1].update(last=day_before(command["first"]), closed=self.revision)
+        body = next(it for it in CLASSES.values() if it in command)
+        self.versions.append({"object": command["object"], "number": len(mine) + 1, "class": body, "first": command["first"],
+                              "last": None, "entered": self.revision, "closed": None, **command[body]})
+        return f"revision {self.revision}"
+
+    def as_of(self, revision):
+        shown = [dict(it) for it in self.versions if it["entered"] <= revision]
+        for it in shown:
+            if it["closed"] and it["closed"] > revision:
+                it["last"] = None
+        return sorted(shown, key=lambda it: (it["object"], it["number"]))
+
+
+def day_before(text):
+    year, month, day = day_of(text)
+    if day > 1:
+        return f"{year:04}-{month:02}-{day - 1:02}"
+    if month == 1:
+        return f"{year - 1:04}-12-31"
+    return next(it for it in (f"{year:04}-{month - 1:02}-{day:02}" for day in (31, 30, 29, 28)) if day_of(it))
+
+
+def named_on(versions, object_, day):
+    """The name in the first version of the object that holds the day."""
+    for it in versions:
+        if it["object"] == object_ and it["first"] <= day and (it["last"] is None or day <= it["last"]):
+            return it.get("name")
+    return None
+
+
+def features(versions, collection):
+    """The features: the identifier, values as replies write them by name, and values as filters ask them."""
+    for it in versions:
+        if it["class"] != CLASSES[collection]:
+            continue
+        share = it.get("share") or [None, None]
+        told = {"object": it["object"], "number": it["number"], "begin": it["first"], "end": it["last"],
+                "label": it.get("label"), "area": it.get("area"), "geometry": it.get("shape"),
+                "reference_point": it.get("spot"), "unit": it.get("unit"), "type": it.get("code"), "name": it.get("name"),
+                "share_num": share[0], "share_den": share[1], "party": it.get("party"),
+                "party_required": it.get("required")}
+        told["unit_name"] = named_on(versions, told["unit"], it["first"])
+        told["party_name"] = named_on(versions, told["party"], it["first"])
+        told = {name: told.get(name) for name in SCHEMAS[collection] if name != "lifespan"}
+        yield (it["object"], it["number"]), told, asked_values(told)
+
+
+def asked_values(told):
+    values = dict(told)
+    values["begin"], values["end"] = day_of(told["begin"]), day_of(told["end"]) if told["end"] else None
+    values["lifespan"] = span(values["begin"], values["end"])
+    for name, make in (("geometry", lambda it: [tuple(corner) for corner in it]), ("reference_point", tuple)):
+        if name in told:
+            values[name] = shape_of(make(told[name])) if told[name] is not None else None
+    return values
+
+
+# ---- bodies
+
+def link(href, rel):
+    return {"href": href, "rel": rel, "type": "application/json"}
+
+
+def geometry_of(told):
+    corners = told.get("geometry")
+    return corners and {"coordinates": [corners + corners[:1]], "type": "Polygon"}
+
+
+def feature_tree(identifier, told):
+    properties = {name: value for name, value in told.items() if name != "geometry"}
+    if properties.get("reference_point"):
+        properties["reference_point"] = {"coordinates": properties["reference_point"], "type": "Point"}
+    return {"geometry": geometry_of(told), "id": "%d.%d" % identifier, "properties": properties, "type": "Feature"}
+
+
+def collection_tree(name):
+    path = f"/collections/{name}"
+    return {"id": name, "itemType": "feature", "links": [link(path + "/items", "items"), link(path + "/queryables", "queryables")],
+            "title": name}
+
+
+SCHEMA = {"Text": {"type": "string"}, "Whole": {"type": "integer"}, "Flag": {"type": "boolean"},
+          "Day": {"format": "date", "type": "string"}, "Span": {"format": "interval"},
+          "Spot": {"format": "geometry-point"}, "Area": {"format": "geometry-polygon"}}
+
+
+def queryables_tree(name):
+    return {"$id": f"/collections/{name}/queryables", "$schema": "https://json-schema.org/draft/2020-12/schema",
+            "additionalProperties": False, "properties": {it: SCHEMA[kind] for it, kind in SCHEMAS[name].items()},
+            "type": "object"}
+
+
+def compact(tree):
+    return json.dumps(tree, ensure_ascii=False, separators=(",", ":"), sort_keys=True).encode()
+
+
+# ---- parameters
+
+class Refused(Exception):
+    def __init__(self, status, tree):
+        self.status, self.tree = status, tree
+
+
+def word(status, text):
+    return Refused(status, {"fault": text})
+
+
+def decoded(data):
+    return unquote_to_bytes(data.replace(b"+", b" ")).decode("utf-8", "replace")
+
+
+def pairs_of(query):
+    pairs = []
+    for part in query.split(b"&"):
+        if part:
+            name, _, value = part.partition(b"=")
+            pairs.append((decoded(name), decoded(value)))
+    return pairs
+
+
+def written(pairs):
+    safe = lambda text: quote_plus(text.encode(), safe="*").replace("~", "%7E")
+    return "&".join(f"{safe(name)}={safe(value)}" for name, value in pairs)
+
+
+def target_of(path, pairs):
+    return path + ("?" + written(pairs) if pairs else "")
+
+
+def box_of(text):
+    if not re.fullmatch(r"-?[0-9]+(\.0*)?(,-?[0-9]+(\.0*)?){3}", text, re.ASCII):
+        return None
+    box = [int(it.partition(".")[0]) for it in text.split(",")]
+    good = all(abs(it) <= 10**11 for it in box) and box[0] <= box[2] and box[1] <= box[3]
+    return ("frame", (box[0], box[1]), (box[2], box[3])) if good else None
+
+
+def moments_of(text):
+    """The asked days; of moments the cases have days, and two instants that are read by hand."""
+    known = {"2010-01-01T00:30:00+01:00": "2009-12-31", "2012-05-01T12:00:00Z": "2012-05-01"}
+    first, slash, last = text.partition("/")
+    ends = [known.get(it, it) for it in ((first, last) if slash else (first,))]
+    if not all(day_of(it) or slash and it in ("", "..") for it in ends):
+        return None
+    days = asked_days("/".join(ends))
+    return days if days[0] <= days[1] else None
+
+
+def identifier_of(text):
+    found = IDENTIFIER.fullmatch(text)
+    return (int(found[1]), int(found[2])) if found and max(int(found[1]), int(found[2])) <= MOST else None
+
+
+NAMES = ("limit", "datetime", "bbox", "filter-lang", "filter", "revision", "after")
+
+
+def asked(pairs, collection):
+    given = dict(pairs)
+    if any(name not in NAMES for name, _ in pairs):
+        raise word(400, "unknown")
+    if len(given) < len(pairs):
+        raise word(400, "repeated")
+    limit = given.get("limit", "10")
+    if not re.fullmatch("[0-9]+", limit, re.ASCII) or int(limit) < 1:
+        raise word(400, "limit")
+    days = moments_of(given["datetime"]) if "datetime" in given else span(None, None)
+    if days is None:
+        raise word(400, "datetime")
+    box = box_of(given["bbox"]) if "bbox" in given else None
+    if "bbox" in given and box is None:
+        raise word(400, "bbox")
+    if given.get("filter-lang", "cql2-text") != "cql2-text":
+        raise word(400, "filter-lang")
+    tree = None
+    if "filter" in given:
+        text = given["filter"].encode()
+        told = filter_model.answer(collection, text)
+        if told != "accepted":
+            cause, place = told.split(" ")
+            raise Refused(400, {"cause": cause, "fault": "filter", "place": int(place)})
+        tree = tree_of(text)
+    if not re.fullmatch("[0-9]{1,18}", given.get("revision", "0"), re.ASCII):
+        raise word(400, "revision")
+    after = identifier_of(given["after"]) if "after" in given else (0, 0)
+    if after is None:
+        raise word(400, "after")
+    revision = int(given["revision"]) if "revision" in given else None
+    return min(int(limit), 1000), days, box, tree, revision, after
+
+
+def items_tree(register, collection, pairs):
+    limit, days, box, tree, revision, after = asked(pairs, collection)
+    if revision is not None and revision > register.revision:
+        raise word(400, "revision")
+    revision = register.revision if revision is None else revision
+    taken = []
+    for identifier, told, values in features(register.as_of(revision), collection):
+        lives = related("T_INTERSECTS", values["lifespan"], days)
+        near = box is None or values.get("geometry") is not None and meets(values["geometry"], box)
+        if lives and near and (tree is None or truth(tree, values) is True) and identifier > after:
+            taken.append((identifier, told))
+    path = f"/collections/{collection}/items"
+    links = [link(target_of(path, pairs), "self")]
+    if len(taken) > limit:
+        more = [it for it in pairs if it[0] not in ("revision", "after")]
+        more += [("revision", str(revision)), ("after", "%d.%d" % taken[limit - 1][0])]
+        links.append(link(target_of(path, more), "next"))
+    rows = [feature_tree(*it) for it in taken[:limit]]
+    return {"features": rows, "links": links, "numberReturned": len(rows), "revision": revision, "type": "FeatureCollection"}
+
+
+def item_tree(register, collection, name):
+    identifier = identifier_of(name)
+    for found, told, _ in features(register.as_of(register.revision), collection):
+        if found == identifier:
+            path = f"/collections/{collection}"
+            links = [link(f"{path}/items/{name}", "self"), link(path, "collection")]
+            return {**feature_tree(found, told), "links": links}
+    raise word(404, "no-feature")
+
+
+# ---- heads
+
+class Head:
+    def __init__(self, method, target, minor, fields):
+        self.method, self.target, self.minor, self.fields = method, target, minor, fields
+
+    def values(self, name):
+        return [value for field, value in self.fields if field.lower() == name]
+
+
+REQUEST_LINE = re.compile(rb"([!#$%&'*+.^_`|~0-9A-Za-z-]+) ([\x21-\x7e\x80-\xff]+) HTTP/1\.([01])\r?")
+FIELD = re.compile(rb"([!#$%&'*+.^_`|~0-9A-Za-z-]+):[ \t]*(.*?)[ \t]*\r?", re.S)
+
+
+def head_at(data):
+    """The head at the front and the bytes behind it; "bad" where none can come, None where one may."""
+    front, at, lines = data[:FRONT], 0, []
+    while True:
+        end = front.find(b"\n", at)
+        if end < 0:
+            return "bad" if len(data) >= FRONT else None
+        line, at = front[at:end], end + 1
+        if line in (b"", b"\r"):
+            if lines:
+                break
+        elif not (FIELD if lines else REQUEST_LINE).fullmatch(line):
+            return "bad"
+        else:
+            lines.append(line)
+    fields = [FIELD.fullmatch(it).groups() for it in lines[1:]]
+    if len(fields) > 64:
+        return "bad"
+    method, target, minor = REQUEST_LINE.fullmatch(lines[0]).groups()
+    return Head(method, target, int(minor), fields), data[at:]
+
+
+def answered(register, head):
+    """The status, the body's tree, and whether a check ends the connection."""
+    if head.minor == 1 and len(head.values(b"host")) != 1:
+        return 400, {"fault": "host"}, True
+    if head.values(b"transfer-encoding") or any(it.strip(b" \t") != b"0" for it in head.values(b"content-length")):
+        return 400, {"fault": "body"}, True
+    try:
+        return 200, resource(register, head), False
+    except Refused as why:
+        return why.status, why.tree, False
+
+
+def resource(register, head):
+    if head.target[:1] != b"/" or any(not 0x21 <= it <= 0x7E for it in head.target):
+        raise word(400, "target")
+    path, _, query = head.target.partition(b"?")
+    for kind, pattern in ROUTES:
+        found = re.fullmatch(pattern, path.decode())
+        if found:
+            break
+    else:
+        raise word(404, "no-resource")
+    if head.method != b"GET":
+        raise word(405, "method")
+    collection = found[1] if found.groups() else None
+    if collection is not None and collection not in SCHEMAS:
+        raise word(404, "no-collection")
+    pairs = pairs_of(query)
+    if kind == "items":
+        return items_tree(register, collection, pairs)
+    if pairs:
+        raise word(400, "unknown")
+    if kind == "landing":
+        return {"links": [link("/", "self"), link("/collections", "data")], "title": "Cadastre"}
+    if kind == "collections":
+        return {"collections": [collection_tree(it) for it in CLASSES], "links": [link("/collections", "self")]}
+    if kind == "item":
+        return item_tree(register, collection, found[2])
+    return collection_tree(collection) if kind == "collection" else queryables_tree(collection)
+
+
+REASONS = {200: "OK", 400: "Bad Request", 404: "Not Found", 405: "Method Not Allowed"}
+
+
+def reply(status, tree, ends):
+    body = compact(tree)
+    lines = [f"HTTP/1.1 {status} {REASONS[status]}", "Content-Type: application/json", f"Content-Length: {len(body)}"]
+    lines += ["Allow: GET"] * (status == 405) + ["Connection: close"] * ends
+    return "".join(it + "\r\n" for it in lines + [""]).encode() + body
+
+
+def closes(head):
+    members = b",".join(head.values(b"connection")).split(b",")
+    return head.minor == 0 or any(it.strip(b" \t").lower() == b"close" for it in members)
+
+
+# ---- the desk
+
+class Desk:
+    def __init__(self):
+        self.register, self.lines = Register(), {}
+
+    def fed(self, number, piece):
+        """The replies to a piece, and whether they end the connection."""
+        held, out = self.lines[number] + piece, b""
+        while True:
+            found = head_at(held)
+            if found is None:
+                self.lines[number] = held
+                return out, False
+            if found == "bad":
+                return out + reply(400, {"fault": "bad-head"}, True), True
+            head, held = found
+            status, tree, ends = answered(self.register, head)
+            ends = ends or closes(head)
+            out += reply(status, tree, ends)
+            if ends:
+                return out, True
+
+    def step(self, kind, rest):
+        if kind == "office":
+            return self.register.apply(json.loads(rest))
+        number, _, text = rest.partition(" ")
+        known = int(number) in self.lines
+        if kind == "open":
+            if known:
+                return "refused 2 KnownConnection"
+            if len(self.lines) == 64:
+                return "refused 3 TooManyConnections"
+            self.lines[int(number)] = b""
+            return "opened"
+        if not known:
+            return "refused 1 UnknownConnection"
+        if kind == "close":
+            del self.lines[int(number)]
+            return "closed"
+        out, ends = self.fed(int(number), piece_of(json.loads(text)))
+        if ends:
+            del self.lines[int(number)]
+        return ("ends " if ends else "sent ") + json.dumps(out.decode("latin-1"), ensure_ascii=True)
+
+
+def piece_of(tree):
+    """A string each of whose characters is a byte, or a list of such strings and of pairs [N, STRING]."""
+    parts = tree if isinstance(tree, list) else [tree]
+    texts = (it if isinstance(it, str) else it[0] * it[1] for it in parts)
+    return "".join(texts).encode("latin-1")
+
+
+def main():
+    desk = Desk()
+    for line in sys.stdin:
+        if line.strip():
+            kind, _, rest = line.rstrip("\n").partition(" ")
+            print(desk.step(kind, rest))
+
+
+if __name__ == "__main__":
+    main()
