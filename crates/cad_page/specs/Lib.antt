@@ -1,3 +1,4 @@
 pub mod Bodies
+pub mod Faults
 pub mod Features
 pub mod Pages

@@ -1,18 +1,21 @@
-//! The bodies that show features: a page of a collection's features, and one feature.
+//! The bodies of what is asked of a collection: a page of its features, one feature, and the fault of a query.
 //!
 //! - [`body`]: the page that a request asks for, of a snapshot of its revision
 //! - [`next_link`]: the target of the link to the page after it
 //! - [`feature_body`]: one feature
+//! - [`fault_body`]: why a query is refused
 //!
 //! Each body is compact text, with the members of each object in byte order of their names. What a body holds is said as
 //! a tree of JSON. Of an empty register `/collections/parcels/items` has the body
 //! `{"features":[],"links":[{"href":"/collections/parcels/items","rel":"self","type":"application/json"}],"numberReturned":0,"revision":0,"type":"FeatureCollection"}`.
 #![tactic(auto)]
 
+mod faults;
 mod features;
 mod links;
 mod pages;
 mod questions;
 
+pub use faults::fault_body;
 pub use features::feature_body;
 pub use pages::{body, next_link};

@@ -1,0 +1,42 @@
+//! How long a snapshot of many parcels takes to build, and a page of them to write.
+
+use crate::parcels::parcels;
+use anyhow::{Context, Result};
+use cad_ask::Ask;
+use cad_feature::Collection;
+use cad_page::body;
+use cad_snapshot::Snapshot;
+use std::time::Instant;
+
+/// How often a page is written.
+const WRITINGS: u32 = 20;
+
+/// Writes the page that the query asks for, and tells what one writing took.
+fn tell_page(rt: &HostRuntime, snapshot: &Snapshot, query: &str) -> Result<()> {
+    let ask = Ask::read(rt.alloc(), Collection::Parcels, query)
+        .ok()
+        .context("a query")?;
+    let mut bytes = 0;
+    let start = Instant::now(rt)?;
+    for _ in 0..WRITINGS {
+        bytes = body(rt.alloc(), &ask, snapshot)?.len();
+    }
+    let spent = start.elapsed(rt)?.as_micros() / u128::from(WRITINGS);
+    eprintln!(rt; "pages: {query}: {bytes} bytes in {spent} microseconds")?;
+    Ok(())
+}
+
+/// Builds a snapshot of so many parcels, and writes pages of it.
+pub fn tell(rt: &HostRuntime, count: u32) -> Result<()> {
+    let count = count.min(1_000_000);
+    let versions = parcels(rt.alloc(), count)?;
+    let start = Instant::now(rt)?;
+    let snapshot = Snapshot::build(rt.alloc(), u64::from(count), &versions)?;
+    let spent = start.elapsed(rt)?.as_millis();
+    eprintln!(rt; "pages: a snapshot of {count} parcels in {spent} ms")?;
+    tell_page(rt, &snapshot, "limit=10")?;
+    tell_page(rt, &snapshot, "limit=1000")?;
+    let last = count.saturating_sub(10);
+    let query = format!(in rt.alloc(); "limit=10&filter=area+%3E+{last}")?;
+    tell_page(rt, &snapshot, query.as_str())
+}
