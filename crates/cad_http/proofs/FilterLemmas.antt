@@ -10,6 +10,7 @@ use Rattle.cql_parser.specs.Syntax.{Syntax}
 use Rattle.cql_parser.specs.Grammar.{Reads}
 use Rattle.cql_parser.specs.Answer.{IsParsed, IsReading}
 use Rattle.cql_parser.specs.Answer as parser
+use Rattle.cql_parser.specs.Laws.{HasFaultOrTree}
 use Rattle.cql_parser.specs.declared.fault.ParseFault.{ParseFault}
 use Rattle.cql_parser.specs.declared.fault.ParseFault.TheVariants as parse
 use Rattle.cql_meaning.specs.declared.check.TypeFault.{TypeFault}
@@ -28,10 +29,7 @@ same_tokens one c text tokens filter spelt a = one text a.tokens tokens a.spelt.
 -- a refusal of the lexer
 pub lexer_refusal : HasFaultOrTokens → (c : Collection) (text : List ℕ) (filter : Filter) (why : LexFault) → lexer.Answers text (Err why)
     → of_lexer why ≡ Refused → ¬ (IsAccepted c text filter)
-lexer_refusal law c text filter (lex.Unterminated place) fault same a = law text (lex.Unterminated place) a.tokens fault a.spelt
-lexer_refusal law c text filter (lex.StrangeCharacter place) fault same a = law text (lex.StrangeCharacter place) a.tokens fault a.spelt
-lexer_refusal law c text filter (lex.TooLong place) fault same a = law text (lex.TooLong place) a.tokens fault a.spelt
-lexer_refusal law c text filter (lex.TooMany place) fault same a = law text (lex.TooMany place) a.tokens fault a.spelt
+lexer_refusal law c text filter (lex.At why) fault same a = law text why a.tokens fault a.spelt
 lexer_refusal law c text filter lex.Memory fault same a = absurd cc
 
 -- where the tokens have no tree
@@ -48,12 +46,10 @@ no_kind_no_filter one c text tokens tree filter spelt reading none a =
     none filter (subst (λ (t : Syntax). IsCondition c t filter) same a.fits)
 
 -- a refusal of the parser
-pub parser_refusal : HasOneSpelling → (c : Collection) (text : List ℕ) (tokens : List Mark) (filter : Filter) (why : ParseFault) → IsSpelt text tokens → parser.Refuses tokens why
+pub parser_refusal : HasOneSpelling → HasFaultOrTree → (c : Collection) (text : List ℕ) (tokens : List Mark) (end : ℕ) (filter : Filter) (why : ParseFault) → IsSpelt text tokens → parser.Answers tokens end (Err why)
     → of_parser why ≡ Refused → ¬ (IsAccepted c text filter)
-parser_refusal one c text tokens filter (parse.TooDeep place) spelt none same = no_tree_no_filter one c text tokens filter spelt none
-parser_refusal one c text tokens filter (parse.NotExpected place) spelt none same = no_tree_no_filter one c text tokens filter spelt none
-parser_refusal one c text tokens filter (parse.EndOfFilter place) spelt none same = no_tree_no_filter one c text tokens filter spelt none
-parser_refusal one c text tokens filter parse.Memory spelt none same = absurd cc
+parser_refusal one law c text tokens end filter (parse.At why) spelt fault same = no_tree_no_filter one c text tokens filter spelt (λ tree. law tokens end why tree fault)
+parser_refusal one law c text tokens end filter parse.Memory spelt fault same = absurd cc
 
 -- a refusal of the kinds
 pub type_refusal : HasOneSpelling → (c : Collection) (text : List ℕ) (tokens : List Mark) (tree : Syntax) (filter : Filter) (why : TypeFault) → IsSpelt text tokens → IsReading tokens tree

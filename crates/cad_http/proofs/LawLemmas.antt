@@ -8,7 +8,7 @@ use Rattle.cql_meaning.specs.Sides.{Sides, sides, yes}
 use Rattle.cql_meaning.specs.Answer.{answer}
 use Rattle.cql_meaning.specs.Laws.{TextHasOneMeaning}
 use Rattle.cad_head.specs.Heads.{Fits, HasNone, IsHopeless, HaveOneHead, HeadsStay}
-use Rattle.cad_request.specs.Query.{PairText}
+use Rattle.cad_query.specs.Pairs.{PairText}
 use Rattle.cad_request.specs.Request.{request_of, closes_connection}
 use Rattle.cad_request.specs.Decisions.{Decision, refused, listed, filtered, decision}
 use Rattle.cad_http.specs.Answers.{page_size, listed_of, listed_reply, IsFilteredReply, IsReplyTo, IsReply}

@@ -11,7 +11,7 @@ use Rattle.cql_meaning.specs.declared.schema.Collection.TheVariants.{Parcels}
 use Rattle.cql_meaning.specs.Accepted.{IsAccepted}
 use Rattle.cql_meaning.specs.Features.{AreFeatures}
 use Rattle.cad_request.specs.declared.fault.RequestFault.TheVariants as fault
-use Rattle.cad_request.specs.Query.{PairText}
+use Rattle.cad_query.specs.Pairs.{PairText}
 use Rattle.cad_head.specs.Front.{front_bytes, IsHeadAt}
 use Rattle.cad_request.specs.Request.{Request, request_at, request_of, closes_connection}
 use Rattle.cad_http.specs.Answers.{listed_of, listed_reply, IsItemsReply, IsReply, IsFilteredReply, fault_reply}

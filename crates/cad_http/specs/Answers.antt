@@ -12,7 +12,7 @@ use Rattle.cad_json.specs.Tree.{items_data, fault_data}
 use Rattle.cad_request.specs.declared.fault.RequestFault.{RequestFault}
 use Rattle.cad_request.specs.declared.fault.RequestFault.TheVariants as fault
 use Rattle.cad_request.specs.Faults.{word_of}
-use Rattle.cad_request.specs.Query.{PairText, written}
+use Rattle.cad_query.specs.Pairs.{PairText, written}
 use Rattle.cad_request.specs.Resources.{items_path}
 use Rattle.cad_request.specs.Request.{Request, closes_connection}
 use Rattle.cad_request.specs.Decisions.{Decision, refused, listed, filtered, decision}

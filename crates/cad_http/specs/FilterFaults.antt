@@ -9,16 +9,11 @@ use Rattle.cad_http.specs.declared.filter.FilterFault.{FilterFault}
 use Rattle.cad_http.specs.declared.filter.FilterFault.TheVariants.{Refused, Memory}
 
 abbrev pub of_lexer : LexFault → FilterFault
-of_lexer (lex.Unterminated place) = Refused
-of_lexer (lex.StrangeCharacter place) = Refused
-of_lexer (lex.TooLong place) = Refused
-of_lexer (lex.TooMany place) = Refused
+of_lexer (lex.At fault) = Refused
 of_lexer lex.Memory = Memory
 
 abbrev pub of_parser : ParseFault → FilterFault
-of_parser (parse.TooDeep place) = Refused
-of_parser (parse.NotExpected place) = Refused
-of_parser (parse.EndOfFilter place) = Refused
+of_parser (parse.At fault) = Refused
 of_parser parse.Memory = Memory
 
 abbrev pub of_types : TypeFault → FilterFault

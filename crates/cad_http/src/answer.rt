@@ -6,7 +6,7 @@ ghost use Rattle.httparse.specs.Spans.{IsRequestWithin};
 ghost use Rattle.serde_json.specs.Written.{compact_text};
 ghost use Rattle.cql_meaning.specs.declared.schema.Collection.TheVariants.{Parcels};
 ghost use Rattle.cql_meaning.specs.Features.{AreFeatures};
-ghost use Rattle.cad_request.specs.Query.{pair_text};
+ghost use Rattle.cad_query.specs.Pairs.{pair_text};
 ghost use Rattle.cad_request.specs.Request.{request_at, closes_connection as closes_connection_of};
 ghost use Rattle.cad_request.specs.Decisions.{decision_of};
 ghost use Rattle.cad_http.specs.Answers.{status_of, fault_reply as fault_reply_of, items_target as items_target_of, listed_reply as listed_reply_of, IsItemsReply, IsFilteredReply, IsReplyTo, IsReply};

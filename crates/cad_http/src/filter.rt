@@ -6,6 +6,7 @@ ghost use Rattle.cql_meaning.specs.declared.schema.Collection.TheVariants.{Parce
 ghost use Rattle.cql_meaning.specs.Accepted.{IsAccepted};
 
 use cql_lexer::laws::{fault_or_tokens, one_spelling};
+use cql_parser::laws::fault_or_tree;
 use cql_lexer::{LexFault, tokens};
 use cql_meaning::check::{TypeFault, check};
 use cql_meaning::filter::Filter;
@@ -28,10 +29,7 @@ impl From<LexFault> for FilterFault {
 
     fn from(fault: LexFault) -> FilterFault {
         match fault {
-            LexFault::Unterminated { .. }
-            | LexFault::StrangeCharacter { .. }
-            | LexFault::TooLong { .. }
-            | LexFault::TooMany { .. } => FilterFault::Refused,
+            LexFault::At(_) => FilterFault::Refused,
             LexFault::Memory => FilterFault::Memory,
         }
     }
@@ -44,9 +42,7 @@ impl From<ParseFault> for FilterFault {
 
     fn from(fault: ParseFault) -> FilterFault {
         match fault {
-            ParseFault::TooDeep { .. }
-            | ParseFault::NotExpected { .. }
-            | ParseFault::EndOfFilter { .. } => FilterFault::Refused,
+            ParseFault::At(_) => FilterFault::Refused,
             ParseFault::Memory => FilterFault::Memory,
         }
     }
@@ -70,9 +66,10 @@ pub fn read_filter(alloc: Global, text: &str) -> Result<Filter, FilterFault>
     ensures accepted { IfOk result (λ filter. IsAccepted Parcels text.now filter) }
     ensures refused { IsErrOf result FilterFault.Refused → (filter : Filter) → ¬ (IsAccepted Parcels text.now filter) }
 {
-    // What the tokens lack no others of the text have, and a text with a fault has none.
+    // What the tokens lack no others of the text have; a text with a fault has none, and tokens with one have no tree.
     one_spelling();
     fault_or_tokens();
+    fault_or_tree();
     let tokens = tokens(alloc, text)?;
     let tree = parse(alloc, &tokens)?;
     let filter = check(alloc, &tree, Collection::Parcels)?;

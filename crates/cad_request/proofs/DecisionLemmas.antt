@@ -4,7 +4,7 @@ use Rattle.std.specs.List.{list_any}
 use Rattle.std.specs.Str.{bytes_eq}
 use Rattle.std.proofs.lemmas.List.Elements.{All-head, All-tail}
 use Rattle.std.proofs.lemmas.Slice.Eq.{bytes_eq-Decides}
-use Rattle.cad_request.specs.Query.{PairText, pairs_of}
+use Rattle.cad_query.specs.Pairs.{PairText, pairs_of}
 use Rattle.cad_request.specs.Request.{Request, path, query}
 use Rattle.cad_request.specs.Resources.{items_path}
 use Rattle.cad_request.specs.Decisions.{is_unknown, asked, decision}

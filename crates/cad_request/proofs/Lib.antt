@@ -1,4 +1,3 @@
 pub mod MemberLemmas
 pub mod RouteLemmas
 pub mod DecisionLemmas
-pub mod PairLemmas

@@ -8,7 +8,7 @@ use Rattle.cad_request.specs.declared.fault.RequestFault.{RequestFault}
 use Rattle.cad_request.specs.declared.fault.RequestFault.TheVariants.{NoResource, Method, Unknown, Repeated}
 use Rattle.cad_request.specs.declared.resource.Resource.{Resource}
 use Rattle.cad_request.specs.declared.resource.Resource.TheVariants.{ParcelItems}
-use Rattle.cad_request.specs.Query.{PairText, pairs_of, pair_text}
+use Rattle.cad_query.specs.Pairs.{PairText, pairs_of, pair_text}
 use Rattle.cad_request.specs.Request.{Request, path, query}
 use Rattle.cad_request.specs.Resources.{resource_of}
 

@@ -1,8 +1,8 @@
 -- What the definitions of requests say together.
-use Rattle.std.specs.Prelude.{◌≡◌, ◌≢◌, ◌<◌, ℕ, true, List, [], ◌∷◌, ◌++◌, codes, All, IsUtf8}
+use Rattle.std.specs.Prelude.{◌≡◌, ◌≢◌, ◌<◌, ℕ, true, List, [], ◌∷◌, ◌++◌, codes, All}
 use Rattle.std.specs.List.{join_with_byte}
 use Rattle.cad_request.specs.declared.fault.RequestFault.TheVariants.{NoResource, Method, Unknown, Repeated}
-use Rattle.cad_request.specs.Query.{PairText, pairs_of, written}
+use Rattle.cad_query.specs.Pairs.{PairText, pairs_of}
 use Rattle.cad_request.specs.Request.{Request, members, closes_connection, path, query}
 use Rattle.cad_request.specs.Resources.{items_path}
 use Rattle.cad_request.specs.Decisions.{refused, listed, filtered, decision}
@@ -50,15 +50,3 @@ MembersMakeTheValue = (value : List ℕ) → join_with_byte 44 (members value) �
 -- HTTP/1.0 closes the connection, whatever its fields are
 abbrev pub OldVersionsClose : Type 0
 OldVersionsClose = (r : Request) → r.minor ≡ 0 → closes_connection r ≡ true
-
--- bytes that are UTF-8
-abbrev pub IsText : List ℕ → Type 0
-IsText bytes = All (λ b. b < 256) bytes × IsUtf8 bytes
-
--- a name and a value that are texts, as those of every pair that was read
-abbrev pub IsPairOfTexts : PairText → Type 0
-IsPairOfTexts pair = IsText pair.0 × IsText pair.1
-
--- pairs of texts that are written as a query are read again as the same pairs
-abbrev pub PairsAreReadBack : Type 0
-PairsAreReadBack = (pairs : List PairText) → All IsPairOfTexts pairs → pairs_of (written pairs) ≡ pairs

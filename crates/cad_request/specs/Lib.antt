@@ -1,5 +1,4 @@
 pub mod Request
-pub mod Query
 pub mod Resources
 pub mod RouteRows
 pub mod Decisions

@@ -3,13 +3,13 @@
 ghost use Rattle.std.specs.Prelude.{◌≡◌, ◌==◌, length, map, IfOk};
 ghost use Rattle.std.specs.List.{list_any, before_first, after_first};
 ghost use Rattle.httparse.specs.Spans.{IsRequestWithin};
-ghost use Rattle.cad_request.specs.Query.{pair_text};
+ghost use Rattle.cad_query.specs.Pairs.{pair_text};
 ghost use Rattle.cad_request.specs.Request.{request_at};
 ghost use Rattle.cad_request.specs.Decisions.{is_unknown as is_unknown_pair, asked, decision, decision_of};
 
 use crate::fault::RequestFault;
-use crate::query::{Pair, read_pairs};
 use crate::resource::{Resource, Routes};
+use cad_query::{Pair, read_pairs};
 use httparse::spans::{HeaderSpan, RequestSpans};
 use std::alloc::{AllocError, Global};
 

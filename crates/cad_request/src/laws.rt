@@ -1,7 +1,7 @@
 //! What the definitions of requests say together. Nothing runs here.
 
 ghost use Rattle.cad_request.specs.Laws.{PathIsFirst, MethodIsSecond, NamesAreThird, CountIsFourth, OneFilterIsAsked, AllIsListed};
-ghost use Rattle.cad_request.specs.Laws.{MembersHoldNoComma, MembersMakeTheValue, OldVersionsClose, PairsAreReadBack};
+ghost use Rattle.cad_request.specs.Laws.{MembersHoldNoComma, MembersMakeTheValue, OldVersionsClose};
 
 /// Another path names no resource, whatever else is asked.
 pub fn path_is_first()
@@ -46,9 +46,4 @@ pub fn members_make_the_value()
 /// A request of HTTP/1.0 closes its connection, whatever its fields are.
 pub fn old_versions_close()
     ensures { OldVersionsClose }
-{}
-
-/// Pairs of texts that are written as a query are read again as the same pairs.
-pub fn pairs_are_read_back()
-    ensures { PairsAreReadBack }
 {}

@@ -4,9 +4,8 @@
 //! - `resource`: the routes of the server, and which resource a path names
 //! - `decision`: what a request asks for, or the first check that it fails
 //! - `fault`: the checks that a request can fail
-//! - `query`: parameters, read and written
 //! - `fields`: whether the fields close the connection
-//! - `laws`: the checks one after the other, the members of a field, parameters written and read again
+//! - `laws`: the checks one after the other, and the members of a field
 //!
 //! Of the head `GET /collections/parcels/items?filter=area+%3E+400 HTTP/1.1` `decide` answers
 //! `Asked::Filtered` with the pair (`filter`, `area > 400`) and the text `area > 400`; `write_pairs` writes
@@ -17,11 +16,10 @@ mod decision;
 mod fault;
 mod fields;
 pub mod laws;
-mod query;
 mod resource;
 
+pub use cad_query::{Pair, write_pairs};
 pub use decision::{Asked, decide};
 pub use fault::RequestFault;
 pub use fields::closes_connection;
-pub use query::{Pair, write_pairs};
 pub use resource::Routes;

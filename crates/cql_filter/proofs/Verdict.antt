@@ -22,6 +22,7 @@ use Rattle.cql_parser.specs.declared.fault.ParseFault.TheVariants as parse
 use Rattle.cql_types.specs.Contract.{ForFault}
 use Rattle.cql_types.specs.Kinds.{IsCondition, IsLeast}
 use Rattle.cql_types.specs.Laws as types
+use Rattle.cql_types.specs.Means.{IsFilter}
 use Rattle.cql_types.specs.declared.fault.Fault.{Fault}
 use Rattle.cql_types.specs.declared.fault.TypeFault.{TypeFault}
 use Rattle.cql_types.specs.declared.fault.TypeFault.TheVariants as check
@@ -29,7 +30,7 @@ use Rattle.cql_types.specs.declared.filter.Filter.{Filter}
 use Rattle.cql_filter.specs.Answer.{Answers, OrMemory}
 use Rattle.cql_filter.specs.Causes.{of_lexer, of_parser, of_types}
 use Rattle.cql_filter.specs.Filters.{IsRead, IsAccepted, IsFirstFault, of_spelling, of_grammar, of_kinds}
-use Rattle.cql_filter.specs.Laws.{HasFilterOrFault, HasFaultOrFilter, HasOneFirstFault, HasFiltersOfAccepted}
+use Rattle.cql_filter.specs.Laws.{HasFilterOrFault, HasFaultOrFilter, HasOneFirstFault, HasFiltersOfAccepted, HasOneFilter}
 use Rattle.cql_filter.specs.declared.cause.Cause.{Cause}
 use Rattle.cql_filter.specs.declared.cause.Cause.TheVariants.{OfLexer, OfParser, OfTypes}
 use Rattle.cql_filter.specs.declared.cause.FilterFault.{FilterFault}
@@ -140,6 +141,10 @@ filter_or_fault spellings tokens_ascend trees trees_ascend conditions schema tex
 pub filters_of_accepted : types.HasFiltersOfConditions → HasFiltersOfAccepted
 filters_of_accepted conditions schema text filter h =
     record { tree = h.tree; read = h.read; condition = conditions schema h.tree filter h.means }
+
+pub one_filter : lexer.HasOneSpelling → parser.HasOneTree → types.HasOneFilter → HasOneFilter
+one_filter one_spelling one_tree one_meaning schema text x y a b =
+    one_meaning schema b.tree x y (subst (λ (t : Syntax). IsFilter schema t x) (same_tree one_spelling one_tree a.read b.read) a.means) b.means
 
 -- ---- what the answers say
 

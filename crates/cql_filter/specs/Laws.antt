@@ -1,6 +1,7 @@
 -- What holds of every text.
 use Rattle.std.specs.Prelude.{◌≡◌, ℕ, ◌⊎◌, List}
 use Rattle.cad_feature.specs.Schema.{Named}
+use Rattle.cql_types.specs.Conditions.{condition_in}
 use Rattle.cql_types.specs.declared.filter.Filter.{Filter}
 use Rattle.cql_filter.specs.Filters.{IsAccepted, IsFilterOf, IsFirstFault}
 use Rattle.cql_filter.specs.declared.cause.Cause.{Cause}
@@ -23,3 +24,8 @@ HasOneFirstFault =
 -- only a text that is accepted writes a filter
 abbrev pub HasFiltersOfAccepted : Type 0
 HasFiltersOfAccepted = (schema : List Named) (text : List ℕ) (filter : Filter) → IsFilterOf schema text filter → IsAccepted schema text
+
+-- a text writes at most one filter, but for where it lies in memory
+abbrev pub HasOneFilter : Type 0
+HasOneFilter =
+    (schema : List Named) (text : List ℕ) (x y : Filter) → IsFilterOf schema text x → IsFilterOf schema text y → condition_in x ≡ condition_in y

@@ -1,6 +1,6 @@
 //! What holds of every text.
 
-ghost use Rattle.cql_filter.specs.Laws.{HasFaultOrFilter, HasFilterOrFault, HasFiltersOfAccepted, HasOneFirstFault};
+ghost use Rattle.cql_filter.specs.Laws.{HasFaultOrFilter, HasFilterOrFault, HasFiltersOfAccepted, HasOneFilter, HasOneFirstFault};
 
 use cql_lexer::laws as lexer;
 use cql_parser::laws as parser;
@@ -48,4 +48,13 @@ pub fn filters_are_of_accepted_texts()
     ensures { HasFiltersOfAccepted }
 {
     types::filters_are_of_conditions();
+}
+
+/// A text writes at most one filter, but for where it lies in memory.
+pub fn text_has_one_filter()
+    ensures { HasOneFilter }
+{
+    lexer::one_spelling();
+    parser::tokens_have_one_tree();
+    types::tree_has_one_filter();
 }

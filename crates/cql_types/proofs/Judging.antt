@@ -1,22 +1,15 @@
 -- From what the parts are to what the node is.
-use Rattle.std.proofs.Common.{◌≡◌, refl, ap, sym, subst, ◌∙◌, ℕ, ◌≤◌, List, [], ◌∷◌, ◌++◌, length, get_or, ◌<◌, ◌+◌, drop, drop-cons, add-one, drop_of_length-le, append-nil, append_assoc, map, true, false, Some, Result, Ok, Err, IfOk, IfErr, OnOk, MatchResult, arith}
-use Rattle.std.specs.Option.{is_some}
+use Rattle.std.proofs.Common.{◌≡◌, refl, ap, sym, subst, ◌∙◌, ℕ, ◌≤◌, List, [], ◌∷◌, ◌++◌, length, get_or, ◌<◌, ◌+◌, drop, drop-cons, add-one, drop_of_length-le, append-nil, append_assoc, map, Result, Ok, Err}
 use Rattle.cad_feature.specs.Schema.{Named}
-use Rattle.cql_parser.specs.Syntax.{Syntax, Parts, none, part, parts_of, node, Op, keyed, place_in, place_of}
+use Rattle.cql_parser.specs.Syntax.{Syntax, Parts, none, part, parts_of, node, Op, keyed, place_in}
 use Rattle.cql_types.specs.declared.fault.Fault.{Fault}
 use Rattle.cql_types.specs.declared.fault.TypeFault.{TypeFault}
 use Rattle.cql_types.specs.declared.fault.TypeFault.TheVariants.{Memory, At}
-use Rattle.cql_types.specs.declared.filter.Filter.{Filter}
 use Rattle.cql_types.specs.declared.filter.Operation.{Operation}
 use Rattle.cql_types.specs.declared.judged.Judged.{Judged}
 use Rattle.cql_types.specs.declared.judged.JudgedStep.{JudgedStep}
-use Rattle.cql_types.specs.declared.judged.Node.{Node}
-use Rattle.cql_types.specs.Kinds.{Kind, Has, is_condition, wrong_kind, IsFault, in_tree, no_condition, IsLeast, IsCondition}
-use Rattle.cql_types.specs.Fits.{condition_fits}
-use Rattle.cql_parser.specs.Order.{IsOrdered}
-use Rattle.cql_types.specs.Means.{Mean, IsFilter, condition_of, kind_of, no_more, one_more, node_means}
+use Rattle.cql_types.specs.Means.{Mean, no_more, one_more, node_means}
 use Rattle.cql_types.specs.Contract.{ForFault, IsFirst, IsFirstIn, node_first, inside_first, here_first, later_first, IsJudged, Judges, Combines, place_first, parts_judged, operations_of, AreJudgedSteps}
-use Rattle.cql_types.proofs.Faults.{first_least, first_wrong, no_fault, same_kind}
 use Rattle.cql_types.proofs.Fitting.{means_has, mean_have}
 
 place_mean : {s : List Named} {ps : Parts} {js : List Judged} → Mean s ps js → place_in ps ≡ place_first js

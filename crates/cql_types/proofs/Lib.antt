@@ -5,6 +5,7 @@ mod Judging
 mod LiteralLemmas
 mod NumberLemmas
 mod Relating
+mod Senses
 mod Terms
 mod Trees
 mod Verdict

@@ -3,7 +3,8 @@ use Rattle.std.specs.Prelude.{◌≡◌, ◌⊎◌, List}
 use Rattle.cad_feature.specs.Schema.{Named}
 use Rattle.cql_parser.specs.Order.{IsOrdered}
 use Rattle.cql_parser.specs.Syntax.{Syntax}
-use Rattle.cql_types.specs.Kinds.{Kind, Has, IsWrong, IsCondition, IsFault, IsLeast}
+use Rattle.cql_types.specs.Conditions.{condition_in}
+use Rattle.cql_types.specs.Kinds.{Kind, Has, IsCondition, IsFault, IsLeast}
 use Rattle.cql_types.specs.Means.{IsFilter}
 use Rattle.cql_types.specs.declared.fault.Fault.{Fault}
 use Rattle.cql_types.specs.declared.filter.Filter.{Filter}
@@ -27,3 +28,7 @@ HasOneLeastFault = (s : List Named) (t : Syntax) (f g : Fault) → IsOrdered t �
 -- what a tree means is a filter only where the tree is a condition
 abbrev pub HasFiltersOfConditions : Type 0
 HasFiltersOfConditions = (s : List Named) (t : Syntax) (x : Filter) → IsFilter s t x → IsCondition s t
+
+-- a tree means at most one filter, but for where it lies in memory
+abbrev pub HasOneFilter : Type 0
+HasOneFilter = (s : List Named) (t : Syntax) (x y : Filter) → IsFilter s t x → IsFilter s t y → condition_in x ≡ condition_in y

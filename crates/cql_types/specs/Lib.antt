@@ -1,3 +1,4 @@
+pub mod Conditions
 pub mod Contract
 pub mod Faults
 pub mod Fits

@@ -5,7 +5,7 @@ ghost use Rattle.cad_feature.specs.Schema.{Named};
 ghost use Rattle.cql_parser.specs.Syntax.{Syntax};
 ghost use Rattle.cql_types.specs.Kinds.{Kind, Has, IsWrong};
 ghost use Rattle.cql_parser.specs.Order.{InOrder};
-ghost use Rattle.cql_types.specs.Laws.{HasConditionOrFault, HasFaultOrCondition, HasFiltersOfConditions, HasOneLeastFault};
+ghost use Rattle.cql_types.specs.Laws.{HasConditionOrFault, HasFaultOrCondition, HasFiltersOfConditions, HasOneFilter, HasOneLeastFault};
 ghost use Rattle.cql_types.specs.declared.fault.Fault.{Fault};
 
 /// A tree has at most one kind, TRUE and FALSE that of both.
@@ -46,4 +46,9 @@ pub fn one_least_fault()
 /// What a tree means is a filter only where the tree is a condition, and then no fault is there.
 pub fn filters_are_of_conditions()
     ensures { HasFiltersOfConditions }
+{}
+
+/// A tree means at most one filter, but for where it lies in memory.
+pub fn tree_has_one_filter()
+    ensures { HasOneFilter }
 {}

@@ -1,5 +1,5 @@
 use Rattle.std.proofs.Common.{Err, map, ap}
-use Rattle.cad_request.specs.Query.{pair_text}
+use Rattle.cad_query.specs.Pairs.{pair_text}
 use Rattle.cad_http.proofs.ReplyLemmas.{refusal_of_text}
 use Rattle.cad_http.proofs.answer.filtered_reply.Goals as goal
 

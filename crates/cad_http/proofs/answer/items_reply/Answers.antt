@@ -1,7 +1,7 @@
 use Rattle.std.proofs.Common.{map}
 use Rattle.std.specs.Option.{option_copied}
 use Rattle.cql_meaning.specs.declared.schema.Collection.TheVariants.{Parcels}
-use Rattle.cad_request.specs.Query.{pair_text}
+use Rattle.cad_query.specs.Pairs.{pair_text}
 use Rattle.cad_http.proofs.ReplyLemmas.{lists_items}
 use Rattle.cad_http.proofs.answer.items_reply.Goals as goal
 

@@ -14,7 +14,8 @@ returns-in_err-tokens-clause-refused c refused filter =
 pub returns-in_err-tree-clause-refused : goal.returns-in_err-tree-clause-refused
 returns-in_err-tree-clause-refused c refused filter =
     let same = fault_given c.from_residual-in_err-tree.result (of_parser c.in_err-tree.field-0.0) _ c.from_residual-in_err-tree.ensures.1 refused in
-    parser_refusal c.one_spelling.ensures Parcels c.args.text.now (marks c.in_ok-tokens.tokens.list.items) filter c.in_err-tree.field-0.0 c.in_ok-tokens.ensures.answer.0 c.in_err-tree.ensures.refused same
+    parser_refusal c.one_spelling.ensures c.fault_or_tree.ensures Parcels c.args.text.now (marks c.in_ok-tokens.tokens.list.items) c.in_ok-tokens.tokens.end filter c.in_err-tree.field-0.0
+    c.in_ok-tokens.ensures.answer.0 c.in_err-tree.ensures.answer same
 
 pub returns-in_err-filter-clause-refused : goal.returns-in_err-filter-clause-refused
 returns-in_err-filter-clause-refused c refused filter =

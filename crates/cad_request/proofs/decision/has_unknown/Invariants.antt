@@ -1,6 +1,6 @@
 use Rattle.std.proofs.Common.{◌≡◌, map, take}
 use Rattle.std.specs.List.{list_any}
-use Rattle.cad_request.specs.Query.{pair_text}
+use Rattle.cad_query.specs.Pairs.{pair_text}
 use Rattle.cad_request.specs.Decisions.{is_unknown}
 use Rattle.cad_request.proofs.decision.has_unknown.Given as goal
 

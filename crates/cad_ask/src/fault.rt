@@ -1,0 +1,128 @@
+//! Why a query is refused.
+
+use cad_query::ParameterFault;
+use cql_filter::{Cause, FilterFault};
+use std::alloc::AllocError;
+use thiserror::Error;
+
+/// Why a query is refused. The faults are looked for in this order.
+#[derive(Clone, Copy, Debug, PartialEq, Eq, Error)]
+pub enum AskFault {
+    /// A parameter has an unknown name.
+    #[error("a parameter has an unknown name")]
+    Unknown,
+    /// A parameter comes more than once.
+    #[error("a parameter comes more than once")]
+    Repeated,
+    /// `limit` is no number from 1.
+    #[error("the limit is no number from 1")]
+    Limit,
+    /// `datetime` is neither a moment nor an interval.
+    #[error("the datetime is neither a moment nor an interval")]
+    Datetime,
+    /// `bbox` is no box.
+    #[error("the bbox is no box")]
+    Bbox,
+    /// `filter-lang` is not `cql2-text`.
+    #[error("the language of the filter is unknown")]
+    FilterLang,
+    /// `filter` is no filter of the collection: the cause, and the byte of the filter's text at which it stands.
+    #[error("the filter is not accepted")]
+    Filter { place: usize, cause: Cause },
+    /// `revision` is no number of 1 to 18 digits.
+    #[error("the revision is no number of 1 to 18 digits")]
+    Revision,
+    /// `after` is no identifier.
+    #[error("the identifier to start after is none")]
+    After,
+    /// A growth was refused, at any point.
+    #[error("out of memory")]
+    Memory,
+}
+
+impl AskFault {
+    ghost use Rattle.std.specs.Prelude.{◌≡◌, ◌≢◌, Some};
+    ghost use Rattle.cad_ask.specs.Faults.{fault_number, fault_name, of_parameter};
+
+    /// The number by which programs tell the fault.
+    pub fn number(&self) -> u8
+        ensures { result ≡ fault_number self.now }
+    {
+        match self {
+            AskFault::Unknown => 1,
+            AskFault::Repeated => 2,
+            AskFault::Limit => 3,
+            AskFault::Datetime => 4,
+            AskFault::Bbox => 5,
+            AskFault::FilterLang => 6,
+            AskFault::Filter { place: _, cause: _ } => 7,
+            AskFault::Revision => 8,
+            AskFault::After => 9,
+            AskFault::Memory => 10,
+        }
+    }
+
+    /// The name that programs print.
+    pub fn name(&self) -> &'static str
+        ensures { result.now ≡ fault_name self.now }
+    {
+        match self {
+            AskFault::Unknown => "Unknown",
+            AskFault::Repeated => "Repeated",
+            AskFault::Limit => "Limit",
+            AskFault::Datetime => "Datetime",
+            AskFault::Bbox => "Bbox",
+            AskFault::FilterLang => "FilterLang",
+            AskFault::Filter { place: _, cause: _ } => "Filter",
+            AskFault::Revision => "Revision",
+            AskFault::After => "After",
+            AskFault::Memory => "Memory",
+        }
+    }
+
+    /// The same fault of a parameter; that of a filter has a place and a cause beside.
+    pub(crate) fn of(fault: ParameterFault) -> AskFault
+        requires { fault ≢ ParameterFault.Filter }
+        ensures { of_parameter fault ≡ Some result }
+    {
+        match fault {
+            ParameterFault::Unknown => AskFault::Unknown,
+            ParameterFault::Repeated => AskFault::Repeated,
+            ParameterFault::Limit => AskFault::Limit,
+            ParameterFault::Datetime => AskFault::Datetime,
+            ParameterFault::Bbox => AskFault::Bbox,
+            ParameterFault::FilterLang => AskFault::FilterLang,
+            ParameterFault::Filter => unreachable!(),
+            ParameterFault::Revision => AskFault::Revision,
+            ParameterFault::After => AskFault::After,
+        }
+    }
+}
+
+impl From<AllocError> for AskFault {
+    ghost use Rattle.std.specs.Prelude.{◌≡◌};
+    ghost use Rattle.cad_ask.specs.declared.fault.AskFault.TheVariants.{Memory};
+
+    ghost from_gives = { λ _ fault. fault ≡ Memory };
+
+    fn from(_: AllocError) -> AskFault {
+        AskFault::Memory
+    }
+}
+
+impl From<FilterFault> for AskFault {
+    ghost use Rattle.std.specs.Prelude.{◌≡◌};
+    ghost use Rattle.cad_ask.specs.Faults.{of_filter};
+
+    ghost from_gives = { λ fault gives. gives ≡ of_filter fault };
+
+    fn from(fault: FilterFault) -> AskFault {
+        match fault {
+            FilterFault::Refused(cause) => AskFault::Filter {
+                place: cause.place(),
+                cause,
+            },
+            FilterFault::Memory => AskFault::Memory,
+        }
+    }
+}

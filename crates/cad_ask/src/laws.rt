@@ -1,0 +1,28 @@
+//! What holds of every query. Nothing runs here.
+
+ghost use Rattle.cad_ask.specs.Laws.{HasFaultOrAsks, HasOneFirstFault, NextAsksTheSame};
+
+use cad_query::laws::continued_goes_on;
+use cql_filter::laws as filters;
+
+/// The pairs of a query have at most one first fault.
+pub fn one_first_fault()
+    ensures { HasOneFirstFault }
+{
+    filters::fault_or_filter();
+    filters::one_first_fault();
+}
+
+/// Pairs with a fault ask for nothing.
+pub fn fault_or_asks()
+    ensures { HasFaultOrAsks }
+{
+    filters::fault_or_filter();
+}
+
+/// The pairs of the next page ask for the same, at the page's revision and after its last feature.
+pub fn next_asks_the_same()
+    ensures { NextAsksTheSame }
+{
+    continued_goes_on();
+}

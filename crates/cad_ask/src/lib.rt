@@ -1,0 +1,16 @@
+//! What a request for the features of a collection asks: the parameters of its query, and its filter.
+//!
+//! - `Ask`: what is asked; `Ask::read` reads it from a query
+//! - `AskFault`: why a query is refused; the faults are looked for in the order of their numbers
+//! - `laws`: a query has at most one first fault, and then asks for nothing; the next page's asks the same
+//!
+//! Of parcels, `filter=area+%3E+400&limit=2` asks for at most two features whose area is above 400; of
+//! `limit=2&filter=label+%3E+5` the first fault is `AskFault::Filter` with the cause `WrongKind` at place 8.
+#![tactic(auto)]
+
+mod ask;
+mod fault;
+pub mod laws;
+
+pub use ask::Ask;
+pub use fault::AskFault;

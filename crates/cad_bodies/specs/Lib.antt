@@ -1,0 +1,5 @@
+pub mod Paths
+pub mod Links
+pub mod Offers
+pub mod Queryables
+pub mod Faults

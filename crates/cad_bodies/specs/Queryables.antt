@@ -1,0 +1,35 @@
+-- The properties that filters may name, as a JSON Schema (OGC 19-079r2, 6.2: queryables; the format interval and a path as $id: own profile), members in byte order of their names.
+use Rattle.std.specs.Prelude.{List, fold, codes, false}
+use Rattle.serde_json.specs.Data.{Data, boolean, string, object, Members, member, no_members, put}
+use Rattle.cad_feature.specs.declared.collection.Collection.{Collection}
+use Rattle.cad_feature.specs.declared.property.PropertyKind.{PropertyKind}
+use Rattle.cad_feature.specs.declared.property.PropertyKind.TheVariants.{Text, Whole, Flag, Day, Span, Spot, Area}
+use Rattle.cad_feature.specs.Schema.{Named, schema_of}
+use Rattle.cad_bodies.specs.Paths.{queryables_path}
+
+-- what a value of the kind is
+abbrev pub kind_data : PropertyKind → Data
+kind_data Text = object (member (codes "type") (string (codes "string")) no_members)
+kind_data Whole = object (member (codes "type") (string (codes "integer")) no_members)
+kind_data Flag = object (member (codes "type") (string (codes "boolean")) no_members)
+kind_data Day = object (member (codes "format") (string (codes "date")) (member (codes "type") (string (codes "string")) no_members))
+kind_data Span = object (member (codes "format") (string (codes "interval")) no_members)
+kind_data Spot = object (member (codes "format") (string (codes "geometry-point")) no_members)
+kind_data Area = object (member (codes "format") (string (codes "geometry-polygon")) no_members)
+
+-- the members, and one more for a property, in byte order of the names
+abbrev pub with_property : Members → Named → Members
+with_property members property = put property.0 (kind_data property.1) members
+
+-- each property of the schema under its name
+abbrev pub properties_data : List Named → Data
+properties_data schema = object (fold with_property no_members schema)
+
+-- the schema of a collection's features, which have no other properties
+abbrev pub queryables_data : Collection → Data
+queryables_data c =
+    object (member (codes "$id") (string (queryables_path c))
+    (member (codes "$schema") (string (codes "https://json-schema.org/draft/2020-12/schema"))
+    (member (codes "additionalProperties") (boolean false)
+    (member (codes "properties") (properties_data (schema_of c))
+    (member (codes "type") (string (codes "object")) no_members)))))

@@ -1,0 +1,10 @@
+pub mod PartLemmas
+pub mod NumeralLemmas
+pub mod LinkLemmas
+pub mod FaultLemmas
+pub mod TextLemmas
+pub mod PairLemmas
+pub mod FirstLemmas
+pub mod IdentifierLemmas
+pub mod TargetLemmas
+pub mod ContinuedLemmas

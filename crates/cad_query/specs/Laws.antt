@@ -1,0 +1,81 @@
+-- What the definitions of parameters, identifiers and links say together.
+use Rattle.std.specs.Prelude.{◌≡◌, ◌↔◌, ℕ, ◌<◌, ◌^◌, ◌==◌, Bool, true, false, List, codes, Some, None, All, IsUtf8}
+use Rattle.std.specs.List.{before_first, after_first}
+use Rattle.cad_query.specs.declared.fault.ParameterFault.{ParameterFault}
+use Rattle.cad_query.specs.Pairs.{PairText, pairs_of, written, given}
+use Rattle.cad_query.specs.Parts.{is_byte}
+use Rattle.cad_query.specs.Faults.{fault_number}
+use Rattle.cad_query.specs.Numerals.{limit_of, revision_of}
+use Rattle.cad_query.specs.Edges.{box_of}
+use Rattle.cad_query.specs.Identifiers.{Numbers, Identifies, identifier_text, identifier_named}
+use Rattle.cad_query.specs.Parameters.{have, first_fault, asked_for, days_of}
+use Rattle.cad_query.specs.Links.{continued, self_target, next_target}
+
+-- ---- faults
+
+-- a fault is told exactly where the pairs have it and none with a lower number
+abbrev pub TheFirstIsTold : Type 0
+TheFirstIsTold =
+    (is_filter : List ℕ → Bool) (pairs : List PairText) (fault : ParameterFault)
+    → (first_fault is_filter pairs ≡ Some fault) ↔ ((have is_filter fault pairs ≡ true) × ((other : ParameterFault) → fault_number other < fault_number fault → have is_filter other pairs ≡ false))
+
+-- none is told exactly where the pairs have none
+abbrev pub NoneIsTold : Type 0
+NoneIsTold =
+    (is_filter : List ℕ → Bool) (pairs : List PairText)
+    → (first_fault is_filter pairs ≡ None) ↔ ((fault : ParameterFault) → have is_filter fault pairs ≡ false)
+
+-- ---- texts that are written and read again
+
+-- a name and a value in UTF-8
+abbrev pub IsPairOfTexts : PairText → Type 0
+IsPairOfTexts pair = IsUtf8 pair.0 × IsUtf8 pair.1
+
+-- pairs of texts that are written as a query are read again as the same pairs
+abbrev pub PairsAreReadBack : Type 0
+PairsAreReadBack = (pairs : List PairText) → All IsPairOfTexts pairs → pairs_of (written pairs) ≡ pairs
+
+-- the pairs of any query are pairs of texts
+abbrev pub PairsAreTexts : Type 0
+PairsAreTexts = (query : List ℕ) → All IsPairOfTexts (pairs_of query)
+
+-- what a target asks for: its path and the pairs of its query (RFC 9110, section 4.2: http URI; the first `?` parts them)
+abbrev pub path_of : List ℕ → List ℕ
+path_of target = before_first (is_byte 63) target
+
+abbrev pub asked_pairs : List ℕ → List PairText
+asked_pairs target = pairs_of (after_first (is_byte 63) target)
+
+-- a path holds no `?`
+abbrev pub IsPath : List ℕ → Type 0
+IsPath path = All (λ b. (b == 63) ≡ false) path
+
+-- the target of a page's own link asks for the same path and pairs
+abbrev pub SelfIsReadBack : Type 0
+SelfIsReadBack =
+    (path : List ℕ) (pairs : List PairText) → IsPath path → All IsPairOfTexts pairs
+    → (path_of (self_target path pairs) ≡ path) × (asked_pairs (self_target path pairs) ≡ pairs)
+
+-- the target of the link to the next page asks for the same path and the continued pairs
+abbrev pub NextIsReadBack : Type 0
+NextIsReadBack =
+    (path : List ℕ) (pairs : List PairText) (revision : ℕ) (last : Numbers)
+    → IsPath path → All IsPairOfTexts pairs → revision < 10 ^ 18 → Identifies (identifier_text last) last
+    → (path_of (next_target path pairs revision last) ≡ path) × (asked_pairs (next_target path pairs revision last) ≡ continued revision last pairs)
+
+-- pairs that ask the same, but begin at this revision after this identifier
+pub record AsksToGoOn (is_filter : List ℕ → Bool) (pairs : List PairText) (revision : ℕ) (last : Numbers) (again : List PairText) : Type 0 where
+  pub no_fault : first_fault is_filter again ≡ None
+  pub same_limit : asked_for limit_of (codes "limit") again ≡ asked_for limit_of (codes "limit") pairs
+  pub same_datetime : asked_for days_of (codes "datetime") again ≡ asked_for days_of (codes "datetime") pairs
+  pub same_bbox : asked_for box_of (codes "bbox") again ≡ asked_for box_of (codes "bbox") pairs
+  pub same_filter : given (codes "filter") again ≡ given (codes "filter") pairs
+  pub revision_is : asked_for revision_of (codes "revision") again ≡ Some revision
+  pub after_is : asked_for identifier_named (codes "after") again ≡ Some last
+
+-- the continued pairs of a page that was asked for without a fault go on with it
+abbrev pub ContinuedGoesOn : Type 0
+ContinuedGoesOn =
+    (is_filter : List ℕ → Bool) (pairs : List PairText) (revision : ℕ) (last : Numbers)
+    → revision < 10 ^ 18 → Identifies (identifier_text last) last
+    → first_fault is_filter pairs ≡ None → AsksToGoOn is_filter pairs revision last (continued revision last pairs)

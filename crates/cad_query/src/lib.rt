@@ -1,0 +1,34 @@
+//! What a request for features asks by its parameters, and the links that a page of features carries.
+//!
+//! - `Pair`: a parameter; `read_pairs` and `write_pairs` read and write the pairs of a query
+//! - `Identifier`: the object and the number of a version, as the text `3.1`
+//! - `Selection`, `filter_text` and `Continuation`: what the pairs ask for; they are read in this order
+//! - `ParameterFault`: why pairs are refused, in the order in which its faults are looked for
+//! - `self_target` and `next_target`: the targets of the links to a page and to the one after it
+//! - `laws`: that each fault is told where it is the first, and that what is written is read again
+//!
+//! Of `limit=2&datetime=2012-05-01` the pairs are (`limit`, `2`) and (`datetime`, `2012-05-01`); they select at
+//! most 2 features of that day. Where the last one of the page at revision 10 is 2.1, `next_target` over
+//! `/collections/parcels/items` is
+//! `/collections/parcels/items?limit=2&datetime=2012-05-01&revision=10&after=2.1`.
+#![tactic(auto)]
+
+mod continuation;
+mod edges;
+mod fault;
+mod identifier;
+pub mod laws;
+mod links;
+mod names;
+mod numerals;
+mod pairs;
+mod parts;
+mod selection;
+
+pub use continuation::Continuation;
+pub use fault::ParameterFault;
+pub use identifier::Identifier;
+pub use links::{next_target, self_target};
+pub use names::filter_text;
+pub use pairs::{Pair, read_pairs, write_pairs};
+pub use selection::Selection;

@@ -1,0 +1,99 @@
+//! Queries: what they ask for, and the links of their pages.
+
+use cad_query::{
+    Continuation, Identifier, Pair, ParameterFault, Selection, filter_text, next_target,
+    read_pairs, self_target,
+};
+use std::alloc::{AllocError, Global};
+
+/// The path of the list of features.
+const PATH: &str = "/items";
+
+/// What a query asks for, or its first fault; the filter is not read.
+pub fn asked(alloc: Global, query: &str) -> Result<String, AllocError> {
+    let pairs = read_pairs(alloc, query.as_bytes())?;
+    match Selection::read(&pairs) {
+        Err(fault) => told(alloc, fault),
+        Ok(selection) => match Continuation::read(&pairs) {
+            Err(fault) => told(alloc, fault),
+            Ok(continuation) => described(alloc, selection, filter_text(&pairs), continuation),
+        },
+    }
+}
+
+fn told(alloc: Global, fault: ParameterFault) -> Result<String, AllocError> {
+    format!(in alloc; "{} {} {}", fault.number(), fault.name(), fault.word())
+}
+
+fn described(
+    alloc: Global,
+    selection: Selection,
+    filter: Option<&str>,
+    continuation: Continuation,
+) -> Result<String, AllocError> {
+    let mut text = format!(in alloc; "limit {}", selection.limit)?;
+    put_days(selection, &mut text)?;
+    put_box(alloc, selection, &mut text)?;
+    if let Some(filter) = filter {
+        text.push_str(" filter ")?;
+        text.push_str(filter)?;
+    }
+    if let Some(revision) = continuation.revision {
+        text.push_str(&format!(in alloc; " revision {revision}")?)?;
+    }
+    if let Some(after) = continuation.after {
+        text.push_str(" after ")?;
+        text.push_str(&after.text(alloc)?)?;
+    }
+    Ok(text)
+}
+
+fn put_days(selection: Selection, text: &mut String) -> Result<(), AllocError> {
+    let Some(days) = selection.datetime else {
+        return Ok(());
+    };
+    text.push_str(" datetime ")?;
+    if let Some(from) = days.from {
+        from.put(text)?;
+    }
+    text.push_str("/")?;
+    if let Some(to) = days.to {
+        to.put(text)?;
+    }
+    Ok(())
+}
+
+fn put_box(alloc: Global, selection: Selection, text: &mut String) -> Result<(), AllocError> {
+    let Some(bounds) = selection.bbox else {
+        return Ok(());
+    };
+    let lower = format!(in alloc; " bbox {},{}", bounds.x_min, bounds.y_min)?;
+    let upper = format!(in alloc; ",{},{}", bounds.x_max, bounds.y_max)?;
+    text.push_str(&lower)?;
+    text.push_str(&upper)
+}
+
+/// The target of the link to the page itself.
+pub fn itself(alloc: Global, query: &str) -> Result<String, AllocError> {
+    let pairs = read_pairs(alloc, query.as_bytes())?;
+    self_target(alloc, PATH, &pairs)
+}
+
+/// The target of the link to the next page.
+pub fn next(alloc: Global, query: &str, place: &str) -> Result<String, AllocError> {
+    let pairs = read_pairs(alloc, query.as_bytes())?;
+    let (revision, last) = place.split_once(' ').unwrap_or((place, ""));
+    match (revision.parse(), Identifier::read(last)) {
+        (Ok(revision), Some(last)) => next_of(alloc, &pairs, revision, last),
+        _ => String::from_str(alloc, "no place"),
+    }
+}
+
+fn next_of(
+    alloc: Global,
+    pairs: &[Pair],
+    revision: u64,
+    last: Identifier,
+) -> Result<String, AllocError> {
+    next_target(alloc, PATH, pairs, revision, last)
+}
