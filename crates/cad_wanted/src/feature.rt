@@ -1,0 +1,40 @@
+//! Single features.
+
+ghost use Rattle.std.specs.Prelude.{IfOk};
+ghost use Rattle.cad_query.specs.Pairs.{pairs_of};
+ghost use Rattle.cad_wanted.specs.Wants.{IsFeatureWanted, IsIdentified};
+
+use crate::plain::{has_pairs, unknown};
+use crate::request::Wanted;
+use crate::told::refusal;
+use cad_feature::Collection;
+use cad_query::Identifier;
+use cad_reply::Status;
+use std::alloc::{AllocError, Global};
+
+/// The feature that the text identifies, unless the query has a parameter.
+pub(crate) fn wanted_feature(
+    alloc: Global,
+    collection: Collection,
+    text: &str,
+    query: &str,
+) -> Result<Wanted, AllocError>
+    ensures { IfOk result (IsFeatureWanted collection (pairs_of query.now) text.now) }
+{
+    if has_pairs(alloc, query)? {
+        return Ok(Wanted::Told(unknown(alloc)?));
+    }
+    identified(alloc, collection, text)
+}
+
+fn identified(alloc: Global, collection: Collection, text: &str) -> Result<Wanted, AllocError>
+    ensures { IfOk result (IsIdentified collection text.now) }
+{
+    match Identifier::read(text) {
+        Some(identifier) => Ok(Wanted::Feature {
+            collection,
+            identifier,
+        }),
+        None => Ok(Wanted::Told(refusal(alloc, Status::NotFound, "no-feature")?)),
+    }
+}
