@@ -14,12 +14,17 @@ hello
 
 const ANSWERS: &str = "revision 1\nrefused 0 NotACommand\nrevision 2\n";
 
-/// Behind so many bytes of the lines the answers have so many bytes, and the ledger that revision.
-const PROGRESS: [(usize, usize, u64); 4] = [(0, 0, 0), (58, 11, 1), (64, 33, 1), (112, 44, 2)];
+/// Behind so many bytes of the lines these are the answers, and the ledger has that revision.
+const PROGRESS: [(usize, &str, u64); 4] = [
+    (0, "", 0),
+    (58, "revision 1\n", 1),
+    (64, "revision 1\nrefused 0 NotACommand\n", 1),
+    (112, ANSWERS, 2),
+];
 
-/// What stands behind so many bytes of the lines: the answers' length and the revision.
-fn progress(bytes: usize) -> (usize, u64) {
-    let mut reached = (0, 0);
+/// What stands behind so many bytes of the lines: the answers and the revision.
+fn progress(bytes: usize) -> (&'static str, u64) {
+    let mut reached = ("", 0);
     for (from, answers, revision) in PROGRESS {
         if from <= bytes {
             reached = (answers, revision);
@@ -40,10 +45,7 @@ fn stops_where_reading_does(rt: HostRuntime) -> Result<(), Fail> {
             let (answers, revision) = progress(bytes);
             assert_eq!(rt; ended, Err(OfficeFault::Read), "after {bytes}");
             assert_eq!(rt; reader.reads(), bytes.div_ceil(piece) + 1, "after {bytes}");
-            assert!(rt;
-                writer.has_taken(&ANSWERS.as_bytes()[..answers]),
-                "after {bytes}"
-            );
+            assert!(rt; writer.has_taken(answers.as_bytes()), "after {bytes}");
             assert_eq!(rt; ledger.revision(), revision, "after {bytes}");
         }
     }
