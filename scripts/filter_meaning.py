@@ -7,10 +7,7 @@ those of scripts/filter_model.py, the features are written out below. Cases are 
 
     scripts/meaning_cases.py | scripts/filter_meaning.py
 """
-import re
-import sys
-
-from filter_model import COMMON, RIGHT, SCHEMAS, answer, day_of, tree_of, whole_of
+from filter_model import COMMON, SCHEMAS, answer, day_of, tell, tree_of, whole_of
 
 # ---- the sample register: (object, number, begin, end, further values)
 
@@ -295,12 +292,5 @@ def told(name, data):
     return first if first != "accepted" else taken(collection, asked_days(asked) if slash else None, tree_of(data))
 
 
-def main():
-    for line in sys.stdin.buffer.read().split(b"\n"):
-        if line:
-            name, _, text = line.partition(b" ")
-            print(told(name.decode(), text))
-
-
 if __name__ == "__main__":
-    main()
+    tell(told)

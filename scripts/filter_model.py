@@ -431,12 +431,13 @@ def answer(collection, data):
         return f"{fault.cause} {fault.place}"
 
 
-def main():
+def tell(answer_of):
+    """Prints what each case of standard input is answered."""
     for line in sys.stdin.buffer.read().split(b"\n"):
         if line:
-            collection, _, text = line.partition(b" ")
-            print(answer(collection.decode(), text))
+            name, _, text = line.partition(b" ")
+            print(answer_of(name.decode(), text))
 
 
 if __name__ == "__main__":
-    main()
+    tell(answer)
