@@ -3,20 +3,24 @@ RT ?= rt
 # How many crates `make check` proves side by side.
 JOBS ?= $(shell nproc)
 
-.PHONY: sample cases test check refused bench register-file office-file clean
+.PHONY: sample cases test check refused bench register-file office-file serve-file clients clean
 
 # Proves and builds the program, and answers the request in crates/cadastre/stdin. Crates that do not wait for each other are proved side by side.
 sample: check
 	cd crates/cadastre && $(RT) run -- sample < stdin
 
-# Holds the stored answers of the filter cases, and the examples of docs/FILTERS.md, against a second reading of the rules.
+# Holds the stored answers of the filter cases, the examples of docs/FILTERS.md and the stored answers of the server's cases against
+# second readings of the rules, and the examples of docs/API.md against the server's cases.
 cases:
 	scripts/check_filter_cases
+	scripts/check_server_cases
+	scripts/check_api_examples
 
-# The whole gate: the cases held against a second reading, every proof from nothing, the must-fail edits, the tests, each program as two compilers build it, and the program on files of the office.
+# The whole gate: the cases held against a second reading, every proof from nothing, the must-fail edits, the tests, each program as two compilers build it, and the program on files of the office and at an address.
 test: cases
 	$(RT) ci
 	scripts/check_office
+	scripts/check_serve
 
 # Every crate, over what earlier checks kept.
 check:
@@ -33,14 +37,23 @@ refused:
 bench: sample
 	cd crates/cad_bench && $(RT) run -- 100
 	scripts/bench
+	scripts/bench_serve
 
 # Has the real sqlite3 look at a file that the program wrote.
 register-file: sample
 	scripts/check_register_file
 
-# Runs `cadastre office` on a new file, a standing one and foreign ones.
+# Runs `cadastre office` on a new file, a standing one and foreign ones, and `cadastre ask` over them.
 office-file: sample
 	scripts/check_office
+
+# Runs `cadastre serve` on a file of the office, with clients, and with wrong arguments, files and addresses.
+serve-file: sample
+	scripts/check_serve
+
+# Has curl, GDAL and OWSLib read a register of 2,000 parcels from `cadastre serve`.
+clients: sample
+	scripts/check_clients
 
 clean:
 	rm -rf crates/*/out

@@ -1,12 +1,14 @@
 #!/usr/bin/env python3
 """A second reading of the server's rules, in Python and not from the crates.
 
-It tells what a desk over a ledger in memory answers to events, one a line: `open C`, `bytes C JSON`, `close C` and
-`office COMMAND`, as crates/desk_cases has them. Filters and features are judged by scripts/filter_model.py and
-scripts/filter_meaning.py. No stored answers are held against it yet: it waits for the server over the desk.
+It tells what a desk over a ledger in memory, which holds the sample register, answers to events, one a line: `open C`,
+`bytes C JSON`, `close C`, `office COMMAND`, `serve C JSON`, and `sample` and `empty`, which begin anew. Lines and answers are
+those of crates/cad_cases. Filters and features are judged by scripts/filter_model.py and scripts/filter_meaning.py.
+scripts/check_server_cases holds the stored answers of crates/cad_cases against it.
 
     scripts/server_model.py < EVENTS
 """
+from datetime import datetime, timedelta
 import json
 import re
 import sys
@@ -15,6 +17,9 @@ from urllib.parse import quote_plus, unquote_to_bytes
 import filter_model
 from filter_meaning import asked_days, meets, related, shape_of, span, truth
 from filter_model import COMMON, SCHEMAS, day_of, is_ring, tree_of
+
+# Digits without end are read as numbers.
+sys.set_int_max_str_digits(0)
 
 FRONT = 32768
 CLASSES = {"parcels": "parcel", "rights": "right", "restrictions": "restriction", "units": "unit", "parties": "party"}
@@ -57,18 +62,18 @@ class Register:
     def apply(self, command):
         why = self.refusal(command)
         if why:
-            return f"refused 5 Register {why}"
+            return f"5 Register {why}"
         self.revision += 1
         mine = [it for it in self.versions if it["object"] == command["object"]]
         if command["do"] == "retire":
             mine[-1].update(last=command["last"], closed=self.revision)
-            return f"revision {self.revision}"
+            return f"Entered {self.revision}"
         if command["do"] == "amend":
             mine[-1].update(last=day_before(command["first"]), closed=self.revision)
         body = next(it for it in CLASSES.values() if it in command)
         self.versions.append({"object": command["object"], "number": len(mine) + 1, "class": body, "first": command["first"],
                               "last": None, "entered": self.revision, "closed": None, **command[body]})
-        return f"revision {self.revision}"
+        return f"Entered {self.revision}"
 
     def as_of(self, revision):
         shown = [dict(it) for it in self.versions if it["entered"] <= revision]
@@ -76,6 +81,30 @@ class Register:
             if it["closed"] and it["closed"] > revision:
                 it["last"] = None
         return sorted(shown, key=lambda it: (it["object"], it["number"]))
+
+
+SQUARE = [[0, 0], [20000, 0], [20000, 20000], [0, 20000]]
+SECOND = [[20000, 0], [40000, 0], [40000, 20000], [20000, 20000]]
+TRIANGLE = [[0, 30000], [30000, 30000], [0, 60000]]
+SAMPLE = [
+    {"do": "enter", "object": 10, "first": "2000-01-01", "unit": {"name": "Mill"}},
+    {"do": "enter", "object": 11, "first": "2000-01-01", "unit": {}},
+    {"do": "enter", "object": 20, "first": "2000-01-01", "party": {"name": "Ana Straße", "code": "naturalPerson"}},
+    {"do": "enter", "object": 1, "first": "2001-01-01", "parcel": {"unit": 10, "label": "A-1", "area": 400, "shape": SQUARE}},
+    {"do": "amend", "object": 1, "first": "2010-01-01", "parcel": {"unit": 10, "label": "A-1", "area": 380, "shape": SQUARE}},
+    {"do": "enter", "object": 2, "first": "2005-06-01", "parcel": {"unit": 10, "label": "A-2", "shape": SECOND}},
+    {"do": "enter", "object": 3, "first": "2003-01-01", "parcel": {"unit": 11, "label": "b-7", "area": 900, "shape": TRIANGLE}},
+    {"do": "enter", "object": 4, "first": "2003-01-01", "parcel": {"unit": 11, "label": "C%1", "area": 0}},
+    {"do": "enter", "object": 30, "first": "2005-01-01", "right": {"unit": 10, "party": 20, "code": "ownership", "share": [1, 2]}},
+    {"do": "enter", "object": 31, "first": "2006-01-01", "restriction": {"unit": 11, "code": "noBuilding", "required": False}},
+]
+
+
+def sample():
+    register = Register()
+    for command in SAMPLE:
+        register.apply(command)
+    return register
 
 
 def day_before(text):
@@ -202,12 +231,30 @@ def box_of(text):
     return ("frame", (box[0], box[1]), (box[2], box[3])) if good else None
 
 
+INSTANT = re.compile(r"([0-9]{4}-[0-9]{2}-[0-9]{2})[Tt ]([0-9]{2}:[0-9]{2})(?:(:[0-9]{2})(?:\.[0-9]{1,9})?)?"
+                     r"(?:[Zz]|([+-])([0-9]{2}):([0-9]{2}))", re.ASCII)
+
+
+def moment_of(text):
+    """The day of a moment as text: a day, or an instant with an offset, taken as its day in UTC. Of the spellings without
+    separators, which the server's reader takes too, none is read here."""
+    found = INSTANT.fullmatch(text)
+    if not found:
+        return text if day_of(text) else None
+    day, clock, seconds, sign, hours, minutes = found.groups()
+    try:
+        instant = datetime.strptime(day + clock + (seconds or ":00"), "%Y-%m-%d%H:%M:%S")
+        offset = timedelta(hours=int(hours or 0), minutes=int(minutes or 0))
+        return (instant + offset if sign == "-" else instant - offset).strftime("%Y-%m-%d")
+    except (OverflowError, ValueError):
+        return None
+
+
 def moments_of(text):
-    """The asked days; of moments the cases have days, and two instants that are read by hand."""
-    known = {"2010-01-01T00:30:00+01:00": "2009-12-31", "2012-05-01T12:00:00Z": "2012-05-01"}
+    """The asked days, or None."""
     first, slash, last = text.partition("/")
-    ends = [known.get(it, it) for it in ((first, last) if slash else (first,))]
-    if not all(day_of(it) or slash and it in ("", "..") for it in ends):
+    ends = [it if slash and it in ("", "..") else moment_of(it) for it in ((first, last) if slash else (first,))]
+    if None in ends:
         return None
     days = asked_days("/".join(ends))
     return days if days[0] <= days[1] else None
@@ -297,11 +344,19 @@ class Head:
 
 
 REQUEST_LINE = re.compile(rb"([!#$%&'*+.^_`|~0-9A-Za-z-]+) ([\x21-\x7e\x80-\xff]+) HTTP/1\.([01])\r?")
-FIELD = re.compile(rb"([!#$%&'*+.^_`|~0-9A-Za-z-]+):[ \t]*(.*?)[ \t]*\r?", re.S)
+FIELD = re.compile(rb"([!#$%&'*+.^_`|~0-9A-Za-z-]+):[ \t]*([\t\x20-\x7e\x80-\xff]*?)[ \t]*\r?")
+
+
+def is_request_line(line):
+    found = REQUEST_LINE.fullmatch(line)
+    try:
+        return found is not None and found[2].decode() is not None
+    except UnicodeDecodeError:
+        return False
 
 
 def head_at(data):
-    """The head at the front and the bytes behind it; "bad" where none can come, None where one may."""
+    """The head at the front, of 64 fields at most, and the bytes behind it; "bad" where none can come, None where one may."""
     front, at, lines = data[:FRONT], 0, []
     while True:
         end = front.find(b"\n", at)
@@ -311,13 +366,13 @@ def head_at(data):
         if line in (b"", b"\r"):
             if lines:
                 break
-        elif not (FIELD if lines else REQUEST_LINE).fullmatch(line):
+        elif not (FIELD.fullmatch(line) if lines else is_request_line(line)):
             return "bad"
         else:
             lines.append(line)
+        if len(lines) > 65:
+            return "bad"
     fields = [FIELD.fullmatch(it).groups() for it in lines[1:]]
-    if len(fields) > 64:
-        return "bad"
     method, target, minor = REQUEST_LINE.fullmatch(lines[0]).groups()
     return Head(method, target, int(minor), fields), data[at:]
 
@@ -381,62 +436,120 @@ def closes(head):
 # ---- the desk
 
 class Desk:
-    def __init__(self):
-        self.register, self.lines = Register(), {}
+    def __init__(self, register):
+        self.register, self.lines = register, {}
 
     def fed(self, number, piece):
-        """The replies to a piece, and whether they end the connection."""
-        held, out = self.lines[number] + piece, b""
+        """The replies to a piece. Where they end the connection, it is unknown then."""
+        held, out = self.lines.pop(number) + piece, b""
         while True:
             found = head_at(held)
             if found is None:
                 self.lines[number] = held
-                return out, False
+                return out
             if found == "bad":
-                return out + reply(400, {"fault": "bad-head"}, True), True
+                return out + reply(400, {"fault": "bad-head"}, True)
             head, held = found
             status, tree, ends = answered(self.register, head)
             ends = ends or closes(head)
             out += reply(status, tree, ends)
             if ends:
-                return out, True
+                return out
 
-    def step(self, kind, rest):
-        if kind == "office":
+    def opened(self, number):
+        """Why the connection is not opened, or None."""
+        if number in self.lines:
+            return "2 KnownConnection"
+        if len(self.lines) == 64:
+            return "3 TooManyConnections"
+        self.lines[number] = b""
+        return None
+
+    def served(self, number, data):
+        """How serving a connection ends that sends these bytes, and what is written: a byte is read at a time."""
+        refused = self.opened(number)
+        if refused:
+            return refused + ' ""'
+        out = self.fed(number, data)
+        we_ended = self.lines.pop(number, None) is None
+        return ("we ended " if we_ended else "peer ended ") + written_bytes(out)
+
+    def closed(self, number):
+        return "1 UnknownConnection" if self.lines.pop(number, None) is None else "Closed"
+
+    def sent(self, number, data):
+        if number not in self.lines:
+            return "1 UnknownConnection"
+        out = self.fed(number, data)
+        return "Sent " + written_bytes(out) + ("" if number in self.lines else " ends")
+
+    def step(self, line):
+        """What a line is answered: the cases write a command as the register takes it, or as no object that does anything."""
+        kind, _, rest = line.partition(" ")
+        number, space, text = rest.partition(" ")
+        known, data = NUMBER.fullmatch(number) and int(number) < 2**32, piece_of(text)
+        if kind == "office" and is_command(rest):
             return self.register.apply(json.loads(rest))
-        number, _, text = rest.partition(" ")
-        known = int(number) in self.lines
-        if kind == "open":
-            if known:
-                return "refused 2 KnownConnection"
-            if len(self.lines) == 64:
-                return "refused 3 TooManyConnections"
-            self.lines[int(number)] = b""
-            return "opened"
-        if not known:
-            return "refused 1 UnknownConnection"
-        if kind == "close":
-            del self.lines[int(number)]
-            return "closed"
-        out, ends = self.fed(int(number), piece_of(json.loads(text)))
-        if ends:
-            del self.lines[int(number)]
-        return ("ends " if ends else "sent ") + json.dumps(out.decode("latin-1"), ensure_ascii=True)
+        if known and not space and kind == "open":
+            return self.opened(int(number)) or "Opened"
+        if known and not space and kind == "close":
+            return self.closed(int(number))
+        if known and data is not None and kind == "bytes":
+            return self.sent(int(number), data)
+        if known and data is not None and kind == "serve":
+            return self.served(int(number), data)
+        return "no case"
 
 
-def piece_of(tree):
-    """A string each of whose characters is a byte, or a list of such strings and of pairs [N, STRING]."""
-    parts = tree if isinstance(tree, list) else [tree]
-    texts = (it if isinstance(it, str) else it[0] * it[1] for it in parts)
-    return "".join(texts).encode("latin-1")
+NUMBER = re.compile("[0-9]+", re.ASCII)
+
+
+def is_command(text):
+    """Whether it is an object that names an object and a day; members and values are not judged here."""
+    try:
+        tree = json.loads(text)
+    except ValueError:
+        return False
+    return isinstance(tree, dict) and "object" in tree
+
+
+def piece_of(text):
+    """The bytes that a string writes, each of whose characters is a byte, or a list of such strings and of pairs [N, STRING]."""
+    try:
+        tree = json.loads(text)
+        parts = [[1, it] if isinstance(it, str) else it for it in (tree if isinstance(tree, list) else [tree])]
+        return b"".join(count_of(count) * part.encode("latin-1") for count, part in parts)
+    except (AttributeError, TypeError, ValueError):
+        return None
+
+
+def count_of(value):
+    if type(value) is not int or value < 0:
+        raise ValueError
+    return value
+
+
+def written_bytes(data):
+    return json.dumps(data.decode("latin-1"), ensure_ascii=False)
+
+
+def answers(lines):
+    """Each event, and what it is answered."""
+    desk = Desk(sample())
+    for line in lines:
+        line = line.rstrip("\n")
+        if not line or line.startswith("#"):
+            continue
+        if line in ("sample", "empty"):
+            desk = Desk(sample() if line == "sample" else Register())
+            yield line, line
+        else:
+            yield line, desk.step(line)
 
 
 def main():
-    desk = Desk()
-    for line in sys.stdin:
-        if line.strip():
-            kind, _, rest = line.rstrip("\n").partition(" ")
-            print(desk.step(kind, rest))
+    for _, answer in answers(sys.stdin):
+        print(answer)
 
 
 if __name__ == "__main__":

@@ -1,13 +1,15 @@
 -- What holds of every query.
-use Rattle.std.specs.Prelude.{◌≡◌, ℕ, ◌<◌, ◌^◌, List}
+use Rattle.std.specs.Prelude.{◌≡◌, ℕ, ◌<◌, ◌^◌, List, map, option_map}
 use Rattle.cad_feature.specs.declared.collection.Collection.{Collection}
-use Rattle.cad_query.specs.Pairs.{PairText}
-use Rattle.cad_query.specs.Identifiers.{Numbers, Identifies, identifier_text}
+use Rattle.cql_types.specs.Conditions.{condition_in}
+use Rattle.cad_query.specs.Pairs.{PairText, pair_text}
+use Rattle.cad_query.specs.Identifiers.{Numbers, Identifies, identifier_text, numbers_of}
 use Rattle.cad_query.specs.Parameters.{any_text}
 use Rattle.cad_query.specs.Links.{continued}
 use Rattle.cad_query.specs.Laws.{AsksToGoOn}
+use Rattle.cad_ask.specs.declared.ask.Ask.{Ask}
 use Rattle.cad_ask.specs.declared.fault.AskFault.{AskFault}
-use Rattle.cad_ask.specs.Answers.{AsksWell, IsFirstFault}
+use Rattle.cad_ask.specs.Answers.{IsAsk, AsksWell, IsFirstFault}
 
 -- pairs have at most one first fault
 abbrev pub HasOneFirstFault : Type 0
@@ -24,3 +26,18 @@ NextAsksTheSame =
     (c : Collection) (pairs : List PairText) (revision : ℕ) (last : Numbers)
     → revision < 10 ^ 18 → Identifies (identifier_text last) last → AsksWell c pairs
     → AsksWell c (continued revision last pairs) × AsksToGoOn any_text pairs revision last (continued revision last pairs)
+
+-- two values ask the same, but for where they lie in memory
+pub record AskTheSame (a b : Ask) : Type 0 where
+  pub collection : a.collection ≡ b.collection
+  pub pairs : map pair_text a.pairs.items ≡ map pair_text b.pairs.items
+  pub limit : a.selection.limit ≡ b.selection.limit
+  pub datetime : a.selection.datetime ≡ b.selection.datetime
+  pub bbox : a.selection.bbox ≡ b.selection.bbox
+  pub condition : option_map condition_in a.filter ≡ option_map condition_in b.filter
+  pub revision : a.continuation.revision ≡ b.continuation.revision
+  pub after : option_map numbers_of a.continuation.after ≡ option_map numbers_of b.continuation.after
+
+-- the pairs of a query ask one thing at most
+abbrev pub PairsAskOneThing : Type 0
+PairsAskOneThing = (c : Collection) (pairs : List PairText) (a b : Ask) → IsAsk c pairs a → IsAsk c pairs b → AskTheSame a b

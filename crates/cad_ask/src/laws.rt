@@ -1,6 +1,6 @@
 //! What holds of every query. Nothing runs here.
 
-ghost use Rattle.cad_ask.specs.Laws.{HasFaultOrAsks, HasOneFirstFault, NextAsksTheSame};
+ghost use Rattle.cad_ask.specs.Laws.{HasFaultOrAsks, HasOneFirstFault, NextAsksTheSame, PairsAskOneThing};
 
 use cad_query::laws::continued_goes_on;
 use cql_filter::laws as filters;
@@ -25,4 +25,11 @@ pub fn next_asks_the_same()
     ensures { NextAsksTheSame }
 {
     continued_goes_on();
+}
+
+/// The pairs of a query ask one thing at most.
+pub fn pairs_ask_one_thing()
+    ensures { PairsAskOneThing }
+{
+    filters::text_has_one_filter();
 }

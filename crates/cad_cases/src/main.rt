@@ -1,26 +1,17 @@
-//! What requests are replied, each the first one of a connection: each line of standard input is a case, and a line is
-//! printed for it. The parcels of the sample are listed.
+//! What the server answers to a list of events: each line of standard input is an event, and a line is printed for it.
 //!
-//! A case is the JSON of the connection's bytes: a string each of whose characters, U+0000 to U+00FF, stands for the byte
-//! of its number, or a list of such strings and of pairs `[N, STRING]` that stand for the string N times. It is answered
-//! by
+//! The server stands over a ledger in memory, which holds the sample register. The lines and what is printed for them are
+//! those of `desk_script`, and two more begin anew, with a server and a desk of their own, and are answered by themselves:
 //!
-//! - `waiting`, where no reply is due,
-//! - `USED stays REPLY` or `USED closes REPLY`: how many bytes the head has, whether the connection closes after the reply,
-//!   and the reply as such a string, or
-//! - `no case`, where the line is no such JSON.
+//! - `sample`: the ledger holds the sample register, as at the first line;
+//! - `empty`: the ledger holds nothing.
 //!
-//! The same bytes are then served one byte a read. Where what is written then is not the reply, the answer goes on with
-//! `served REPLY`, or `served nothing`. A line without bytes is passed over. Where memory is refused the program ends with
-//! status 7.
-//!
-//! - `answer`: what a connection is answered
+//! A line without bytes, and one that begins with `#`, is passed over. Any other line is answered by `no case`. Where memory
+//! is refused the program ends with status 7.
 #![tactic(auto)]
 
-mod answer;
-
-use answer::answer;
-use cad_case_bytes::bytes_of;
+use cad_plain_desk::{PlainDesk, empty_desk, sample_desk};
+use desk_script::{Memory, answer, line_of};
 use std::alloc::{AllocError, Global};
 use std::io::{Error, ErrorKind, Read, Result};
 use std::process::ExitCode;
@@ -28,19 +19,33 @@ use std::process::ExitCode;
 /// The status where memory is refused.
 const NO_MEMORY: u8 = 7;
 
-fn answer_line(alloc: Global, line: &[u8]) -> std::result::Result<String, AllocError> {
-    match bytes_of(alloc, line)? {
-        Some(bytes) => answer(alloc, &bytes),
+/// What is printed for a line.
+fn answer_line(
+    alloc: Global,
+    desk: &mut PlainDesk,
+    line: &[u8],
+) -> std::result::Result<String, AllocError> {
+    if line == b"sample".as_slice() {
+        *desk = sample_desk(alloc)?;
+        return String::from_str(alloc, "sample");
+    }
+    if line == b"empty".as_slice() {
+        *desk = empty_desk(alloc)?;
+        return String::from_str(alloc, "empty");
+    }
+    match line_of(alloc, line)? {
         None => String::from_str(alloc, "no case"),
+        Some(line) => answer(alloc, desk, line, Memory::IsAmple),
     }
 }
 
 fn run(rt: &HostRuntime) -> Result<()> {
     let mut input = Vec::new(rt.alloc());
     rt.stdin().read_to_end(&mut input)?;
+    let mut desk = sample_desk(rt.alloc())?;
     for line in input.split(|byte| *byte == b'\n') {
-        if !line.is_empty() {
-            println!(rt; "{}", answer_line(rt.alloc(), line)?.as_str())?;
+        if !line.is_empty() && !line.starts_with(b"#") {
+            println!(rt; "{}", answer_line(rt.alloc(), &mut desk, line)?.as_str())?;
         }
     }
     Ok(())

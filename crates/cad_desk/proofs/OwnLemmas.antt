@@ -1,13 +1,13 @@
 -- What goes out to a connection is its own, by recursion on the events of a run.
 use Rattle.std.proofs.Common.{◌≡◌, ℕ, Bool, true, false, cond, nat_eq, List, [], ◌∷◌, ◌++◌, Option, Some, None, Result, Ok, Err, refl, sym, ap, ap₂, ◌∙◌, subst, arith, append_assoc, append-nil, inl, inr}
 use Rattle.std.proofs.lemmas.Bool.Decides.{nat_tests}
-use Rattle.std.proofs.lemmas.List.Concat.{flat_map-append}
 use Rattle.httparse.specs.Grammar.{RequestHead}
 use Rattle.cad_versions.specs.declared.command.Command.{Command}
 use Rattle.cad_request.specs.Request.{Request, request_of}
 use Rattle.cad_stream.specs.Streams.{Outcome, waits, closed, refused, rest_of, IsStream, DiffersInMoment, IsSameOutcome}
-use Rattle.cad_stream.specs.Replies.{replies_to, replies_at, last_reply}
+use Rattle.cad_stream.specs.Replies.{AreReplies, last_reply}
 use Rattle.cad_stream.specs.Conversations.{Piece, HeadAt, heads_at, IsConversation}
+use Rattle.cad_stream.specs.ReplyLemmas.{replies_join}
 use Rattle.cad_stream.specs.Laws as stream
 use Rattle.cad_desk.specs.declared.event.Event.{Event}
 use Rattle.cad_desk.specs.declared.event.Event.TheVariants.{Open, Bytes, Close, Office}
@@ -18,7 +18,7 @@ use Rattle.cad_desk.specs.declared.fault.DeskFault.TheVariants.{UnknownConnectio
 use Rattle.cad_desk.specs.Connections.{Connections, rest_at, Changes, Keeps}
 use Rattle.cad_desk.specs.Events.{Rules, IsOpened, IsTaken, IsClosed, IsEntered, StepOf, commands_after}
 use Rattle.cad_desk.specs.Runs.{RunOf, Exchange, out_of, exchange, exchanges_of, pieces_of, outs_of}
-use Rattle.cad_desk.specs.Laws.{AreReplies, AreSameReplies, ConnectionsAreTheirOwn, CutsMakeNoDifference}
+use Rattle.cad_desk.specs.Laws.{AreSameReplies, ConnectionsAreTheirOwn, CutsMakeNoDifference}
 
 same_number : (d c : ℕ) → nat_eq d c ≡ true → d ≡ c
 same_number d c h = grind (arith, nat_tests)
@@ -85,7 +85,8 @@ module _ (rules : Rules) (commands : List Command) (old new : Connections) where
 -- from where the connection is, these are its exchanges
 abbrev Told : Rules → Option (List ℕ) → List Exchange → Type 0
 Told rules (Some held) own =
-    (heads : List HeadAt) × (last : Outcome) × IsConversation rules.closes (waits held) (pieces_of own) heads last × AreReplies rules heads last (outs_of own)
+    (heads : List HeadAt) × (last : Outcome) × IsConversation rules.closes (waits held) (pieces_of own) heads last
+    × AreReplies rules.replies heads (last_reply rules.bad_head last) (outs_of own)
 Told rules None own = outs_of own ≡ []
 
 nothing : (rules : Rules) (rest : Option (List ℕ)) → Told rules rest []
@@ -100,48 +101,34 @@ over_refused : (closes : Request → Bool) (pieces : List Piece) → IsConversat
 over_refused closes [] = (refl, refl)
 over_refused closes (piece ∷ pieces) = over_refused closes pieces
 
-replies_now : (reply : List Command → Request → List ℕ) (commands : List Command) (heads : List RequestHead) → replies_at reply (heads_at commands heads) ≡ replies_to reply commands heads
-replies_now reply commands [] = refl
-replies_now reply commands (head ∷ heads) = ap (λ (l : List ℕ). reply commands (request_of head) ++ l) (replies_now reply commands heads)
-
-replies_before : (reply : List Command → Request → List ℕ) (commands : List Command) (now : List RequestHead) (later : List HeadAt)
-    → replies_at reply (heads_at commands now ++ later) ≡ replies_to reply commands now ++ replies_at reply later
-replies_before reply commands now later =
-    flat_map-append (λ (h : HeadAt). reply h.0 (request_of h.1)) (heads_at commands now) later ∙ ap (λ (l : List ℕ). l ++ replies_at reply later) (replies_now reply commands now)
-
--- the replies to a piece, and those after it
-told_before : (rules : Rules) (commands : List Command) (now : List RequestHead) (later : List HeadAt) (last : Outcome) (out outs : List ℕ)
-    → out ≡ replies_to rules.reply commands now ++ [] → AreReplies rules later last outs → AreReplies rules (heads_at commands now ++ later) last (out ++ outs)
-told_before rules commands now later last out outs e f =
-    ap₂ ◌++◌ (e ∙ append-nil _) f ∙ sym (append_assoc (replies_to rules.reply commands now) (replies_at rules.reply later) (last_reply rules.bad_head last))
-    ∙ ap (λ (l : List ℕ). l ++ last_reply rules.bad_head last) (sym (replies_before rules.reply commands now later))
-
-told_last : (rules : Rules) (commands : List Command) (now : List RequestHead) (last : Outcome) (out outs : List ℕ)
-    → out ≡ replies_to rules.reply commands now ++ last_reply rules.bad_head last → outs ≡ [] → AreReplies rules (heads_at commands now ++ []) last (out ++ outs)
-told_last rules commands now last out outs e f =
-    ap₂ ◌++◌ e f ∙ append-nil _ ∙ ap (λ (l : List ℕ). l ++ last_reply rules.bad_head last) (sym (ap (replies_at rules.reply) (append-nil (heads_at commands now)) ∙ replies_now rules.reply commands now))
+-- nothing goes out after the last replies
+replies_end : (IsReply : List Command → Request → List ℕ → Type 0) (heads : List HeadAt) (last out outs : List ℕ)
+    → AreReplies IsReply heads last out → outs ≡ [] → AreReplies IsReply (heads ++ []) last (out ++ outs)
+replies_end IsReply heads last out outs e f =
+    subst (λ (l : List HeadAt). AreReplies IsReply l last (out ++ outs)) (sym (append-nil heads))
+    (subst (λ (b : List ℕ). AreReplies IsReply heads last b) (sym (ap (λ (l : List ℕ). out ++ l) f ∙ append-nil out)) e)
 
 -- the exchange of a piece goes before the later ones
 took : (rules : Rules) (commands : List Command) (held piece out : List ℕ) (now : List RequestHead) (next : Outcome) (own : List Exchange)
-    → IsStream rules.closes now (held ++ piece) next → out ≡ replies_to rules.reply commands now ++ last_reply rules.bad_head next
+    → IsStream rules.closes now (held ++ piece) next → AreReplies rules.replies (heads_at commands now) (last_reply rules.bad_head next) out
     → Told rules (rest_of next) own → Told rules (Some held) (((commands, piece), out) ∷ own)
 took rules commands held piece out now (waits rest) own s e t = (
   heads_at commands now ++ t.0,
   t.1,
   (now, t.0, waits rest, refl, s, t.2),
-  told_before rules commands now t.0 t.1 out (outs_of own) e t.3,
+  replies_join rules.replies (heads_at commands now) t.0 (last_reply rules.bad_head t.1) out (outs_of own) e t.3,
 )
 took rules commands held piece out now closed own s e t = (
   heads_at commands now ++ [],
   closed,
   (now, [], closed, refl, s, over rules.closes (pieces_of own)),
-  told_last rules commands now closed out (outs_of own) e t,
+  replies_end rules.replies (heads_at commands now) [] out (outs_of own) e t,
 )
 took rules commands held piece out now refused own s e t = (
   heads_at commands now ++ [],
   refused,
   (now, [], refused, refl, s, over_refused rules.closes (pieces_of own)),
-  told_last rules commands now refused out (outs_of own) e t,
+  replies_end rules.replies (heads_at commands now) rules.bad_head out (outs_of own) e t,
 )
 
 taken_own : (rules : Rules) (commands : List Command) (old new : Connections) (c : ℕ) (piece : List ℕ) (reply : Reply) (own : List Exchange) → nat_eq c c ≡ true
@@ -234,27 +221,44 @@ connections_are_their_own rules c own opens =
 
 -- ---- two cuts
 
-moment_replies : (rules : Rules) (heads : List HeadAt) (last end : Outcome) (out other : List ℕ) → DiffersInMoment last end
-    → AreReplies rules heads last out → AreReplies rules heads end other → other ≡ out ++ rules.bad_head
-moment_replies rules heads (waits rest) refused out other d e f = f ∙ ap (λ (l : List ℕ). l ++ rules.bad_head) (sym (e ∙ append-nil _))
-moment_replies rules heads (waits rest) (waits left) out other d e f = absurd d
-moment_replies rules heads (waits rest) closed out other d e f = absurd d
-moment_replies rules heads closed end out other d e f = absurd d
-moment_replies rules heads refused end out other d e f = absurd d
+-- a request has one reply
+abbrev HaveOneReply : (List Command → Request → List ℕ → Type 0) → Type 0
+HaveOneReply IsReply = (commands : List Command) (request : Request) (one other : List ℕ) → IsReply commands request one → IsReply commands request other → one ≡ other
 
-same_replies : (rules : Rules) (heads : List HeadAt) (last end : Outcome) (out other : List ℕ) → IsSameOutcome last end
-    → AreReplies rules heads last out → AreReplies rules heads end other → AreSameReplies rules.bad_head out other
-same_replies rules heads last end out other same e f =
+-- replies to the same heads differ in the last bytes alone
+same_before : (IsReply : List Command → Request → List ℕ → Type 0) → HaveOneReply IsReply → (heads : List HeadAt) (last end out other : List ℕ)
+    → AreReplies IsReply heads last out → AreReplies IsReply heads end other → (before : List ℕ) × (out ≡ before ++ last) × (other ≡ before ++ end)
+same_before IsReply one [] last end out other e f = ([], e, f)
+same_before IsReply one (head ∷ heads) last end out other e f =
+    let first : e.0 ≡ f.0 = one head.0 (request_of head.1) e.0 f.0 e.2 f.2 in
+    let later = same_before IsReply one heads last end e.1 f.1 e.4 f.4 in (
+      e.0 ++ later.0,
+      e.3 ∙ ap (λ (l : List ℕ). e.0 ++ l) later.1 ∙ sym (append_assoc e.0 later.0 last),
+      f.3 ∙ ap₂ ◌++◌ (sym first) later.2 ∙ sym (append_assoc e.0 later.0 end),
+    )
+
+moment_replies : (bad_head before : List ℕ) (last end : Outcome) (out other : List ℕ) → DiffersInMoment last end
+    → out ≡ before ++ last_reply bad_head last → other ≡ before ++ last_reply bad_head end → other ≡ out ++ bad_head
+moment_replies bad_head before (waits rest) refused out other d e f = f ∙ ap (λ (l : List ℕ). l ++ bad_head) (sym (e ∙ append-nil before))
+moment_replies bad_head before (waits rest) (waits left) out other d e f = absurd d
+moment_replies bad_head before (waits rest) closed out other d e f = absurd d
+moment_replies bad_head before closed end out other d e f = absurd d
+moment_replies bad_head before refused end out other d e f = absurd d
+
+same_replies : (rules : Rules) → HaveOneReply rules.replies → (heads : List HeadAt) (last end : Outcome) (out other : List ℕ) → IsSameOutcome last end
+    → AreReplies rules.replies heads (last_reply rules.bad_head last) out → AreReplies rules.replies heads (last_reply rules.bad_head end) other → AreSameReplies rules.bad_head out other
+same_replies rules single heads last end out other same e f =
+    let b = same_before rules.replies single heads (last_reply rules.bad_head last) (last_reply rules.bad_head end) out other e f in
     elim same [
-      | inl s ↦ inl (e ∙ ap (λ (o : Outcome). replies_at rules.reply heads ++ last_reply rules.bad_head o) s ∙ sym f)
+      | inl s ↦ inl (b.1 ∙ ap (λ (o : Outcome). b.0 ++ last_reply rules.bad_head o) s ∙ sym b.2)
       | inr d ↦ elim d [
-        | inl m ↦ inr (inl (moment_replies rules heads last end out other m e f))
-        | inr m ↦ inr (inr (moment_replies rules heads end last other out m f e))
+        | inl m ↦ inr (inl (moment_replies rules.bad_head b.0 last end out other m b.1 b.2))
+        | inr m ↦ inr (inr (moment_replies rules.bad_head b.0 end last other out m b.2 b.1))
       ]
     ]
 
-pub cuts_make_no_difference : (rules : Rules) → stream.CutsMakeNoDifference → stream.PiecesHaveOneConversation → ConnectionsAreTheirOwn rules → CutsMakeNoDifference rules
-cuts_make_no_difference rules cuts one own c d mine other opens opened bytes heads ends last end x y commands =
+pub cuts_make_no_difference : (rules : Rules) → HaveOneReply rules.replies → stream.CutsMakeNoDifference → stream.PiecesHaveOneConversation → ConnectionsAreTheirOwn rules → CutsMakeNoDifference rules
+cuts_make_no_difference rules single cuts one own c d mine other opens opened bytes heads ends last end x y commands =
     let first = own c mine opens in
     let second = own d other opened in
     let same = cuts rules.closes (pieces_of mine) (pieces_of other) first.0 second.0 first.1 second.1 bytes first.2 second.2 in
@@ -262,5 +266,5 @@ cuts_make_no_difference rules cuts one own c d mine other opens opened bytes hea
     let there = (one rules.closes (pieces_of other) ends second.0 end second.1 y second.2).0 in
     let alike : heads ≡ ends = (cuts rules.closes (pieces_of mine) (pieces_of other) heads ends last end bytes x y).2 commands in
     let all : first.0 ≡ second.0 = sym here ∙ alike ∙ there in
-    same_replies rules second.0 first.1 second.1 (outs_of mine) (outs_of other) same.1
-    (subst (λ (h : List HeadAt). AreReplies rules h first.1 (outs_of mine)) all first.3) second.3
+    same_replies rules single second.0 first.1 second.1 (outs_of mine) (outs_of other) same.1
+    (subst (λ (h : List HeadAt). AreReplies rules.replies h (last_reply rules.bad_head first.1) (outs_of mine)) all first.3) second.3

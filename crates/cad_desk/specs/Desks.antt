@@ -26,7 +26,7 @@ module _ {R : Type 0} (g : Ghosts R) where
   -- the rules by which it answers
   abbrev pub rules_of : Rules
   rules_of = record {
-    reply = g.reply;
+    replies = g.replies;
     closes = g.closes;
     bad_head = g.bad_head;
     FailsToAnswer = g.fails_to_answer;

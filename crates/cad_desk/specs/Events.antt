@@ -8,7 +8,8 @@ use Rattle.cad_versions.specs.Versions.{versions}
 use Rattle.cad_versions.specs.Refusals.{refusal}
 use Rattle.cad_request.specs.Request.{Request}
 use Rattle.cad_stream.specs.Streams.{Outcome, rest_of, IsStream}
-use Rattle.cad_stream.specs.Replies.{replies_to, last_reply, Fails}
+use Rattle.cad_stream.specs.Replies.{AreReplies, last_reply, Fails}
+use Rattle.cad_stream.specs.Conversations.{heads_at}
 use Rattle.cad_desk.specs.declared.event.Event.{Event}
 use Rattle.cad_desk.specs.declared.event.Event.TheVariants.{Open, Bytes, Close, Office}
 use Rattle.cad_desk.specs.declared.event.Reply.{Reply}
@@ -17,9 +18,9 @@ use Rattle.cad_desk.specs.declared.fault.DeskFault.{DeskFault}
 use Rattle.cad_desk.specs.declared.fault.DeskFault.TheVariants.{UnknownConnection, KnownConnection, TooManyConnections, Memory, Register}
 use Rattle.cad_desk.specs.Connections.{Connections, rest_at, count_of, connection_room, Changes, Keeps}
 
--- what the answers of a desk follow from: the reply to each request, which requests close their connection, the reply where no request can come, and why there is none or a command is not entered
+-- what the answers of a desk follow from: which bytes are the reply to each request, which requests close their connection, the reply where no request can come, and why there is none or a command is not entered
 pub record Rules : Type 1 where
-  pub reply : List Command → Request → List ℕ
+  pub replies : List Command → Request → List ℕ → Type 0
   pub closes : Request → Bool
   pub bad_head : List ℕ
   pub FailsToAnswer : List Command → Request → RegisterFault → Type 0
@@ -42,7 +43,7 @@ module _ (rules : Rules) (InForce : (List Command → Type 0) → Type 0) where
       (held : List ℕ) × (heads : List RequestHead) × (last : Outcome)
       × (rest_at old c ≡ Some held) × IsStream rules.closes heads (held ++ piece) last
       × (ends ≡ is_none (rest_of last)) × Changes old new c (rest_of last)
-      × InForce (λ commands. out.items ≡ replies_to rules.reply commands heads ++ last_reply rules.bad_head last)
+      × InForce (λ commands. AreReplies rules.replies (heads_at commands heads) (last_reply rules.bad_head last) out.items)
   IsTaken old c piece (Ok other) new = ⊥
   IsTaken old c piece (Err UnknownConnection) new = (rest_at old c ≡ None) × Keeps old new
   IsTaken old c piece (Err Memory) new = IsSome (rest_at old c) × Changes old new c None

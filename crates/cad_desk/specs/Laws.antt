@@ -3,7 +3,7 @@ use Rattle.std.specs.Prelude.{◌≡◌, ◌⊎◌, ℕ, List, [], ◌∷◌, �
 use Rattle.cad_versions.specs.declared.command.Command.{Command}
 use Rattle.cad_stream.specs.declared.responder.Responder.{Ghosts}
 use Rattle.cad_stream.specs.Streams.{Outcome, waits}
-use Rattle.cad_stream.specs.Replies.{replies_at, last_reply}
+use Rattle.cad_stream.specs.Replies.{AreReplies, last_reply}
 use Rattle.cad_stream.specs.Conversations.{HeadAt, bytes_of, commands_of, IsConversation}
 use Rattle.cad_desk.specs.declared.desk.Desk.{Desk}
 use Rattle.cad_desk.specs.declared.event.Event.{Event}
@@ -22,14 +22,11 @@ Opens rules c own =
     (commands : List Command) × (old : Connections) × (events : List Event) × (answers : List (Result Reply DeskFault))
     × RunOf rules commands old (Open c ∷ events) (Ok Opened ∷ answers) × (own ≡ exchanges_of c commands events answers)
 
--- what went out are the replies to these heads, each with the commands in force at it, and the last one if no request can come
-abbrev pub AreReplies : Rules → List HeadAt → Outcome → List ℕ → Type 0
-AreReplies rules heads last out = out ≡ replies_at rules.reply heads ++ last_reply rules.bad_head last
-
 -- what goes out to a connection follows from its own bytes, and the commands in force at each of its requests
 abbrev pub ConnectionsAreTheirOwn : Rules → Type 0
 ConnectionsAreTheirOwn rules = (c : ℕ) (own : List Exchange) → Opens rules c own
-    → (heads : List HeadAt) × (last : Outcome) × IsConversation rules.closes (waits []) (pieces_of own) heads last × AreReplies rules heads last (outs_of own)
+    → (heads : List HeadAt) × (last : Outcome) × IsConversation rules.closes (waits []) (pieces_of own) heads last
+    × AreReplies rules.replies heads (last_reply rules.bad_head last) (outs_of own)
 
 -- the same replies, the moment aside at which it is told that no request can come
 abbrev pub AreSameReplies : List ℕ → List ℕ → List ℕ → Type 0

@@ -22,6 +22,7 @@ pub fn cuts_make_no_difference<R: Responder>()
     cuts_make_one_stream();
     pieces_have_one_conversation();
     connections_are_their_own::<R>();
+    R::one_reply();
 }
 
 /// What a desk answers to events, one after the other, is a run: that of its definition.

@@ -1,30 +1,27 @@
-//! The features of parcels over HTTP: the first request of a connection, from its bytes to those of its reply.
+//! The server as its users see it: requests of many clients over a register, and the land office's commands between them.
 //!
-//! - `first`: the reply to the first request of a connection's bytes, or that it is still to come
-//! - `connection`: that request read from a reader, and its reply written to a writer
-//! - `answer`: the reply to what a request asks for
-//! - `filter`: from the text of a filter to the filter
-//! - `reply`: status, header lines and body as bytes
-//! - `desk_fault`, `serve_fault`: why no reply is given, and why serving stops
-//! - `laws`: what holds of all replies
+//! - [`Server`]: the reply to each request, over any ledger of commands
+//! - [`Desk`]: many connections and one land office; [`Event`] is what happens, [`Reply`] what is answered, and
+//!   [`DeskFault`] why it is refused
+//! - [`serve`]: one connection, from a reader to a writer; [`Ending`] is how it ends, and [`ServeFault`] why it stops
+//! - [`listen`]: connections of a listener, one after the other
 //!
-//! Of `GET /collections/parcels/items?filter=area+%3E+400 HTTP/1.1\r\nHost: x\r\n\r\n`, 72 bytes, over the five
-//! parcels of `cad_sample` `first_reply` answers `First::Reply` with `used` 72, `ends` false and a reply that begins
-//! `HTTP/1.1 200 OK\r\nContent-Type: application/json\r\nContent-Length: 447\r\n\r\n{"features":[`. Of its
-//! first 71 bytes it answers `First::Waiting`.
+//! Of a register, which is a ledger in a database:
+//!
+//! ```text
+//! let server = Server::new(alloc, register)?;          // or the register back, where there is no memory
+//! let mut desk = Desk::new(alloc, server);
+//! desk.step(Event::Open(1));                           // Ok(Reply::Opened)
+//! desk.step(Event::Bytes(1, head));                    // Ok(Reply::Sent { bytes, ends: false })
+//! desk.step(Event::Office(command));                   // Ok(Reply::Entered(11))
+//! let register = desk.release().release();
+//! ```
+//!
+//! Nothing stands here but names: what each promises is said where it is defined, in `cad_server`, `cad_desk`,
+//! `cad_serve` and `cad_listen`.
 #![tactic(auto)]
 
-mod answer;
-mod connection;
-mod desk_fault;
-mod filter;
-mod first;
-pub mod laws;
-mod reply;
-mod serve_fault;
-mod writing;
-
-pub use connection::{Ending, serve};
-pub use desk_fault::DeskFault;
-pub use first::{First, first_reply};
-pub use serve_fault::ServeFault;
+pub use cad_desk::{Desk, DeskFault, Event, Reply};
+pub use cad_listen::listen;
+pub use cad_serve::{Ending, ServeFault, serve};
+pub use cad_server::Server;

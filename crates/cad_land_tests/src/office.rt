@@ -1,7 +1,8 @@
 //! The office over a register.
 
-use cad_office::{fill, office};
+use cad_office::office;
 use cad_register::{Register, RegisterFault, Version};
+use cad_sample::fill;
 use sqlite::{Connection, MemStore};
 use std::alloc::{AllocError, Global};
 use std::io::Cursor;

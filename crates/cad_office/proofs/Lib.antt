@@ -4,4 +4,3 @@ pub mod LineLemmas
 pub mod AnswerLemmas
 pub mod PieceLemmas
 pub mod KeepingLemmas
-pub mod FillingLemmas

@@ -1,10 +1,9 @@
 //! The land office: commands in lines of text, and what is printed for each.
 //!
 //! - `office`: reads lines to their end, applies each command and prints an answer for each line.
-//! - `fill`: the ten commands of the sample register.
 //! - `OfficeFault`: why the office stops before its input ends.
 //!
-//! Both work on any `Ledger`, as a land register. On an empty one the lines
+//! It works on any `Ledger`, as a land register. On an empty one the lines
 //!
 //!     {"do":"enter","object":11,"first":"2000-01-01","unit":{}}
 //!     {"do":"enter","object":11,"first":"2000-01-01","unit":{}}
@@ -20,11 +19,9 @@
 mod fault;
 mod line;
 mod print;
-mod sample;
 mod turns;
 mod write;
 
 pub use cad_versions::Ledger;
 pub use fault::OfficeFault;
-pub use sample::fill;
 pub use turns::office;

@@ -1,1 +1,2 @@
 mod PageLemmas
+pub mod SameLemmas

@@ -1,48 +1,87 @@
-//! One request served over readers and writers that fail.
+//! Connections served over readers and writers that fail, and where memory is refused.
 
-use cad_http::{DeskFault, Ending, ServeFault, serve};
-use cad_sample::sample_parcels;
+use cad_desk::{DeskFault, Event};
+use cad_plain_desk::sample_desk;
+use cad_serve::{Ending, ServeFault, serve};
 use std::test::Fail;
 use test_streams::{Peer, Stop, Taker};
 
+/// A request after which the connection goes on.
 const REQUEST: &str = "GET /collections/parcels/items?filter=5+%3C+3 HTTP/1.1\r\nHost: x\r\n\r\n";
 
 const REPLY: &str =
     "HTTP/1.1 200 OK\r\nContent-Type: application/json\r\nContent-Length: 177\r\n\r\n{\"features\":[],\"links\":[{\"href\":\"/collections/parcels/items?filter=5+%3C+3\",\"rel\":\"self\",\"type\":\"application/json\"}],\"numberReturned\":0,\"revision\":10,\"type\":\"FeatureCollection\"}";
 
+/// A request that ends the connection.
+const LAST: &str =
+    "GET /collections/units/items/12.1 HTTP/1.1\r\nConnection: close\r\nHost: x\r\n\r\n";
+
+const LAST_REPLY: &str =
+    "HTTP/1.1 404 Not Found\r\nContent-Type: application/json\r\nContent-Length: 22\r\nConnection: close\r\n\r\n{\"fault\":\"no-feature\"}";
+
 const NO_MEMORY: &str =
     "HTTP/1.1 503 Service Unavailable\r\nContent-Length: 0\r\nConnection: close\r\n\r\n";
 
-/// Where the peer ends or a read fails after each number of bytes, nothing is written, and no read is made behind it.
+/// How reading may go: the most bytes a read gives, and what comes behind the last byte.
+const READINGS: [(usize, Stop); 4] = [
+    (1, Stop::Ends),
+    (1, Stop::Fails),
+    (7, Stop::Fails),
+    (4096, Stop::Ends),
+];
+
+/// How many reads give so many bytes.
+fn reads_of(bytes: usize, piece: usize) -> usize {
+    if piece == 0 {
+        return 0;
+    }
+    bytes.div_ceil(piece)
+}
+
+/// Where the peer ends or a read fails after each number of bytes, the requests before are replied to. The connection is
+/// closed each time, so that it can be opened again.
 #[test]
 fn stops_where_reading_does(rt: HostRuntime) -> Result<(), Fail> {
     let alloc = rt.alloc();
-    let parcels = sample_parcels(alloc)?;
+    let mut desk = sample_desk(alloc)?;
     for bytes in 0..=REQUEST.len() {
-        for (piece, stop) in [
-            (1, Stop::Ends),
-            (1, Stop::Fails),
-            (7, Stop::Fails),
-            (4096, Stop::Ends),
-        ] {
+        for (piece, stop) in READINGS {
             let mut reader = Peer::new(REQUEST.as_bytes(), piece, bytes, stop);
             let mut writer = Taker::new(512, 512, Stop::Fails);
-            let served = serve(alloc, &mut reader, &mut writer, &parcels);
-            let wanted = match (bytes == REQUEST.len(), stop) {
-                (true, _) => Ok(Ending::WeEnded),
-                (false, Stop::Fails) => Err(ServeFault::Read),
-                (false, Stop::Ends) => Ok(Ending::PeerEnded),
+            let served = serve(alloc, &mut reader, &mut writer, &mut desk, 1);
+            let wanted = match stop {
+                Stop::Fails => Err(ServeFault::Read),
+                Stop::Ends => Ok(Ending::PeerEnded),
             };
-            let whole = if bytes == REQUEST.len() { 0 } else { 1 };
+            let reply = if bytes == REQUEST.len() { REPLY } else { "" };
             assert_eq!(rt; served, wanted, "after {bytes}");
             assert_eq!(rt;
                 reader.reads(),
-                bytes.div_ceil(piece) + whole,
+                reads_of(bytes, piece).saturating_add(1),
                 "after {bytes}"
             );
-            let reply = if whole == 0 { REPLY } else { "" };
             assert!(rt; writer.has_taken(reply.as_bytes()), "after {bytes}");
         }
+    }
+    Ok(())
+}
+
+/// No read is made behind a request that ends the connection.
+#[test]
+fn reads_nothing_behind_the_end(rt: HostRuntime) -> Result<(), Fail> {
+    let alloc = rt.alloc();
+    let mut desk = sample_desk(alloc)?;
+    for (piece, stop) in READINGS {
+        let mut reader = Peer::new(LAST.as_bytes(), piece, LAST.len(), stop);
+        let mut writer = Taker::new(1, 512, Stop::Fails);
+        let served = serve(alloc, &mut reader, &mut writer, &mut desk, 1);
+        assert_eq!(rt; served, Ok(Ending::WeEnded), "{piece} a read");
+        assert_eq!(rt;
+            reader.reads(),
+            reads_of(LAST.len(), piece),
+            "{piece} a read"
+        );
+        assert!(rt; writer.has_taken(LAST_REPLY.as_bytes()), "{piece} a read");
     }
     Ok(())
 }
@@ -51,14 +90,14 @@ fn stops_where_reading_does(rt: HostRuntime) -> Result<(), Fail> {
 #[test]
 fn stops_where_writing_does(rt: HostRuntime) -> Result<(), Fail> {
     let alloc = rt.alloc();
-    let parcels = sample_parcels(alloc)?;
+    let mut desk = sample_desk(alloc)?;
     for most in 0..=REPLY.len() {
-        for (piece, stop) in [(1, Stop::Ends), (100, Stop::Fails)] {
-            let mut reader = Peer::new(REQUEST.as_bytes(), 4096, REQUEST.len(), Stop::Fails);
+        for (piece, stop) in [(1, Stop::Ends), (1, Stop::Fails), (100, Stop::Fails)] {
+            let mut reader = Peer::new(REQUEST.as_bytes(), 4096, REQUEST.len(), Stop::Ends);
             let mut writer = Taker::new(piece, most, stop);
-            let served = serve(alloc, &mut reader, &mut writer, &parcels);
+            let served = serve(alloc, &mut reader, &mut writer, &mut desk, 1);
             let wanted = if most == REPLY.len() {
-                Ok(Ending::WeEnded)
+                Ok(Ending::PeerEnded)
             } else {
                 Err(ServeFault::Write)
             };
@@ -69,20 +108,31 @@ fn stops_where_writing_does(rt: HostRuntime) -> Result<(), Fail> {
     Ok(())
 }
 
-/// To be run with each allocation refused in turn: the reply, or where memory was refused the fixed head.
+/// To be run with each allocation refused in turn: the reply, or where memory was refused the fixed head. The connection is
+/// closed then, the register is as it was, and another connection goes on.
 #[test]
 fn refuses_for_memory_alone(rt: HostRuntime) {
     let alloc = rt.alloc();
-    let Ok(parcels) = sample_parcels(alloc) else {
+    let Ok(mut desk) = sample_desk(alloc) else {
         return;
     };
-    let mut reader = Peer::new(REQUEST.as_bytes(), 4096, REQUEST.len(), Stop::Fails);
-    let mut writer = Taker::new(512, 512, Stop::Fails);
-    match serve(alloc, &mut reader, &mut writer, &parcels) {
-        Ok(Ending::WeEnded) => assert!(rt; writer.has_taken(REPLY.as_bytes())),
-        Ok(Ending::Refused(DeskFault::Memory)) => assert!(rt;
-            writer.has_taken(NO_MEMORY.as_bytes())
-        ),
-        Ok(Ending::PeerEnded) | Err(_) => assert!(rt; false),
+    let is_open = desk.step(Event::Open(2)).is_ok();
+    let mut is_replied = false;
+    for _ in 0..2 {
+        let mut reader = Peer::new(REQUEST.as_bytes(), 4096, REQUEST.len(), Stop::Ends);
+        let mut writer = Taker::new(512, 512, Stop::Fails);
+        match serve(alloc, &mut reader, &mut writer, &mut desk, 1) {
+            Ok(Ending::PeerEnded) => {
+                assert!(rt; writer.has_taken(REPLY.as_bytes()));
+                is_replied = true;
+            }
+            Ok(Ending::Refused(DeskFault::Memory)) => assert!(rt;
+                writer.has_taken(NO_MEMORY.as_bytes())
+            ),
+            Ok(Ending::WeEnded | Ending::Refused(_)) | Err(_) => assert!(rt; false),
+        }
     }
+    // One growth is refused at the most.
+    assert!(rt; is_replied);
+    assert_eq!(rt; desk.step(Event::Close(2)).is_ok(), is_open);
 }

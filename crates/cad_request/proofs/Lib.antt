@@ -1,3 +1,1 @@
 pub mod MemberLemmas
-pub mod RouteLemmas
-pub mod DecisionLemmas

@@ -1,1 +1,1 @@
-pub mod FeatureLemmas
+pub mod FillingLemmas

@@ -1,3 +1,3 @@
-pub mod Shown
+pub mod Instructions
 pub mod Sample
-pub mod Parcels
+pub mod Filling

@@ -1,41 +1,58 @@
--- The parcels of the sample register (ISO 19152, LA_SpatialUnit with the lifespan of VersionedObject; contents: own profile).
-use Rattle.std.specs.Prelude.{ℕ, pos, List, [], ◌∷◌, codes, Option, Some, None}
-use Rattle.cql_meaning.specs.declared.feature.Point.{Point}
-use Rattle.cad_sample.specs.Shown.{Shown, null, text, whole, day, span, area, Version}
+-- The commands of the sample register (own profile).
+use Rattle.std.specs.Prelude.{◌≡◌, ℕ, ◌+◌, ℤ, pos, false, List, [], ◌∷◌, map, Some, None, codes, encode_utf8_all}
+use Rattle.jiff_core.specs.Calendar.{days_from_civil}
+use Rattle.cad_versions.specs.declared.command.Command.{Command}
+use Rattle.cad_sample.specs.Instructions.{Attributes, a_party, a_unit, a_parcel, a_right, a_restriction, Instruction, to_enter, to_amend, instruction_of}
 
--- a corner of the plane, in millimetres
-abbrev pub corner : ℕ → ℕ → Point
-corner x y = record { x = pos x; y = pos y }
+-- the day of the calendar (ISO 8601-1:2019, 5.2.2)
+abbrev pub date : ℕ → ℕ → ℕ → ℤ
+date year month day = days_from_civil (pos year) month day
 
--- the last day of a version, if it has one
-abbrev pub last_day : Option (List ℕ) → Shown
-last_day None = null
-last_day (Some d) = day d
+-- a corner, in whole millimetres
+abbrev pub corner : ℕ → ℕ → ℤ × ℤ
+corner x y = (pos x, pos y)
 
--- the values of a parcel in the order of its schema; it has no spot
-abbrev pub parcel : ℕ → ℕ → List ℕ → Option (List ℕ) → List ℕ → Shown → Shown → ℕ → Shown → Version
-parcel object number first last label size shape unit unit_name = record {
-  object = object;
-  number = number;
-  values = whole (pos object) ∷ whole (pos number) ∷ day first ∷ last_day last ∷ span (Some first) last ∷ text label ∷ size ∷ shape ∷ null
-      ∷ whole (pos unit) ∷ unit_name ∷ [];
-}
+-- the square of side 20 metres that lies so far to the right
+abbrev pub square_at : ℕ → List (ℤ × ℤ)
+square_at x = corner x 0 ∷ corner (x + 20000) 0 ∷ corner (x + 20000) 20000 ∷ corner x 20000 ∷ []
 
-abbrev pub square_of_one : Shown
-square_of_one = area (corner 0 0 ∷ corner 20000 0 ∷ corner 20000 20000 ∷ corner 0 20000 ∷ [])
+-- texts are in UTF-8
+abbrev pub ana : Attributes
+ana = a_party (Some (encode_utf8_all (codes "Ana Straße"))) (codes "naturalPerson")
 
-abbrev pub square_of_two : Shown
-square_of_two = area (corner 20000 0 ∷ corner 40000 0 ∷ corner 40000 20000 ∷ corner 20000 20000 ∷ [])
+abbrev pub first_parcel : ℕ → Attributes
+first_parcel area = a_parcel 10 (codes "A-1") (Some area) (Some (square_at 0)) None
 
-abbrev pub triangle_of_three : Shown
-triangle_of_three = area (corner 0 30000 ∷ corner 30000 30000 ∷ corner 0 60000 ∷ [])
+abbrev pub second_parcel : Attributes
+second_parcel = a_parcel 10 (codes "A-2") None (Some (square_at 20000)) None
 
--- all versions, by object and then by number; unit 10 is named, unit 11 is not
-abbrev pub sample : List Version
-sample =
-    parcel 1 1 (codes "2001-01-01") (Some (codes "2009-12-31")) (codes "A-1") (whole (pos 400)) square_of_one 10 (text (codes "Mill"))
-    ∷ parcel 1 2 (codes "2010-01-01") None (codes "A-1") (whole (pos 380)) square_of_one 10 (text (codes "Mill"))
-    ∷ parcel 2 1 (codes "2005-06-01") None (codes "A-2") null square_of_two 10 (text (codes "Mill"))
-    ∷ parcel 3 1 (codes "2003-01-01") None (codes "b-7") (whole (pos 900)) triangle_of_three 11 null
-    ∷ parcel 4 1 (codes "2003-01-01") None (codes "C%1") (whole (pos 0)) null 11 null
+abbrev pub third_parcel : Attributes
+third_parcel = a_parcel 11 (codes "b-7") (Some 900) (Some (corner 0 30000 ∷ corner 30000 30000 ∷ corner 0 60000 ∷ [])) None
+
+abbrev pub fourth_parcel : Attributes
+fourth_parcel = a_parcel 11 (codes "C%1") (Some 0) None None
+
+abbrev pub ownership : Attributes
+ownership = a_right 10 (Some 20) (codes "ownership") (Some (1, 2))
+
+abbrev pub no_building : Attributes
+no_building = a_restriction 11 None (codes "noBuilding") None (Some false)
+
+-- two units, a party, four parcels of which the first is amended, a right and a restriction
+abbrev pub sample_commands : List Instruction
+sample_commands =
+    to_enter 10 (date 2000 1 1) (a_unit (Some (codes "Mill")))
+    ∷ to_enter 11 (date 2000 1 1) (a_unit None)
+    ∷ to_enter 20 (date 2000 1 1) ana
+    ∷ to_enter 1 (date 2001 1 1) (first_parcel 400)
+    ∷ to_amend 1 (date 2010 1 1) (first_parcel 380)
+    ∷ to_enter 2 (date 2005 6 1) second_parcel
+    ∷ to_enter 3 (date 2003 1 1) third_parcel
+    ∷ to_enter 4 (date 2003 1 1) fourth_parcel
+    ∷ to_enter 30 (date 2005 1 1) ownership
+    ∷ to_enter 31 (date 2006 1 1) no_building
     ∷ []
+
+-- commands that say so
+abbrev pub AreSample : List Command → Type 0
+AreSample commands = map instruction_of commands ≡ sample_commands

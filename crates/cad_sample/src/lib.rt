@@ -1,13 +1,20 @@
-//! The parcels of the sample register, at its last revision.
+//! The sample register: ten commands that make two units, a party, four parcels, a right and a restriction.
 //!
-//! `sample_parcels` gives the features 1.1, 1.2, 2.1, 3.1 and 4.1. The area of 3.1 is 900, that of 2.1 is
-//! null; 4.1 has no shape.
+//! - `sample`: the commands
+//! - `fill`: enters them into a ledger, one after the other
 //!
-//! - `parcel`: from what is known of a parcel to its feature
-//! - `sample`: what is known of the five
+//! Parcel 1 is amended once, so that it has two versions; parcel 2 has no area, and parcel 4 no shape.
+//!
+//! ```text
+//! let mut ledger = PlainLedger::new(alloc);
+//! fill(alloc, &mut ledger)    // Ok(10)
+//! fill(alloc, &mut ledger)    // Err(KnownObject): unit 10 was entered
+//! ```
 #![tactic(auto)]
 
-mod parcel;
-mod sample;
+mod commands;
+mod filling;
+mod values;
 
-pub use sample::sample_parcels;
+pub use commands::sample;
+pub use filling::fill;

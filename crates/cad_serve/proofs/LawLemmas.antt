@@ -1,16 +1,15 @@
 -- What was served is a stream.
-use Rattle.std.proofs.Common.{◌≡◌, ℕ, true, false, cond, nat_eq, is_none, List, [], ◌∷◌, ◌++◌, Some, map, refl, sym, ap, ap₂, subst, ◌∙◌, append-nil, arith}
+use Rattle.std.proofs.Common.{◌≡◌, ℕ, true, false, cond, nat_eq, is_none, List, [], ◌∷◌, ◌++◌, Some, map, refl, sym, ap, subst, ◌∙◌, arith}
 use Rattle.std.specs.Global.{Vec}
 use Rattle.std.proofs.lemmas.Bool.Decides.{nat_tests}
 use Rattle.std.proofs.lemmas.List.{map-append}
-use Rattle.std.proofs.lemmas.List.Concat.{flat_map-append}
 use Rattle.httparse.specs.Grammar.{RequestHead}
 use Rattle.cad_versions.specs.declared.command.Command.{Command}
-use Rattle.cad_request.specs.Request.{request_of}
 use Rattle.cad_stream.specs.declared.responder.Responder.{Ghosts}
 use Rattle.cad_stream.specs.Streams.{Outcome, waits, closed, refused, rest_of, IsStream}
-use Rattle.cad_stream.specs.Replies.{replies_to, last_reply}
+use Rattle.cad_stream.specs.Replies.{AreReplies, last_reply}
 use Rattle.cad_stream.specs.Conversations.{Piece, bytes_of, heads_of, heads_at, IsConversation}
+use Rattle.cad_stream.specs.ReplyLemmas.{replies_go_on}
 use Rattle.cad_stream.specs.Laws.{PiecesAreOneStream}
 use Rattle.cad_desk.specs.declared.desk.Desk.{Desk}
 use Rattle.cad_desk.specs.Connections.{rest_at}
@@ -48,7 +47,8 @@ module _ {R : Type 0} (g : Ghosts R) (c : ℕ) (commands : List Command) where
   abbrev pub IsTold : List (Vec ℕ) → List ℕ → List ℕ → Type 0
   IsTold pieces held out =
       (heads : List RequestHead) × (rest : List ℕ)
-      × IsConversation g.closes (waits held) (pieces_at commands pieces) (heads_at commands heads) (waits rest) × (out ≡ replies_to g.reply commands heads)
+      × IsConversation g.closes (waits held) (pieces_at commands pieces) (heads_at commands heads) (waits rest)
+      × AreReplies g.replies (heads_at commands heads) [] out
 
   told : (pieces : List (Vec ℕ)) (old new : Desk R) (out held : List ℕ) → GoesOn g c old pieces out new → rest_at (connections_of old) c ≡ Some held
       → g.counts (responder_of new) → g.stands_for (responder_of old) commands → IsTold pieces held out
@@ -63,12 +63,12 @@ module _ {R : Type 0} (g : Ghosts R) (c : ℕ) (commands : List Command) where
       let later = told pieces x.2 new x.1 next.0 x.5 left counts (x.3.1.kept now commands stands) in
       let stream : IsStream g.closes s.1 (held ++ piece.items) (waits next.0) =
       subst (λ (o : Outcome). IsStream g.closes s.1 (held ++ piece.items) o) next.1 (subst (λ (h : List ℕ). IsStream g.closes s.1 (h ++ piece.items) s.2) here s.4) in
-      let sent : x.0.items ≡ replies_to g.reply commands s.1 =
-      s.7 now commands stands ∙ ap (λ (o : Outcome). replies_to g.reply commands s.1 ++ last_reply g.bad_head o) next.1 ∙ append-nil _ in (
+      let sent : AreReplies g.replies (heads_at commands s.1) [] x.0.items =
+      subst (λ (o : Outcome). AreReplies g.replies (heads_at commands s.1) (last_reply g.bad_head o) x.0.items) next.1 (s.7 now commands stands) in (
         s.1 ++ later.0,
         later.1,
         (s.1, heads_at commands later.0, waits next.0, map-append (λ (h : RequestHead). (commands, h)) s.1 later.0, stream, later.2),
-        x.4 ∙ ap₂ ◌++◌ sent later.3 ∙ sym (flat_map-append (λ (h : RequestHead). g.reply commands (request_of h)) s.1 later.0),
+        subst (λ (b : List ℕ). AreReplies g.replies (heads_at commands (s.1 ++ later.0)) [] b) (sym x.4) (replies_go_on g.replies commands s.1 later.0 [] x.0.items x.1 sent later.3),
       )
 
 pub served_is_a_stream : {R : Type 0} (g : Ghosts R) → PiecesAreOneStream → ServedIsAStream g

@@ -1,4 +1,5 @@
 pub mod Faults
 pub mod Writing
+pub mod WritingLemmas
 pub mod Serving
 pub mod Laws

@@ -23,7 +23,7 @@ fn after(bytes: &[u8], count: usize) -> &[u8]
 }
 
 /// Writes all the bytes. At a write that fails or takes nothing it stops: then a front of them was written.
-pub(crate) fn write_whole<W: Write>(writer: &mut W, bytes: &[u8]) -> Result<(), ServeFault>
+pub fn write_whole<W: Write>(writer: &mut W, bytes: &[u8]) -> Result<(), ServeFault>
     ensures { IsWritten (W.contents writer.old) (W.contents writer.new) bytes.now result }
 {
     let mut done = 0;

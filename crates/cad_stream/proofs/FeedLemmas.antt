@@ -2,7 +2,6 @@
 use Rattle.std.proofs.Common.{◌≡◌, ◌⊎◌, ℕ, ◌+◌, ◌<◌, ◌≤◌, List, [], ◌∷◌, ◌++◌, true, false, Some, None, Ok, Err, length, drop, refl, sym, ap, subst, ◌∙◌, append-nil, arith, length-drop, inl, inr}
 use Rattle.std.specs.Global.{Vec}
 use Rattle.std.proofs.lemmas.List.{drop-drop}
-use Rattle.std.proofs.lemmas.List.Concat.{flat_map-append}
 use Rattle.httparse.specs.Grammar.{RequestHead}
 use Rattle.httparse.specs.declared.spans.HeaderSpan.{HeaderSpan}
 use Rattle.httparse.specs.declared.spans.RequestSpans.{RequestSpans}
@@ -17,8 +16,10 @@ use Rattle.cad_stream.specs.declared.connection.Fed.{Fed}
 use Rattle.cad_stream.specs.declared.replies.Next.{Next}
 use Rattle.cad_stream.specs.declared.replies.Next.TheVariants as next
 use Rattle.cad_stream.specs.declared.responder.Responder.{Ghosts}
-use Rattle.cad_stream.specs.Streams.{waits, closed, Passes}
-use Rattle.cad_stream.specs.Replies.{replies_to, Fails}
+use Rattle.cad_stream.specs.Streams.{waits, closed, refused, Passes}
+use Rattle.cad_stream.specs.Replies.{AreReplies, Fails}
+use Rattle.cad_stream.specs.Conversations.{HeadAt, heads_at}
+use Rattle.cad_stream.specs.ReplyLemmas.{replies_join, replies_go_on}
 use Rattle.cad_stream.specs.Answering.{Answered}
 use Rattle.cad_stream.specs.Feeding.{bytes_left, Under, Stays, IsNext, RepliesTo, Feeds}
 use Rattle.cad_stream.proofs.StreamLemmas.{fits_some, passes_push, passes_join}
@@ -33,13 +34,13 @@ request_at-head bytes front headers spans head here found =
 module _ {R : Type 0} (g : Ghosts R) where
   -- the answer to the request that spans show is that to the head
   pub answered_head : (bytes : List ℕ) (old new : R) (request : Request) (head : RequestHead) (rest : List ℕ) (answer : Answer) → request ≡ request_of head → Fits bytes head rest
-      → Answered g.stands_for g.counts g.lives g.reply g.closes g.fails_to_answer g.refuses_answer old request (Ok answer) new
-      → (answer.ends ≡ g.closes (request_of head)) × Under g old new (λ commands. answer.bytes.items ≡ g.reply commands (request_of head))
+      → Answered g.stands_for g.counts g.lives g.replies g.closes g.fails_to_answer g.refuses_answer old request (Ok answer) new
+      → (answer.ends ≡ g.closes (request_of head)) × Under g old new (λ commands. g.replies commands (request_of head) answer.bytes.items)
   answered_head bytes old new request head rest answer same fits a =
-      (a.ends ∙ ap g.closes same, λ counts commands stands. a.replied counts commands stands ∙ ap (g.reply commands) same)
+      (a.ends ∙ ap g.closes same, λ counts commands stands. subst (λ (r : Request). g.replies commands r answer.bytes.items) same (a.replied counts commands stands))
 
   pub failed_head : (bytes : List ℕ) (old new : R) (request : Request) (head : RequestHead) (rest : List ℕ) (fault : RegisterFault) → request ≡ request_of head → Fits bytes head rest
-      → Answered g.stands_for g.counts g.lives g.reply g.closes g.fails_to_answer g.refuses_answer old request (Err fault) new
+      → Answered g.stands_for g.counts g.lives g.replies g.closes g.fails_to_answer g.refuses_answer old request (Err fault) new
       → IsNext g bytes old (Err fault) new
   failed_head bytes old new request head rest fault same fits a = record {
     next = tt;
@@ -61,7 +62,7 @@ module _ {R : Type 0} (g : Ghosts R) where
   pub record HasReplied (bytes : List ℕ) (old : R) (used : ℕ) (out : List ℕ) (now : R) : Type 0 where
     pub heads : List RequestHead
     pub passed : Passes g.closes heads bytes (drop used bytes)
-    pub told : Under g old now (λ commands. out ≡ replies_to g.reply commands heads)
+    pub told : Under g old now (λ commands. AreReplies g.replies (heads_at commands heads) [] out)
     pub stands : g.counts now → (commands : List Command) → g.stands_for old commands → g.stands_for now commands
     pub clean : g.counts now → g.counts old
 
@@ -113,7 +114,7 @@ module _ {R : Type 0} (g : Ghosts R) where
   waits_here bytes old now new used out within h n = record {
     replied = (
       waits (drop used bytes),
-      (h.heads, (h.passed, n.next), λ counts commands stands. h.told (n.stays.clean counts) commands stands ∙ sym (append-nil _)),
+      (h.heads, (h.passed, n.next), λ counts commands stands. h.told (n.stays.clean counts) commands stands),
       refl,
     );
     within = λ count e. let same : used ≡ count = cc in subst (λ (m : ℕ). m ≤ length bytes) same within;
@@ -122,14 +123,13 @@ module _ {R : Type 0} (g : Ghosts R) where
   }
 
   -- one reply more
-  replies_push : (commands : List Command) (heads : List RequestHead) (head : RequestHead) (out more : List ℕ) → out ≡ replies_to g.reply commands heads
-      → more ≡ g.reply commands (request_of head) → out ++ more ≡ replies_to g.reply commands (heads ++ head ∷ [])
-  replies_push commands heads head out more e f =
-      rw (e, f) (sym (flat_map-append (λ (h : RequestHead). g.reply commands (request_of h)) heads (head ∷ []) ∙ ap (λ (l : List ℕ). replies_to g.reply commands heads ++ l) (append-nil _)))
+  replies_push : (commands : List Command) (heads : List RequestHead) (head : RequestHead) (out more : List ℕ) → AreReplies g.replies (heads_at commands heads) [] out
+      → g.replies commands (request_of head) more → AreReplies g.replies (heads_at commands (heads ++ head ∷ [])) [] (out ++ more)
+  replies_push commands heads head out more e f = replies_go_on g.replies commands heads (head ∷ []) [] out more e (more, [], f, sym (append-nil more), refl)
 
   told_more : (bytes : List ℕ) (old now new : R) (used len : ℕ) (out : List ℕ) (answer : Answer) (h : HasReplied bytes old used out now)
       (n : IsNext g (drop used bytes) now (Ok (next.Answered answer len)) new)
-      → Under g old new (λ commands. out ++ answer.bytes.items ≡ replies_to g.reply commands (h.heads ++ n.next.0 ∷ []))
+      → Under g old new (λ commands. AreReplies g.replies (heads_at commands (h.heads ++ n.next.0 ∷ [])) [] (out ++ answer.bytes.items))
   told_more bytes old now new used len out answer h n counts commands stands =
       let clean = n.stays.clean counts in
       replies_push commands h.heads n.next.0 out answer.bytes.items (h.told clean commands stands) (n.next.4 counts commands (h.stands clean commands stands))
@@ -143,13 +143,33 @@ module _ {R : Type 0} (g : Ghosts R) where
       (
         h.heads ++ n.next.0 ∷ [],
         (h.heads, n.next.0, drop len (drop used bytes), refl, (drop used bytes, h.passed, n.next.1), sym n.next.3 ∙ ends),
-        λ counts commands stands. all ∙ told_more bytes old now new used len out answer h n counts commands stands ∙ sym (append-nil _),
+        λ counts commands stands. subst (λ (b : List ℕ). AreReplies g.replies (heads_at commands (h.heads ++ n.next.0 ∷ [])) [] b) (sym all) (told_more bytes old now new used len out answer h n counts commands stands),
       ),
       refl,
     );
     within = λ count e. absurd cc;
     cause = tt;
     stays = stays_well bytes old now new used out (next.Answered answer len) (record { bytes = whole; used = None }) h n.stays;
+  }
+
+  pub refused_here : (bytes : List ℕ) (old now new : R) (used : ℕ) (out : List ℕ) (reply whole : Vec ℕ) → HasReplied bytes old used out now
+      → IsNext g (drop used bytes) now (Ok (next.Hopeless reply)) new → whole.items ≡ out ++ reply.items
+      → RepliesTo g bytes old (Ok (record { bytes = whole; used = None })) new
+  refused_here bytes old now new used out reply whole h n all = record {
+    replied = (
+      refused,
+      (
+        h.heads,
+        (drop used bytes, h.passed, n.next.0),
+        λ counts commands stands. subst (λ (b : List ℕ). AreReplies g.replies (heads_at commands h.heads) g.bad_head b) (sym all)
+            (subst (λ (l : List HeadAt). AreReplies g.replies l g.bad_head (out ++ reply.items)) (append-nil (heads_at commands h.heads))
+            (replies_join g.replies (heads_at commands h.heads) [] g.bad_head out reply.items (h.told (n.stays.clean counts) commands stands) n.next.1)),
+      ),
+      refl,
+    );
+    within = λ count e. absurd cc;
+    cause = tt;
+    stays = stays_well bytes old now new used out (next.Hopeless reply) (record { bytes = whole; used = None }) h n.stays;
   }
 
   pub passes_here : (bytes : List ℕ) (old now new : R) (used len : ℕ) (out : List ℕ) (answer : Answer) (whole : List ℕ) → HasReplied bytes old used out now
@@ -160,7 +180,7 @@ module _ {R : Type 0} (g : Ghosts R) where
       record {
         heads = h.heads ++ n.next.0 ∷ [];
         passed = passes_push g.closes h.heads n.next.0 bytes (drop used bytes) (drop (used + len) bytes) h.passed (subst (λ (b : List ℕ). Fits (drop used bytes) n.next.0 b) rest n.next.1) (sym n.next.3 ∙ ends);
-        told = λ counts commands stands. all ∙ told_more bytes old now new used len out answer h n counts commands stands;
+        told = λ counts commands stands. subst (λ (b : List ℕ). AreReplies g.replies (heads_at commands (h.heads ++ n.next.0 ∷ [])) [] b) (sym all) (told_more bytes old now new used len out answer h n counts commands stands);
         stands = λ counts commands stands. n.stays.kept counts commands (h.stands (n.stays.clean counts) commands stands);
         clean = λ counts. h.clean (n.stays.clean counts);
       }

@@ -13,7 +13,8 @@ use Rattle.cad_stream.specs.declared.replies.Next.TheVariants.{Waiting, Hopeless
 use Rattle.cad_stream.specs.declared.replies.Replies.{Replies}
 use Rattle.cad_stream.specs.declared.responder.Responder.{Ghosts}
 use Rattle.cad_stream.specs.Streams.{Outcome, rest_of, IsStream}
-use Rattle.cad_stream.specs.Replies.{replies_to, last_reply, Fails}
+use Rattle.cad_stream.specs.Replies.{AreReplies, last_reply, Fails}
+use Rattle.cad_stream.specs.Conversations.{heads_at}
 
 -- the bytes that no request took yet
 abbrev pub bytes_held : Connection → List ℕ
@@ -39,7 +40,7 @@ module _ {R : Type 0} (g : Ghosts R) where
   abbrev pub IsReplied : R → R → List ℕ → List ℕ → Outcome → Type 0
   IsReplied old new bytes out last =
       (heads : List RequestHead) × IsStream g.closes heads bytes last
-      × Under old new (λ commands. out ≡ replies_to g.reply commands heads ++ last_reply g.bad_head last)
+      × Under old new (λ commands. AreReplies g.replies (heads_at commands heads) (last_reply g.bad_head last) out)
 
   -- a piece that follows the bytes held
   pub record Feeds (held piece : List ℕ) (old : R) (result : Result Fed RegisterFault) (new : R) : Type 0 where
@@ -61,7 +62,7 @@ module _ {R : Type 0} (g : Ghosts R) where
   IsNextOf bytes old (Answered answer used) new =
       (head : RequestHead) × Fits bytes head (drop used bytes) × (used ≡ length (print_request head))
       × (answer.ends ≡ g.closes (request_of head))
-      × Under old new (λ commands. answer.bytes.items ≡ g.reply commands (request_of head))
+      × Under old new (λ commands. g.replies commands (request_of head) answer.bytes.items)
 
   -- the first request that the bytes come to
   pub record IsNext (bytes : List ℕ) (old : R) (result : Result Next RegisterFault) (new : R) : Type 0 where

@@ -1,20 +1,19 @@
 -- What goes out to a connection (RFC 9112, section 9.3.2: replies come in the order of the requests).
-use Rattle.std.specs.Prelude.{ℕ, List, [], Bool}
-use Rattle.std.specs.List.{flat_map}
+use Rattle.std.specs.Prelude.{◌≡◌, ℕ, List, [], ◌∷◌, ◌++◌, Bool}
 use Rattle.httparse.specs.Grammar.{RequestHead}
 use Rattle.cad_versions.specs.declared.command.Command.{Command}
 use Rattle.cad_versions.specs.declared.fault.RegisterFault.{RegisterFault}
 use Rattle.cad_request.specs.Request.{Request, request_of}
 use Rattle.cad_stream.specs.Streams.{Outcome, waits, closed, refused, Reaches}
+use Rattle.cad_stream.specs.Conversations.{HeadAt}
 
-module _ (reply : List Command → Request → List ℕ) where
-  -- the replies to these heads, one after the other, with these commands in force
-  abbrev pub replies_to : List Command → List RequestHead → List ℕ
-  replies_to commands heads = flat_map (λ head. reply commands (request_of head)) heads
-
-  -- the replies to these heads, each with its own commands in force
-  abbrev pub replies_at : List (List Command × RequestHead) → List ℕ
-  replies_at heads = flat_map (λ answered. reply answered.0 (request_of answered.1)) heads
+module _ (IsReply : List Command → Request → List ℕ → Type 0) where
+  -- a reply to each of these heads, with its own commands in force, one after the other, and then the last bytes
+  abbrev pub AreReplies : List HeadAt → List ℕ → List ℕ → Type 0
+  AreReplies [] last out = out ≡ last
+  AreReplies (head ∷ heads) last out =
+      (first : List ℕ) × (later : List ℕ)
+      × IsReply head.0 (request_of head.1) first × (out ≡ first ++ later) × AreReplies heads last later
 
 -- the last reply, where no request can come
 abbrev pub last_reply : List ℕ → Outcome → List ℕ

@@ -25,8 +25,8 @@ pub trait Responder {
     // It may be asked again, as a database that is open.
     ghost lives: { Self → Type 0 };
 
-    // The reply to a request, with these commands in force.
-    ghost reply: { List CommandOf → Request → List ℕ };
+    // These bytes are the reply to a request, with these commands in force.
+    ghost replies: { List CommandOf → Request → List ℕ → Type 0 };
 
     // The connection ends after the reply to this request.
     ghost closes: { Request → Bool };
@@ -54,7 +54,7 @@ pub trait Responder {
         spans: &RequestSpans,
     ) -> Result<Answer, RegisterFault>
         requires { IsRequestWithin bytes.now headers.now spans.now }
-        ensures { Answered stands_for counts lives reply closes fails_to_answer refuses_answer
+        ensures { Answered stands_for counts lives replies closes fails_to_answer refuses_answer
             self.old (request_at bytes.now headers.now spans.now) result self.new };
 
     /// The reply to bytes that no request can begin with.
@@ -64,6 +64,11 @@ pub trait Responder {
     /// Enters a command, and answers the revision since, or refuses it and stays as it was.
     fn enter(&mut self, command: Command) -> Result<u64, RegisterFault>
         ensures { Applied stands_for counts lives fails_to_enter refuses_command self.old command result self.new };
+
+    /// A request has one reply. The contract is a law; the function does nothing.
+    fn one_reply()
+        ensures { (commands : List CommandOf) (request : Request) (one other : List ℕ) →
+            replies commands request one → replies commands request other → one ≡ other };
 
     // What it fails for is a fault of what keeps the commands.
     ghost answer_keeps: { (commands : List CommandOf) (request : Request) (fault : Fault) →

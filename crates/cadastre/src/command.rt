@@ -1,23 +1,38 @@
 //! What the arguments ask for.
 
 use crate::outcome::Outcome;
-use cad_http::DeskFault;
+use cad_desk::DeskFault;
+use cad_listen::read_count;
 use std::env::args;
 use std::io::{Error, ErrorKind};
 use std::rt::Env;
 
+/// Where a program listens, and for how many connections.
+#[derive(Clone, Copy, Debug, PartialEq, Eq)]
+pub struct Service<'a> {
+    /// The text of the address.
+    pub address: &'a str,
+    /// How many connections are taken.
+    pub count: u32,
+}
+
 /// What the program is to do.
 #[derive(Clone, Copy, Debug, PartialEq, Eq)]
 pub enum Command<'a> {
-    /// Serve one request from standard input over the sample register.
+    /// Serve one connection from standard input to standard output over the sample register.
     Sample,
+    /// Serve one over the register of the file at this path.
+    Ask(&'a str),
+    /// Listen for connections, and serve them over the register of the file at this path.
+    Serve(&'a str, Service<'a>),
     /// Enter the commands of standard input into the register of the file at this path.
     Office(&'a str),
 }
 
 impl<'a> Command<'a> {
     ghost use Rattle.std.specs.Prelude.{◌≡◌, map, string_bytes};
-    ghost use Rattle.cadastre.specs.Commands.{IsCommandOf};
+    ghost use Rattle.cad_listen.specs.Arguments.{count_of};
+    ghost use Rattle.cadastre.specs.Commands.{asked, service_of, IsCommandOf};
 
     /// The command of a command line, which begins with the program's name.
     pub fn of_words(words: &'a [String]) -> Option<Command<'a>>
@@ -25,9 +40,20 @@ impl<'a> Command<'a> {
     {
         match words {
             [_, name] if name.as_str() == "sample" => Some(Command::Sample),
+            [_, name, file] if name.as_str() == "ask" => Some(Command::Ask(file.as_str())),
             [_, name, file] if name.as_str() == "office" => Some(Command::Office(file.as_str())),
+            [_, name, file, address, count] if name.as_str() == "serve" =>
+                Command::of_service(file.as_str(), address.as_str(), count.as_str()),
             _ => None,
         }
+    }
+
+    /// The command to serve a file at an address, if the count is one.
+    fn of_service(file: &'a str, address: &'a str, count: &str) -> Option<Command<'a>>
+        ensures { asked result ≡ service_of file.now address.now (count_of count.now) }
+    {
+        let count = read_count(count)?;
+        Some(Command::Serve(file, Service { address, count }))
     }
 }
 

@@ -1,17 +1,20 @@
-//! The land office over a register file.
+//! The land office, and the server, over a register file.
 
 ghost use Rattle.std.specs.Io.KnownBytes.{IsAtEnd};
 ghost use Rattle.cad_versions.specs.LedgerCalls.{Applies};
 ghost use Rattle.std.specs.Prelude.{◌≡◌};
 ghost use Rattle.cadastre.specs.Entering.{EndsOffice, RunsOffice};
+ghost use Rattle.cadastre.specs.Asking.{RunsAsk};
 ghost use Rattle.cadastre.specs.Outcomes.{opening_fault};
 
 use crate::outcome::Outcome;
+use crate::serving::answer_over;
 use cad_office::office;
 use cad_register::{Register, RegisterFault};
 use cad_versions::Ledger;
-use sqlite::{Alter, Connection, Error, ErrorCode};
+use sqlite::{Alter, Connection, Error, ErrorCode, File, FileStore};
 use std::alloc::Global;
+use std::fs;
 use std::io::{Read, Write};
 
 /// Why a file is not opened.
@@ -70,6 +73,52 @@ pub fn run_office(rt: &HostRuntime, file: &str) -> Outcome {
         &mut rt.stdout(),
     );
     // The log holds what was accepted where closing fails to copy it into the file.
+    let _ = connection.close();
+    outcome
+}
+
+/// Serves a connection over the register of a database, and gives the database's connection back.
+pub fn run_ask_over<S: Alter, R: Read, W: Write>(
+    alloc: Global,
+    connection: Connection<S>,
+    reader: &mut R,
+    writer: &mut W,
+) -> (Outcome, Connection<S>)
+    ensures { RunsAsk S.Store (R.remaining reader.old) (R.remaining reader.new)
+        (W.contents writer.old) (W.contents writer.new) (IsAtEnd (R.remaining reader.new)) connection result }
+{
+    match Register::open(alloc, connection) {
+        Ok(register) => {
+            let (outcome, register) = answer_over(alloc, register, reader, writer);
+            (outcome, register.release())
+        }
+        Err((why, connection)) => (Outcome::Register(why), connection),
+    }
+}
+
+/// The database of a file. Where there is no file, none is made.
+pub fn open_standing(
+    rt: &HostRuntime,
+    file: &str,
+) -> Result<Connection<FileStore<File>>, RegisterFault> {
+    if let Ok(false) = fs::exists(rt, file) {
+        return Err(RegisterFault::NotARegister);
+    }
+    Connection::open(rt, file).map_err(open_fault)
+}
+
+/// Serves standard input over the register of a file.
+pub fn run_ask(rt: &HostRuntime, file: &str) -> Outcome {
+    let connection = match open_standing(rt, file) {
+        Ok(connection) => connection,
+        Err(fault) => return Outcome::Register(fault),
+    };
+    let (outcome, connection) = run_ask_over(
+        rt.alloc(),
+        connection,
+        &mut rt.stdin(),
+        &mut rt.stdout(),
+    );
     let _ = connection.close();
     outcome
 }

@@ -1,21 +1,33 @@
 //! The cadastre feature server.
 //!
 //! - `command`: what the arguments ask for
-//! - `sample`: one request served over the sample register
-//! - `land`: the land office over a register file
+//! - `serving`: one connection served over a ledger, as the sample register
+//! - `land`: the land office, and the server, over a register file
+//! - `listening`: connections taken at an address, over a register file
 //! - `outcome`: how a run ended: its status, and the line that tells it
 #![tactic(auto)]
 
 mod command;
 mod land;
+mod listening;
 mod outcome;
-mod sample;
+mod serving;
 
+use cad_plain::PlainLedger;
 use command::{Command, read_words};
-use land::run_office;
+use land::{run_ask, run_office};
+use listening::run_serve;
 use outcome::{Outcome, tell};
-use sample::serve_sample;
+use serving::answer_sample;
 use std::process::ExitCode;
+
+/// Serves standard input over the sample register, which lies in memory.
+fn run_sample(rt: &HostRuntime) -> Outcome {
+    let alloc = rt.alloc();
+    let ledger = PlainLedger::new(alloc);
+    let (outcome, _) = answer_sample(alloc, ledger, &mut rt.stdin(), &mut rt.stdout());
+    outcome
+}
 
 fn run(rt: &HostRuntime) -> Outcome {
     let words = match read_words(rt) {
@@ -23,9 +35,9 @@ fn run(rt: &HostRuntime) -> Outcome {
         Err(outcome) => return outcome,
     };
     match Command::of_words(&words) {
-        Some(Command::Sample) => {
-            Outcome::of_serving(serve_sample(rt.alloc(), &mut rt.stdin(), &mut rt.stdout()))
-        }
+        Some(Command::Sample) => run_sample(rt),
+        Some(Command::Ask(file)) => run_ask(rt, file),
+        Some(Command::Serve(file, service)) => run_serve(rt, file, service),
         Some(Command::Office(file)) => run_office(rt, file),
         None => Outcome::Usage,
     }

@@ -1,8 +1,9 @@
 //! How a run ended: its status, and the line that tells it.
 
-use cad_http::{DeskFault, Ending, ServeFault};
+use cad_desk::DeskFault;
 use cad_office::OfficeFault;
 use cad_register::RegisterFault;
+use cad_serve::{Ending, ServeFault};
 
 /// How a run ended.
 #[derive(Clone, Copy, Debug, PartialEq, Eq)]
@@ -14,24 +15,31 @@ pub enum Outcome {
     Serve(ServeFault),
     /// Reading or writing failed in the office, or there were too many reads.
     Office(OfficeFault),
-    /// The request was not answered.
+    /// The connection was refused.
     Desk(DeskFault),
-    /// The register could not be opened, or its database refused a command.
+    /// There was no register or no desk over it, or its database refused what it was asked.
     Register(RegisterFault),
+    /// The program listened, and this is its status. What went wrong was told.
+    Listened(u8),
     /// The arguments are wrong.
     Usage,
+    /// The address cannot be read or bound.
+    Address,
 }
 
 impl Outcome {
     ghost use Rattle.std.specs.Prelude.{◌≡◌, option_map};
     ghost use Rattle.cadastre.specs.Outcomes.{fault_of, office_outcome_of, outcome_of, status_of};
 
-    /// How serving one request ends a run.
+    /// How serving one connection ends a run. What the database refuses is told as the register's fault.
     pub fn of_serving(served: Result<Ending, ServeFault>) -> Outcome
         ensures { result ≡ outcome_of served }
     {
         match served {
             Ok(Ending::PeerEnded | Ending::WeEnded) => Outcome::Good,
+            Ok(Ending::Refused(DeskFault::Register(RegisterFault::Store))) => Outcome::Register(
+                RegisterFault::Store,
+            ),
             Ok(Ending::Refused(fault)) => Outcome::Desk(fault),
             Err(fault) => Outcome::Serve(fault),
         }
@@ -56,19 +64,26 @@ impl Outcome {
         match self {
             Outcome::Good => 0,
             Outcome::Refused | Outcome::Serve(_) | Outcome::Office(_) | Outcome::Desk(_) => 1,
+            Outcome::Listened(status) => status,
             Outcome::Usage => 2,
             Outcome::Register(_) => 3,
+            Outcome::Address => 4,
         }
     }
 
     /// The fault of a bad outcome, which is told on standard error.
     ///
-    /// Refused lines were told on standard output, and wrong arguments are told by the usage line.
+    /// Refused lines were told on standard output, and what went wrong while the program listened on standard error. Wrong
+    /// arguments and a wrong address have a line of their own.
     pub fn fault(self) -> Option<Fault>
         ensures { option_map (λ f. (f.kind.now, f.number, f.name.now)) result ≡ fault_of self }
     {
         let (kind, number, name) = match self {
-            Outcome::Good | Outcome::Refused | Outcome::Usage => return None,
+            Outcome::Good
+            | Outcome::Refused
+            | Outcome::Listened(_)
+            | Outcome::Usage
+            | Outcome::Address => return None,
             Outcome::Serve(fault) => ("serve", fault.number(), fault.name()),
             Outcome::Office(fault) => ("serve", fault.number(), fault.name()),
             Outcome::Desk(fault) => ("desk", fault.number(), fault.name()),
@@ -89,7 +104,11 @@ pub struct Fault {
 /// Tells a bad outcome on standard error. Where that cannot be written, the status alone tells it.
 pub fn tell(rt: &impl Eprint, outcome: Outcome) {
     if outcome == Outcome::Usage {
-        let _ = eprintln!(rt; "usage: cadastre sample | office FILE");
+        let _ =
+            eprintln!(rt; "usage: cadastre sample | office FILE | ask FILE | serve FILE ADDRESS COUNT");
+    }
+    if outcome == Outcome::Address {
+        let _ = eprintln!(rt; "address");
     }
     if let Some(fault) = outcome.fault() {
         let _ = eprintln!(rt; "{}: {} {}", fault.kind, fault.number, fault.name);

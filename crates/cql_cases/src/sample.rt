@@ -3,8 +3,8 @@
 ghost use Rattle.std.specs.Prelude.{IfOk};
 ghost use Rattle.cad_versions.specs.Listing.{IsListing};
 
-use cad_office::fill;
 use cad_plain::PlainLedger;
+use cad_sample::fill;
 use cad_versions::{Ledger, Version};
 use std::alloc::{AllocError, Global};
 

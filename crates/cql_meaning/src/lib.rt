@@ -1,32 +1,13 @@
-//! What a filter says of a feature.
+//! What filters mean, by one name: whether a filter is true of a feature, and how it compares texts.
 //!
-//! `check` turns the tree of a filter's text into a filter whose kinds fit its collection, `truth`
-//! says whether a filter is true or false of a feature, or neither for want of a value, and `select`
-//! answers the features of which it is true.
+//! - [`truth`]: whether a filter is true of a feature, false of it, or neither: a [`Truth`]
+//! - [`like`]: whether a text is like a pattern; [`fold`]: a text with its case folded
 //!
-//! - `schema`: collections, and the names and kinds of their properties
-//! - `feature`: one version of an object, with its values in the order of its schema
-//! - `check`, `filter`: a tree to a filter whose kinds fit
-//! - `truth`, `Truth`: what a filter says of a feature
-//! - `select`: the first features that a filter takes
-//! - `laws`: what holds of filters and answers
+//! Of the parcel 2.1, which has no area, the filters `area > 390` and `NOT area > 390` are [`Truth::Unknown`];
+//! `like("ß", "_")` is true, and `fold("Ana Straße")` is `ana strasse`.
 //!
-//! The tree of `NOT area > 390` is checked as `Not(CompareWhole(Greater, Property(6), Constant(390)))`
-//! among parcels. `truth` says of it Yes where the area is 380, No where it is 400, and Unknown where
-//! there is none.
+//! Nothing stands here but names: what each promises is said where it is defined, in `cql_truth` and `cql_text`.
 #![tactic(auto)]
 
-mod answer;
-pub mod check;
-mod constant;
-mod decide;
-pub mod feature;
-pub mod filter;
-pub mod laws;
-pub mod schema;
-mod value;
-mod verdict;
-
-pub use answer::select;
-pub use decide::truth;
-pub use verdict::Truth;
+pub use cql_text::{fold, like};
+pub use cql_truth::{Truth, truth};

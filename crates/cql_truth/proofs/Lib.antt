@@ -2,3 +2,5 @@ mod Exclusion
 mod IntervalLemmas
 mod PartLemmas
 mod FoldingLemmas
+mod ExpressionLemmas
+mod ConditionLemmas

@@ -8,6 +8,7 @@ use Rattle.cad_day.specs.Days.{IsTurned}
 use Rattle.cad_feature.specs.Features.{Item}
 use Rattle.cql_lexer.specs.declared.token.Comparison.{Comparison}
 use Rattle.cql_lexer.specs.declared.token.Comparison.TheVariants.{Equal, AtMost, AtLeast}
+use Rattle.cql_types.specs.Conditions.{condition_in}
 use Rattle.cql_types.specs.declared.filter.WholeTerm.{WholeTerm}
 use Rattle.cql_types.specs.declared.filter.TextTerm.{TextTerm}
 use Rattle.cql_types.specs.declared.filter.DayTerm.{DayTerm}
@@ -70,6 +71,10 @@ NullDecidesNothing = (by : Comparison) (a b : WholeTerm) (x : Item) → (whole_v
 -- IS NULL is true or false of each feature
 abbrev pub IsNullDecides : Type 0
 IsNullDecides = (a : AnyTerm) (x : Item) → no (filter.IsNull a) x ≡ not (yes (filter.IsNull a) x)
+
+-- two filters of one condition are true of the same features, and false of the same
+abbrev pub FiltersOfOneConditionAgree : Type 0
+FiltersOfOneConditionAgree = (f g : Filter) (x : Item) → condition_in f ≡ condition_in g → sides x f ≡ sides x g
 
 -- from one end to another there is an interval with these ends, or they are turned round
 abbrev pub IsIntervalOf : Option Day → Option Day → Option Interval → Type 0

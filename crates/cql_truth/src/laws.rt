@@ -2,7 +2,7 @@
 
 ghost use Rattle.cql_truth.specs.Laws.{YesExcludesNo, NotExchanges, NotTwiceIsNone, AndNeedsAll, OrNeedsSome};
 ghost use Rattle.cql_truth.specs.Laws.{BetweenIsTwoComparisons, InIsSomeEqual, NullDecidesNothing, IsNullDecides};
-ghost use Rattle.cql_truth.specs.Laws.{IntervalsHaveTheirEnds};
+ghost use Rattle.cql_truth.specs.Laws.{FiltersOfOneConditionAgree, IntervalsHaveTheirEnds};
 
 /// No filter is both true and false of a feature.
 pub fn yes_excludes_no()
@@ -47,6 +47,11 @@ pub fn null_decides_nothing()
 /// IS NULL is true or false of each feature.
 pub fn is_null_decides()
     ensures { IsNullDecides }
+{}
+
+/// Filters of one condition are true of the same features and false of the same, wherever they lie in memory.
+pub fn filters_of_one_condition_agree()
+    ensures { FiltersOfOneConditionAgree }
 {}
 
 /// The interval from one end to another has these ends, and there is none only where they are turned round.

@@ -1,5 +1,6 @@
 -- What requests are answered in the cases (own profile).
 use Rattle.std.specs.Prelude.{◌≡◌, ℕ, List, ◌++◌, length, codes, decimal}
+use Rattle.std.proofs.Common.{sym, ◌∙◌}
 use Rattle.cad_versions.specs.declared.command.Command.{Command}
 use Rattle.cad_versions.specs.declared.fault.RegisterFault.{RegisterFault}
 use Rattle.cad_versions.specs.declared.fault.RegisterFault.TheVariants.{NotARegister}
@@ -19,6 +20,13 @@ echo method target revision = ((((method ++ codes " ") ++ target) ++ codes " at 
 -- the reply to a request
 abbrev pub reply_of : List Command → Request → List ℕ
 reply_of commands r = echo r.method r.target (length commands)
+
+-- these bytes are that reply
+abbrev pub IsReply : List Command → Request → List ℕ → Type 0
+IsReply commands r bytes = bytes ≡ reply_of commands r
+
+pub one_echo : (commands : List Command) (r : Request) (one other : List ℕ) → IsReply commands r one → IsReply commands r other → one ≡ other
+one_echo commands r one other e f = e ∙ sym f
 
 pub lost_keeps : (fault : RegisterFault) → fault ≡ NotARegister → IsOfKeeping fault
 lost_keeps fault e = rw e tt

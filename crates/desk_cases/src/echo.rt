@@ -56,7 +56,7 @@ impl Responder for Echo {
     ghost use Rattle.cad_versions.specs.declared.fault.RegisterFault.TheVariants.{NotARegister};
     ghost use Rattle.cad_plain.specs.Ledgers.{IsMemory, memory_keeps};
     ghost use Rattle.cad_request.specs.Request.{closes_connection as closes_connection_of};
-    ghost use Rattle.desk_cases.specs.Echoes.{StandsFor, reply_of, lost_keeps};
+    ghost use Rattle.desk_cases.specs.Echoes.{StandsFor, IsReply, lost_keeps};
 
     ghost stands_for = { StandsFor };
 
@@ -64,7 +64,7 @@ impl Responder for Echo {
 
     ghost lives = { λ _. Unit {0} };
 
-    ghost reply = { reply_of };
+    ghost replies = { IsReply };
 
     ghost closes = { closes_connection_of };
 
@@ -108,4 +108,7 @@ impl Responder for Echo {
     fn enter(&mut self, command: Command) -> Result<u64, RegisterFault> {
         self.ledger.apply(command)
     }
+
+    #[tactic(auto, using(crate::specs::Echoes::one_echo))]
+    fn one_reply() {}
 }

@@ -1,4 +1,4 @@
-use Rattle.std.proofs.Common.{◌≡◌, ◌<◌, ◌≤◌, [], length, take, refl, rules, arith, length-take}
+use Rattle.std.proofs.Common.{◌≡◌, [], take, refl, rules, arith, length-take}
 use Rattle.std.proofs.lemmas.Result.{err_from_is_err_and}
 use Rattle.std.specs.Io.KnownBytes.{IsAtEnd}
 use Rattle.cad_versions.specs.LedgerCalls.{Applies}

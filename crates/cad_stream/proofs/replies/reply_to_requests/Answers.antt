@@ -1,6 +1,6 @@
 use Rattle.std.proofs.Common.{◌≡◌, arith}
 use Rattle.std.proofs.lemmas.Result.{err_from_is_err_and}
-use Rattle.cad_stream.proofs.FeedLemmas.{fails_here, waits_here, closes_here, passes_here, advances}
+use Rattle.cad_stream.proofs.FeedLemmas.{fails_here, waits_here, closes_here, refused_here, passes_here, advances}
 use Rattle.cad_stream.proofs.replies.reply_to_requests.Goals as goal
 
 pub returns-in_err-answer_next : goal.returns-in_err-answer_next
@@ -14,6 +14,12 @@ pub returns-in-Waiting : goal.returns-in-Waiting
 returns-in-Waiting g c =
     let told = rw (c.in-Waiting.is, c.after.ensures) at c.in_ok-answer_next.ensures in
     waits_here g.R.Responder c.args.bytes.now _ _ _ c.loop-replies.used c.loop-replies.replies c.loop-replies.invariant.within c.loop-replies.invariant.replied told
+
+pub returns-in-Hopeless : goal.returns-in-Hopeless
+returns-in-Hopeless g c =
+    let told = rw (c.in-Hopeless.is, c.after.ensures) at c.in_ok-answer_next.ensures in
+    let all = rw c.deref.ensures.value at c.in_ok-extend_from_slice-in-Hopeless.ensures.items in
+    refused_here g.R.Responder c.args.bytes.now _ _ _ c.loop-replies.used c.loop-replies.replies.items c.in-Hopeless.reply _ c.loop-replies.invariant.replied told all
 
 pub returns-then-answer : goal.returns-then-answer
 returns-then-answer g c =

@@ -1,4 +1,0 @@
-pub mod FilterLemmas
-pub mod ReplyLemmas
-pub mod ServeLemmas
-pub mod LawLemmas

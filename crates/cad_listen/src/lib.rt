@@ -1,0 +1,21 @@
+//! Listening for the connections of a desk: each is taken, served and told of, one after the other.
+//!
+//! - `listen`: takes so many connections, and answers the status of the process
+//! - `read_count`, `read_address`: how many connections and which address the arguments of a program ask for
+//! - `tell_address`: tells the address at which a program listens
+//!
+//! ```text
+//! let listener = TcpListener::bind(&rt, "127.0.0.1:0")?;
+//! tell_address(&mut rt.stdout(), listener.local_addr()?)                     // listening 127.0.0.1:40123
+//! listen(alloc, &listener, &mut rt.stderr(), 3, &mut desk)                   // 0 after three connections, if all went well
+//! ```
+#![tactic(auto)]
+
+mod arguments;
+mod failure;
+mod listening;
+mod telling;
+
+pub use arguments::{read_address, read_count};
+pub use listening::listen;
+pub use telling::tell_address;

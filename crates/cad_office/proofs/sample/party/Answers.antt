@@ -1,6 +1,0 @@
-use Rattle.std.proofs.Common.{refl}
-use Rattle.cad_office.proofs.sample.party.Goals as goal
-
-pub returns : goal.returns
-unfolding lib.Utf8.encode
-returns c = rw (c.in_ok-words.ensures, c.in_ok-words-2.ensures) refl

@@ -1,0 +1,97 @@
+-- What is kept stays right.
+use Rattle.std.proofs.Common.{◌≡◌, ◌≤◌, ℕ, ◌+◌, Bool, true, List, [], ◌∷◌, ◌++◌, length, Contains, Option, Some, Result, Ok, Err, OnOk, OnErr, sym, ap, ap₂, ◌∙◌, subst, inl, inr, arith, nat_eq}
+use Rattle.std.proofs.lemmas.List.{length-append}
+use Rattle.std.proofs.lemmas.Bool.Decides.{nat_tests}
+use Rattle.std.specs.Map.{lookup}
+use Rattle.lru.specs.LruCache.{LruCache, lru_cache, promoted, put_entries}
+use Rattle.lru.proofs.CallerLemmas.{Contains-promoted, Contains-put_entries, Contains-lookup}
+use Rattle.cad_versions.specs.declared.command.Command.{Command}
+use Rattle.cad_versions.specs.VersionedObject.{VersionedObject}
+use Rattle.cad_versions.specs.declared.fault.RegisterFault.{RegisterFault}
+use Rattle.cad_versions.specs.declared.ledger.Ledger.{Ghosts}
+use Rattle.cad_versions.specs.Ledgers.{Applied}
+use Rattle.cad_versions.specs.Laws.{RevisionsStay}
+use Rattle.cad_feature.specs.declared.collection.Collection.TheVariants.{Parcels, Rights, Restrictions, Units, Parties}
+use Rattle.cad_feature.specs.Features.{Item}
+use Rattle.cad_snapshot.specs.Snapshots.{RevisionFeatures, IsSnapshotOf}
+use Rattle.cad_server.specs.Contents.{snapshot_of, snapshot_at}
+use Rattle.cad_server.specs.declared.records.Records.{Records}
+use Rattle.cad_server.specs.Servers.{IsKept, AreKept, ledger_in, AreRecordsOf}
+
+-- a snapshot by its parts
+abbrev parts_of : ℕ × List Item × List Item → List Item × List Item × List Item → RevisionFeatures
+parts_of p q = record { revision = p.0; parcels = p.1; rights = p.2; restrictions = q.0; units = q.1; parties = q.2 }
+
+-- the snapshot of these versions is one value
+pub built : (revision : ℕ) (versions : List VersionedObject) (s : RevisionFeatures) → IsSnapshotOf revision versions s → s ≡ snapshot_of revision versions
+built revision versions s is =
+    ap₂ parts_of
+    (ap₂ (λ (r : ℕ) (q : List Item × List Item). (r, q.0, q.1)) is.of_revision (ap₂ (λ (x y : List Item). (x, y)) (is.features Parcels) (is.features Rights)))
+    (ap₂ (λ (x : List Item) (q : List Item × List Item). (x, q.0, q.1)) (is.features Restrictions) (ap₂ (λ (x y : List Item). (x, y)) (is.features Units) (is.features Parties)))
+
+-- one command more changes nothing of what is kept
+pub kept_later : RevisionsStay → (commands : List Command) (command : Command) (entries : List (ℕ × RevisionFeatures)) → AreKept commands entries → AreKept (commands ++ command ∷ []) entries
+kept_later stay commands command entries all entry among =
+    let kept = all entry among in
+    let h : entry.0 ≤ length commands = kept.0 in
+    let n : length (commands ++ command ∷ []) ≡ length commands + 1 = length-append commands (command ∷ []) in
+    (grind (arith, h, n), kept.1 ∙ ap (snapshot_of entry.0) (sym (stay commands (command ∷ []) entry.0 h)))
+
+-- a use changes the order alone
+pub kept_promoted : (commands : List Command) (test : ℕ → Bool) (old new : LruCache ℕ RevisionFeatures) → new ≡ lru_cache (promoted test old.entries) old.cap → AreKept commands old.entries → AreKept commands new.entries
+kept_promoted commands test old new same all entry among =
+    all entry (Contains-promoted test old.entries entry (subst (λ (c : LruCache ℕ RevisionFeatures). Contains c.entries entry) same among))
+
+same_number : (a b : ℕ) → nat_eq a b ≡ true → a ≡ b
+same_number a b h = grind (arith, nat_tests)
+
+kept_under : (commands : List Command) (revision : ℕ) (snapshot : RevisionFeatures) (entry : ℕ × RevisionFeatures) → entry.1 ≡ snapshot → entry.0 ≡ revision → IsKept commands (revision, snapshot) → IsKept commands entry
+kept_under commands revision snapshot entry s r kept =
+    (subst (λ n. n ≤ length commands) (sym r) kept.0, s ∙ kept.1 ∙ ap (λ n. snapshot_at n commands) (sym r))
+
+put_kept : (commands : List Command) (old : LruCache ℕ RevisionFeatures) (revision : ℕ) (snapshot : RevisionFeatures) → AreKept commands old.entries → IsKept commands (revision, snapshot) → AreKept commands (put_entries nat_eq old revision snapshot)
+put_kept commands old revision snapshot all kept entry among = elim (Contains-put_entries nat_eq old revision snapshot entry among) [
+  | inl was ↦ all entry was
+  | inr put ↦ elim put.1 [
+    | inl same ↦ kept_under commands revision snapshot entry put.0 same kept
+    | inr found ↦ kept_under commands revision snapshot entry put.0 (sym (same_number revision entry.0 found.2)) kept
+  ]
+]
+
+-- what is put is kept, or nothing changes
+pub kept_put : {E : Type 0} (commands : List Command) (old new : LruCache ℕ RevisionFeatures) (revision : ℕ) (snapshot : RevisionFeatures) (result : Result (Option RevisionFeatures) E)
+    → OnOk result (new ≡ lru_cache (put_entries nat_eq old revision snapshot) old.cap) → OnErr result (new ≡ old)
+    → AreKept commands old.entries → IsKept commands (revision, snapshot) → AreKept commands new.entries
+kept_put commands old new revision snapshot (Ok was) put err all kept entry among =
+    put_kept commands old revision snapshot all kept entry (subst (λ (c : LruCache ℕ RevisionFeatures). Contains c.entries entry) put among)
+kept_put commands old new revision snapshot (Err e) put err all kept entry among =
+    all entry (subst (λ (c : LruCache ℕ RevisionFeatures). Contains c.entries entry) err among)
+
+-- what is found under a revision is that of the revision
+pub kept_found : (commands : List Command) (entries : List (ℕ × RevisionFeatures)) (revision : ℕ) (snapshot : RevisionFeatures) → AreKept commands entries → lookup (nat_eq revision) entries ≡ Some snapshot → IsKept commands (revision, snapshot)
+kept_found commands entries revision snapshot all found =
+    let at = Contains-lookup (nat_eq revision) entries snapshot found in
+    let r : revision ≡ at.0 = same_number revision at.0 at.2 in
+    subst (λ n. IsKept commands (n, snapshot)) (sym r) (all (at.0, snapshot) at.1)
+
+-- a command that the ledger enters is entered into the records
+module _ {L : Type 0} (g : Ghosts L) where
+  pub entered : RevisionsStay → (command : Command) (result : Result ℕ RegisterFault) (old new : Records L) → new.kept ≡ old.kept
+      → Applied g.stands_for g.counts g.lives g.fails_to_apply g.refuses_command old.ledger command result new.ledger
+      → Applied (AreRecordsOf g) (λ (r : Records L). g.counts (ledger_in r)) (λ (r : Records L). g.lives (ledger_in r)) g.fails_to_apply (λ (o n : Records L). g.refuses_command (ledger_in o) (ledger_in n)) old command result new
+  entered stay command (Ok revision) old new same a = record {
+    accepted = λ counts commands records.
+        let t = a.accepted counts commands records.ledger in
+        (t.0, t.1, record { ledger = t.2; kept = subst (λ (k : LruCache ℕ RevisionFeatures). AreKept (commands ++ command ∷ []) k.entries) (sym same) (kept_later stay commands command old.kept.entries records.kept) });
+    refused = λ counts. tt;
+    store = λ counts e commands records. a.store counts e commands records.ledger;
+    unchanged = λ counts lives. tt;
+    clean = a.clean;
+  }
+  entered stay command (Err fault) old new same a = record {
+    accepted = λ counts. tt;
+    refused = λ counts commands records. a.refused counts commands records.ledger;
+    store = λ counts e commands records. a.store counts e commands records.ledger;
+    unchanged = λ counts lives commands records. record { ledger = a.unchanged counts lives commands records.ledger; kept = subst (λ (k : LruCache ℕ RevisionFeatures). AreKept commands k.entries) (sym same) records.kept };
+    clean = a.clean;
+  }

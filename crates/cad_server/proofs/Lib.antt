@@ -1,0 +1,4 @@
+pub mod KeptLemmas
+pub mod FoundLemmas
+pub mod ReplyLemmas
+pub mod CallLemmas

@@ -1,0 +1,5 @@
+pub mod Contents
+pub mod Replies
+pub mod Servers
+pub mod Refusing
+pub mod Laws

@@ -1,0 +1,106 @@
+//! What is sought among the features of a revision.
+
+ghost use Rattle.std.specs.Prelude.{◌≡◌, IfOk, option_copied};
+ghost use Rattle.cad_query.specs.Identifiers.{numbers_of};
+ghost use Rattle.cad_snapshot.specs.Snapshots.{features_at};
+ghost use Rattle.cad_server.specs.Contents.{content_told, feature_with, feature_content};
+
+use cad_ask::Ask;
+use cad_bodies::word_body;
+use cad_feature::{Collection, Feature};
+use cad_page::{body, feature_body};
+use cad_query::Identifier;
+use cad_reply::Status;
+use cad_snapshot::Snapshot;
+use cad_snapshot::laws::identifiers_are_unique;
+use cad_wanted::Told;
+use std::alloc::{AllocError, Global};
+
+/// What is sought among the features of a revision.
+#[derive(Drop)]
+pub(crate) enum Sought {
+    /// A page of a collection.
+    Page(Ask),
+    /// One feature.
+    Feature {
+        collection: Collection,
+        identifier: Identifier,
+    },
+}
+
+impl Sought {
+    ghost use Rattle.std.specs.Prelude.{◌≡◌, IfOk};
+    ghost use Rattle.cad_server.specs.Contents.{revision_sought, content_told, content_in};
+
+    /// The revision at which it is sought: the one that is asked for, or the newest.
+    pub(crate) fn revision(&self, newest: u64) -> u64
+        ensures { result ≡ revision_sought self.now newest }
+    {
+        match self {
+            Sought::Page(ask) => ask.continuation.revision.unwrap_or(newest),
+            Sought::Feature { .. } => newest,
+        }
+    }
+
+    /// What is told of it. An error is want of memory.
+    pub(crate) fn told_in(&self, alloc: Global, snapshot: &Snapshot) -> Result<Told, AllocError>
+        ensures { IfOk result (λ told. content_told told ≡ content_in self.now snapshot.now) }
+    {
+        match self {
+            Sought::Page(ask) => {
+                let body = body(alloc, ask, snapshot)?;
+                Ok(Told {
+                    status: Status::Ok,
+                    body,
+                })
+            }
+            Sought::Feature {
+                collection,
+                identifier,
+            } => {
+                let feature = feature_in(snapshot, *collection, *identifier);
+                feature_told(alloc, *collection, feature)
+            }
+        }
+    }
+}
+
+/// The collection's feature with that identifier.
+fn feature_in(
+    snapshot: &Snapshot,
+    collection: Collection,
+    identifier: Identifier,
+) -> Option<&Feature>
+    ensures { option_copied result ≡ feature_with (numbers_of identifier) (features_at snapshot.now collection) }
+{
+    identifiers_are_unique();
+    // What the snapshot lists ascends.
+    let _ = snapshot.features(collection);
+    snapshot.feature(collection, identifier.object, identifier.number)
+}
+
+/// What is told of the feature, or that there is none.
+fn feature_told(
+    alloc: Global,
+    collection: Collection,
+    feature: Option<&Feature>,
+) -> Result<Told, AllocError>
+    ensures { IfOk result (λ told. content_told told ≡ feature_content collection (option_copied feature.entry)) }
+{
+    match feature {
+        Some(feature) => {
+            let body = feature_body(alloc, collection, feature)?;
+            Ok(Told {
+                status: Status::Ok,
+                body,
+            })
+        }
+        None => {
+            let body = word_body(alloc, "no-feature")?;
+            Ok(Told {
+                status: Status::NotFound,
+                body,
+            })
+        }
+    }
+}

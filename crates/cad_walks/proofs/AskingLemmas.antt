@@ -1,0 +1,106 @@
+-- What a request for a page asks for, and that it is read.
+use Rattle.std.proofs.Common.{◌≡◌, ◌≢◌, ℕ, ◌≤◌, ◌<◌, ◌==◌, Bool, true, false, cond, ◌||◌, List, [], ◌∷◌, length, Option, Some, None, Result, refl, sym, ap, subst, ◌∙◌, arith, true≢false}
+use Rattle.std.specs.Prelude.{codes, min, unwrap_or, IfSome}
+use Rattle.std.specs.Option.{option_and_then}
+use Rattle.std.specs.List.{AllByRecursion, list_any}
+use Rattle.std.proofs.lemmas.Bool.Decides.{nat_tests}
+use Rattle.std.proofs.lemmas.List.Elements.{All-from_recursion}
+use Rattle.cad_versions.specs.ListLemmas.{all_weaker}
+use Rattle.cad_feature.specs.declared.collection.Collection.{Collection}
+use Rattle.cad_feature.specs.declared.collection.Collection.TheVariants.{Parcels, Rights, Restrictions, Units, Parties}
+use Rattle.cad_feature.specs.Collections.{name_of}
+use Rattle.cad_feature.specs.Schema.{schema_of}
+use Rattle.cql_types.specs.declared.filter.Filter.{Filter}
+use Rattle.cql_filter.specs.Filters.{IsAccepted}
+use Rattle.cad_bodies.specs.Paths.{items_path}
+use Rattle.cad_request.specs.Request.{Request, path, query}
+use Rattle.cad_query.specs.Laws.{IsPath}
+use Rattle.cad_query.specs.Numerals.{limit_of, number_in}
+use Rattle.cad_query.specs.Pairs.{PairText, pairs_of, given}
+use Rattle.cad_query.specs.Parts.{is_byte}
+use Rattle.cad_ask.specs.declared.ask.Ask.{Ask}
+use Rattle.cad_ask.specs.Answers.{IsFilterGiven, filter_given, IsAsk, AsksWell}
+use Rattle.cad_ask.specs.Laws.{HasFaultOrAsks}
+use Rattle.cad_resource.specs.declared.check.Check.{Check}
+use Rattle.cad_resource.specs.Asking.{AskedText, asked}
+use Rattle.cad_resource.specs.Laws.{IsGet, IsSegment, ResourcesAreAsked, KnownPathsAreReadBack}
+use Rattle.cad_resource.specs.Places.{items, resource_of}
+use Rattle.cad_wanted.specs.declared.request.Wanted.{Wanted}
+use Rattle.cad_wanted.specs.declared.request.Wanted.TheVariants as wants
+use Rattle.cad_wanted.specs.Wants.{IsPageWanted, IsWanted}
+
+-- ---- paths
+
+neither : (a b : Bool) → (a || b) ≡ false → (a ≡ false) × (b ≡ false)
+neither true b h = absurd (true≢false h)
+neither false b h = (refl, h)
+
+lacks : (byte : ℕ) (xs : List ℕ) → list_any (is_byte byte) xs ≡ false → AllByRecursion (λ b. (b == byte) ≡ false) xs
+lacks byte [] h = tt
+lacks byte (x ∷ xs) h = let p = neither (x == byte) (list_any (is_byte byte) xs) h in (p.0, lacks byte xs p.1)
+
+other_byte : (b : ℕ) → (b == 47) ≡ false → b ≢ 47
+other_byte b e = grind (arith, nat_tests)
+
+is_segment : (name : List ℕ) → 0 < length name → list_any (is_byte 47) name ≡ false → IsSegment name
+is_segment name some h = record {
+  some = some;
+  no_slash = All-from_recursion (λ b. b ≢ 47) name (all_weaker (λ b. (b == 47) ≡ false) (λ b. b ≢ 47) other_byte name (lacks 47 name h));
+}
+
+named : (c : Collection) → IsSegment (name_of c)
+named Parcels = is_segment (codes "parcels") (omega arith) refl
+named Rights = is_segment (codes "rights") (omega arith) refl
+named Restrictions = is_segment (codes "restrictions") (omega arith) refl
+named Units = is_segment (codes "units") (omega arith) refl
+named Parties = is_segment (codes "parties") (omega arith) refl
+
+no_mark : (text : List ℕ) → list_any (is_byte 63) text ≡ false → IsPath text
+no_mark text h = All-from_recursion (λ b. (b == 63) ≡ false) text (lacks 63 text h)
+
+pub is_path : (c : Collection) → IsPath (items_path c)
+is_path Parcels = no_mark (items_path Parcels) refl
+is_path Rights = no_mark (items_path Rights) refl
+is_path Restrictions = no_mark (items_path Restrictions) refl
+is_path Units = no_mark (items_path Units) refl
+is_path Parties = no_mark (items_path Parties) refl
+
+-- ---- what is wanted
+
+pub page_wanted : ResourcesAreAsked → KnownPathsAreReadBack → (r : Request) (c : Collection) (w : Wanted) → IsGet r → path r ≡ items_path c → IsWanted (asked r) w → IsPageWanted c (pairs_of (query r)) w
+page_wanted are back r c w get at wanted =
+    subst (λ (a : Result AskedText Check). IsWanted a w) (are r (items c) get (ap resource_of at ∙ back (items c) (named c))) wanted
+
+pub page_read : HasFaultOrAsks → (c : Collection) (pairs : List PairText) (w : Wanted) → AsksWell c pairs → IsPageWanted c pairs w → (ask : Ask) × (w ≡ wants.Page ask) × IsAsk c pairs ask
+page_read or c pairs (wants.Page ask) well is = (ask, refl, is)
+page_read or c pairs (wants.Told told) well is = absurd (or c pairs is.0 is.1 well)
+page_read or c pairs (wants.Feature d i) well is = absurd is
+
+-- ---- what asks has no fault, and asks for some features at least
+
+accepted : (c : Collection) (text : Option (List ℕ)) (filter : Option Filter) → IsFilterGiven c text filter → IfSome text (IsAccepted (schema_of c))
+accepted c None filter given = tt
+accepted c (Some text) None given = absurd given
+accepted c (Some text) (Some filter) given = given.0
+
+pub well : (c : Collection) (pairs : List PairText) (ask : Ask) → IsAsk c pairs ask → AsksWell c pairs
+well c pairs ask is = record {
+  selects = is.no_selection_fault;
+  filters_well = accepted c (filter_given pairs) ask.filter is.filter_is;
+  continues = is.no_continuation_fault;
+}
+
+least : (n : ℕ) (none : Bool) → (n == 0) ≡ none → 1 ≤ unwrap_or (cond none None (Some (min 1000 n))) 10
+least n true h = omega arith
+least n false h = grind (arith, nat_tests)
+
+read_limit : (n : Option ℕ) → 1 ≤ unwrap_or (option_and_then (λ n. cond (n == 0) None (Some (min 1000 n))) n) 10
+read_limit None = omega arith
+read_limit (Some n) = least n (n == 0) refl
+
+given_limit : (text : Option (List ℕ)) → 1 ≤ unwrap_or (option_and_then limit_of text) 10
+given_limit None = omega arith
+given_limit (Some text) = read_limit (number_in text)
+
+pub some_wanted : (c : Collection) (pairs : List PairText) (ask : Ask) → IsAsk c pairs ask → 1 ≤ ask.selection.limit
+some_wanted c pairs ask is = subst (λ n. 1 ≤ n) (sym is.selection_is.limit_is) (given_limit (given (codes "limit") pairs))

@@ -1,0 +1,28 @@
+//! Scripts of what happens to a desk: a line for each event, and what is printed for it.
+//!
+//! - `line_of`: what a line asks for
+//! - `answer`: what is printed for it
+//!
+//! The lines are
+//!
+//! - `open C`, which opens connection C, and is answered by `Opened`;
+//! - `bytes C JSON`, which sends it these bytes, and is answered by `Sent JSON`, or `Sent JSON ends` where the connection
+//!   ended;
+//! - `close C`, which closes it, and is answered by `Closed`;
+//! - `office LINE`, which enters the command of a line of the land office, and is answered by `Entered N`;
+//! - `serve C JSON`, which serves connection C from a reader that gives one byte a read to a writer that takes one byte a
+//!   write, and is answered by how that ended and the bytes written;
+//! - `fail-read K C JSON` and `fail-write K C JSON`, which do so where the Kth read or write fails, and
+//!   `empty-write K C JSON`, where the Kth write takes nothing.
+//!
+//! Any of them is answered by `N NAME` where the desk refuses, with the register's fault behind it where that refused.
+//! The bytes are written as `cad_case_bytes` has it. The line `open 1` asks for `Line::Event(Event::Open(1))`, and
+//! `open one` for nothing.
+#![tactic(auto)]
+
+mod answers;
+mod lines;
+mod served;
+
+pub use answers::{Memory, answer};
+pub use lines::{Failure, Line, Served, line_of};
