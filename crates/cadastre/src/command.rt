@@ -42,8 +42,11 @@ impl<'a> Command<'a> {
             [_, name] if name.as_str() == "sample" => Some(Command::Sample),
             [_, name, file] if name.as_str() == "ask" => Some(Command::Ask(file.as_str())),
             [_, name, file] if name.as_str() == "office" => Some(Command::Office(file.as_str())),
-            [_, name, file, address, count] if name.as_str() == "serve" =>
-                Command::of_service(file.as_str(), address.as_str(), count.as_str()),
+            [_, name, file, address, count] if name.as_str() == "serve" => Command::of_service(
+                file.as_str(),
+                address.as_str(),
+                count.as_str(),
+            ),
             _ => None,
         }
     }

@@ -17,7 +17,12 @@ use std::io::Write;
 use std::net::{Net, TcpListener, TcpStream};
 
 /// Tells the address that is bound, listens there for the desk's connections, and says how that ends a run.
-pub fn listen_at<N: Net<Listener = TcpListener, Stream = TcpStream>, P: Responder, W: Write, E: Write>(
+pub fn listen_at<
+    N: Net<Listener = TcpListener, Stream = TcpStream>,
+    P: Responder,
+    W: Write,
+    E: Write,
+>(
     net: &N,
     alloc: Global,
     service: Service<'_>,
@@ -44,7 +49,12 @@ pub fn listen_at<N: Net<Listener = TcpListener, Stream = TcpStream>, P: Responde
 }
 
 /// Listens for connections over the ledger, and gives the ledger back.
-pub fn listen_over<N: Net<Listener = TcpListener, Stream = TcpStream>, L: Ledger, W: Write, E: Write>(
+pub fn listen_over<
+    N: Net<Listener = TcpListener, Stream = TcpStream>,
+    L: Ledger,
+    W: Write,
+    E: Write,
+>(
     net: &N,
     alloc: Global,
     ledger: L,
@@ -66,7 +76,12 @@ pub fn listen_over<N: Net<Listener = TcpListener, Stream = TcpStream>, L: Ledger
 }
 
 /// Listens for connections over the register of a database, and gives the database's connection back.
-pub fn run_serve_over<N: Net<Listener = TcpListener, Stream = TcpStream>, S: Alter, W: Write, E: Write>(
+pub fn run_serve_over<
+    N: Net<Listener = TcpListener, Stream = TcpStream>,
+    S: Alter,
+    W: Write,
+    E: Write,
+>(
     net: &N,
     alloc: Global,
     connection: Connection<S>,

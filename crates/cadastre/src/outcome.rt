@@ -104,8 +104,9 @@ pub struct Fault {
 /// Tells a bad outcome on standard error. Where that cannot be written, the status alone tells it.
 pub fn tell(rt: &impl Eprint, outcome: Outcome) {
     if outcome == Outcome::Usage {
-        let _ =
-            eprintln!(rt; "usage: cadastre sample | office FILE | ask FILE | serve FILE ADDRESS COUNT");
+        let _ = eprintln!(rt;
+            "usage: cadastre sample | office FILE | ask FILE | serve FILE ADDRESS COUNT"
+        );
     }
     if outcome == Outcome::Address {
         let _ = eprintln!(rt; "address");
