@@ -6,3 +6,5 @@ pub mod OneValue
 pub mod OneCommand
 pub mod OrderLemmas
 pub mod SaidLemmas
+pub mod TextLemmas
+pub mod WrittenLemmas

@@ -1,10 +1,9 @@
 -- The object that is made of a command says it.
-use Rattle.std.proofs.Common.{◌≡◌, ℕ, ◌^◌, ◌<◌, ℤ, pos, negsuc, Bool, List, [], ◌∷◌, codes, Option, Some, None, refl, ap, arith, nat_lt, true, cond}
+use Rattle.std.proofs.Common.{◌≡◌, ℕ, ◌^◌, ◌<◌, ℤ, pos, negsuc, List, [], ◌∷◌, codes, Option, Some, None, refl, ap, arith, nat_lt, true, cond}
 use Rattle.std.specs.Option.{ForSome}
 use Rattle.std.proofs.lemmas.Bool.Decides.{nat_tests}
 use Rattle.serde_json.specs.Data.{Data, member, no_members}
 use Rattle.serde_json.specs.Data as json
-use Rattle.serde_json.specs.Find.{of_integer, as_i64}
 use Rattle.cad_day.specs.declared.day.Day.{Day}
 use Rattle.cad_day.specs.Days.{number_of}
 use Rattle.cad_day.specs.DayTexts.{day_named, day_text}
@@ -17,7 +16,6 @@ use Rattle.cad_versions.specs.declared.share.Share.{Share}
 use Rattle.cad_versions.specs.declared.words.Words.{Words}
 use Rattle.cad_versions.specs.declared.body.Body.{Body}
 use Rattle.cad_versions.specs.declared.body.Body.TheVariants as body
-use Rattle.cad_versions.specs.declared.command.Command.{Command}
 use Rattle.cad_versions.specs.declared.command.Command.TheVariants.{Enter, Amend, Retire}
 use Rattle.cad_versions.specs.Class.{class_of}
 use Rattle.cad_versions.specs.BodyParts.{area_in}
@@ -81,13 +79,13 @@ body_said (body.Restriction unit party code share required) small =
     (unit, party, code, share, required, refl, refl, any_object party, refl, any_share share, any_said IsFlagOf json.boolean (λ flag. refl) required, refl)
 
 -- beside the others stands the body alone
-one_body : (class : Class) (operation day object inner : Data)
-    → HasOneOther names_beside (member (codes "do") operation (member (codes "first") day (member (codes "object") object (member (class_name class) inner no_members)))) (class_name class) inner
-one_body class.Party operation day object inner = refl
-one_body class.Unit operation day object inner = refl
-one_body class.Parcel operation day object inner = refl
-one_body class.Right operation day object inner = refl
-one_body class.Restriction operation day object inner = refl
+one_body : (class : Class) (operation day whose inner : Data)
+    → HasOneOther names_beside (member (codes "do") operation (member (codes "first") day (member (codes "object") whose (member (class_name class) inner no_members)))) (class_name class) inner
+one_body class.Party operation day whose inner = refl
+one_body class.Unit operation day whose inner = refl
+one_body class.Parcel operation day whose inner = refl
+one_body class.Right operation day whose inner = refl
+one_body class.Restriction operation day whose inner = refl
 
 -- the day is read back from its text
 abbrev IsReadBack : Day → Type 0

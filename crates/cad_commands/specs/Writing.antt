@@ -1,8 +1,9 @@
 -- Commands as the JSON objects that say them, members in byte order of their names (own profile).
-use Rattle.std.specs.Prelude.{ℕ, ℤ, Bool, List, [], ◌∷◌, codes, Option, Some, None}
+use Rattle.std.specs.Prelude.{ℕ, ℤ, List, [], ◌∷◌, codes, Option, Some, None}
 use Rattle.serde_json.specs.Data.{Data, Items, no_items, item, Members, no_members, member, unsigned}
 use Rattle.serde_json.specs.Data as json
 use Rattle.serde_json.specs.Find.{of_integer}
+use Rattle.serde_json.specs.Written.{compact_text}
 use Rattle.cad_day.specs.declared.day.Day.{Day}
 use Rattle.cad_day.specs.Days.{number_of}
 use Rattle.cad_day.specs.DayTexts.{day_text}
@@ -84,3 +85,9 @@ command_members (Enter object first body) = beginning_members (codes "enter") ob
 command_members (Amend object first body) = beginning_members (codes "amend") object first body
 command_members (Retire object last) =
     member (codes "do") (json.string (codes "retire")) (member (codes "last") (day_json last) (member (codes "object") (object_json object) no_members))
+
+-- ---- texts
+
+-- the object's text with no space (RFC 8259)
+abbrev pub command_text : Command → List ℕ
+command_text command = compact_text (json.object (command_members command))

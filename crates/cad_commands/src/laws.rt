@@ -45,7 +45,7 @@ fn retirement_is_said(object: ObjectId, last: Day)
     written_days_are_read_back(last);
 }
 
-/// Each command is said by an object, the one that specs/Writing makes of it.
+/// Each command is said by an object, the one that specs/Writing makes of it, and by that object's compact text.
 pub fn each_command_is_said(command: Command)
     ensures { IsSaid command }
 {

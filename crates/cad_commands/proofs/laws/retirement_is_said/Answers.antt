@@ -1,5 +1,6 @@
 use Rattle.cad_commands.proofs.SaidLemmas.{retire_said}
+use Rattle.cad_commands.proofs.WrittenLemmas.{retire_written}
 use Rattle.cad_commands.proofs.laws.retirement_is_said.Goals as goal
 
 pub returns : goal.returns
-returns c = retire_said c.args.object c.args.last c.written_days_are_read_back.ensures
+returns c = retire_written c.args.object c.args.last (retire_said c.args.object c.args.last c.written_days_are_read_back.ensures)
