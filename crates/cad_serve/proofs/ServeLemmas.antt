@@ -1,5 +1,5 @@
 -- What is read and written over several turns.
-use Rattle.std.proofs.Common.{◌≡◌, ℕ, ◌+◌, ◌≤◌, Bool, true, false, cond, nat_eq, is_some, is_none, List, [], ◌∷◌, ◌++◌, Option, Some, None, IsSome, Result, Ok, Err, length, refl, sym, ap, ap₂, subst, ◌∙◌, append_assoc, append-nil, arith, length-append, inl, inr}
+use Rattle.std.proofs.Common.{◌≡◌, ℕ, ◌+◌, ◌*◌, ◌<◌, ◌≤◌, Bool, true, false, cond, nat_eq, is_some, is_none, List, [], ◌∷◌, ◌++◌, Option, Some, None, IsSome, Result, Ok, Err, length, refl, sym, ap, ap₂, subst, ◌∙◌, append_assoc, append-nil, arith, length-append, inl, inr}
 use Rattle.std.specs.Global.{Vec}
 use Rattle.std.proofs.lemmas.Bool.Decides.{nat_tests}
 use Rattle.std.proofs.lemmas.List.Concat.{flat_map-append}
@@ -18,7 +18,7 @@ use Rattle.cad_serve.specs.declared.ending.Ending.{Ending}
 use Rattle.cad_serve.specs.declared.ending.Ending.TheVariants.{PeerEnded, WeEnded, Refused}
 use Rattle.cad_serve.specs.declared.serve_fault.ServeFault.{ServeFault}
 use Rattle.cad_serve.specs.declared.serve_fault.ServeFault.TheVariants.{Read, Write, TurnsSpent}
-use Rattle.cad_serve.specs.Serving.{IsPiece, IsOpen, IsRefusedSo, Closes, Sends, GoesOn, IsUnderWay, IsNotTaken, IsSent, IsWhole, IsTaken, IsTurn, IsRefused, IsServed, Writes, ReadsAndWrites}
+use Rattle.cad_serve.specs.Serving.{IsPiece, IsOpen, IsRefusedSo, Closes, Sends, GoesOn, IsUnderWay, IsNotTaken, IsSent, IsWhole, IsTaken, IsTurn, IsRefused, EndsSo, IsServed, IsPaced, Writes, ReadsAndWrites}
 
 -- what is open is not unknown
 open_or_none : {A : Type 0} (o : Option A) → IsSome o → ¬ (o ≡ None)
@@ -113,9 +113,9 @@ module _ {R : Type 0} (g : Ghosts R) (c : ℕ) where
     joined = ap₂ ◌++◌ u.joined (sym w.2 ∙ sym (append-nil w.0.items)) ∙ sym (flat_map-append (λ (p : Vec ℕ). p.items) u.pieces (w.0 ∷ []));
   }
 
-  -- after so many turns the connection is under way, and each read gave a byte
+  -- after so many turns the connection is under way, and each read gave a byte, and a piece at most
   abbrev pub HasTurned : ℕ → Desk R → Desk R → List ℕ → List ℕ → Type 0
-  HasTurned turns old now read written = IsUnderWay g c old read written now × (turns ≤ length read)
+  HasTurned turns old now read written = IsUnderWay g c old read written now × (turns ≤ length read) × (length read ≤ 4096 * turns)
 
   pub begins : (from to : Option (List ℕ)) (old opened : Desk R) (reply : Reply) → Steps g old (Open c) (Ok reply) opened → ReadsAndWrites from from to to (HasTurned 0 old opened)
   begins from to old opened reply s = (
@@ -132,6 +132,7 @@ module _ {R : Type 0} (g : Ghosts R) (c : ℕ) where
         joined = refl;
       },
       omega arith,
+      omega arith,
     ),
   )
 
@@ -140,14 +141,16 @@ module _ {R : Type 0} (g : Ghosts R) (c : ℕ) where
       → ReadsAndWrites a d u w (HasTurned (turns + 1) old new)
   turned turns a b d u v w old mid new x y =
       let some = y.4.3.0.0 in
+      let few = y.4.3.0.1 in
       let size = ap length y.4.2 in
       let many = x.4.1 in
+      let paced = x.4.2 in
       let all = length-append x.0 y.0 in (
         x.0 ++ y.0,
         x.1 ++ y.1,
         Consumes-trans a b d x.0 y.0 x.2 y.2,
         Appends-trans u v w x.1 y.1 x.3 y.3,
-        (under_way_more old mid new x.0 x.1 y.0 y.1 x.4.0 y.4, omega (arith, some, size, many, all)),
+        (under_way_more old mid new x.0 x.1 y.0 y.1 x.4.0 y.4, omega (arith, some, size, many, all), omega (arith, few, size, paced, all)),
       )
 
   pub turned_open : (a b u v : Option (List ℕ)) (old new : Desk R) → ReadsAndWrites a b u v (IsTurn g c old (Ok None) new) → IsOpen c new
@@ -180,46 +183,66 @@ module _ {R : Type 0} (g : Ghosts R) (c : ℕ) where
   refused_so old mid new Memory read written more out known u n = inr (mid, read, more, written, out, u, refl, refl, n)
   refused_so old mid new (Register fault) read written more out known u n = (mid, read, more, written, out, u, refl, refl, n)
 
+  -- a turn takes a piece at most
+  one_piece : (old new : Desk R) (result : Result (Option Ending) ServeFault) (read written : List ℕ) → IsTurn g c old result new read written → length read ≤ 4096
+  one_piece old new (Ok None) read written t = let size = ap length t.2 in let few = t.3.0.1 in omega (arith, size, few)
+  one_piece old new (Ok (Some PeerEnded)) read written t = let size = ap length t.0 in omega (arith, size)
+  one_piece old new (Ok (Some WeEnded)) read written t = let size = ap length t.2 in let few = t.3.0.1 in omega (arith, size, few)
+  one_piece old new (Ok (Some (Refused fault))) read written t = t.0.1
+  one_piece old new (Err Read) read written t = let size = ap length t.0 in omega (arith, size)
+  one_piece old new (Err Write) read written t = let size = ap length t.4 in let few = t.5.0.1 in omega (arith, size, few)
+  one_piece old new (Err TurnsSpent) read written t = absurd t
+
+  -- no more is read than so many pieces hold, with the piece of the last turn
+  paced : (turns : ℕ) (old mid new : Desk R) (result : Result (Option Ending) ServeFault) (read written more out : List ℕ) → turns < 100000 → HasTurned turns old mid read written
+      → IsTurn g c mid result new more out → IsPaced (read ++ more)
+  paced turns old mid new result read written more out below h t =
+      let so_far = h.2 in
+      let last = one_piece mid new result more out t in
+      let all = length-append read more in
+      omega (arith, below, so_far, last, all)
+
   -- a turn that ends serving
   ended_so : (old mid new : Desk R) (ending : Ending) (read written more out : List ℕ) → IsOpen c mid → IsUnderWay g c old read written mid → IsTurn g c mid (Ok (Some ending)) new more out
-      → IsServed g c old (Ok ending) new (read ++ more) (written ++ out)
+      → EndsSo g c old (Ok ending) new (read ++ more) (written ++ out)
   ended_so old mid new PeerEnded read written more out known u t = (mid, still_under_way old mid read written more out t.0 t.1 u, t.2)
   ended_so old mid new WeEnded read written more out known u t = (mid, read, more, written, out, u, refl, refl, t)
   ended_so old mid new (Refused fault) read written more out known u t = refused_so old mid new fault read written more out known u t
 
-  pub ended : (turns : ℕ) (a b d u v w : Option (List ℕ)) (old mid new : Desk R) (ending : Ending) → IsOpen c mid → ReadsAndWrites a b u v (HasTurned turns old mid)
+  pub ended : (turns : ℕ) (a b d u v w : Option (List ℕ)) (old mid new : Desk R) (ending : Ending) → turns < 100000 → IsOpen c mid → ReadsAndWrites a b u v (HasTurned turns old mid)
       → ReadsAndWrites b d v w (IsTurn g c mid (Ok (Some ending)) new) → ReadsAndWrites a d u w (IsServed g c old (Ok ending) new)
-  ended turns a b d u v w old mid new ending known x y = (
+  ended turns a b d u v w old mid new ending below known x y = (
     x.0 ++ y.0,
     x.1 ++ y.1,
     Consumes-trans a b d x.0 y.0 x.2 y.2,
     Appends-trans u v w x.1 y.1 x.3 y.3,
-    ended_so old mid new ending x.0 x.1 y.0 y.1 known x.4.0 y.4,
+    (ended_so old mid new ending x.0 x.1 y.0 y.1 known x.4.0 y.4, paced turns old mid new (Ok (Some ending)) x.0 x.1 y.0 y.1 below x.4 y.4),
   )
 
   -- a turn that fails
   failed_so : (old mid new : Desk R) (fault : ServeFault) (read written more out : List ℕ) → IsUnderWay g c old read written mid → IsTurn g c mid (Err fault) new more out
-      → IsServed g c old (Err fault) new (read ++ more) (written ++ out)
+      → EndsSo g c old (Err fault) new (read ++ more) (written ++ out)
   failed_so old mid new Read read written more out u t = (mid, still_under_way old mid read written more out t.0 t.1 u, t.2)
   failed_so old mid new Write read written more out u t = (mid, read, more, written, out, u, refl, refl, t)
   failed_so old mid new TurnsSpent read written more out u t = absurd t
 
-  pub failed : (turns : ℕ) (a b d u v w : Option (List ℕ)) (old mid new : Desk R) (fault : ServeFault) → ReadsAndWrites a b u v (HasTurned turns old mid)
+  pub failed : (turns : ℕ) (a b d u v w : Option (List ℕ)) (old mid new : Desk R) (fault : ServeFault) → turns < 100000 → ReadsAndWrites a b u v (HasTurned turns old mid)
       → ReadsAndWrites b d v w (IsTurn g c mid (Err fault) new) → ReadsAndWrites a d u w (IsServed g c old (Err fault) new)
-  failed turns a b d u v w old mid new fault x y = (
+  failed turns a b d u v w old mid new fault below x y = (
     x.0 ++ y.0,
     x.1 ++ y.1,
     Consumes-trans a b d x.0 y.0 x.2 y.2,
     Appends-trans u v w x.1 y.1 x.3 y.3,
-    failed_so old mid new fault x.0 x.1 y.0 y.1 x.4.0 y.4,
+    (failed_so old mid new fault x.0 x.1 y.0 y.1 x.4.0 y.4, paced turns old mid new (Err fault) x.0 x.1 y.0 y.1 below x.4 y.4),
   )
 
   -- the turns are spent
-  pub spent : (turns : ℕ) (a b u v : Option (List ℕ)) (old mid new : Desk R) → 100000 ≤ turns → ReadsAndWrites a b u v (HasTurned turns old mid) → Closes g c mid new
+  pub spent : (turns : ℕ) (a b u v : Option (List ℕ)) (old mid new : Desk R) → turns ≡ 100000 → ReadsAndWrites a b u v (HasTurned turns old mid) → Closes g c mid new
       → ReadsAndWrites a b u v (IsServed g c old (Err TurnsSpent) new)
-  spent turns a b u v old mid new many x closes =
+  spent turns a b u v old mid new all x closes =
       let some = x.4.1 in
-      (x.0, x.1, x.2, x.3, ((mid, x.4.0, closes), omega (arith, some)))
+      let few = x.4.2 in
+      (x.0, x.1, x.2, x.3, (((mid, x.4.0, closes), omega (arith, all, some)), omega (arith, all, few)))
 
   -- the desk does not open the connection
   not_opened_so : (old new : Desk R) (fault : DeskFault) (written : List ℕ) → Steps g old (Open c) (Err fault) new → IsRefusedSo fault written → IsRefused g c old fault new [] written
@@ -233,4 +256,4 @@ module _ {R : Type 0} (g : Ghosts R) (c : ℕ) where
       → Writes a b (IsRefusedSo fault) → ReadsAndWrites from from a b (IsServed g c old (Ok ending) new)
   not_opened from a b old new fault ending e s w =
       subst (λ (x : Ending). ReadsAndWrites from from a b (IsServed g c old (Ok x) new)) (sym e)
-      ([], w.0, Consumes-nil from, w.1, not_opened_so old new fault w.0 s w.2)
+      ([], w.0, Consumes-nil from, w.1, (not_opened_so old new fault w.0 s w.2, omega arith))

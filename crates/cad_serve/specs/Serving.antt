@@ -1,5 +1,5 @@
 -- What serving a connection reads, writes and asks of the desk (RFC 9112, section 9.3: persistence).
-use Rattle.std.specs.Prelude.{◌≡◌, ◌⊎◌, ℕ, ◌<◌, ◌≤◌, Bool, true, false, List, [], ◌∷◌, ◌++◌, length, Option, Some, None, IsSome, Result, Ok, Err}
+use Rattle.std.specs.Prelude.{◌≡◌, ◌⊎◌, ℕ, ◌*◌, ◌<◌, ◌≤◌, Bool, true, false, List, [], ◌∷◌, ◌++◌, length, Option, Some, None, IsSome, Result, Ok, Err}
 use Rattle.std.specs.Global.{Vec}
 use Rattle.std.specs.List.{flat_map}
 use Rattle.std.specs.Io.KnownBytes.{Consumes, Appends}
@@ -27,6 +27,10 @@ most_turns = 100000
 -- what one read gives
 abbrev pub IsPiece : List ℕ → Type 0
 IsPiece piece = (0 < length piece) × (length piece ≤ piece_len)
+
+-- no more than the most bytes of the most reads
+abbrev pub IsPaced : List ℕ → Type 0
+IsPaced read = length read ≤ piece_len * most_turns
 
 -- the bytes of all pieces
 abbrev pub bytes_read : List (Vec ℕ) → List ℕ
@@ -144,19 +148,23 @@ module _ {R : Type 0} (g : Ghosts R) (c : ℕ) where
   IsRefused old (Register fault) new read written = EndsWith old (λ before piece last. IsNotTaken before (Register fault) piece last new) read written
 
   -- what was read and written, and what the desk was asked, by how serving ended
-  abbrev pub IsServed : Desk R → Result Ending ServeFault → Desk R → List ℕ → List ℕ → Type 0
+  abbrev pub EndsSo : Desk R → Result Ending ServeFault → Desk R → List ℕ → List ℕ → Type 0
   -- all replies were written
-  IsServed old (Ok PeerEnded) new read written = EndsClosed old new read written
+  EndsSo old (Ok PeerEnded) new read written = EndsClosed old new read written
   -- all replies were written, and the last of them ended the connection
-  IsServed old (Ok WeEnded) new read written = EndsWith old (λ before piece last. IsWhole true before piece last new) read written
+  EndsSo old (Ok WeEnded) new read written = EndsWith old (λ before piece last. IsWhole true before piece last new) read written
   -- all replies before the refusal were written
-  IsServed old (Ok (Refused fault)) new read written = IsRefused old fault new read written
+  EndsSo old (Ok (Refused fault)) new read written = IsRefused old fault new read written
   -- all replies were written
-  IsServed old (Err Read) new read written = EndsClosed old new read written
+  EndsSo old (Err Read) new read written = EndsClosed old new read written
   -- all replies before the last ones were written, and a part of those
-  IsServed old (Err Write) new read written = EndsWith old (λ before piece last. IsCutOff before piece last new) read written
+  EndsSo old (Err Write) new read written = EndsWith old (λ before piece last. IsCutOff before piece last new) read written
   -- all replies were written; each read gave a byte at least
-  IsServed old (Err TurnsSpent) new read written = EndsClosed old new read written × (most_turns ≤ length read)
+  EndsSo old (Err TurnsSpent) new read written = EndsClosed old new read written × (most_turns ≤ length read)
+
+  -- and no more was read than so many pieces hold
+  abbrev pub IsServed : Desk R → Result Ending ServeFault → Desk R → List ℕ → List ℕ → Type 0
+  IsServed old result new read written = EndsSo old result new read written × IsPaced read
 
 -- the bytes that a writer took are so
 abbrev pub Writes : Option (List ℕ) → Option (List ℕ) → (List ℕ → Type 0) → Type 0
