@@ -37,19 +37,17 @@ pub fault_later : (s : List Named) (op : Op) (t : Syntax) (ts : Parts) {j : Judg
 fault_later s op t ts Memory j h = tt
 fault_later s op t ts (At f) j h = inside_first (later_first (means_has j.means) h)
 
-pub fault_second : (s : List Named) (op : Op) (t u : Syntax) (us : Parts) {j : Judged} (e : TypeFault) → IsJudged s t j → ForFault (IsFirst s u) e →
-    ForFault (IsFirst s (node op (part t (part u us)))) e
-fault_second s op t u us Memory j h = tt
-fault_second s op t u us (At f) j h = inside_first (later_first (means_has j.means) (here_first h))
+pub fault_inside : (s : List Named) (op : Op) (ts : Parts) (e : TypeFault) → ForFault (IsFirstIn s ts) e → ForFault (IsFirst s (node op ts)) e
+fault_inside s op ts Memory h = tt
+fault_inside s op ts (At f) h = inside_first h
 
-pub fault_third : (s : List Named) (op : Op) (t u : Syntax) (us : Parts) {i j : Judged} (e : TypeFault) → IsJudged s t i → IsJudged s u j → ForFault (IsFirstIn s us) e →
-    ForFault (IsFirst s (node op (part t (part u us)))) e
-fault_third s op t u us Memory i j h = tt
-fault_third s op t u us (At f) i j h = inside_first (later_first (means_has i.means) (later_first (means_has j.means) h))
+pub first_fault : (s : List Named) (t : Syntax) (ts : Parts) (e : TypeFault) → ForFault (IsFirst s t) e → ForFault (IsFirstIn s (part t ts)) e
+first_fault s t ts Memory h = tt
+first_fault s t ts (At f) h = here_first h
 
-pub only_fault : (s : List Named) (t : Syntax) (ts : Parts) (e : TypeFault) → ForFault (IsFirst s t) e → ForFault (IsFirstIn s (part t ts)) e
-only_fault s t ts Memory h = tt
-only_fault s t ts (At f) h = here_first h
+pub next_fault : (s : List Named) (t : Syntax) (ts : Parts) {j : Judged} (e : TypeFault) → IsJudged s t j → ForFault (IsFirstIn s ts) e → ForFault (IsFirstIn s (part t ts)) e
+next_fault s t ts Memory j h = tt
+next_fault s t ts (At f) j h = later_first (means_has j.means) h
 
 -- a judged part that went through a box
 pub boxed : {s : List Named} {t : Syntax} {i j k : Judged} → IsJudged s t i → j ≡ i → k ≡ j → IsJudged s t k

@@ -9,3 +9,4 @@ mod Senses
 mod Terms
 mod Trees
 mod Verdict
+mod Weights

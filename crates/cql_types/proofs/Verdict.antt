@@ -1,5 +1,5 @@
 -- What a whole tree is answered.
-use Rattle.std.proofs.Common.{◌≡◌, ◌⊎◌, inl, inr, refl, ap, sym, ◌∙◌, ℕ, ◌≤◌, List, [], ◌∷◌, get_or, subst, Bool, true, false, Some, Result, Ok, Err, IfOk, IfErr, OnOk, MatchResult, arith}
+use Rattle.std.proofs.Common.{◌≡◌, ◌⊎◌, inl, inr, refl, ap, sym, ◌∙◌, ℕ, ◌≤◌, List, [], ◌∷◌, get_or, subst, Bool, true, false, Some, Result, Ok, Err, IsOk, IfOk, IfErr, OnOk, MatchResult, arith}
 use Rattle.std.specs.Option.{is_some}
 use Rattle.std.proofs.Math.Logic.{∥∥₁_elim}
 use Rattle.std.proofs.Math.Bridge.{le_prop}
@@ -15,11 +15,11 @@ use Rattle.cql_types.specs.declared.fault.TypeFault.TheVariants.{Memory, At}
 use Rattle.cql_types.specs.declared.filter.Filter.{Filter}
 use Rattle.cql_types.specs.declared.judged.Judged.{Judged}
 use Rattle.cql_types.specs.declared.judged.Node.{Node}
-use Rattle.cql_types.specs.Contract.{ForFault, IsFirst, IsJudged}
+use Rattle.cql_types.specs.Contract.{ForFault, OrMemory, IsFirst, IsJudged}
 use Rattle.cql_types.specs.Faults.{misuse_row}
 use Rattle.cql_types.specs.Fits.{condition_fits}
 use Rattle.cql_types.specs.Kinds.{Kind, Has, is_condition, wrong_kind, IsFault, in_tree, no_condition, IsLeast, IsCondition}
-use Rattle.cql_types.specs.Laws.{HasOneLeastFault, HasConditionOrFault}
+use Rattle.cql_types.specs.Laws.{HasFaultOrCondition, HasOneLeastFault, HasConditionOrFault}
 use Rattle.cql_types.specs.Means.{IsFilter, condition_of, kind_of}
 use Rattle.cql_types.proofs.Faults.{Settled, settled, first_least, first_wrong, no_fault, one_cause, same_kind}
 use Rattle.cql_types.proofs.Fitting.{means_has}
@@ -134,3 +134,18 @@ match_condition s t (Err e) Q h = tt
 pub match_fault : (s : List Named) (t : Syntax) (r : Result Filter TypeFault) (P : Filter → Type 0) → MatchResult r P (ForFault (IsLeast s t)) → IfErr r (ForFault (IsFault s t))
 match_fault s t (Ok x) P h = tt
 match_fault s t (Err e) P h = least_is_fault s t e h
+
+-- ---- the answer both ways
+
+-- a condition is answered with a filter
+pub accepted : HasFaultOrCondition → (s : List Named) (t : Syntax) (result : Result Filter TypeFault) → IfErr result (ForFault (IsFault s t)) → IsCondition s t → OrMemory result (IsOk result)
+accepted law s t (Ok filter) fault h = inr refl
+accepted law s t (Err Memory) fault h = inl refl
+accepted law s t (Err (At f)) fault h = absurd (law s t f h fault)
+
+-- a tree whose places ascend with its least fault
+pub refused : HasFaultOrCondition → HasOneLeastFault → (s : List Named) (t : Syntax) (result : Result Filter TypeFault) → OnOk result (IsCondition s t)
+    → (IsOrdered t → IfErr result (ForFault (IsLeast s t))) → IsOrdered t → (f : Fault) → IsLeast s t f → OrMemory result (result ≡ Err (At f))
+refused law one s t (Ok filter) condition least o f h = absurd (law s t f condition h.fault)
+refused law one s t (Err Memory) condition least o f h = inl refl
+refused law one s t (Err (At g)) condition least o f h = inr (ap (λ x. Err (At x)) (one s t g f o (least o) h))

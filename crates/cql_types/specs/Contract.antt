@@ -1,13 +1,14 @@
 -- What the private functions of the walk answer.
-use Rattle.std.specs.Prelude.{◌≡◌, ℕ, List, [], ◌∷◌, Some, None, Result, Err, MatchResult, Vec, ⊤, map}
+use Rattle.std.specs.Prelude.{◌≡◌, ◌⊎◌, ℕ, List, [], ◌∷◌, Some, None, Result, Err, MatchResult, Vec, ⊤, map}
 use Rattle.std.specs.declared.alloc.Global.{Global}
 use Rattle.cad_feature.specs.Schema.{Named}
 use Rattle.cql_lexer.specs.declared.token.Comparison.{Comparison}
-use Rattle.cql_parser.specs.Syntax.{Syntax, Parts, part, leaf, node, place_of, Leaf, Op, keyed, compare_op}
+use Rattle.cql_parser.specs.Syntax.{Syntax, Parts, none, part, leaf, node, place_of, Leaf, Op, keyed, compare_op}
 use Rattle.cql_types.specs.declared.fault.Misuse.{Misuse}
 use Rattle.cql_types.specs.declared.fault.Fault.{Fault}
 use Rattle.cql_types.specs.declared.fault.TypeFault.{TypeFault}
 use Rattle.cql_types.specs.declared.fault.TypeFault.TheVariants.{Memory, At}
+use Rattle.cql_types.specs.declared.filter.Filter.{Filter}
 use Rattle.cql_types.specs.declared.filter.FlagTerm.{FlagTerm}
 use Rattle.cql_types.specs.declared.filter.TextTerm.{TextTerm}
 use Rattle.cql_types.specs.declared.filter.Operation.{Operation}
@@ -37,11 +38,23 @@ abbrev pub ForFault : (Fault → Type 0) → TypeFault → Type 0
 ForFault Is Memory = ⊤
 ForFault Is (At f) = Is f
 
+-- the answer is as said, unless memory ran out
+abbrev pub OrMemory : Result Filter TypeFault → Type 0 → Type 0
+OrMemory result said = (result ≡ Err Memory) ⊎ said
+
 abbrev pub Judges : List Named → Syntax → Result Judged TypeFault → Type 0
 Judges s t r = MatchResult r (IsJudged s t) (ForFault (IsFirst s t))
 
 abbrev pub JudgesParts : List Named → Parts → Result (Vec Judged Global) TypeFault → Type 0
 JudgesParts s ps r = MatchResult r (λ js. Mean s ps js.items) (ForFault (IsFirstIn s ps))
+
+-- two parts
+abbrev pub JudgesPair : List Named → Syntax → Syntax → Result (Judged × Judged) TypeFault → Type 0
+JudgesPair s t u r = MatchResult r (λ both. Mean s (part t (part u none)) (both.0 ∷ both.1 ∷ [])) (ForFault (IsFirstIn s (part t (part u none))))
+
+-- the first part of a list, and the others
+abbrev pub JudgesList : List Named → Syntax → Parts → Result (Judged × Vec Judged Global) TypeFault → Type 0
+JudgesList s t ts r = MatchResult r (λ both. Mean s (part t ts) (both.0 ∷ both.1.items)) (ForFault (IsFirstIn s (part t ts)))
 
 abbrev pub parts_judged : List JudgedStep → List Judged
 parts_judged steps = map (λ step. step.part) steps

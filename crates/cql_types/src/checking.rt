@@ -1,20 +1,25 @@
 //! The walk over a tree.
 
-ghost use Rattle.std.specs.Prelude.{◌≡◌, IfErr, IfOk, OnOk, map};
+ghost use Rattle.std.specs.Prelude.{◌≡◌, Err, IfErr, IfOk, IsOk, OnOk, map};
 ghost use Rattle.cad_feature.specs.Schema.{schema_of};
-ghost use Rattle.cql_parser.specs.Syntax.{parts_of};
+ghost use Rattle.cql_parser.specs.Syntax.{leaf, node, part, parts_of, none, day_leaf, or_op, and_op, not_op, compare_op, like_op, between_op, in_op, is_null_op, sum_op, product_op, casei_op, date_op, spatial_op, temporal_op};
 ghost use Rattle.cql_parser.specs.Views.{syntax_of, syntaxes_of, terms_of, factors_of, additions_of, multiplications_of};
-ghost use Rattle.cql_types.specs.Contract.{ForFault, Judges, JudgesParts, JudgesSteps};
+ghost use Rattle.cql_types.specs.Contract.{ForFault, OrMemory, Judges, JudgesList, JudgesPair, JudgesParts, JudgesSteps};
 ghost use Rattle.cql_types.specs.Kinds.{IsCondition, IsFault, IsLeast};
 ghost use Rattle.cql_types.specs.Means.{IsFilter, added_by, multiplied_by};
+ghost use Rattle.cql_types.specs.declared.fault.Fault.{Fault};
+ghost use Rattle.cql_types.specs.declared.fault.TypeFault.TheVariants.{At};
 ghost use Rattle.cql_parser.specs.Order.{IsOrdered};
 
 use crate::collect::one;
 use crate::fault::TypeFault;
 use crate::filter::{Filter, Operation};
 use crate::judged::{Judged, JudgedStep};
+use crate::laws::{fault_or_condition, one_least_fault};
 use crate::{combine, leaf, literal};
+use cad_day::Relation;
 use cad_feature::Collection;
+use cql_lexer::{Comparison, SpatialRelation};
 use cql_parser::{Addition, Factor, Multiplication, Term, Tree};
 use std::alloc::Global;
 
@@ -23,6 +28,21 @@ use std::alloc::Global;
 /// The places of a tree that was read from tokens ascend in the order of reading, and then no fault has a lesser place
 /// than the one that is told. Memory apart, there is a filter exactly where the tree is a condition.
 pub fn check(alloc: Global, tree: &Tree, collection: Collection) -> Result<Filter, TypeFault>
+    ensures condition { OnOk result (IsCondition (schema_of collection) (syntax_of tree.now)) }
+    ensures filter { IfOk result (IsFilter (schema_of collection) (syntax_of tree.now)) }
+    ensures fault { IfErr result (ForFault (IsFault (schema_of collection) (syntax_of tree.now))) }
+    ensures least { IsOrdered (syntax_of tree.now) → IfErr result (ForFault (IsLeast (schema_of collection) (syntax_of tree.now))) }
+    ensures accepted { IsCondition (schema_of collection) (syntax_of tree.now) → OrMemory result (IsOk result) }
+    ensures refused { IsOrdered (syntax_of tree.now) → (f : Fault) → IsLeast (schema_of collection) (syntax_of tree.now) f
+        → OrMemory result (result ≡ Err (At f)) }
+{
+    // A condition has no fault, and of all faults one alone has the least place.
+    fault_or_condition();
+    one_least_fault();
+    check_tree(alloc, tree, collection)
+}
+
+fn check_tree(alloc: Global, tree: &Tree, collection: Collection) -> Result<Filter, TypeFault>
     ensures condition { OnOk result (IsCondition (schema_of collection) (syntax_of tree.now)) }
     ensures filter { IfOk result (IsFilter (schema_of collection) (syntax_of tree.now)) }
     ensures fault { IfErr result (ForFault (IsFault (schema_of collection) (syntax_of tree.now))) }
@@ -41,84 +61,36 @@ fn judge(alloc: Global, tree: &Tree, collection: Collection) -> Result<Judged, T
         Tree::Number(number) => leaf::number(number, collection),
         Tree::Text { place, content } => leaf::text(*place, content, collection),
         Tree::Truth { place, value } => Ok(leaf::truth(*place, *value, collection)),
-        Tree::Or { first, others } => {
-            let first = Box::new(alloc, judge(alloc, first, collection)?)?;
-            let others = judge_all(alloc, others, collection)?;
-            combine::or(alloc, Box::into_inner(first), others)
-        }
-        Tree::And { first, others } => {
-            let first = Box::new(alloc, judge(alloc, first, collection)?)?;
-            let others = judge_all(alloc, others, collection)?;
-            combine::and(alloc, Box::into_inner(first), others)
-        }
-        Tree::Not { place, part } => {
-            let part = judge(alloc, part, collection)?;
-            combine::not(alloc, *place, part)
-        }
-        Tree::Compare { by, left, right } => {
-            let left = Box::new(alloc, judge(alloc, left, collection)?)?;
-            let right = judge(alloc, right, collection)?;
-            combine::compare(*by, Box::into_inner(left), right)
-        }
+        Tree::Or { first, others } => judge_or(alloc, first, others, collection),
+        Tree::And { first, others } => judge_and(alloc, first, others, collection),
+        Tree::Not { place, part } => judge_not(alloc, *place, part, collection),
+        Tree::Compare { by, left, right } => judge_compare(alloc, *by, left, right, collection),
         Tree::Like {
             is_negated,
             value,
             pattern,
-        } => {
-            let value = Box::new(alloc, judge(alloc, value, collection)?)?;
-            let pattern = judge(alloc, pattern, collection)?;
-            combine::like(alloc, *is_negated, Box::into_inner(value), pattern)
-        }
+        } => judge_like(alloc, *is_negated, value, pattern, collection),
         Tree::Between {
             is_negated,
             value,
             low,
             high,
-        } => {
-            let value = Box::new(alloc, judge(alloc, value, collection)?)?;
-            let low = Box::new(alloc, judge(alloc, low, collection)?)?;
-            let high = judge(alloc, high, collection)?;
-            let (value, low) = (Box::into_inner(value), Box::into_inner(low));
-            combine::between(alloc, *is_negated, value, low, high)
-        }
+        } => judge_between(alloc, *is_negated, value, low, high, collection),
         Tree::In {
             is_negated,
             value,
             first,
             others,
-        } => {
-            let value = Box::new(alloc, judge(alloc, value, collection)?)?;
-            let first = Box::new(alloc, judge(alloc, first, collection)?)?;
-            let others = judge_all(alloc, others, collection)?;
-            let (value, first) = (Box::into_inner(value), Box::into_inner(first));
-            combine::is_in(alloc, *is_negated, value, first, others)
-        }
-        Tree::IsNull { is_negated, value } => {
-            let value = judge(alloc, value, collection)?;
-            combine::is_null(alloc, *is_negated, value)
-        }
-        Tree::Sum { first, others } => {
-            let first = Box::new(alloc, judge(alloc, first, collection)?)?;
-            let steps = judge_terms(alloc, others, collection)?;
-            combine::computed(alloc, Box::into_inner(first), steps)
-        }
-        Tree::Product { first, others } => {
-            let first = Box::new(alloc, judge(alloc, first, collection)?)?;
-            let steps = judge_factors(alloc, others, collection)?;
-            combine::computed(alloc, Box::into_inner(first), steps)
-        }
-        Tree::Casei { place, part } => {
-            let part = judge(alloc, part, collection)?;
-            combine::casei(alloc, *place, part)
-        }
+        } => judge_in(alloc, *is_negated, value, first, others, collection),
+        Tree::IsNull { is_negated, value } => judge_is_null(alloc, *is_negated, value, collection),
+        Tree::Sum { first, others } => judge_sum(alloc, first, others, collection),
+        Tree::Product { first, others } => judge_product(alloc, first, others, collection),
+        Tree::Casei { place, part } => judge_casei(alloc, *place, part, collection),
         Tree::Date {
             place,
             text_place,
             text,
-        } => {
-            let part = leaf::day(*text_place, text, collection)?;
-            combine::date(*place, part)
-        }
+        } => judge_date(*place, *text_place, text, collection),
         Tree::Interval { place, from, to } => literal::interval(*place, from, to, collection),
         Tree::Point { place, corner } => literal::point(*place, corner, collection),
         Tree::Polygon { place, rings } => literal::polygon(alloc, *place, rings, collection),
@@ -128,22 +100,239 @@ fn judge(alloc: Global, tree: &Tree, collection: Collection) -> Result<Judged, T
             by,
             left,
             right,
-        } => {
-            let left = Box::new(alloc, judge(alloc, left, collection)?)?;
-            let right = judge(alloc, right, collection)?;
-            combine::spatial(*place, *by, Box::into_inner(left), right)
-        }
+        } => judge_spatial(alloc, *place, *by, left, right, collection),
         Tree::Temporal {
             place,
             by,
             left,
             right,
-        } => {
-            let left = Box::new(alloc, judge(alloc, left, collection)?)?;
-            let right = judge(alloc, right, collection)?;
-            combine::temporal(*place, *by, Box::into_inner(left), right)
-        }
+        } => judge_temporal(alloc, *place, *by, left, right, collection),
     }
+}
+
+// The two parts of a node. What waits for the next part is in a box, which keeps the walk's frames small.
+#[cycle(judges)]
+fn judge_pair(
+    alloc: Global,
+    left: &Tree,
+    right: &Tree,
+    collection: Collection,
+) -> Result<(Judged, Judged), TypeFault>
+    ensures { JudgesPair (schema_of collection) (syntax_of left.now) (syntax_of right.now) result }
+{
+    let left = Box::new(alloc, judge(alloc, left, collection)?)?;
+    let right = judge(alloc, right, collection)?;
+    Ok((Box::into_inner(left), right))
+}
+
+// The first part of a list, and the others.
+#[cycle(judges)]
+fn judge_list(
+    alloc: Global,
+    first: &Tree,
+    others: &[Tree],
+    collection: Collection,
+) -> Result<(Judged, Vec<Judged>), TypeFault>
+    ensures { JudgesList (schema_of collection) (syntax_of first.now) (parts_of (syntaxes_of others.now)) result }
+{
+    let first = Box::new(alloc, judge(alloc, first, collection)?)?;
+    let others = judge_all(alloc, others, collection)?;
+    Ok((Box::into_inner(first), others))
+}
+
+#[cycle(judges)]
+fn judge_or(
+    alloc: Global,
+    first: &Tree,
+    others: &[Tree],
+    collection: Collection,
+) -> Result<Judged, TypeFault>
+    ensures { Judges (schema_of collection) (node or_op (part (syntax_of first.now) (parts_of (syntaxes_of others.now)))) result }
+{
+    let (first, others) = judge_list(alloc, first, others, collection)?;
+    combine::or(alloc, first, others)
+}
+
+#[cycle(judges)]
+fn judge_and(
+    alloc: Global,
+    first: &Tree,
+    others: &[Tree],
+    collection: Collection,
+) -> Result<Judged, TypeFault>
+    ensures { Judges (schema_of collection) (node and_op (part (syntax_of first.now) (parts_of (syntaxes_of others.now)))) result }
+{
+    let (first, others) = judge_list(alloc, first, others, collection)?;
+    combine::and(alloc, first, others)
+}
+
+#[cycle(judges)]
+fn judge_not(
+    alloc: Global,
+    place: usize,
+    operand: &Tree,
+    collection: Collection,
+) -> Result<Judged, TypeFault>
+    ensures { Judges (schema_of collection) (node (not_op place) (part (syntax_of operand.now) none)) result }
+{
+    let operand = judge(alloc, operand, collection)?;
+    combine::not(alloc, place, operand)
+}
+
+#[cycle(judges)]
+fn judge_compare(
+    alloc: Global,
+    by: Comparison,
+    left: &Tree,
+    right: &Tree,
+    collection: Collection,
+) -> Result<Judged, TypeFault>
+    ensures { Judges (schema_of collection) (node (compare_op by) (part (syntax_of left.now) (part (syntax_of right.now) none))) result }
+{
+    let (left, right) = judge_pair(alloc, left, right, collection)?;
+    combine::compare(by, left, right)
+}
+
+#[cycle(judges)]
+fn judge_like(
+    alloc: Global,
+    is_negated: bool,
+    value: &Tree,
+    pattern: &Tree,
+    collection: Collection,
+) -> Result<Judged, TypeFault>
+    ensures { Judges (schema_of collection) (node (like_op is_negated) (part (syntax_of value.now) (part (syntax_of pattern.now) none))) result }
+{
+    let (value, pattern) = judge_pair(alloc, value, pattern, collection)?;
+    combine::like(alloc, is_negated, value, pattern)
+}
+
+#[cycle(judges)]
+fn judge_between(
+    alloc: Global,
+    is_negated: bool,
+    value: &Tree,
+    low: &Tree,
+    high: &Tree,
+    collection: Collection,
+) -> Result<Judged, TypeFault>
+    ensures { Judges (schema_of collection) (node (between_op is_negated) (part (syntax_of value.now) (part (syntax_of low.now) (part (syntax_of high.now) none)))) result }
+{
+    let value = Box::new(alloc, judge(alloc, value, collection)?)?;
+    let (low, high) = judge_pair(alloc, low, high, collection)?;
+    combine::between(alloc, is_negated, Box::into_inner(value), low, high)
+}
+
+#[cycle(judges)]
+fn judge_in(
+    alloc: Global,
+    is_negated: bool,
+    value: &Tree,
+    first: &Tree,
+    others: &[Tree],
+    collection: Collection,
+) -> Result<Judged, TypeFault>
+    ensures { Judges (schema_of collection) (node (in_op is_negated) (part (syntax_of value.now) (part (syntax_of first.now) (parts_of (syntaxes_of others.now))))) result }
+{
+    let value = Box::new(alloc, judge(alloc, value, collection)?)?;
+    let (first, others) = judge_list(alloc, first, others, collection)?;
+    combine::is_in(alloc, is_negated, Box::into_inner(value), first, others)
+}
+
+#[cycle(judges)]
+fn judge_is_null(
+    alloc: Global,
+    is_negated: bool,
+    value: &Tree,
+    collection: Collection,
+) -> Result<Judged, TypeFault>
+    ensures { Judges (schema_of collection) (node (is_null_op is_negated) (part (syntax_of value.now) none)) result }
+{
+    let value = judge(alloc, value, collection)?;
+    combine::is_null(alloc, is_negated, value)
+}
+
+#[cycle(judges)]
+fn judge_sum(
+    alloc: Global,
+    first: &Tree,
+    others: &[Term],
+    collection: Collection,
+) -> Result<Judged, TypeFault>
+    ensures { Judges (schema_of collection) (node (sum_op (additions_of others.now)) (part (syntax_of first.now) (parts_of (terms_of others.now)))) result }
+{
+    let first = Box::new(alloc, judge(alloc, first, collection)?)?;
+    let steps = judge_terms(alloc, others, collection)?;
+    combine::computed(alloc, Box::into_inner(first), steps)
+}
+
+#[cycle(judges)]
+fn judge_product(
+    alloc: Global,
+    first: &Tree,
+    others: &[Factor],
+    collection: Collection,
+) -> Result<Judged, TypeFault>
+    ensures { Judges (schema_of collection) (node (product_op (multiplications_of others.now)) (part (syntax_of first.now) (parts_of (factors_of others.now)))) result }
+{
+    let first = Box::new(alloc, judge(alloc, first, collection)?)?;
+    let steps = judge_factors(alloc, others, collection)?;
+    combine::computed(alloc, Box::into_inner(first), steps)
+}
+
+#[cycle(judges)]
+fn judge_casei(
+    alloc: Global,
+    place: usize,
+    operand: &Tree,
+    collection: Collection,
+) -> Result<Judged, TypeFault>
+    ensures { Judges (schema_of collection) (node (casei_op place) (part (syntax_of operand.now) none)) result }
+{
+    let operand = judge(alloc, operand, collection)?;
+    combine::casei(alloc, place, operand)
+}
+
+fn judge_date(
+    place: usize,
+    text_place: usize,
+    text: &str,
+    collection: Collection,
+) -> Result<Judged, TypeFault>
+    ensures { Judges (schema_of collection) (node (date_op place) (part (leaf text_place (day_leaf text.now)) none)) result }
+{
+    let part = leaf::day(text_place, text, collection)?;
+    combine::date(place, part)
+}
+
+#[cycle(judges)]
+fn judge_spatial(
+    alloc: Global,
+    place: usize,
+    by: SpatialRelation,
+    left: &Tree,
+    right: &Tree,
+    collection: Collection,
+) -> Result<Judged, TypeFault>
+    ensures { Judges (schema_of collection) (node (spatial_op place by) (part (syntax_of left.now) (part (syntax_of right.now) none))) result }
+{
+    let (left, right) = judge_pair(alloc, left, right, collection)?;
+    combine::spatial(place, by, left, right)
+}
+
+#[cycle(judges)]
+fn judge_temporal(
+    alloc: Global,
+    place: usize,
+    by: Relation,
+    left: &Tree,
+    right: &Tree,
+    collection: Collection,
+) -> Result<Judged, TypeFault>
+    ensures { Judges (schema_of collection) (node (temporal_op place by) (part (syntax_of left.now) (part (syntax_of right.now) none))) result }
+{
+    let (left, right) = judge_pair(alloc, left, right, collection)?;
+    combine::temporal(place, by, left, right)
 }
 
 #[cycle(judges)]

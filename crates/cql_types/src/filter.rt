@@ -23,7 +23,9 @@ pub enum Operation {
 #[derive(Drop)]
 #[cycle(whole)]
 pub enum WholeTerm {
+    /// A number of the filter.
     Constant(i64),
+    /// The value of a property.
     Property(usize),
     /// A sum or a product, computed from the left.
     Computed {
@@ -43,7 +45,9 @@ pub struct Step {
 /// A text.
 #[derive(Drop)]
 pub enum TextTerm {
+    /// A text of the filter.
     Constant(String),
+    /// The value of a property.
     Property(usize),
     /// Its case folded.
     Folded(Box<TextTerm>),
@@ -52,14 +56,18 @@ pub enum TextTerm {
 /// A day.
 #[derive(Drop)]
 pub enum DayTerm {
+    /// A day of the filter.
     Constant(Day),
+    /// The value of a property.
     Property(usize),
 }
 
 /// True or false.
 #[derive(Drop)]
 pub enum FlagTerm {
+    /// TRUE or FALSE.
     Constant(bool),
+    /// The value of a property.
     Property(usize),
 }
 
@@ -68,6 +76,7 @@ pub enum FlagTerm {
 pub enum EndTerm {
     /// No end on this side.
     Open,
+    /// The end is this day, and counted in.
     Day(DayTerm),
 }
 
@@ -76,42 +85,56 @@ pub enum EndTerm {
 pub enum SpanTerm {
     /// A day, as the interval of that day.
     Day(DayTerm),
+    /// The value of a property.
     Property(usize),
+    /// The days from one end to the other.
     Interval { from: EndTerm, to: EndTerm },
 }
 
 /// A point, a box or a region.
 #[derive(Drop)]
 pub enum ShapeTerm {
+    /// A shape of the filter.
     Constant(Shape),
+    /// The value of a property.
     Property(usize),
 }
 
 /// A term of any kind.
 #[derive(Drop)]
 pub enum AnyTerm {
+    /// A whole number.
     Whole(WholeTerm),
+    /// A text.
     Text(TextTerm),
+    /// A day.
     Day(DayTerm),
+    /// True or false.
     Flag(FlagTerm),
+    /// An interval.
     Span(SpanTerm),
+    /// A shape.
     Shape(ShapeTerm),
 }
 
 /// A condition that a feature meets, does not meet, or neither.
 #[derive(Drop)]
 pub enum Filter {
+    /// TRUE or FALSE.
     Truth(bool),
+    /// Two numbers, by their size.
     CompareWhole {
         by: Comparison,
         left: WholeTerm,
         right: WholeTerm,
     },
+    /// Two texts, in the order of code points.
     CompareText {
         by: Comparison,
         left: TextTerm,
         right: TextTerm,
     },
+    /// Two days, by their order in time.
     CompareDay {
         by: Comparison,
         left: DayTerm,
@@ -123,43 +146,55 @@ pub enum Filter {
         left: FlagTerm,
         right: FlagTerm,
     },
+    /// The text is like the pattern.
     Like {
         value: TextTerm,
         pattern: TextTerm,
     },
+    /// The value is neither below the one nor above the other.
     Between {
         value: WholeTerm,
         low: WholeTerm,
         high: WholeTerm,
     },
+    /// The value equals one of the numbers.
     InWhole {
         value: WholeTerm,
         items: Vec<WholeTerm>,
     },
+    /// The value equals one of the texts.
     InText {
         value: TextTerm,
         items: Vec<TextTerm>,
     },
+    /// The value equals one of the days.
     InDay {
         value: DayTerm,
         items: Vec<DayTerm>,
     },
+    /// The value equals one of the flags.
     InFlag {
         value: FlagTerm,
         items: Vec<FlagTerm>,
     },
+    /// The term has no value.
     IsNull(AnyTerm),
+    /// How two shapes lie to each other.
     Spatial {
         by: SpatialRelation,
         left: ShapeTerm,
         right: ShapeTerm,
     },
+    /// How two intervals lie to each other.
     Temporal {
         by: Relation,
         left: SpanTerm,
         right: SpanTerm,
     },
+    /// The condition is false.
     Not(Box<Filter>),
+    /// All of these are true.
     And(Vec<Filter>),
+    /// At least one of these is true.
     Or(Vec<Filter>),
 }

@@ -7,17 +7,27 @@ use crate::filter::{
 /// A tree whose kind fits. TRUE and FALSE are of two kinds.
 #[derive(Drop)]
 pub enum Node {
+    /// A whole number.
     Whole(WholeTerm),
+    /// A text that is no literal.
     Text(TextTerm),
     /// A text literal, or CASEI round one.
     Pattern(TextTerm),
+    /// A day.
     Day(DayTerm),
+    /// A property that is true or false.
     Flag(FlagTerm),
+    /// TRUE or FALSE: a flag, and a condition.
     Truth(bool),
+    /// An interval.
     Span(SpanTerm),
+    /// A point.
     Spot(ShapeTerm),
+    /// A region.
     Area(ShapeTerm),
+    /// A box.
     Frame(ShapeTerm),
+    /// A condition.
     Condition(Filter),
 }
 

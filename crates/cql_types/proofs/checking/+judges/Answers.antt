@@ -1,16 +1,81 @@
-use Rattle.std.proofs.Common.{◌∙◌, ap, [], ◌∷◌, ◌++◌}
+use Rattle.std.proofs.Common.{◌∙◌, ap, arith, [], ◌∷◌, ◌++◌}
 use Rattle.std.proofs.lemmas.Result.{err_from_is_err_and}
 use Rattle.cad_feature.specs.Schema.{schema_of}
-use Rattle.cql_parser.specs.Syntax.{none, part, parts_of, leaf, day_leaf, or_op, and_op, not_op, compare_op, like_op, between_op, in_op, is_null_op, sum_op, product_op, casei_op, date_op, spatial_op, temporal_op}
+use Rattle.cql_parser.specs.Syntax.{none, part, parts_of, or_op, and_op, not_op, compare_op, like_op, between_op, in_op, is_null_op, sum_op, product_op, casei_op, spatial_op, temporal_op}
 use Rattle.cql_parser.specs.Views.{syntax_of, syntaxes_of, term_of, terms_of, factor_of, factors_of, additions_of, multiplications_of}
-use Rattle.cql_types.proofs.Judging.{node_judged, list_judged, steps_judged, last_part, and_part, boxed, fault_here, fault_later, fault_second, fault_third, only_fault, completes_more, completes_all, first_more, fault_among, signs_from, by_more, by_all}
+use Rattle.cql_types.proofs.Judging.{node_judged, list_judged, steps_judged, last_part, and_part, boxed, fault_here, fault_later, fault_inside, first_fault, next_fault, completes_more, completes_all, first_more, fault_among, signs_from, by_more, by_all}
 use Rattle.cql_parser.specs.declared.tree.Term.{Term}
 use Rattle.cql_parser.specs.declared.tree.Factor.{Factor}
 use Rattle.cql_types.specs.Contract.{parts_judged, operations_of}
 use Rattle.cql_types.specs.Means.{added_by, multiplied_by}
 use Rattle.cql_types.proofs.Terms.{parts_more, operations_more}
 use Rattle.cql_types.proofs.Trees.{parts_from, syntax_of-Name, syntax_of-Number, syntax_of-Text, syntax_of-Truth, syntax_of-Or, syntax_of-And, syntax_of-Not, syntax_of-Compare, syntax_of-Like, syntax_of-Between, syntax_of-In, syntax_of-IsNull, syntax_of-Sum, syntax_of-Product, syntax_of-Casei, syntax_of-Date, syntax_of-Interval, syntax_of-Point, syntax_of-Polygon, syntax_of-Bbox, syntax_of-Spatial, syntax_of-Temporal}
+use Rattle.cql_types.proofs.Weights.{falls_inside, falls_among}
 use Rattle.cql_types.proofs.checking.+judges.Goals as goal
+
+pub judge-judge_or-requires : goal.judge-judge_or-requires
+judge-judge_or-requires t c =
+    (rw (← c.deref-in-Or.ensures, ← c.deref-in-Or-2.ensures.value) at (falls_inside 3 (omega arith) (ap syntax_of c.in-Or.is ∙ syntax_of-Or _ _) c.decreases), tt)
+
+pub judge-judge_and-requires : goal.judge-judge_and-requires
+judge-judge_and-requires t c =
+    (rw (← c.deref-in-And.ensures, ← c.deref-in-And-2.ensures.value) at (falls_inside 3 (omega arith) (ap syntax_of c.in-And.is ∙ syntax_of-And _ _) c.decreases), tt)
+
+pub judge-judge_not-requires : goal.judge-judge_not-requires
+judge-judge_not-requires t c =
+    (rw (← c.deref-in-Not.ensures) at (falls_inside 1 (omega arith) (ap syntax_of c.in-Not.is ∙ syntax_of-Not _ _) c.decreases), tt)
+
+pub judge-judge_compare-requires : goal.judge-judge_compare-requires
+judge-judge_compare-requires t c =
+    (rw (← c.deref-in-Compare.ensures, ← c.deref-in-Compare-2.ensures) at (falls_inside 2 (omega arith) (ap syntax_of c.in-Compare.is ∙ syntax_of-Compare _ _ _) c.decreases), tt)
+
+pub judge-judge_like-requires : goal.judge-judge_like-requires
+judge-judge_like-requires t c =
+    (rw (← c.deref-in-Like.ensures, ← c.deref-in-Like-2.ensures) at (falls_inside 2 (omega arith) (ap syntax_of c.in-Like.is ∙ syntax_of-Like _ _ _) c.decreases), tt)
+
+pub judge-judge_between-requires : goal.judge-judge_between-requires
+judge-judge_between-requires t c =
+    (rw (← c.deref-in-Between.ensures, ← c.deref-in-Between-2.ensures, ← c.deref-in-Between-3.ensures) at (falls_inside 2 (omega arith) (ap syntax_of c.in-Between.is ∙ syntax_of-Between _ _ _ _) c.decreases), tt)
+
+pub judge-judge_in-requires : goal.judge-judge_in-requires
+judge-judge_in-requires t c =
+    (rw (← c.deref-in-In.ensures, ← c.deref-in-In-2.ensures, ← c.deref-in-In-3.ensures.value) at (falls_inside 3 (omega arith) (ap syntax_of c.in-In.is ∙ syntax_of-In _ _ _ _) c.decreases), tt)
+
+pub judge-judge_is_null-requires : goal.judge-judge_is_null-requires
+judge-judge_is_null-requires t c =
+    (rw (← c.deref-in-IsNull.ensures) at (falls_inside 1 (omega arith) (ap syntax_of c.in-IsNull.is ∙ syntax_of-IsNull _ _) c.decreases), tt)
+
+pub judge-judge_sum-requires : goal.judge-judge_sum-requires
+judge-judge_sum-requires t c =
+    (rw (← c.deref-in-Sum.ensures, ← c.deref-in-Sum-2.ensures.value) at (falls_inside 2 (omega arith) (ap syntax_of c.in-Sum.is ∙ syntax_of-Sum _ _) c.decreases), tt)
+
+pub judge-judge_product-requires : goal.judge-judge_product-requires
+judge-judge_product-requires t c =
+    (rw (← c.deref-in-Product.ensures, ← c.deref-in-Product-2.ensures.value) at (falls_inside 2 (omega arith) (ap syntax_of c.in-Product.is ∙ syntax_of-Product _ _) c.decreases), tt)
+
+pub judge-judge_casei-requires : goal.judge-judge_casei-requires
+judge-judge_casei-requires t c =
+    (rw (← c.deref-in-Casei.ensures) at (falls_inside 1 (omega arith) (ap syntax_of c.in-Casei.is ∙ syntax_of-Casei _ _) c.decreases), tt)
+
+pub judge-judge_spatial-requires : goal.judge-judge_spatial-requires
+judge-judge_spatial-requires t c =
+    (rw (← c.deref-in-Spatial.ensures, ← c.deref-in-Spatial-2.ensures) at (falls_inside 2 (omega arith) (ap syntax_of c.in-Spatial.is ∙ syntax_of-Spatial _ _ _ _) c.decreases), tt)
+
+pub judge-judge_temporal-requires : goal.judge-judge_temporal-requires
+judge-judge_temporal-requires t c =
+    (rw (← c.deref-in-Temporal.ensures, ← c.deref-in-Temporal-2.ensures) at (falls_inside 2 (omega arith) (ap syntax_of c.in-Temporal.is ∙ syntax_of-Temporal _ _ _ _) c.decreases), tt)
+
+pub judge_all-judge-requires : goal.judge_all-judge-requires
+judge_all-judge-requires t c =
+    (falls_among syntax_of c.args.trees.now c.loop-tree.tree-index c.tree-item.result c.loop-tree-test.true c.tree-item.is c.decreases, tt)
+
+pub judge_terms-judge-requires : goal.judge_terms-judge-requires
+judge_terms-judge-requires t c =
+    (falls_among term_of c.args.terms.now c.loop-term.term-index c.term-item.result c.loop-term-test.true c.term-item.is c.decreases, tt)
+
+pub judge_factors-judge-requires : goal.judge_factors-judge-requires
+judge_factors-judge-requires t c =
+    (falls_among factor_of c.args.factors.now c.loop-factor.factor-index c.factor-item.result c.loop-factor-test.true c.factor-item.is c.decreases, tt)
 
 pub judge-returns-in-Name : goal.judge-returns-in-Name
 judge-returns-in-Name t c =
@@ -28,213 +93,53 @@ pub judge-returns-in-Truth : goal.judge-returns-in-Truth
 judge-returns-in-Truth t c =
     rw (c.in-Truth.is, syntax_of-Truth) c.truth.ensures
 
-pub judge-returns-in_err-judge-in-Or : goal.judge-returns-in_err-judge-in-Or
-judge-returns-in_err-judge-in-Or t c =
-    let p = err_from_is_err_and c.from_residual.result c.from_residual.ensures.1 in
-    rw (p.1, p.2, c.in-Or.is, syntax_of-Or)
-    (fault_here (schema_of c.args.collection) or_op (syntax_of c.in-Or.first.value) (parts_of (syntaxes_of c.in-Or.others.items)) c.in_err-judge-in-Or.field-0.0 (rw c.deref-in-Or.ensures at c.in_err-judge-in-Or.ensures))
+pub judge-returns-in-Or : goal.judge-returns-in-Or
+judge-returns-in-Or t c =
+    rw (c.in-Or.is, syntax_of-Or) (rw (c.deref-in-Or.ensures, c.deref-in-Or-2.ensures.value) at c.judge_or.ensures)
 
-pub judge-returns-in_err-others-in-Or : goal.judge-returns-in_err-others-in-Or
-judge-returns-in_err-others-in-Or t c =
-    let p = err_from_is_err_and c.from_residual-in_err-others-in-Or.result c.from_residual-in_err-others-in-Or.ensures.1 in
-    rw (p.1, p.2, c.in-Or.is, syntax_of-Or)
-    (fault_later (schema_of c.args.collection) or_op (syntax_of c.in-Or.first.value) (parts_of (syntaxes_of c.in-Or.others.items)) c.in_err-others-in-Or.field-0.0 (rw c.deref-in-Or.ensures at c.in_ok-judge-in-Or.ensures)
-    (rw c.deref-in-Or-2.ensures.value at c.in_err-others-in-Or.ensures))
+pub judge-returns-in-And : goal.judge-returns-in-And
+judge-returns-in-And t c =
+    rw (c.in-And.is, syntax_of-And) (rw (c.deref-in-And.ensures, c.deref-in-And-2.ensures.value) at c.judge_and.ensures)
 
-pub judge-returns-in_ok-others-in-Or : goal.judge-returns-in_ok-others-in-Or
-judge-returns-in_ok-others-in-Or t c =
-    rw (c.in-Or.is, syntax_of-Or)
-    (list_judged or_op _ (rw c.deref-in-Or.ensures at c.in_ok-judge-in-Or.ensures) c.in_ok-first-in-Or.ensures.ok c.into_inner.ensures
-    (rw c.deref-in-Or-2.ensures.value at c.in_ok-others-in-Or.ensures) c.or.ensures)
+pub judge-returns-in-Not : goal.judge-returns-in-Not
+judge-returns-in-Not t c =
+    rw (c.in-Not.is, syntax_of-Not) (rw c.deref-in-Not.ensures at c.judge_not.ensures)
 
-pub judge-returns-in_err-judge-in-And : goal.judge-returns-in_err-judge-in-And
-judge-returns-in_err-judge-in-And t c =
-    let p = err_from_is_err_and c.from_residual-in_err-judge-in-And.result c.from_residual-in_err-judge-in-And.ensures.1 in
-    rw (p.1, p.2, c.in-And.is, syntax_of-And)
-    (fault_here (schema_of c.args.collection) and_op (syntax_of c.in-And.first.value) (parts_of (syntaxes_of c.in-And.others.items)) c.in_err-judge-in-And.field-0.0 (rw c.deref-in-And.ensures at c.in_err-judge-in-And.ensures))
+pub judge-returns-in-Compare : goal.judge-returns-in-Compare
+judge-returns-in-Compare t c =
+    rw (c.in-Compare.is, syntax_of-Compare) (rw (c.deref-in-Compare.ensures, c.deref-in-Compare-2.ensures) at c.judge_compare.ensures)
 
-pub judge-returns-in_err-others-in-And : goal.judge-returns-in_err-others-in-And
-judge-returns-in_err-others-in-And t c =
-    let p = err_from_is_err_and c.from_residual-in_err-others-in-And.result c.from_residual-in_err-others-in-And.ensures.1 in
-    rw (p.1, p.2, c.in-And.is, syntax_of-And)
-    (fault_later (schema_of c.args.collection) and_op (syntax_of c.in-And.first.value) (parts_of (syntaxes_of c.in-And.others.items)) c.in_err-others-in-And.field-0.0 (rw c.deref-in-And.ensures at c.in_ok-judge-in-And.ensures)
-    (rw c.deref-in-And-2.ensures.value at c.in_err-others-in-And.ensures))
+pub judge-returns-in-Like : goal.judge-returns-in-Like
+judge-returns-in-Like t c =
+    rw (c.in-Like.is, syntax_of-Like) (rw (c.deref-in-Like.ensures, c.deref-in-Like-2.ensures) at c.judge_like.ensures)
 
-pub judge-returns-in_ok-others-in-And : goal.judge-returns-in_ok-others-in-And
-judge-returns-in_ok-others-in-And t c =
-    rw (c.in-And.is, syntax_of-And)
-    (list_judged and_op _ (rw c.deref-in-And.ensures at c.in_ok-judge-in-And.ensures) c.in_ok-first-in-And.ensures.ok c.into_inner-in-And.ensures
-    (rw c.deref-in-And-2.ensures.value at c.in_ok-others-in-And.ensures) c.and.ensures)
+pub judge-returns-in-Between : goal.judge-returns-in-Between
+judge-returns-in-Between t c =
+    rw (c.in-Between.is, syntax_of-Between) (rw (c.deref-in-Between.ensures, c.deref-in-Between-2.ensures, c.deref-in-Between-3.ensures) at c.judge_between.ensures)
 
-pub judge-returns-in_err-part-in-Not : goal.judge-returns-in_err-part-in-Not
-judge-returns-in_err-part-in-Not t c =
-    let p = err_from_is_err_and c.from_residual-in_err-part-in-Not.result c.from_residual-in_err-part-in-Not.ensures.1 in
-    rw (p.1, p.2, c.in-Not.is, syntax_of-Not)
-    (fault_here (schema_of c.args.collection) (not_op c.in-Not.place) (syntax_of c.in-Not.part.value) none c.in_err-part-in-Not.field-0.0 (rw c.deref-in-Not.ensures at c.in_err-part-in-Not.ensures))
+pub judge-returns-in-In : goal.judge-returns-in-In
+judge-returns-in-In t c =
+    rw (c.in-In.is, syntax_of-In) (rw (c.deref-in-In.ensures, c.deref-in-In-2.ensures, c.deref-in-In-3.ensures.value) at c.judge_in.ensures)
 
-pub judge-returns-in_ok-part-in-Not : goal.judge-returns-in_ok-part-in-Not
-judge-returns-in_ok-part-in-Not t c =
-    rw (c.in-Not.is, syntax_of-Not) (node_judged (not_op c.in-Not.place) _ (last_part (rw c.deref-in-Not.ensures at c.in_ok-part-in-Not.ensures)) c.not.ensures)
+pub judge-returns-in-IsNull : goal.judge-returns-in-IsNull
+judge-returns-in-IsNull t c =
+    rw (c.in-IsNull.is, syntax_of-IsNull) (rw c.deref-in-IsNull.ensures at c.judge_is_null.ensures)
 
-pub judge-returns-in_err-judge-in-Compare : goal.judge-returns-in_err-judge-in-Compare
-judge-returns-in_err-judge-in-Compare t c =
-    let p = err_from_is_err_and c.from_residual-in_err-judge-in-Compare.result c.from_residual-in_err-judge-in-Compare.ensures.1 in
-    rw (p.1, p.2, c.in-Compare.is, syntax_of-Compare)
-    (fault_here (schema_of c.args.collection) (compare_op c.in-Compare.by) (syntax_of c.in-Compare.left.value) (part (syntax_of c.in-Compare.right.value) none) c.in_err-judge-in-Compare.field-0.0 (rw c.deref-in-Compare.ensures at c.in_err-judge-in-Compare.ensures))
+pub judge-returns-in-Sum : goal.judge-returns-in-Sum
+judge-returns-in-Sum t c =
+    rw (c.in-Sum.is, syntax_of-Sum) (rw (c.deref-in-Sum.ensures, c.deref-in-Sum-2.ensures.value) at c.judge_sum.ensures)
 
-pub judge-returns-in_err-right-in-Compare : goal.judge-returns-in_err-right-in-Compare
-judge-returns-in_err-right-in-Compare t c =
-    let p = err_from_is_err_and c.from_residual-in_err-right-in-Compare.result c.from_residual-in_err-right-in-Compare.ensures.1 in
-    rw (p.1, p.2, c.in-Compare.is, syntax_of-Compare)
-    (fault_second (schema_of c.args.collection) (compare_op c.in-Compare.by) (syntax_of c.in-Compare.left.value) (syntax_of c.in-Compare.right.value) none c.in_err-right-in-Compare.field-0.0 (rw c.deref-in-Compare.ensures at c.in_ok-judge-in-Compare.ensures)
-    (rw c.deref-in-Compare-2.ensures at c.in_err-right-in-Compare.ensures))
+pub judge-returns-in-Product : goal.judge-returns-in-Product
+judge-returns-in-Product t c =
+    rw (c.in-Product.is, syntax_of-Product) (rw (c.deref-in-Product.ensures, c.deref-in-Product-2.ensures.value) at c.judge_product.ensures)
 
-pub judge-returns-in_ok-right-in-Compare : goal.judge-returns-in_ok-right-in-Compare
-judge-returns-in_ok-right-in-Compare t c =
-    rw (c.in-Compare.is, syntax_of-Compare)
-    (list_judged (compare_op c.in-Compare.by) _ (rw c.deref-in-Compare.ensures at c.in_ok-judge-in-Compare.ensures) c.in_ok-left-in-Compare.ensures.ok c.into_inner-in-Compare.ensures
-    (last_part (rw c.deref-in-Compare-2.ensures at c.in_ok-right-in-Compare.ensures)) c.compare.ensures)
+pub judge-returns-in-Casei : goal.judge-returns-in-Casei
+judge-returns-in-Casei t c =
+    rw (c.in-Casei.is, syntax_of-Casei) (rw c.deref-in-Casei.ensures at c.judge_casei.ensures)
 
-pub judge-returns-in_err-judge-in-Like : goal.judge-returns-in_err-judge-in-Like
-judge-returns-in_err-judge-in-Like t c =
-    let p = err_from_is_err_and c.from_residual-in_err-judge-in-Like.result c.from_residual-in_err-judge-in-Like.ensures.1 in
-    rw (p.1, p.2, c.in-Like.is, syntax_of-Like)
-    (fault_here (schema_of c.args.collection) (like_op c.in-Like.is_negated) (syntax_of c.in-Like.value.value) (part (syntax_of c.in-Like.pattern.value) none) c.in_err-judge-in-Like.field-0.0 (rw c.deref-in-Like.ensures at c.in_err-judge-in-Like.ensures))
-
-pub judge-returns-in_err-pattern-in-Like : goal.judge-returns-in_err-pattern-in-Like
-judge-returns-in_err-pattern-in-Like t c =
-    let p = err_from_is_err_and c.from_residual-in_err-pattern-in-Like.result c.from_residual-in_err-pattern-in-Like.ensures.1 in
-    rw (p.1, p.2, c.in-Like.is, syntax_of-Like)
-    (fault_second (schema_of c.args.collection) (like_op c.in-Like.is_negated) (syntax_of c.in-Like.value.value) (syntax_of c.in-Like.pattern.value) none c.in_err-pattern-in-Like.field-0.0 (rw c.deref-in-Like.ensures at c.in_ok-judge-in-Like.ensures)
-    (rw c.deref-in-Like-2.ensures at c.in_err-pattern-in-Like.ensures))
-
-pub judge-returns-in_ok-pattern-in-Like : goal.judge-returns-in_ok-pattern-in-Like
-judge-returns-in_ok-pattern-in-Like t c =
-    rw (c.in-Like.is, syntax_of-Like)
-    (list_judged (like_op c.in-Like.is_negated) _ (rw c.deref-in-Like.ensures at c.in_ok-judge-in-Like.ensures) c.in_ok-value-in-Like.ensures.ok c.into_inner-in-Like.ensures
-    (last_part (rw c.deref-in-Like-2.ensures at c.in_ok-pattern-in-Like.ensures)) c.like.ensures)
-
-pub judge-returns-in_err-judge-in-Between : goal.judge-returns-in_err-judge-in-Between
-judge-returns-in_err-judge-in-Between t c =
-    let p = err_from_is_err_and c.from_residual-in_err-judge-in-Between.result c.from_residual-in_err-judge-in-Between.ensures.1 in
-    rw (p.1, p.2, c.in-Between.is, syntax_of-Between)
-    (fault_here (schema_of c.args.collection) (between_op c.in-Between.is_negated) (syntax_of c.in-Between.value.value) (part (syntax_of c.in-Between.low.value) (part (syntax_of c.in-Between.high.value) none)) c.in_err-judge-in-Between.field-0.0 (rw c.deref-in-Between.ensures at c.in_err-judge-in-Between.ensures))
-
-pub judge-returns-in_err-judge-in-Between-2 : goal.judge-returns-in_err-judge-in-Between-2
-judge-returns-in_err-judge-in-Between-2 t c =
-    let p = err_from_is_err_and c.from_residual-in_err-judge-in-Between-2.result c.from_residual-in_err-judge-in-Between-2.ensures.1 in
-    rw (p.1, p.2, c.in-Between.is, syntax_of-Between)
-    (fault_second (schema_of c.args.collection) (between_op c.in-Between.is_negated) (syntax_of c.in-Between.value.value) (syntax_of c.in-Between.low.value) (part (syntax_of c.in-Between.high.value) none) c.in_err-judge-in-Between-2.field-0.0 (rw c.deref-in-Between.ensures at c.in_ok-judge-in-Between.ensures)
-    (rw c.deref-in-Between-2.ensures at c.in_err-judge-in-Between-2.ensures))
-
-pub judge-returns-in_err-high-in-Between : goal.judge-returns-in_err-high-in-Between
-judge-returns-in_err-high-in-Between t c =
-    let p = err_from_is_err_and c.from_residual-in_err-high-in-Between.result c.from_residual-in_err-high-in-Between.ensures.1 in
-    rw (p.1, p.2, c.in-Between.is, syntax_of-Between)
-    (fault_third (schema_of c.args.collection) (between_op c.in-Between.is_negated) (syntax_of c.in-Between.value.value) (syntax_of c.in-Between.low.value) (part (syntax_of c.in-Between.high.value) none) c.in_err-high-in-Between.field-0.0 (rw c.deref-in-Between.ensures at c.in_ok-judge-in-Between.ensures)
-    (rw c.deref-in-Between-2.ensures at c.in_ok-judge-in-Between-2.ensures) (only_fault (schema_of c.args.collection) (syntax_of c.in-Between.high.value) none c.in_err-high-in-Between.field-0.0 (rw c.deref-in-Between-3.ensures at c.in_err-high-in-Between.ensures)))
-
-pub judge-returns-in_ok-high-in-Between : goal.judge-returns-in_ok-high-in-Between
-judge-returns-in_ok-high-in-Between t c =
-    rw (c.in-Between.is, syntax_of-Between)
-    (list_judged (between_op c.in-Between.is_negated) _ (rw c.deref-in-Between.ensures at c.in_ok-judge-in-Between.ensures) c.in_ok-value-in-Between.ensures.ok c.into_inner-value.ensures
-    (and_part (boxed (rw c.deref-in-Between-2.ensures at c.in_ok-judge-in-Between-2.ensures) c.in_ok-low-in-Between.ensures.ok c.into_inner-low.ensures) (last_part (rw c.deref-in-Between-3.ensures at c.in_ok-high-in-Between.ensures)))
-    c.between.ensures)
-
-pub judge-returns-in_err-judge-in-In : goal.judge-returns-in_err-judge-in-In
-judge-returns-in_err-judge-in-In t c =
-    let p = err_from_is_err_and c.from_residual-in_err-judge-in-In.result c.from_residual-in_err-judge-in-In.ensures.1 in
-    rw (p.1, p.2, c.in-In.is, syntax_of-In)
-    (fault_here (schema_of c.args.collection) (in_op c.in-In.is_negated) (syntax_of c.in-In.value.value) (part (syntax_of c.in-In.first.value) (parts_of (syntaxes_of c.in-In.others.items))) c.in_err-judge-in-In.field-0.0 (rw c.deref-in-In.ensures at c.in_err-judge-in-In.ensures))
-
-pub judge-returns-in_err-judge-in-In-2 : goal.judge-returns-in_err-judge-in-In-2
-judge-returns-in_err-judge-in-In-2 t c =
-    let p = err_from_is_err_and c.from_residual-in_err-judge-in-In-2.result c.from_residual-in_err-judge-in-In-2.ensures.1 in
-    rw (p.1, p.2, c.in-In.is, syntax_of-In)
-    (fault_second (schema_of c.args.collection) (in_op c.in-In.is_negated) (syntax_of c.in-In.value.value) (syntax_of c.in-In.first.value) (parts_of (syntaxes_of c.in-In.others.items)) c.in_err-judge-in-In-2.field-0.0 (rw c.deref-in-In.ensures at c.in_ok-judge-in-In.ensures)
-    (rw c.deref-in-In-2.ensures at c.in_err-judge-in-In-2.ensures))
-
-pub judge-returns-in_err-others-in-In : goal.judge-returns-in_err-others-in-In
-judge-returns-in_err-others-in-In t c =
-    let p = err_from_is_err_and c.from_residual-in_err-others-in-In.result c.from_residual-in_err-others-in-In.ensures.1 in
-    rw (p.1, p.2, c.in-In.is, syntax_of-In)
-    (fault_third (schema_of c.args.collection) (in_op c.in-In.is_negated) (syntax_of c.in-In.value.value) (syntax_of c.in-In.first.value) (parts_of (syntaxes_of c.in-In.others.items)) c.in_err-others-in-In.field-0.0 (rw c.deref-in-In.ensures at c.in_ok-judge-in-In.ensures)
-    (rw c.deref-in-In-2.ensures at c.in_ok-judge-in-In-2.ensures) (rw c.deref-in-In-3.ensures.value at c.in_err-others-in-In.ensures))
-
-pub judge-returns-in_ok-others-in-In : goal.judge-returns-in_ok-others-in-In
-judge-returns-in_ok-others-in-In t c =
-    rw (c.in-In.is, syntax_of-In)
-    (list_judged (in_op c.in-In.is_negated) _ (rw c.deref-in-In.ensures at c.in_ok-judge-in-In.ensures) c.in_ok-value-in-In.ensures.ok c.into_inner-value-in-In.ensures
-    (and_part (boxed (rw c.deref-in-In-2.ensures at c.in_ok-judge-in-In-2.ensures) c.in_ok-first-in-In.ensures.ok c.into_inner-first.ensures) (rw c.deref-in-In-3.ensures.value at c.in_ok-others-in-In.ensures))
-    c.is_in.ensures)
-
-pub judge-returns-in_err-value-in-IsNull : goal.judge-returns-in_err-value-in-IsNull
-judge-returns-in_err-value-in-IsNull t c =
-    let p = err_from_is_err_and c.from_residual-in_err-value-in-IsNull.result c.from_residual-in_err-value-in-IsNull.ensures.1 in
-    rw (p.1, p.2, c.in-IsNull.is, syntax_of-IsNull)
-    (fault_here (schema_of c.args.collection) (is_null_op c.in-IsNull.is_negated) (syntax_of c.in-IsNull.value.value) none c.in_err-value-in-IsNull.field-0.0 (rw c.deref-in-IsNull.ensures at c.in_err-value-in-IsNull.ensures))
-
-pub judge-returns-in_ok-value-in-IsNull : goal.judge-returns-in_ok-value-in-IsNull
-judge-returns-in_ok-value-in-IsNull t c =
-    rw (c.in-IsNull.is, syntax_of-IsNull) (node_judged (is_null_op c.in-IsNull.is_negated) _ (last_part (rw c.deref-in-IsNull.ensures at c.in_ok-value-in-IsNull.ensures)) c.is_null.ensures)
-
-pub judge-returns-in_err-judge-in-Sum : goal.judge-returns-in_err-judge-in-Sum
-judge-returns-in_err-judge-in-Sum t c =
-    let p = err_from_is_err_and c.from_residual-in_err-judge-in-Sum.result c.from_residual-in_err-judge-in-Sum.ensures.1 in
-    rw (p.1, p.2, c.in-Sum.is, syntax_of-Sum)
-    (fault_here (schema_of c.args.collection) (sum_op (additions_of c.in-Sum.others.items)) (syntax_of c.in-Sum.first.value) (parts_of (terms_of c.in-Sum.others.items)) c.in_err-judge-in-Sum.field-0.0 (rw c.deref-in-Sum.ensures at c.in_err-judge-in-Sum.ensures))
-
-pub judge-returns-in_err-steps-in-Sum : goal.judge-returns-in_err-steps-in-Sum
-judge-returns-in_err-steps-in-Sum t c =
-    let p = err_from_is_err_and c.from_residual-in_err-steps-in-Sum.result c.from_residual-in_err-steps-in-Sum.ensures.1 in
-    rw (p.1, p.2, c.in-Sum.is, syntax_of-Sum)
-    (fault_later (schema_of c.args.collection) (sum_op (additions_of c.in-Sum.others.items)) (syntax_of c.in-Sum.first.value) (parts_of (terms_of c.in-Sum.others.items)) c.in_err-steps-in-Sum.field-0.0 (rw c.deref-in-Sum.ensures at c.in_ok-judge-in-Sum.ensures)
-    (rw c.deref-in-Sum-2.ensures.value at c.in_err-steps-in-Sum.ensures))
-
-pub judge-returns-in_ok-steps-in-Sum : goal.judge-returns-in_ok-steps-in-Sum
-judge-returns-in_ok-steps-in-Sum t c =
-    rw (c.in-Sum.is, syntax_of-Sum)
-    (steps_judged (sum_op (additions_of c.in-Sum.others.items)) _ (rw c.deref-in-Sum.ensures at c.in_ok-judge-in-Sum.ensures) c.in_ok-first-in-Sum.ensures.ok c.into_inner-in-Sum.ensures
-    (rw c.deref-in-Sum-2.ensures.value at c.in_ok-steps-in-Sum.ensures) (c.computed.ensures.sum (additions_of c.in-Sum.others.items)))
-
-pub judge-returns-in_err-judge-in-Product : goal.judge-returns-in_err-judge-in-Product
-judge-returns-in_err-judge-in-Product t c =
-    let p = err_from_is_err_and c.from_residual-in_err-judge-in-Product.result c.from_residual-in_err-judge-in-Product.ensures.1 in
-    rw (p.1, p.2, c.in-Product.is, syntax_of-Product)
-    (fault_here (schema_of c.args.collection) (product_op (multiplications_of c.in-Product.others.items)) (syntax_of c.in-Product.first.value) (parts_of (factors_of c.in-Product.others.items)) c.in_err-judge-in-Product.field-0.0 (rw c.deref-in-Product.ensures at c.in_err-judge-in-Product.ensures))
-
-pub judge-returns-in_err-steps-in-Product : goal.judge-returns-in_err-steps-in-Product
-judge-returns-in_err-steps-in-Product t c =
-    let p = err_from_is_err_and c.from_residual-in_err-steps-in-Product.result c.from_residual-in_err-steps-in-Product.ensures.1 in
-    rw (p.1, p.2, c.in-Product.is, syntax_of-Product)
-    (fault_later (schema_of c.args.collection) (product_op (multiplications_of c.in-Product.others.items)) (syntax_of c.in-Product.first.value) (parts_of (factors_of c.in-Product.others.items)) c.in_err-steps-in-Product.field-0.0 (rw c.deref-in-Product.ensures at c.in_ok-judge-in-Product.ensures)
-    (rw c.deref-in-Product-2.ensures.value at c.in_err-steps-in-Product.ensures))
-
-pub judge-returns-in_ok-steps-in-Product : goal.judge-returns-in_ok-steps-in-Product
-judge-returns-in_ok-steps-in-Product t c =
-    rw (c.in-Product.is, syntax_of-Product)
-    (steps_judged (product_op (multiplications_of c.in-Product.others.items)) _ (rw c.deref-in-Product.ensures at c.in_ok-judge-in-Product.ensures) c.in_ok-first-in-Product.ensures.ok c.into_inner-in-Product.ensures
-    (rw c.deref-in-Product-2.ensures.value at c.in_ok-steps-in-Product.ensures) (c.computed-in-Product.ensures.product (multiplications_of c.in-Product.others.items)))
-
-pub judge-returns-in_err-part-in-Casei : goal.judge-returns-in_err-part-in-Casei
-judge-returns-in_err-part-in-Casei t c =
-    let p = err_from_is_err_and c.from_residual-in_err-part-in-Casei.result c.from_residual-in_err-part-in-Casei.ensures.1 in
-    rw (p.1, p.2, c.in-Casei.is, syntax_of-Casei)
-    (fault_here (schema_of c.args.collection) (casei_op c.in-Casei.place) (syntax_of c.in-Casei.part.value) none c.in_err-part-in-Casei.field-0.0 (rw c.deref-in-Casei.ensures at c.in_err-part-in-Casei.ensures))
-
-pub judge-returns-in_ok-part-in-Casei : goal.judge-returns-in_ok-part-in-Casei
-judge-returns-in_ok-part-in-Casei t c =
-    rw (c.in-Casei.is, syntax_of-Casei) (node_judged (casei_op c.in-Casei.place) _ (last_part (rw c.deref-in-Casei.ensures at c.in_ok-part-in-Casei.ensures)) c.casei.ensures)
-
-pub judge-returns-in_err-part-in-Date : goal.judge-returns-in_err-part-in-Date
-judge-returns-in_err-part-in-Date t c =
-    let p = err_from_is_err_and c.from_residual-in_err-part-in-Date.result c.from_residual-in_err-part-in-Date.ensures.1 in
-    rw (p.1, p.2, c.in-Date.is, syntax_of-Date)
-    (fault_here (schema_of c.args.collection) (date_op c.in-Date.place) (leaf c.in-Date.text_place (day_leaf _)) none c.in_err-part-in-Date.field-0.0 (rw c.deref-in-Date.ensures at c.in_err-part-in-Date.ensures))
-
-pub judge-returns-in_ok-part-in-Date : goal.judge-returns-in_ok-part-in-Date
-judge-returns-in_ok-part-in-Date t c =
-    rw (c.in-Date.is, syntax_of-Date) (node_judged (date_op c.in-Date.place) _ (last_part (rw c.deref-in-Date.ensures at c.in_ok-part-in-Date.ensures)) c.date.ensures)
+pub judge-returns-in-Date : goal.judge-returns-in-Date
+judge-returns-in-Date t c =
+    rw (c.in-Date.is, syntax_of-Date, ← c.deref-in-Date.ensures) c.judge_date.ensures
 
 pub judge-returns-in-Interval : goal.judge-returns-in-Interval
 judge-returns-in-Interval t c =
@@ -252,43 +157,179 @@ pub judge-returns-in-Polygon : goal.judge-returns-in-Polygon
 judge-returns-in-Polygon t c =
     rw (c.in-Polygon.is, syntax_of-Polygon, ← c.deref-in-Polygon.ensures.value) c.polygon.ensures
 
-pub judge-returns-in_err-judge-in-Spatial : goal.judge-returns-in_err-judge-in-Spatial
-judge-returns-in_err-judge-in-Spatial t c =
-    let p = err_from_is_err_and c.from_residual-in_err-judge-in-Spatial.result c.from_residual-in_err-judge-in-Spatial.ensures.1 in
-    rw (p.1, p.2, c.in-Spatial.is, syntax_of-Spatial)
-    (fault_here (schema_of c.args.collection) (spatial_op c.in-Spatial.place c.in-Spatial.by) (syntax_of c.in-Spatial.left.value) (part (syntax_of c.in-Spatial.right.value) none) c.in_err-judge-in-Spatial.field-0.0 (rw c.deref-in-Spatial.ensures at c.in_err-judge-in-Spatial.ensures))
+pub judge-returns-in-Spatial : goal.judge-returns-in-Spatial
+judge-returns-in-Spatial t c =
+    rw (c.in-Spatial.is, syntax_of-Spatial) (rw (c.deref-in-Spatial.ensures, c.deref-in-Spatial-2.ensures) at c.judge_spatial.ensures)
 
-pub judge-returns-in_err-right-in-Spatial : goal.judge-returns-in_err-right-in-Spatial
-judge-returns-in_err-right-in-Spatial t c =
-    let p = err_from_is_err_and c.from_residual-in_err-right-in-Spatial.result c.from_residual-in_err-right-in-Spatial.ensures.1 in
-    rw (p.1, p.2, c.in-Spatial.is, syntax_of-Spatial)
-    (fault_second (schema_of c.args.collection) (spatial_op c.in-Spatial.place c.in-Spatial.by) (syntax_of c.in-Spatial.left.value) (syntax_of c.in-Spatial.right.value) none c.in_err-right-in-Spatial.field-0.0 (rw c.deref-in-Spatial.ensures at c.in_ok-judge-in-Spatial.ensures)
-    (rw c.deref-in-Spatial-2.ensures at c.in_err-right-in-Spatial.ensures))
+pub judge-returns-in-Temporal : goal.judge-returns-in-Temporal
+judge-returns-in-Temporal t c =
+    rw (c.in-Temporal.is, syntax_of-Temporal) (rw (c.deref-in-Temporal.ensures, c.deref-in-Temporal-2.ensures) at c.judge_temporal.ensures)
 
-pub judge-returns-in_ok-right-in-Spatial : goal.judge-returns-in_ok-right-in-Spatial
-judge-returns-in_ok-right-in-Spatial t c =
-    rw (c.in-Spatial.is, syntax_of-Spatial)
-    (list_judged (spatial_op c.in-Spatial.place c.in-Spatial.by) _ (rw c.deref-in-Spatial.ensures at c.in_ok-judge-in-Spatial.ensures) c.in_ok-left-in-Spatial.ensures.ok c.into_inner-in-Spatial.ensures
-    (last_part (rw c.deref-in-Spatial-2.ensures at c.in_ok-right-in-Spatial.ensures)) c.spatial.ensures)
+pub judge_pair-returns-in_err-judge : goal.judge_pair-returns-in_err-judge
+judge_pair-returns-in_err-judge t c =
+    let p = err_from_is_err_and c.from_residual.result c.from_residual.ensures.1 in
+    rw (p.1, p.2) (first_fault (schema_of c.args.collection) (syntax_of c.args.left.now) (part (syntax_of c.args.right.now) none) c.in_err-judge.field-0.0 c.in_err-judge.ensures)
 
-pub judge-returns-in_err-judge-in-Temporal : goal.judge-returns-in_err-judge-in-Temporal
-judge-returns-in_err-judge-in-Temporal t c =
-    let p = err_from_is_err_and c.from_residual-in_err-judge-in-Temporal.result c.from_residual-in_err-judge-in-Temporal.ensures.1 in
-    rw (p.1, p.2, c.in-Temporal.is, syntax_of-Temporal)
-    (fault_here (schema_of c.args.collection) (temporal_op c.in-Temporal.place c.in-Temporal.by) (syntax_of c.in-Temporal.left.value) (part (syntax_of c.in-Temporal.right.value) none) c.in_err-judge-in-Temporal.field-0.0 (rw c.deref-in-Temporal.ensures at c.in_err-judge-in-Temporal.ensures))
+pub judge_pair-returns-in_err-right : goal.judge_pair-returns-in_err-right
+judge_pair-returns-in_err-right t c =
+    let p = err_from_is_err_and c.from_residual-in_err-right.result c.from_residual-in_err-right.ensures.1 in
+    rw (p.1, p.2) (next_fault (schema_of c.args.collection) (syntax_of c.args.left.now) (part (syntax_of c.args.right.now) none) c.in_err-right.field-0.0 c.in_ok-judge.ensures
+    (first_fault (schema_of c.args.collection) (syntax_of c.args.right.now) none c.in_err-right.field-0.0 c.in_err-right.ensures))
 
-pub judge-returns-in_err-right-in-Temporal : goal.judge-returns-in_err-right-in-Temporal
-judge-returns-in_err-right-in-Temporal t c =
-    let p = err_from_is_err_and c.from_residual-in_err-right-in-Temporal.result c.from_residual-in_err-right-in-Temporal.ensures.1 in
-    rw (p.1, p.2, c.in-Temporal.is, syntax_of-Temporal)
-    (fault_second (schema_of c.args.collection) (temporal_op c.in-Temporal.place c.in-Temporal.by) (syntax_of c.in-Temporal.left.value) (syntax_of c.in-Temporal.right.value) none c.in_err-right-in-Temporal.field-0.0 (rw c.deref-in-Temporal.ensures at c.in_ok-judge-in-Temporal.ensures)
-    (rw c.deref-in-Temporal-2.ensures at c.in_err-right-in-Temporal.ensures))
+pub judge_pair-returns : goal.judge_pair-returns
+judge_pair-returns t c =
+    and_part (boxed c.in_ok-judge.ensures c.in_ok-left.ensures.ok c.into_inner.ensures) (last_part c.in_ok-right.ensures)
 
-pub judge-returns-in_ok-right-in-Temporal : goal.judge-returns-in_ok-right-in-Temporal
-judge-returns-in_ok-right-in-Temporal t c =
-    rw (c.in-Temporal.is, syntax_of-Temporal)
-    (list_judged (temporal_op c.in-Temporal.place c.in-Temporal.by) _ (rw c.deref-in-Temporal.ensures at c.in_ok-judge-in-Temporal.ensures) c.in_ok-left-in-Temporal.ensures.ok c.into_inner-in-Temporal.ensures
-    (last_part (rw c.deref-in-Temporal-2.ensures at c.in_ok-right-in-Temporal.ensures)) c.temporal.ensures)
+pub judge_list-returns-in_err-judge : goal.judge_list-returns-in_err-judge
+judge_list-returns-in_err-judge t c =
+    let p = err_from_is_err_and c.from_residual.result c.from_residual.ensures.1 in
+    rw (p.1, p.2) (first_fault (schema_of c.args.collection) (syntax_of c.args.first.now) (parts_of (syntaxes_of c.args.others.now)) c.in_err-judge.field-0.0 c.in_err-judge.ensures)
+
+pub judge_list-returns-in_err-others : goal.judge_list-returns-in_err-others
+judge_list-returns-in_err-others t c =
+    let p = err_from_is_err_and c.from_residual-in_err-others.result c.from_residual-in_err-others.ensures.1 in
+    rw (p.1, p.2) (next_fault (schema_of c.args.collection) (syntax_of c.args.first.now) (parts_of (syntaxes_of c.args.others.now)) c.in_err-others.field-0.0 c.in_ok-judge.ensures c.in_err-others.ensures)
+
+pub judge_list-returns : goal.judge_list-returns
+judge_list-returns t c =
+    and_part (boxed c.in_ok-judge.ensures c.in_ok-first.ensures.ok c.into_inner.ensures) c.in_ok-others.ensures
+
+pub judge_or-returns-in_err-first : goal.judge_or-returns-in_err-first
+judge_or-returns-in_err-first t c =
+    let p = err_from_is_err_and c.from_residual.result c.from_residual.ensures.1 in
+    rw (p.1, p.2) (fault_inside (schema_of c.args.collection) or_op (part (syntax_of c.args.first.now) (parts_of (syntaxes_of c.args.others.now))) c.in_err-first.field-0.0 c.in_err-first.ensures)
+
+pub judge_or-returns : goal.judge_or-returns
+judge_or-returns t c =
+    node_judged or_op _ c.in_ok-first.ensures c.or.ensures
+
+pub judge_and-returns-in_err-first : goal.judge_and-returns-in_err-first
+judge_and-returns-in_err-first t c =
+    let p = err_from_is_err_and c.from_residual.result c.from_residual.ensures.1 in
+    rw (p.1, p.2) (fault_inside (schema_of c.args.collection) and_op (part (syntax_of c.args.first.now) (parts_of (syntaxes_of c.args.others.now))) c.in_err-first.field-0.0 c.in_err-first.ensures)
+
+pub judge_and-returns : goal.judge_and-returns
+judge_and-returns t c =
+    node_judged and_op _ c.in_ok-first.ensures c.and.ensures
+
+pub judge_compare-returns-in_err-left : goal.judge_compare-returns-in_err-left
+judge_compare-returns-in_err-left t c =
+    let p = err_from_is_err_and c.from_residual.result c.from_residual.ensures.1 in
+    rw (p.1, p.2) (fault_inside (schema_of c.args.collection) (compare_op c.args.by) (part (syntax_of c.args.left.now) (part (syntax_of c.args.right.now) none)) c.in_err-left.field-0.0 c.in_err-left.ensures)
+
+pub judge_compare-returns : goal.judge_compare-returns
+judge_compare-returns t c =
+    node_judged (compare_op c.args.by) _ c.in_ok-left.ensures c.compare.ensures
+
+pub judge_like-returns-in_err-value : goal.judge_like-returns-in_err-value
+judge_like-returns-in_err-value t c =
+    let p = err_from_is_err_and c.from_residual.result c.from_residual.ensures.1 in
+    rw (p.1, p.2) (fault_inside (schema_of c.args.collection) (like_op c.args.is_negated) (part (syntax_of c.args.value.now) (part (syntax_of c.args.pattern.now) none)) c.in_err-value.field-0.0 c.in_err-value.ensures)
+
+pub judge_like-returns : goal.judge_like-returns
+judge_like-returns t c =
+    node_judged (like_op c.args.is_negated) _ c.in_ok-value.ensures c.like.ensures
+
+pub judge_spatial-returns-in_err-left : goal.judge_spatial-returns-in_err-left
+judge_spatial-returns-in_err-left t c =
+    let p = err_from_is_err_and c.from_residual.result c.from_residual.ensures.1 in
+    rw (p.1, p.2) (fault_inside (schema_of c.args.collection) (spatial_op c.args.place c.args.by) (part (syntax_of c.args.left.now) (part (syntax_of c.args.right.now) none)) c.in_err-left.field-0.0 c.in_err-left.ensures)
+
+pub judge_spatial-returns : goal.judge_spatial-returns
+judge_spatial-returns t c =
+    node_judged (spatial_op c.args.place c.args.by) _ c.in_ok-left.ensures c.spatial.ensures
+
+pub judge_temporal-returns-in_err-left : goal.judge_temporal-returns-in_err-left
+judge_temporal-returns-in_err-left t c =
+    let p = err_from_is_err_and c.from_residual.result c.from_residual.ensures.1 in
+    rw (p.1, p.2) (fault_inside (schema_of c.args.collection) (temporal_op c.args.place c.args.by) (part (syntax_of c.args.left.now) (part (syntax_of c.args.right.now) none)) c.in_err-left.field-0.0 c.in_err-left.ensures)
+
+pub judge_temporal-returns : goal.judge_temporal-returns
+judge_temporal-returns t c =
+    node_judged (temporal_op c.args.place c.args.by) _ c.in_ok-left.ensures c.temporal.ensures
+
+pub judge_not-returns-in_err-operand : goal.judge_not-returns-in_err-operand
+judge_not-returns-in_err-operand t c =
+    let p = err_from_is_err_and c.from_residual.result c.from_residual.ensures.1 in
+    rw (p.1, p.2) (fault_here (schema_of c.args.collection) (not_op c.args.place) (syntax_of c.args.operand.now) none c.in_err-operand.field-0.0 c.in_err-operand.ensures)
+
+pub judge_not-returns : goal.judge_not-returns
+judge_not-returns t c =
+    node_judged (not_op c.args.place) _ (last_part c.in_ok-operand.ensures) c.not.ensures
+
+pub judge_is_null-returns-in_err-value : goal.judge_is_null-returns-in_err-value
+judge_is_null-returns-in_err-value t c =
+    let p = err_from_is_err_and c.from_residual.result c.from_residual.ensures.1 in
+    rw (p.1, p.2) (fault_here (schema_of c.args.collection) (is_null_op c.args.is_negated) (syntax_of c.args.value.now) none c.in_err-value.field-0.0 c.in_err-value.ensures)
+
+pub judge_is_null-returns : goal.judge_is_null-returns
+judge_is_null-returns t c =
+    node_judged (is_null_op c.args.is_negated) _ (last_part c.in_ok-value.ensures) c.is_null.ensures
+
+pub judge_casei-returns-in_err-operand : goal.judge_casei-returns-in_err-operand
+judge_casei-returns-in_err-operand t c =
+    let p = err_from_is_err_and c.from_residual.result c.from_residual.ensures.1 in
+    rw (p.1, p.2) (fault_here (schema_of c.args.collection) (casei_op c.args.place) (syntax_of c.args.operand.now) none c.in_err-operand.field-0.0 c.in_err-operand.ensures)
+
+pub judge_casei-returns : goal.judge_casei-returns
+judge_casei-returns t c =
+    node_judged (casei_op c.args.place) _ (last_part c.in_ok-operand.ensures) c.casei.ensures
+
+pub judge_between-returns-in_err-judge : goal.judge_between-returns-in_err-judge
+judge_between-returns-in_err-judge t c =
+    let p = err_from_is_err_and c.from_residual.result c.from_residual.ensures.1 in
+    rw (p.1, p.2) (fault_here (schema_of c.args.collection) (between_op c.args.is_negated) (syntax_of c.args.value.now) (part (syntax_of c.args.low.now) (part (syntax_of c.args.high.now) none)) c.in_err-judge.field-0.0 c.in_err-judge.ensures)
+
+pub judge_between-returns-in_err-low : goal.judge_between-returns-in_err-low
+judge_between-returns-in_err-low t c =
+    let p = err_from_is_err_and c.from_residual-in_err-low.result c.from_residual-in_err-low.ensures.1 in
+    rw (p.1, p.2) (fault_later (schema_of c.args.collection) (between_op c.args.is_negated) (syntax_of c.args.value.now) (part (syntax_of c.args.low.now) (part (syntax_of c.args.high.now) none)) c.in_err-low.field-0.0 c.in_ok-judge.ensures c.in_err-low.ensures)
+
+pub judge_between-returns : goal.judge_between-returns
+judge_between-returns t c =
+    list_judged (between_op c.args.is_negated) _ c.in_ok-judge.ensures c.in_ok-value.ensures.ok c.into_inner.ensures c.in_ok-low.ensures c.between.ensures
+
+pub judge_in-returns-in_err-judge : goal.judge_in-returns-in_err-judge
+judge_in-returns-in_err-judge t c =
+    let p = err_from_is_err_and c.from_residual.result c.from_residual.ensures.1 in
+    rw (p.1, p.2) (fault_here (schema_of c.args.collection) (in_op c.args.is_negated) (syntax_of c.args.value.now) (part (syntax_of c.args.first.now) (parts_of (syntaxes_of c.args.others.now))) c.in_err-judge.field-0.0 c.in_err-judge.ensures)
+
+pub judge_in-returns-in_err-first : goal.judge_in-returns-in_err-first
+judge_in-returns-in_err-first t c =
+    let p = err_from_is_err_and c.from_residual-in_err-first.result c.from_residual-in_err-first.ensures.1 in
+    rw (p.1, p.2) (fault_later (schema_of c.args.collection) (in_op c.args.is_negated) (syntax_of c.args.value.now) (part (syntax_of c.args.first.now) (parts_of (syntaxes_of c.args.others.now))) c.in_err-first.field-0.0 c.in_ok-judge.ensures c.in_err-first.ensures)
+
+pub judge_in-returns : goal.judge_in-returns
+judge_in-returns t c =
+    list_judged (in_op c.args.is_negated) _ c.in_ok-judge.ensures c.in_ok-value.ensures.ok c.into_inner.ensures c.in_ok-first.ensures c.is_in.ensures
+
+pub judge_sum-returns-in_err-judge : goal.judge_sum-returns-in_err-judge
+judge_sum-returns-in_err-judge t c =
+    let p = err_from_is_err_and c.from_residual.result c.from_residual.ensures.1 in
+    rw (p.1, p.2) (fault_here (schema_of c.args.collection) (sum_op (additions_of c.args.others.now)) (syntax_of c.args.first.now) (parts_of (terms_of c.args.others.now)) c.in_err-judge.field-0.0 c.in_err-judge.ensures)
+
+pub judge_sum-returns-in_err-steps : goal.judge_sum-returns-in_err-steps
+judge_sum-returns-in_err-steps t c =
+    let p = err_from_is_err_and c.from_residual-in_err-steps.result c.from_residual-in_err-steps.ensures.1 in
+    rw (p.1, p.2) (fault_later (schema_of c.args.collection) (sum_op (additions_of c.args.others.now)) (syntax_of c.args.first.now) (parts_of (terms_of c.args.others.now)) c.in_err-steps.field-0.0 c.in_ok-judge.ensures c.in_err-steps.ensures)
+
+pub judge_sum-returns : goal.judge_sum-returns
+judge_sum-returns t c =
+    steps_judged (sum_op (additions_of c.args.others.now)) _ c.in_ok-judge.ensures c.in_ok-first.ensures.ok c.into_inner.ensures c.in_ok-steps.ensures (c.computed.ensures.sum (additions_of c.args.others.now))
+
+pub judge_product-returns-in_err-judge : goal.judge_product-returns-in_err-judge
+judge_product-returns-in_err-judge t c =
+    let p = err_from_is_err_and c.from_residual.result c.from_residual.ensures.1 in
+    rw (p.1, p.2) (fault_here (schema_of c.args.collection) (product_op (multiplications_of c.args.others.now)) (syntax_of c.args.first.now) (parts_of (factors_of c.args.others.now)) c.in_err-judge.field-0.0 c.in_err-judge.ensures)
+
+pub judge_product-returns-in_err-steps : goal.judge_product-returns-in_err-steps
+judge_product-returns-in_err-steps t c =
+    let p = err_from_is_err_and c.from_residual-in_err-steps.result c.from_residual-in_err-steps.ensures.1 in
+    rw (p.1, p.2) (fault_later (schema_of c.args.collection) (product_op (multiplications_of c.args.others.now)) (syntax_of c.args.first.now) (parts_of (factors_of c.args.others.now)) c.in_err-steps.field-0.0 c.in_ok-judge.ensures c.in_err-steps.ensures)
+
+pub judge_product-returns : goal.judge_product-returns
+judge_product-returns t c =
+    steps_judged (product_op (multiplications_of c.args.others.now)) _ c.in_ok-judge.ensures c.in_ok-first.ensures.ok c.into_inner.ensures c.in_ok-steps.ensures (c.computed.ensures.product (multiplications_of c.args.others.now))
 
 pub judge_all-loop-tree-preserved : goal.judge_all-loop-tree-preserved
 judge_all-loop-tree-preserved t c =

@@ -1,12 +1,71 @@
-use Rattle.std.proofs.Common.{◌≡◌, ◌++◌, List, drop, map}
+use Rattle.std.proofs.Common.{◌≡◌, ◌+◌, ◌*◌, ◌++◌, List, drop, map}
 use Rattle.cad_feature.specs.Schema.{schema_of}
-use Rattle.cql_parser.specs.Syntax.{parts_of}
-use Rattle.cql_parser.specs.Views.{syntaxes_of, terms_of, factors_of, additions_of, multiplications_of}
+use Rattle.cql_parser.specs.Syntax.{none, part, parts_of}
+use Rattle.cql_parser.specs.Views.{syntax_of, syntaxes_of, terms_of, factors_of, additions_of, multiplications_of}
 use Rattle.cql_types.specs.declared.fault.Fault.{Fault}
 use Rattle.cql_types.specs.declared.judged.Judged.{Judged}
 use Rattle.cql_types.specs.Means.{Mean, added_by, multiplied_by}
 use Rattle.cql_types.specs.Contract.{IsFirstIn, parts_judged, operations_of}
+use Rattle.cql_types.proofs.Weights.{weight_of, weight_in}
 use Rattle.cql_types.proofs.checking.+judges.Given as goal
+
+-- The weight of what is judged falls, and for the same parts the rank.
+abbrev pub decreases-judge : goal.decreases-judge
+decreases-judge l = 4 * weight_of (syntax_of l.tree.now)
+
+abbrev pub decreases-judge_all : goal.decreases-judge_all
+decreases-judge_all l = 4 * weight_in (parts_of (syntaxes_of l.trees.now)) + 1
+
+abbrev pub decreases-judge_terms : goal.decreases-judge_terms
+decreases-judge_terms l = 4 * weight_in (parts_of (terms_of l.terms.now)) + 1
+
+abbrev pub decreases-judge_factors : goal.decreases-judge_factors
+decreases-judge_factors l = 4 * weight_in (parts_of (factors_of l.factors.now)) + 1
+
+abbrev pub decreases-judge_pair : goal.decreases-judge_pair
+decreases-judge_pair l = 4 * weight_in (part (syntax_of l.left.now) (part (syntax_of l.right.now) none)) + 1
+
+abbrev pub decreases-judge_list : goal.decreases-judge_list
+decreases-judge_list l = 4 * weight_in (part (syntax_of l.first.now) (parts_of (syntaxes_of l.others.now))) + 2
+
+abbrev pub decreases-judge_or : goal.decreases-judge_or
+decreases-judge_or l = 4 * weight_in (part (syntax_of l.first.now) (parts_of (syntaxes_of l.others.now))) + 3
+
+abbrev pub decreases-judge_and : goal.decreases-judge_and
+decreases-judge_and l = 4 * weight_in (part (syntax_of l.first.now) (parts_of (syntaxes_of l.others.now))) + 3
+
+abbrev pub decreases-judge_not : goal.decreases-judge_not
+decreases-judge_not l = 4 * weight_in (part (syntax_of l.operand.now) none) + 1
+
+abbrev pub decreases-judge_compare : goal.decreases-judge_compare
+decreases-judge_compare l = 4 * weight_in (part (syntax_of l.left.now) (part (syntax_of l.right.now) none)) + 2
+
+abbrev pub decreases-judge_like : goal.decreases-judge_like
+decreases-judge_like l = 4 * weight_in (part (syntax_of l.value.now) (part (syntax_of l.pattern.now) none)) + 2
+
+abbrev pub decreases-judge_between : goal.decreases-judge_between
+decreases-judge_between l = 4 * weight_in (part (syntax_of l.value.now) (part (syntax_of l.low.now) (part (syntax_of l.high.now) none))) + 2
+
+abbrev pub decreases-judge_in : goal.decreases-judge_in
+decreases-judge_in l = 4 * weight_in (part (syntax_of l.value.now) (part (syntax_of l.first.now) (parts_of (syntaxes_of l.others.now)))) + 3
+
+abbrev pub decreases-judge_is_null : goal.decreases-judge_is_null
+decreases-judge_is_null l = 4 * weight_in (part (syntax_of l.value.now) none) + 1
+
+abbrev pub decreases-judge_sum : goal.decreases-judge_sum
+decreases-judge_sum l = 4 * weight_in (part (syntax_of l.first.now) (parts_of (terms_of l.others.now))) + 2
+
+abbrev pub decreases-judge_product : goal.decreases-judge_product
+decreases-judge_product l = 4 * weight_in (part (syntax_of l.first.now) (parts_of (factors_of l.others.now))) + 2
+
+abbrev pub decreases-judge_casei : goal.decreases-judge_casei
+decreases-judge_casei l = 4 * weight_in (part (syntax_of l.operand.now) none) + 1
+
+abbrev pub decreases-judge_spatial : goal.decreases-judge_spatial
+decreases-judge_spatial l = 4 * weight_in (part (syntax_of l.left.now) (part (syntax_of l.right.now) none)) + 2
+
+abbrev pub decreases-judge_temporal : goal.decreases-judge_temporal
+decreases-judge_temporal l = 4 * weight_in (part (syntax_of l.left.now) (part (syntax_of l.right.now) none)) + 2
 
 -- What is judged completes what is left, and the first fault of what is left is that of all.
 abbrev pub invariant-judge_all-loop-tree : goal.invariant-judge_all-loop-tree
