@@ -42,42 +42,38 @@ pub enum AskFault {
 
 impl AskFault {
     ghost use Rattle.std.specs.Prelude.{◌≡◌, ◌≢◌, Some};
-    ghost use Rattle.cad_ask.specs.Faults.{fault_number, fault_name, of_parameter};
+    ghost use Rattle.cad_ask.specs.Faults.{fault_told, fault_number, fault_name, of_parameter};
+
+    /// The number and the name.
+    fn told(self) -> (u8, &'static str)
+        ensures { (result.0, result.1.now) ≡ fault_told self }
+    {
+        match self {
+            AskFault::Unknown => (1, "Unknown"),
+            AskFault::Repeated => (2, "Repeated"),
+            AskFault::Limit => (3, "Limit"),
+            AskFault::Datetime => (4, "Datetime"),
+            AskFault::Bbox => (5, "Bbox"),
+            AskFault::FilterLang => (6, "FilterLang"),
+            AskFault::Filter { place: _, cause: _ } => (7, "Filter"),
+            AskFault::Revision => (8, "Revision"),
+            AskFault::After => (9, "After"),
+            AskFault::Memory => (10, "Memory"),
+        }
+    }
 
     /// The number by which programs tell the fault.
     pub fn number(&self) -> u8
         ensures { result ≡ fault_number self.now }
     {
-        match self {
-            AskFault::Unknown => 1,
-            AskFault::Repeated => 2,
-            AskFault::Limit => 3,
-            AskFault::Datetime => 4,
-            AskFault::Bbox => 5,
-            AskFault::FilterLang => 6,
-            AskFault::Filter { place: _, cause: _ } => 7,
-            AskFault::Revision => 8,
-            AskFault::After => 9,
-            AskFault::Memory => 10,
-        }
+        self.told().0
     }
 
     /// The name that programs print.
     pub fn name(&self) -> &'static str
         ensures { result.now ≡ fault_name self.now }
     {
-        match self {
-            AskFault::Unknown => "Unknown",
-            AskFault::Repeated => "Repeated",
-            AskFault::Limit => "Limit",
-            AskFault::Datetime => "Datetime",
-            AskFault::Bbox => "Bbox",
-            AskFault::FilterLang => "FilterLang",
-            AskFault::Filter { place: _, cause: _ } => "Filter",
-            AskFault::Revision => "Revision",
-            AskFault::After => "After",
-            AskFault::Memory => "Memory",
-        }
+        self.told().1
     }
 
     /// The same fault of a parameter; that of a filter has a place and a cause beside.

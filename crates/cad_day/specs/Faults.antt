@@ -3,12 +3,13 @@ use Rattle.std.specs.Prelude.{ℕ, List, codes}
 use Rattle.cad_day.specs.declared.fault.DatetimeFault.{DatetimeFault}
 use Rattle.cad_day.specs.declared.fault.DatetimeFault.TheVariants.{NotADate, EndsTurned, Memory}
 
+abbrev pub fault_told : DatetimeFault → ℕ × List ℕ
+fault_told NotADate = (1, codes "NotADate")
+fault_told EndsTurned = (2, codes "EndsTurned")
+fault_told Memory = (3, codes "Memory")
+
 abbrev pub fault_number : DatetimeFault → ℕ
-fault_number NotADate = 1
-fault_number EndsTurned = 2
-fault_number Memory = 3
+fault_number fault = (fault_told fault).0
 
 abbrev pub fault_name : DatetimeFault → List ℕ
-fault_name NotADate = codes "NotADate"
-fault_name EndsTurned = codes "EndsTurned"
-fault_name Memory = codes "Memory"
+fault_name fault = (fault_told fault).1

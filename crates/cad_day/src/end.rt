@@ -8,8 +8,11 @@ use crate::{Day, Interval};
 /// An end of an interval. An open one lies before every day, or after every day.
 #[derive(Clone, Copy, PartialEq, Eq, PartialOrd, Ord, Debug)]
 pub(crate) enum End {
+    /// An open start.
     BeforeAll,
+    /// The day of an end that is not open.
     On(Day),
+    /// An open end.
     AfterAll,
 }
 

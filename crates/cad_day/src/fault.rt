@@ -1,7 +1,7 @@
 //! Why a text asks for no days.
 
 ghost use Rattle.std.specs.Prelude.{◌≡◌};
-ghost use Rattle.cad_day.specs.Faults.{fault_number, fault_name};
+ghost use Rattle.cad_day.specs.Faults.{fault_told, fault_number, fault_name};
 
 use thiserror::Error;
 
@@ -20,25 +20,28 @@ pub enum DatetimeFault {
 }
 
 impl DatetimeFault {
+    /// The number and the name.
+    fn told(self) -> (u8, &'static str)
+        ensures { (result.0, result.1.now) ≡ fault_told self }
+    {
+        match self {
+            DatetimeFault::NotADate => (1, "NotADate"),
+            DatetimeFault::EndsTurned => (2, "EndsTurned"),
+            DatetimeFault::Memory => (3, "Memory"),
+        }
+    }
+
     /// The number by which programs tell the fault.
     pub fn number(&self) -> u8
         ensures { result ≡ fault_number self.now }
     {
-        match self {
-            DatetimeFault::NotADate => 1,
-            DatetimeFault::EndsTurned => 2,
-            DatetimeFault::Memory => 3,
-        }
+        self.told().0
     }
 
     /// The name that programs print.
     pub fn name(&self) -> &'static str
         ensures { result.now ≡ fault_name self.now }
     {
-        match self {
-            DatetimeFault::NotADate => "NotADate",
-            DatetimeFault::EndsTurned => "EndsTurned",
-            DatetimeFault::Memory => "Memory",
-        }
+        self.told().1
     }
 }

@@ -13,14 +13,17 @@ pub(crate) enum Attribute {
     End,
     /// The days from the first to the last.
     Lifespan,
+    /// The name of a party or a unit.
     Name,
     /// The code that says of what type a party, a right or a restriction is.
     Type,
+    /// The name of a parcel in the register's maps.
     Label,
     /// In square metres.
     Area,
     /// The outline of a parcel.
     Geometry,
+    /// The point by which a parcel is marked.
     ReferencePoint,
     /// The number of the unit.
     Unit,
@@ -34,5 +37,6 @@ pub(crate) enum Attribute {
     ShareNum,
     /// The parts of the whole.
     ShareDen,
+    /// Whether a restriction asks for a party.
     PartyRequired,
 }

@@ -3,10 +3,15 @@
 /// A kind of features.
 #[derive(Clone, Copy, PartialEq, Eq, Debug)]
 pub enum Collection {
+    /// The versions of parcels.
     Parcels,
+    /// Those of rights.
     Rights,
+    /// Those of restrictions.
     Restrictions,
+    /// Those of units.
     Units,
+    /// Those of parties.
     Parties,
 }
 

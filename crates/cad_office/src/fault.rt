@@ -21,29 +21,31 @@ pub enum OfficeFault {
 
 impl OfficeFault {
     ghost use Rattle.std.specs.Prelude.{◌≡◌};
-    ghost use Rattle.cad_office.specs.OfficeFaults.{fault_number, fault_name};
+    ghost use Rattle.cad_office.specs.OfficeFaults.{fault_told, fault_number, fault_name};
+
+    /// The number and the name.
+    fn told(self) -> (u8, &'static str)
+        ensures { (result.0, result.1.now) ≡ fault_told self }
+    {
+        match self {
+            OfficeFault::Read => (1, "Read"),
+            OfficeFault::Write => (2, "Write"),
+            OfficeFault::TurnsSpent => (3, "TurnsSpent"),
+            OfficeFault::Register => (4, "Register"),
+        }
+    }
 
     /// The number by which programs tell the fault.
     pub fn number(&self) -> u8
         ensures { result ≡ fault_number self.now }
     {
-        match self {
-            OfficeFault::Read => 1,
-            OfficeFault::Write => 2,
-            OfficeFault::TurnsSpent => 3,
-            OfficeFault::Register => 4,
-        }
+        self.told().0
     }
 
     /// The name that programs print.
     pub fn name(&self) -> &'static str
         ensures { result.now ≡ fault_name self.now }
     {
-        match self {
-            OfficeFault::Read => "Read",
-            OfficeFault::Write => "Write",
-            OfficeFault::TurnsSpent => "TurnsSpent",
-            OfficeFault::Register => "Register",
-        }
+        self.told().1
     }
 }

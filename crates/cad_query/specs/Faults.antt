@@ -3,27 +3,22 @@ use Rattle.std.specs.Prelude.{ℕ, List, codes}
 use Rattle.cad_query.specs.declared.fault.ParameterFault.{ParameterFault}
 use Rattle.cad_query.specs.declared.fault.ParameterFault.TheVariants.{Unknown, Repeated, Limit, Datetime, Bbox, FilterLang, Filter, Revision, After}
 
+abbrev pub fault_told : ParameterFault → ℕ × List ℕ
+fault_told Unknown = (1, codes "Unknown")
+fault_told Repeated = (2, codes "Repeated")
+fault_told Limit = (3, codes "Limit")
+fault_told Datetime = (4, codes "Datetime")
+fault_told Bbox = (5, codes "Bbox")
+fault_told FilterLang = (6, codes "FilterLang")
+fault_told Filter = (7, codes "Filter")
+fault_told Revision = (8, codes "Revision")
+fault_told After = (9, codes "After")
+
 abbrev pub fault_number : ParameterFault → ℕ
-fault_number Unknown = 1
-fault_number Repeated = 2
-fault_number Limit = 3
-fault_number Datetime = 4
-fault_number Bbox = 5
-fault_number FilterLang = 6
-fault_number Filter = 7
-fault_number Revision = 8
-fault_number After = 9
+fault_number fault = (fault_told fault).0
 
 abbrev pub fault_name : ParameterFault → List ℕ
-fault_name Unknown = codes "Unknown"
-fault_name Repeated = codes "Repeated"
-fault_name Limit = codes "Limit"
-fault_name Datetime = codes "Datetime"
-fault_name Bbox = codes "Bbox"
-fault_name FilterLang = codes "FilterLang"
-fault_name Filter = codes "Filter"
-fault_name Revision = codes "Revision"
-fault_name After = codes "After"
+fault_name fault = (fault_told fault).1
 
 -- the word that the body of a refusal tells
 abbrev pub fault_word : ParameterFault → List ℕ

@@ -36,40 +36,37 @@ pub enum ParameterFault {
 
 impl ParameterFault {
     ghost use Rattle.std.specs.Prelude.{◌≡◌};
-    ghost use Rattle.cad_query.specs.Faults.{fault_number, fault_name, fault_word};
+    ghost use Rattle.cad_query.specs.Faults.{fault_told, fault_number, fault_name, fault_word};
+
+    /// The number and the name.
+    fn told(self) -> (u8, &'static str)
+        ensures { (result.0, result.1.now) ≡ fault_told self }
+    {
+        match self {
+            ParameterFault::Unknown => (1, "Unknown"),
+            ParameterFault::Repeated => (2, "Repeated"),
+            ParameterFault::Limit => (3, "Limit"),
+            ParameterFault::Datetime => (4, "Datetime"),
+            ParameterFault::Bbox => (5, "Bbox"),
+            ParameterFault::FilterLang => (6, "FilterLang"),
+            ParameterFault::Filter => (7, "Filter"),
+            ParameterFault::Revision => (8, "Revision"),
+            ParameterFault::After => (9, "After"),
+        }
+    }
 
     /// The number by which programs tell the fault: its place in the order of looking, from 1.
     pub fn number(self) -> u8
         ensures { result ≡ fault_number self }
     {
-        match self {
-            ParameterFault::Unknown => 1,
-            ParameterFault::Repeated => 2,
-            ParameterFault::Limit => 3,
-            ParameterFault::Datetime => 4,
-            ParameterFault::Bbox => 5,
-            ParameterFault::FilterLang => 6,
-            ParameterFault::Filter => 7,
-            ParameterFault::Revision => 8,
-            ParameterFault::After => 9,
-        }
+        self.told().0
     }
 
     /// The name that programs print.
     pub fn name(self) -> &'static str
         ensures { result.now ≡ fault_name self }
     {
-        match self {
-            ParameterFault::Unknown => "Unknown",
-            ParameterFault::Repeated => "Repeated",
-            ParameterFault::Limit => "Limit",
-            ParameterFault::Datetime => "Datetime",
-            ParameterFault::Bbox => "Bbox",
-            ParameterFault::FilterLang => "FilterLang",
-            ParameterFault::Filter => "Filter",
-            ParameterFault::Revision => "Revision",
-            ParameterFault::After => "After",
-        }
+        self.told().1
     }
 
     /// The word that the body of the refusal tells: the parameter's name, where one is wrong.

@@ -28,6 +28,7 @@ use std::alloc::{AllocError, AllocFailed, Global};
 pub(crate) enum ReadFault {
     /// It is the row of no version.
     Damaged,
+    /// There was no memory.
     Memory,
 }
 

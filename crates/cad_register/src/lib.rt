@@ -3,6 +3,13 @@
 //! - `Register`: made by `create`, `open` or `open_or_create` over a connection, changed by `apply`, read by `as_of`.
 //! - `laws`: what holds of every register, and of the rows that it is kept in.
 //! - The types of versions, commands and faults are those of `cad_versions`.
+//!
+//! ```text
+//! let mut register = Register::open_or_create(alloc, Connection::open(rt, "land.db")?)?;
+//! register.apply(Command::Enter { object, first, body })    // Ok(1), once it is on the disk
+//! register.as_of(1)                                         // Ok, with that version, which is open
+//! register.apply(Command::Enter { object, first, body })    // Err(KnownObject), and nothing changed
+//! ```
 #![tactic(auto)]
 
 mod asking;

@@ -40,7 +40,7 @@ impl Connection {
     /// Takes the next piece. Each request that is whole now is answered, one after the other. One that ends the
     /// connection is the last, and so is the reply to bytes that no request can begin with.
     ///
-    /// Only a piece that can settle what stands at the front is parsed, so that bytes which trickle in are not read
+    /// Only a piece that can settle what stands at the front is parsed, so that bytes which come a few at a time are not read
     /// again for each of them.
     pub fn feed<R: Responder>(
         self,

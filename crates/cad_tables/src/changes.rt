@@ -10,7 +10,10 @@ pub struct Closing {
 /// The change of one command: a version is added, an open one is closed, or both.
 #[derive(Debug, Drop)]
 pub enum Change<L> {
+    /// The first version of an object is added.
     Enter(L),
+    /// The open version is closed, and the next one is added.
     Amend(Closing, L),
+    /// The open version is closed.
     Retire(Closing),
 }

@@ -4,11 +4,13 @@ use sqlite::{Error, ErrorCode};
 use sqlite_resolve::CompileError;
 
 /// Why a call fails.
-#[derive(Clone, Copy, Debug, PartialEq, Eq)]
+#[derive(Clone, Copy, Debug, PartialEq, Eq, thiserror::Error)]
 pub enum TableFault {
     /// There was no memory.
+    #[error("out of memory")]
     Memory,
     /// The database refused, for this cause, which is never want of memory.
+    #[error("the database refused")]
     Store(Error),
 }
 

@@ -4,6 +4,15 @@
 //! with the revision that entered it and the one that closed it. `create` makes both, `open` looks whether they
 //! are there, `write` makes the one change of a command, and `history` and `listing` read rows back.
 //! What a row means is left to the caller's type, by the trait `Stored`.
+//!
+//! ```text
+//! create(&mut connection)?;                                 // Made
+//! write(&mut connection, &Change::Enter(row), 1)?;
+//! revision(&mut connection)?                                // Some(1)
+//! listing(&mut connection, 1)?                              // that row
+//! write(&mut connection, &Change::Retire(closing), 2)?;     // its row is closed by revision 2
+//! history(&mut connection, closing.object)?                 // the rows of that object
+//! ```
 #![tactic(auto)]
 
 mod cells;

@@ -20,6 +20,7 @@ use sqlite::{Alter, Connection, Error, ErrorCode, Transaction};
 /// What came of a call to make the tables.
 #[derive(Clone, Copy, Debug, PartialEq, Eq)]
 pub enum Creation {
+    /// The tables were made, and are empty.
     Made,
     /// The name of one of the tables is in use.
     AlreadyExists,

@@ -48,10 +48,15 @@ pub enum Body {
 /// The class of an object, which all its versions have.
 #[derive(Clone, Copy, Debug, PartialEq, Eq)]
 pub enum Class {
+    /// A person or a body that holds rights.
     Party,
+    /// A basic administrative unit, to which rights and parcels belong.
     Unit,
+    /// A piece of land.
     Parcel,
+    /// A right to a unit.
     Right,
+    /// A restriction of a unit.
     Restriction,
 }
 

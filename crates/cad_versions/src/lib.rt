@@ -5,6 +5,15 @@
 //! - `Command`, `RegisterFault`: what the land office asks for, and why it is refused.
 //! - `Ledger`: what commands are entered into, and what tells the versions at a revision.
 //! - `laws`: what holds of every register, whatever commands made it.
+//!
+//! ```text
+//! ObjectId::new(0)                                          // None: numbers begin at 1
+//! ObjectId::new(11)                                         // Some
+//! Words::new("Mill")                                        // Ok
+//! Words::new("")                                            // Err: a text has a byte at least
+//! Share::new(1, 2)                                          // Some: a half
+//! Body::Unit { name: None }.class()                         // Class::Unit
+//! ```
 #![tactic(auto)]
 
 mod body;

@@ -8,6 +8,7 @@ use cad_serve::{Ending, ServeFault};
 /// How a run ended.
 #[derive(Clone, Copy, Debug, PartialEq, Eq)]
 pub enum Outcome {
+    /// All went well.
     Good,
     /// A line of the office was refused.
     Refused,

@@ -37,28 +37,31 @@ pub enum LexFault {
 }
 
 impl SpellingFault {
+    /// The number and the name.
+    fn told(self) -> (u8, &'static str)
+        ensures number { result.0 ≡ (label_of self).number }
+        ensures name { result.1.now ≡ (label_of self).name }
+    {
+        match self {
+            SpellingFault::Unterminated { .. } => (1, "Unterminated"),
+            SpellingFault::StrangeCharacter { .. } => (2, "StrangeCharacter"),
+            SpellingFault::TooLong { .. } => (3, "TooLong"),
+            SpellingFault::TooMany { .. } => (4, "TooMany"),
+        }
+    }
+
     /// The number by which programs tell the fault.
     pub fn number(&self) -> u8
         ensures { result ≡ (label_of self.now).number }
     {
-        match self {
-            SpellingFault::Unterminated { .. } => 1,
-            SpellingFault::StrangeCharacter { .. } => 2,
-            SpellingFault::TooLong { .. } => 3,
-            SpellingFault::TooMany { .. } => 4,
-        }
+        self.told().0
     }
 
     /// The name that programs print.
     pub fn name(&self) -> &'static str
         ensures { result.now ≡ (label_of self.now).name }
     {
-        match self {
-            SpellingFault::Unterminated { .. } => "Unterminated",
-            SpellingFault::StrangeCharacter { .. } => "StrangeCharacter",
-            SpellingFault::TooLong { .. } => "TooLong",
-            SpellingFault::TooMany { .. } => "TooMany",
-        }
+        self.told().1
     }
 
     /// The byte of the text at which the fault stands.

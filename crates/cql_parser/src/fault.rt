@@ -31,26 +31,30 @@ pub enum ParseFault {
 }
 
 impl GrammarFault {
+    /// The number and the name.
+    fn told(self) -> (u8, &'static str)
+        ensures number { result.0 ≡ (label_of self).number }
+        ensures name { result.1.now ≡ (label_of self).name }
+    {
+        match self {
+            GrammarFault::TooDeep { .. } => (1, "TooDeep"),
+            GrammarFault::NotExpected { .. } => (2, "NotExpected"),
+            GrammarFault::EndOfFilter { .. } => (3, "EndOfFilter"),
+        }
+    }
+
     /// The number by which programs tell the fault.
     pub fn number(&self) -> u8
         ensures { result ≡ (label_of self.now).number }
     {
-        match self {
-            GrammarFault::TooDeep { .. } => 1,
-            GrammarFault::NotExpected { .. } => 2,
-            GrammarFault::EndOfFilter { .. } => 3,
-        }
+        self.told().0
     }
 
     /// The name that programs print.
     pub fn name(&self) -> &'static str
         ensures { result.now ≡ (label_of self.now).name }
     {
-        match self {
-            GrammarFault::TooDeep { .. } => "TooDeep",
-            GrammarFault::NotExpected { .. } => "NotExpected",
-            GrammarFault::EndOfFilter { .. } => "EndOfFilter",
-        }
+        self.told().1
     }
 
     /// The byte of the text at which the fault stands.

@@ -10,7 +10,9 @@ use std::alloc::{AllocError, AllocFailed};
 /// Memory ran out, or no tree can come at the first of these tokens.
 #[derive(Drop)]
 pub enum Stop<'a> {
+    /// A growth was refused.
     Memory,
+    /// No filter can come once the first of these tokens is read.
     At(&'a [Token]),
 }
 
