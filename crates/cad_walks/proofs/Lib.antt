@@ -6,3 +6,4 @@ pub mod PartLemmas
 pub mod SortLemmas
 pub mod AcceptedLemmas
 pub mod WalkLemmas
+pub mod VisitLemmas

@@ -1,12 +1,17 @@
 -- What holds of all walks.
 use Rattle.std.specs.Prelude.{◌≡◌, ℕ, ℤ, ◌≤◌, List, [], ◌∷◌, length, Option}
-use Rattle.std.specs.List.Sorted.{IsStrictlySortedBy}
+use Rattle.std.specs.List.{All, AllPairs}
+use Rattle.std.specs.List.Sorted.{IsNonDecreasingBy, IsStrictlySortedBy}
 use Rattle.cad_versions.specs.Refusals.{AreAccepted}
 use Rattle.cad_feature.specs.Features.{Item, by_identifier}
 use Rattle.cad_ask.specs.declared.ask.Ask.{Ask}
 use Rattle.cad_answer.specs.Slices.{later}
 use Rattle.cad_answer.specs.Laws.{AreWalk}
+use Rattle.cad_desk.specs.Events.{Rules}
+use Rattle.cad_desk.specs.Runs.{Exchange}
+use Rattle.cad_desk.specs.Laws.{Opens}
 use Rattle.cad_walks.specs.Walks.{Visit, AsksFor, revision_asked, snapshot_asked, IsWalk, pages_of, ShowTheAnswer}
+use Rattle.cad_walks.specs.Visits.{AreVisits, IsBefore, revision_at, Run, in_force, IsVisitIn, GetsNext}
 
 -- the features that come after the one that is named stand on as many pages as their number asks for
 abbrev pub WalksHaveThatManyPages : Type 0
@@ -20,3 +25,18 @@ WalksShowTheAnswer =
     (visit : Visit) (visits : List Visit) (ask : Ask) → AreAccepted [] visit.commands → AsksFor visit.request ask
     → revision_asked ask visit.commands ≤ length visit.commands → IsWalk (visit ∷ visits)
     → (pages : List (List Item)) × ShowTheAnswer ask (snapshot_asked ask visit.commands) (visit ∷ visits) pages
+
+-- where the commands at the start of a run were accepted, so were those that are in force after it
+abbrev pub RunsKeepAccepted : Rules → Type 0
+RunsKeepAccepted rules = (run : Run rules) → AreAccepted [] run.commands → AreAccepted [] (in_force run.commands run.events run.answers)
+
+-- what goes out to a connection is a reply to each of its requests, one after the other, while the commands in force only grow
+abbrev pub ConnectionsAreVisits : Rules → Type 0
+ConnectionsAreVisits rules = (c : ℕ) (own : List Exchange) → Opens rules c own → (visits : List Visit) × AreVisits rules own visits × AllPairs IsBefore visits
+
+-- in a run over accepted commands, on any of its connections, a client asks for a revision that was made and then follows each link next, never where fewer commands are in force than before: its pages, joined, are the whole answer of that revision, whatever else happens in the run
+abbrev pub WalksInRunsShowTheAnswer : Rules → Type 0
+WalksInRunsShowTheAnswer rules =
+    (run : Run rules) (visit : Visit) (visits : List Visit) (ask : Ask) → AreAccepted [] run.commands → All (IsVisitIn rules run) (visit ∷ visits)
+    → IsNonDecreasingBy revision_at (visit ∷ visits) → AsksFor visit.request ask → revision_asked ask visit.commands ≤ length visit.commands
+    → GetsNext (visit ∷ visits) → (pages : List (List Item)) × ShowTheAnswer ask (snapshot_asked ask visit.commands) (visit ∷ visits) pages

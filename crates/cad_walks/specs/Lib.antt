@@ -1,3 +1,4 @@
 pub mod Walks
+pub mod Visits
 pub mod Registers
 pub mod Laws

@@ -1,13 +1,24 @@
 //! What holds of all walks. Each contract is a law; the functions do nothing.
 
-ghost use Rattle.cad_walks.specs.Laws.{WalksHaveThatManyPages, WalksShowTheAnswer};
+ghost use Rattle.cad_desk.specs.Desks.{rules_of};
+ghost use Rattle.cad_walks.specs.Laws.{
+  ConnectionsAreVisits,
+  RunsKeepAccepted,
+  WalksHaveThatManyPages,
+  WalksInRunsShowTheAnswer,
+  WalksShowTheAnswer,
+};
 
 use crate::registers::{accepted_are_few, accepted_are_listed};
 use cad_answer::laws::walks_are_whole;
 use cad_ask::laws::{fault_or_asks, next_asks_the_same, pairs_ask_one_thing};
+use cad_desk::laws::connections_are_their_own;
 use cad_page::laws::the_same_has_one_answer;
 use cad_query::laws::{next_is_read_back, pairs_are_texts};
 use cad_resource::laws::{paths_are_read_back, resources_are_asked};
+use cad_server::Server;
+use cad_stream::Responder;
+use cad_versions::Ledger;
 use cad_versions::laws::revisions_stay;
 
 /// The features that come after the one that is named stand on as many pages as their number asks for.
@@ -35,4 +46,27 @@ pub fn walks_show_the_answer()
     walks_have_that_many_pages();
     accepted_are_listed();
     accepted_are_few();
+}
+
+/// Where the commands in force at the start of a run were accepted one after the other, so were those in force after it.
+pub fn runs_keep_accepted<R: Responder>()
+    ensures { RunsKeepAccepted (rules_of R.Responder) }
+{}
+
+/// What goes out to a connection of the server, from its opening on, is a reply to each of its requests, one after the
+/// other, while the commands in force only grow.
+pub fn connections_are_visits<L: Ledger>()
+    ensures { ConnectionsAreVisits (rules_of ⟦<Server<L> as Responder>⟧) }
+{
+    connections_are_their_own::<Server<L>>();
+}
+
+/// In any run of a desk over the server, the pages of a walk, joined, are the whole answer of the revision that its first
+/// request asks for, on whichever connections its requests come, in whatever pieces, and whatever others and the office
+/// do between them.
+pub fn walks_in_runs_show_the_answer<L: Ledger>()
+    ensures { WalksInRunsShowTheAnswer (rules_of ⟦<Server<L> as Responder>⟧) }
+{
+    walks_show_the_answer();
+    runs_keep_accepted::<Server<L>>();
 }
