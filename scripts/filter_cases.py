@@ -81,6 +81,16 @@ add(P,"x "*2000); add(P,"x "*2001); add(P,"x "*2000+"'"); add(P,"x "*2000+"#"); 
 add(P,"'"+"x"*8190+"'"); add(P,"'"+"x"*8191+"'"); add(P,"area"+"x"*8188); add(P," "*8192); add(P," "*8193); add(P,"#"+" "*8192); add(P,"area > 0"+"0"*8184)
 # first fault of many
 for t in ["areas > 5 AND labels > 5","label > 5 AND areas > 5","area > 5 AND label > 5 AND areas > 5","area > 1.5 OR area > 99999999999999999999","area > 99999999999999999999 OR area > 1.5","foo LIKE bar","label LIKE bar","foo BETWEEN 1.5 AND bar","area BETWEEN foo AND 1.5","CASEI(foo) LIKE 5","(foo) = 1","((label)) > 5","NOT foo","NOT label > 5","area > 5 AND","foo AND","label > 5 #","label > 5 '","(label > 5","foo # bar 'x","foo 'x # bar","S_WITHIN(foo, 5)","S_WITHIN(5, foo)","area IN (foo, 1.5)","area IN (1.5, foo)","label IN (1, foo)","label IN (1, 2)"]: add(P,t)
+# each fault at the front, in the middle and at the end
+for bad in ["#","area > = 5","areas > 5","label > 5","begin = DATE('2001-02-29')","area = 1e3","area > 9223372036854775808","S_INTERSECTS(geometry, BBOX(1,0,0,1))","T_AFTER(begin, INTERVAL('2010-01-01','2001-01-01'))"]:
+    for at in range(3):
+        parts = ["area > 0","label = 'x'"]; parts.insert(at,bad); add(P," AND ".join(parts))
+for t in ["'y AND area > 0 AND area < 9","area > 0 AND 'y AND area < 9","area > 0 AND area < 9 AND 'y","area > 0 AND area < 9 AND label = 'y"]: add(P,t)
+for t in ["AND area > 0 AND label = 'x'","area > 0 AND AND label = 'x'","area > 0 AND label = 'x' AND","area > 0 AND label = 'x' )"]: add(P,t)
+for t in [deep(65)+" AND label = 'x'","area > 0 AND "+deep(65)+" AND label = 'x'","area > 0 AND label = 'x' AND "+"("*65,"("*65+"#"]: add(P,t)
+for t in ["x "*4002,"+"*4002,"("*4002]: add(P,t)
+# exponents
+for n in ["1e3","1.5e3","1e0"]: add(P,f"area = {n}")
 seen = set()
 for collection, text in rows:
     line = collection.encode() + b" " + text.encode()

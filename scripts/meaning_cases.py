@@ -21,6 +21,9 @@ def written():
                  "CASEI(label) LIKE CASEI('B-_')",
                  "S_INTERSECTS(geometry, POLYGON((5000 5000, 6000 5000, 5000 6000, 5000 5000)))",
                  "S_WITHIN(geometry, BBOX(0,0,40000,20000))", "S_WITHIN(POINT(0 0), BBOX(0,0,1,1))",
+                 "S_INTERSECTS(geometry, POINT(20000 10000))", "S_DISJOINT(geometry, POINT(20000 10000))",
+                 "S_INTERSECTS(geometry, POINT(25000 55000))", "S_INTERSECTS(geometry, POINT(15000 45000))",
+                 "S_CONTAINS(geometry, POINT(15000 45000))",
                  "T_DURING(begin, INTERVAL('2003-01-01','2006-01-01'))", "T_CONTAINS(lifespan, DATE('2004-01-01'))",
                  "T_AFTER(DATE('2020-01-01'), INTERVAL(begin, end))",
                  "NOT T_AFTER(DATE('2020-01-01'), INTERVAL(begin, end))"):
@@ -67,6 +70,7 @@ def texts():
     """Texts: order by code points, patterns, folding."""
     for text in ("label = 'A-1'", "label <> 'A-1'", "label < 'B'", "label < 'b'", "label > 'A-1'", "label >= 'A-2'",
                  "label <= 'C%1'", "'A' < 'a'", "'Z' < 'a'", "'a' < 'é'", "'é' < '😀'", "'' < 'a'", "'ab' < 'b'",
+                 "'B' < 'a'",
                  "'a' = 'A'", "CASEI('a') = CASEI('A')", "CASEI('ß') = 'ss'", "CASEI('ẞ') = 'ss'", "CASEI('İ') = 'i'",
                  "CASEI('ﬁ') = 'fi'", "CASEI('Σς') = 'σσ'", "CASEI(label) = 'a-1'", "CASEI(CASEI(label)) = 'a-1'",
                  "label LIKE 'A%'", "label LIKE 'A-_'", "label LIKE '_-_'", "label LIKE '%'", "label LIKE ''",
@@ -75,7 +79,8 @@ def texts():
                  "label LIKE '\\A-1'", "label NOT LIKE 'A%'", "NOT label LIKE 'A%'", "NOT label NOT LIKE 'A%'",
                  "'' LIKE '%'", "'' LIKE '_'", "'ß' LIKE '_'", "'😀' LIKE '_'", "'ab' LIKE 'a\\%'", "'a%' LIKE 'a\\%'",
                  "'a_' LIKE 'a\\_'", "'aab' LIKE '%ab'", "'abab' LIKE '%ab'", "'aba' LIKE '%ab'", "'abcabd' LIKE '%ab%d'",
-                 "'It''s' LIKE '%''s'", "CASEI('Straße') LIKE CASEI('STRASSE')", "CASEI('Straße') LIKE CASEI('Stra__e')",
+                 "'It''s' LIKE '%''s'", "CASEI('Straße') = CASEI('STRASSE')",
+                 "CASEI('Straße') LIKE CASEI('STRASSE')", "CASEI('Straße') LIKE CASEI('Stra__e')",
                  "label IN ('A-1', 'b-7')", "label NOT IN ('A-1', 'b-7')", "label IN (CASEI('B-7'))", "unit_name = 'Mill'",
                  "unit_name <> 'Mill'", "unit_name LIKE '%'", "unit_name NOT LIKE '%'", "unit_name IS NOT NULL",
                  "unit_name IN ('Mill', unit_name)", "label IN (unit_name, 'b-7')", "NOT label IN (unit_name, 'b-7')"):
@@ -108,6 +113,8 @@ def times():
                  "NOT end > DATE('2000-01-01')", "begin IN (DATE('2001-01-01'), end)", "begin <> end", "end >= begin",
                  "NOT begin IN (DATE('2001-01-01'), end)", "INTERVAL(end, begin) IS NULL",
                  "INTERVAL(begin, end) IS NULL", "INTERVAL(begin, '2002-01-01') IS NULL", "lifespan IS NULL",
+                 "T_STARTS(INTERVAL('..','2001-01-01'), INTERVAL('..','2002-01-01'))",
+                 "T_EQUALS(INTERVAL('..','2001-01-01'), INTERVAL('..','2001-01-01'))",
                  "T_INTERSECTS(INTERVAL(begin, '2002-01-01'), DATE('2001-06-01'))",
                  "NOT T_INTERSECTS(INTERVAL(begin, '2002-01-01'), DATE('2001-06-01'))"):
         yield "parcels", text
@@ -133,6 +140,7 @@ def shapes():
                  "S_WITHIN(POINT(1 1), POINT(1 2))", "S_WITHIN(POINT(1 1), BBOX(1,0,2,2))",
                  "S_WITHIN(BBOX(0,0,1,1), BBOX(0,0,1,1))", "S_CONTAINS(BBOX(0,0,1,1), BBOX(0,0,1,2))",
                  "S_INTERSECTS(BBOX(0,0,1,1), BBOX(1,1,2,2))", "S_INTERSECTS(BBOX(0,0,9,9), BBOX(3,3,4,4))",
+                 "S_INTERSECTS(POINT(0 0), BBOX(0,0,1,1))",
                  "reference_point IS NULL", "S_INTERSECTS(reference_point, geometry) OR geometry IS NULL"):
         yield "parcels", text
 
