@@ -4,9 +4,10 @@
 It tells what a desk over a ledger in memory, which holds the sample register, answers to events, one a line: `open C`,
 `bytes C JSON`, `close C`, `office COMMAND`, `serve C JSON`, and `sample` and `empty`, which begin anew. Lines and answers are
 those of crates/cad_cases. Filters and features are judged by scripts/filter_model.py and scripts/filter_meaning.py.
-scripts/check_server_cases holds the stored answers of crates/cad_cases against it.
+scripts/check_server_cases holds the stored answers of crates/cad_cases against it, and scripts/refused those of runs in which
+memory is refused once.
 
-    scripts/server_model.py < EVENTS
+    scripts/server_model.py [N] < EVENTS    N: the event, from 1 on, that is refused for want of memory
 """
 from datetime import datetime, timedelta
 import json
@@ -500,8 +501,19 @@ class Desk:
             return self.served(int(number), data)
         return "no case"
 
+    def wanting(self, line):
+        """What a line is answered that is refused for want of memory: its connection is closed, and all else is as before. Of
+        a connection that is served so, nothing was replied to yet."""
+        kind, _, rest = line.partition(" ")
+        if kind not in ("open", "bytes", "serve", "office"):
+            return self.step(line)
+        if kind != "office":
+            self.lines.pop(int(rest.partition(" ")[0]), None)
+        return "4 Memory" + (" " + written_bytes(NO_MEMORY) if kind == "serve" else "")
+
 
 NUMBER = re.compile("[0-9]+", re.ASCII)
+NO_MEMORY = b"HTTP/1.1 503 Service Unavailable\r\nContent-Length: 0\r\nConnection: close\r\n\r\n"
 
 
 def is_command(text):
@@ -533,22 +545,26 @@ def written_bytes(data):
     return json.dumps(data.decode("latin-1"), ensure_ascii=False)
 
 
-def answers(lines):
-    """Each event, and what it is answered."""
-    desk = Desk(sample())
+def answers(lines, wanting=None):
+    """Each event, and what it is answered. The one with the number `wanting` is refused for want of memory."""
+    desk, count = Desk(sample()), 0
     for line in lines:
         line = line.rstrip("\n")
         if not line or line.startswith("#"):
             continue
+        count += 1
         if line in ("sample", "empty"):
             desk = Desk(sample() if line == "sample" else Register())
             yield line, line
+        elif line == "memory may be wanting":
+            yield line, line
         else:
-            yield line, desk.step(line)
+            yield line, desk.wanting(line) if count == wanting else desk.step(line)
 
 
 def main():
-    for _, answer in answers(sys.stdin):
+    wanting = int(sys.argv[1]) if len(sys.argv) > 1 else None
+    for _, answer in answers(sys.stdin, wanting):
         print(answer)
 
 

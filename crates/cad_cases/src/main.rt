@@ -1,13 +1,16 @@
 //! What the server answers to a list of events: each line of standard input is an event, and a line is printed for it.
 //!
 //! The server stands over a ledger in memory, which holds the sample register. The lines and what is printed for them are
-//! those of `desk_script`, and two more begin anew, with a server and a desk of their own, and are answered by themselves:
+//! those of `desk_script`, and three more are answered by themselves, of which the first two begin anew, with a server and
+//! a desk of their own:
 //!
 //! - `sample`: the ledger holds the sample register, as at the first line;
-//! - `empty`: the ledger holds nothing.
+//! - `empty`: the ledger holds nothing;
+//! - `memory may be wanting`: from here on an event that the desk refuses for want of memory is answered by `4 Memory`, and
+//!   the events after it go on.
 //!
 //! A line without bytes, and one that begins with `#`, is passed over. Any other line is answered by `no case`. Where memory
-//! is refused the program ends with status 7.
+//! is refused otherwise the program ends with status 7.
 #![tactic(auto)]
 
 use cad_plain_desk::{PlainDesk, empty_desk, sample_desk};
@@ -23,6 +26,7 @@ const NO_MEMORY: u8 = 7;
 fn answer_line(
     alloc: Global,
     desk: &mut PlainDesk,
+    memory: &mut Memory,
     line: &[u8],
 ) -> std::result::Result<String, AllocError> {
     if line == b"sample".as_slice() {
@@ -33,9 +37,13 @@ fn answer_line(
         *desk = empty_desk(alloc)?;
         return String::from_str(alloc, "empty");
     }
+    if line == b"memory may be wanting".as_slice() {
+        *memory = Memory::MayBeWanting;
+        return String::from_str(alloc, "memory may be wanting");
+    }
     match line_of(alloc, line)? {
         None => String::from_str(alloc, "no case"),
-        Some(line) => answer(alloc, desk, line, Memory::IsAmple),
+        Some(line) => answer(alloc, desk, line, *memory),
     }
 }
 
@@ -43,9 +51,11 @@ fn run(rt: &HostRuntime) -> Result<()> {
     let mut input = Vec::new(rt.alloc());
     rt.stdin().read_to_end(&mut input)?;
     let mut desk = sample_desk(rt.alloc())?;
+    let mut memory = Memory::IsAmple;
     for line in input.split(|byte| *byte == b'\n') {
         if !line.is_empty() && !line.starts_with(b"#") {
-            println!(rt; "{}", answer_line(rt.alloc(), &mut desk, line)?.as_str())?;
+            let answer = answer_line(rt.alloc(), &mut desk, &mut memory, line)?;
+            println!(rt; "{}", answer.as_str())?;
         }
     }
     Ok(())

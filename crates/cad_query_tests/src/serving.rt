@@ -108,8 +108,9 @@ fn stops_where_writing_does(rt: HostRuntime) -> Result<(), Fail> {
     Ok(())
 }
 
-/// To be run with each allocation refused in turn: the reply, or where memory was refused the fixed head. The connection is
-/// closed then, the register is as it was, and another connection goes on.
+/// The reply, or where an allocation is refused the fixed head. The connection is closed then, the register is as it was, and
+/// another connection goes on. The gate runs this with ample memory alone; `make refused` serves such a connection with each
+/// growth refused in turn, in a run of the cases.
 #[test]
 fn refuses_for_memory_alone(rt: HostRuntime) {
     let alloc = rt.alloc();
