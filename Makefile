@@ -9,10 +9,11 @@ JOBS ?= $(shell nproc)
 sample: check
 	cd crates/cadastre && $(RT) run -- sample < stdin
 
-# Holds the stored answers of the filter cases, the examples of docs/FILTERS.md and the stored answers of the server's cases against
-# second readings of the rules, and the examples of docs/API.md against the server's cases.
+# Holds the stored answers of the cases of filters, of the server, of days and of parameters, and the examples of docs/FILTERS.md,
+# against second readings of the rules, and the examples of docs/API.md against the server's cases.
 cases:
 	scripts/check_filter_cases
+	scripts/check_further_cases
 	scripts/check_server_cases
 	scripts/check_api_examples
 
@@ -33,9 +34,10 @@ refused:
 	cd crates/desk_cases && $(RT) run < stdin | cmp - stdout
 	scripts/refused
 
-# How many commands a second the office enters, in memory and in a file.
+# How many commands a second the office enters, in memory and in a file, and what pages take.
 bench: sample
 	cd crates/cad_bench && $(RT) run -- 100
+	cd crates/cad_page_bench && $(RT) run
 	scripts/bench
 	scripts/bench_serve
 

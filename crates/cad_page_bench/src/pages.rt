@@ -1,4 +1,4 @@
-//! How long a snapshot of many parcels takes to build, and a page of them to write.
+//! How long a snapshot of many parcels takes to build, a query of them to read, and a page of them to write.
 
 use crate::parcels::parcels;
 use anyhow::{Context, Result};
@@ -8,8 +8,28 @@ use cad_page::body;
 use cad_snapshot::Snapshot;
 use std::time::Instant;
 
+/// How often a query is read.
+const READINGS: u32 = 10_000;
+
 /// How often a page is written.
 const WRITINGS: u32 = 20;
+
+/// A query of five parameters, one of them a filter.
+const QUERY: &str =
+    "limit=10&datetime=2010-01-01/2012-05-01&bbox=0,0,100000,100000&filter=area%20%3E%20390&after=5.1";
+
+/// Reads the query, and tells what one reading took.
+fn tell_reading(rt: &HostRuntime, query: &str) -> Result<()> {
+    let start = Instant::now(rt)?;
+    for _ in 0..READINGS {
+        Ask::read(rt.alloc(), Collection::Parcels, query)
+            .ok()
+            .context("a query")?;
+    }
+    let spent = start.elapsed(rt)?.as_micros() / u128::from(READINGS);
+    eprintln!(rt; "pages: {query}: read in {spent} microseconds")?;
+    Ok(())
+}
 
 /// Writes the page that the query asks for, and tells what one writing took.
 fn tell_page(rt: &HostRuntime, snapshot: &Snapshot, query: &str) -> Result<()> {
@@ -34,9 +54,21 @@ pub fn tell(rt: &HostRuntime, count: u32) -> Result<()> {
     let snapshot = Snapshot::build(rt.alloc(), u64::from(count), &versions)?;
     let spent = start.elapsed(rt)?.as_millis();
     eprintln!(rt; "pages: a snapshot of {count} parcels in {spent} ms")?;
+    tell_reading(rt, QUERY)?;
     tell_page(rt, &snapshot, "limit=10")?;
     tell_page(rt, &snapshot, "limit=1000")?;
     let last = count.saturating_sub(10);
     let query = format!(in rt.alloc(); "limit=10&filter=area+%3E+{last}")?;
     tell_page(rt, &snapshot, query.as_str())
+}
+
+/// Builds so many parcels, and then a snapshot of them if that is asked for. It tells nothing: what such a run holds is read
+/// from outside.
+pub fn hold(rt: &HostRuntime, count: u32, with_snapshot: bool) -> Result<()> {
+    let count = count.min(1_000_000);
+    let versions = parcels(rt.alloc(), count)?;
+    if with_snapshot {
+        let _snapshot = Snapshot::build(rt.alloc(), u64::from(count), &versions)?;
+    }
+    Ok(())
 }
