@@ -1,12 +1,13 @@
 # The toolchain's command; `rt doc` prints the page to read first.
 RT ?= rt
-# How many crates `make check` proves side by side.
+# How many crates `make sample` and `make check` prove side by side.
 JOBS ?= $(shell nproc)
 
-.PHONY: sample cases test check refused bench register-file office-file serve-file clients clean
+.PHONY: sample cases test check refused bench register-file office-file serve-file clients proxy clean
 
-# Proves and builds the program, and answers the request in crates/cadastre/stdin. Crates that do not wait for each other are proved side by side.
-sample: check
+# Proves and builds the program and all that it stands on, and answers the request in crates/cadastre/stdin. Crates that do not wait for each other are proved side by side.
+sample:
+	cd crates/cadastre && $(RT) all check --jobs $(JOBS)
 	cd crates/cadastre && $(RT) run -- sample < stdin
 
 # Holds the stored answers of the cases of filters, of the server, of days and of parameters, and the examples of docs/FILTERS.md,
@@ -56,6 +57,10 @@ serve-file: sample
 # Has curl, GDAL and OWSLib read a register of 2,000 parcels from `cadastre serve`.
 clients: sample
 	scripts/check_clients
+
+# Has nginx stand before `cadastre serve` by the snippet of docs/OPERATIONS.md, and systemd look at the other one.
+proxy: sample
+	scripts/check_proxy
 
 clean:
 	rm -rf crates/*/out

@@ -2,6 +2,7 @@
 //!
 //! - `Ask`: what is asked; `Ask::read` reads it from a query
 //! - `AskFault`: why a query is refused; the faults are looked for in the order of their numbers
+//! - [`fault_body`]: the body that tells it, as JSON
 //! - `laws`: a query has at most one first fault, and then asks for nothing; the next page's asks the same
 //!
 //! Of parcels, `filter=area+%3E+400&limit=2` asks for at most two features whose area is above 400; of
@@ -11,6 +12,8 @@
 mod ask;
 mod fault;
 pub mod laws;
+mod telling;
 
 pub use ask::Ask;
 pub use fault::AskFault;
+pub use telling::fault_body;

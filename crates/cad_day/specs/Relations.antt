@@ -1,4 +1,4 @@
--- How intervals of days lie to one another (OGC 21-065r2, 7.9.2: temporal functions; a day is the interval of that day: own profile).
+-- How intervals of days lie to one another (OGC 21-065r2, requirements class Temporal Functions; a day is the interval of that day: own profile).
 use Rattle.std.specs.Prelude.{ℤ, int_lt, Bool, true, false, ◌&&◌, ◌||◌, not, Option, Some, None, ◌≤ℤ◌}
 use Rattle.std.specs.Ordering.{int_eq}
 use Rattle.cad_day.specs.declared.day.Day.{Day}

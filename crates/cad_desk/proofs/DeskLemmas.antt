@@ -46,7 +46,7 @@ module _ {R : Type 0} (g : Ghosts R) where
         | inl m ↦ subst (λ (d : DeskFault). Steps g old (Bytes c piece) (Err d) new) (sym (e ∙ m.1)) (record {
           stepped = (ap is_some known, changes);
           kept = λ counts. tt;
-          unchanged = f.stays.unchanged;
+          unchanged = λ counts lives. f.stays.unchanged counts (λ may. lives tt);
           store = λ counts same. absurd cc;
           clean = f.stays.clean;
         })

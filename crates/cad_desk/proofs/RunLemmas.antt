@@ -1,5 +1,5 @@
 -- Runs of a desk, by recursion on the events.
-use Rattle.std.proofs.Common.{ℕ, List, [], ◌∷◌, Result, Ok, Err, subst}
+use Rattle.std.proofs.Common.{ℕ, List, [], ◌∷◌, Result, Ok, Err, IfErr, subst}
 use Rattle.cad_versions.specs.declared.command.Command.{Command}
 use Rattle.cad_stream.specs.declared.responder.Responder.{Ghosts}
 use Rattle.cad_stream.specs.Feeding.{Under}
@@ -14,6 +14,7 @@ use Rattle.cad_desk.specs.Connections.{Connections}
 use Rattle.cad_desk.specs.Events.{Rules, IsOpened, IsTaken, IsClosed, IsEntered, StepOf, commands_after}
 use Rattle.cad_desk.specs.Desks.{responder_of, connections_of, rules_of, Steps}
 use Rattle.cad_desk.specs.Runs.{RunOf, Takes}
+use Rattle.cad_desk.specs.Faults.{MayCloseDesk}
 
 -- ---- from a desk's steps to a run
 
@@ -81,7 +82,7 @@ module _ {R : Type 0} (g : Ghosts R) where
   counted old new (event ∷ events) (answer ∷ answers) t counts = t.1.clean (counted t.0 new events answers t.3 counts)
 
   -- the responder stands for the commands in force after the event
-  stands_after : (old mid : Desk R) (event : Event) (answer : Result Reply DeskFault) (commands : List Command) → Steps g old event answer mid → g.counts (responder_of mid) → g.lives (responder_of mid)
+  stands_after : (old mid : Desk R) (event : Event) (answer : Result Reply DeskFault) (commands : List Command) → Steps g old event answer mid → g.counts (responder_of mid) → IfErr answer (λ fault. MayCloseDesk fault → g.lives (responder_of mid))
       → g.stands_for (responder_of old) commands → g.stands_for (responder_of mid) (commands_after commands event answer)
   stands_after old mid event (Ok reply) commands s counts lives stands = s.kept counts commands stands
   stands_after old mid (Open c) (Err fault) commands s counts lives stands = s.unchanged counts lives commands stands

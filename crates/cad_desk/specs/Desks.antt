@@ -13,6 +13,7 @@ use Rattle.cad_desk.specs.declared.fault.DeskFault.{DeskFault}
 use Rattle.cad_desk.specs.declared.fault.DeskFault.TheVariants.{Register}
 use Rattle.cad_desk.specs.Connections.{Connections}
 use Rattle.cad_desk.specs.Events.{Rules, StepOf, commands_after}
+use Rattle.cad_desk.specs.Faults.{MayCloseDesk}
 
 -- what answers the requests
 abbrev pub responder_of : {R : Type 0} → Desk R → R
@@ -44,6 +45,6 @@ module _ {R : Type 0} (g : Ghosts R) where
   pub record Steps (old : Desk R) (event : Event) (result : Result Reply DeskFault) (new : Desk R) : Type 0 where
     pub stepped : StepOf rules_of (Under g (responder_of old) (responder_of new)) (connections_of old) event result (connections_of new)
     pub kept : g.counts (responder_of new) → OnOk result ((commands : List Command) → g.stands_for (responder_of old) commands → g.stands_for (responder_of new) (commands_after commands event result))
-    pub unchanged : g.counts (responder_of new) → g.lives (responder_of new) → OnErr result ((commands : List Command) → g.stands_for (responder_of old) commands → g.stands_for (responder_of new) commands)
+    pub unchanged : g.counts (responder_of new) → IfErr result (λ fault. MayCloseDesk fault → g.lives (responder_of new)) → OnErr result ((commands : List Command) → g.stands_for (responder_of old) commands → g.stands_for (responder_of new) commands)
     pub store : g.counts (responder_of new) → IfErr result (λ fault. fault ≡ Register Store → IsRefused (responder_of old) event (responder_of new))
     pub clean : g.counts (responder_of new) → g.counts (responder_of old)

@@ -2,6 +2,7 @@
 use Rattle.std.specs.Prelude.{ℕ, List, codes}
 use Rattle.cad_versions.specs.declared.fault.RegisterFault.{RegisterFault}
 use Rattle.cad_versions.specs.declared.fault.RegisterFault.TheVariants as register
+use Rattle.cad_versions.specs.Keeping.{MayClose}
 use Rattle.cad_desk.specs.declared.fault.DeskFault.{DeskFault}
 use Rattle.cad_desk.specs.declared.fault.DeskFault.TheVariants.{UnknownConnection, KnownConnection, TooManyConnections, Memory, Register}
 
@@ -22,3 +23,9 @@ desk_fault_name fault = (desk_fault_told fault).1
 abbrev pub fault_of : RegisterFault → DeskFault
 fault_of register.Memory = Memory
 fault_of fault = Register fault
+
+-- what keeps the commands may be closed after this fault: it refused, or memory was wanting
+abbrev pub MayCloseDesk : DeskFault → Type 0
+MayCloseDesk Memory = Unit {0}
+MayCloseDesk (Register fault) = MayClose fault
+MayCloseDesk other = ⊥

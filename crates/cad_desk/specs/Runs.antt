@@ -1,5 +1,5 @@
 -- Runs of a desk, and what a connection sends and gets in them (own profile).
-use Rattle.std.specs.Prelude.{◌≡◌, ℕ, nat_eq, List, [], ◌∷◌, map, Result, Ok, Err, if◌then◌else◌}
+use Rattle.std.specs.Prelude.{◌≡◌, ℕ, nat_eq, List, [], ◌∷◌, map, Result, Ok, Err, if◌then◌else◌, IfErr}
 use Rattle.std.specs.List.{flat_map}
 use Rattle.cad_versions.specs.declared.command.Command.{Command}
 use Rattle.cad_stream.specs.declared.responder.Responder.{Ghosts}
@@ -14,6 +14,7 @@ use Rattle.cad_desk.specs.declared.fault.DeskFault.TheVariants.{UnknownConnectio
 use Rattle.cad_desk.specs.Connections.{Connections}
 use Rattle.cad_desk.specs.Events.{Rules, StepOf, commands_after}
 use Rattle.cad_desk.specs.Desks.{responder_of, Steps}
+use Rattle.cad_desk.specs.Faults.{MayCloseDesk}
 
 -- each event has its answer, one after the other, each with the commands in force then
 abbrev pub RunOf : Rules → List Command → Connections → List Event → List (Result Reply DeskFault) → Type 0
@@ -24,13 +25,13 @@ RunOf rules commands old (event ∷ events) (answer ∷ answers) =
     (new : Connections) × StepOf rules (λ Holds. Holds commands) old event answer new
     × RunOf rules (commands_after commands event answer) new events answers
 
--- the desk took these events, one after the other, answered so and may be asked again
+-- the desk took these events, one after the other, and answered so; after a refusal by what keeps the commands, or for want of memory, it may be asked again
 abbrev pub Takes : {R : Type 0} → Ghosts R → Desk R → List Event → List (Result Reply DeskFault) → Desk R → Type 0
 Takes g old [] [] new = new ≡ old
 Takes g old [] (answer ∷ answers) new = ⊥
 Takes g old (event ∷ events) [] new = ⊥
 Takes {R} g old (event ∷ events) (answer ∷ answers) new =
-    (mid : Desk R) × Steps g old event answer mid × g.lives (responder_of mid) × Takes g mid events answers new
+    (mid : Desk R) × Steps g old event answer mid × IfErr answer (λ fault. MayCloseDesk fault → g.lives (responder_of mid)) × Takes g mid events answers new
 
 -- a piece of a connection's bytes, and what went out for it
 abbrev pub Exchange : Type 0

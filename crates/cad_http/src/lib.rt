@@ -5,6 +5,7 @@
 //!   [`DeskFault`] why it is refused
 //! - [`serve`]: one connection, from a reader to a writer; [`Ending`] is how it ends, and [`ServeFault`] why it stops
 //! - [`listen`]: connections of a listener, one after the other
+//! - `laws`: what holds of any run of a desk over the server, and of the walks among its requests
 //!
 //! Of a register, which is a ledger in a database:
 //!
@@ -18,8 +19,10 @@
 //! ```
 //!
 //! Nothing stands here but names: what each promises is said where it is defined, in `cad_server`, `cad_desk`,
-//! `cad_serve` and `cad_listen`.
+//! `cad_serve`, `cad_listen` and `cad_walks`.
 #![tactic(auto)]
+
+pub mod laws;
 
 pub use cad_desk::{Desk, DeskFault, Event, Reply};
 pub use cad_listen::listen;

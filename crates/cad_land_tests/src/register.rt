@@ -352,3 +352,78 @@ fn is_made_where_none_stands(rt: HostRuntime) -> Result<(), Fail> {
     drop(other);
     Ok(())
 }
+
+/// What a listing of the sample tells after this change of the file, made behind the register's back.
+fn told_after(alloc: Global, change: &str) -> Result<Option<RegisterFault>, Fail> {
+    let connection = in_memory(alloc).ok_or("in memory")?;
+    let mut register = created(alloc, connection).ok_or("created")?;
+    fill(alloc, &mut register)?;
+    let mut connection = register.release();
+    if connection.execute_batch(change).is_err() {
+        return Err("changed")?;
+    }
+    let mut register = Register::open(alloc, connection).ok().ok_or("opened")?;
+    Ok(register.as_of(10).err())
+}
+
+// Shapes as bytes: their form, the number of corners, and each corner's x and y. The first is the triangle of object 3.
+const CHANGES: [(&str, Option<(i64, i64)>); 11] = [
+    (
+        "UPDATE version SET shape = X'01000300000000000000000000000000007530000000000000753000000000000075300000000000000000000000000000EA60' WHERE object = 3",
+        None,
+    ),
+    // Its edges cross: (0,0) (10,10) (10,0) (0,20).
+    (
+        "UPDATE version SET shape = X'01000400000000000000000000000000000000000000000000000A000000000000000A000000000000000A000000000000000000000000000000000000000000000014' WHERE object = 3",
+        Some((3, 1)),
+    ),
+    // It holds no area: (0,0) (10,10) (20,20).
+    (
+        "UPDATE version SET shape = X'01000300000000000000000000000000000000000000000000000A000000000000000A00000000000000140000000000000014' WHERE object = 3",
+        Some((3, 1)),
+    ),
+    (
+        "UPDATE version SET shape = X'' WHERE object = 3",
+        Some((3, 1)),
+    ),
+    (
+        "UPDATE version SET label = NULL WHERE object = 2",
+        Some((2, 1)),
+    ),
+    (
+        "UPDATE version SET class = 9 WHERE object = 10",
+        Some((10, 1)),
+    ),
+    (
+        "UPDATE version SET share_num = 3 WHERE object = 30",
+        Some((30, 1)),
+    ),
+    (
+        "UPDATE version SET required = 2 WHERE object = 31",
+        Some((31, 1)),
+    ),
+    (
+        "UPDATE version SET spot_x = 5 WHERE object = 4",
+        Some((4, 1)),
+    ),
+    (
+        "UPDATE version SET last = 0 WHERE object = 1 AND number = 1",
+        Some((1, 1)),
+    ),
+    // The first of two in the order of objects.
+    (
+        "UPDATE version SET name = '' WHERE object >= 10",
+        Some((10, 1)),
+    ),
+];
+
+#[test]
+fn a_damaged_row_is_named(rt: HostRuntime) -> Result<(), Fail> {
+    let alloc = rt.alloc();
+    for (change, row) in &CHANGES {
+        let told = told_after(alloc, change)?;
+        let named = row.map(|(object, number)| RegisterFault::Damaged { object, number });
+        assert_eq!(rt; told, named);
+    }
+    Ok(())
+}

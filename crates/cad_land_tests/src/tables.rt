@@ -108,7 +108,15 @@ fn amended<S: Alter>(conn: &mut Connection<S>, object: u32, revision: u32) -> bo
         entered: revision,
     };
     let closing = Closing { object, last: LAST };
-    write(conn, &Change::Amend(closing, unit), revision).is_ok()
+    write(
+        conn,
+        &Change::Amend {
+            closing,
+            line: unit,
+        },
+        revision,
+    )
+    .is_ok()
 }
 
 fn retired<S: Alter>(conn: &mut Connection<S>, object: u32, last: i32, revision: u32) -> bool {

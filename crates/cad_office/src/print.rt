@@ -64,7 +64,10 @@ fn print_refusal<W: Write>(writer: &mut W, fault: RegisterFault) -> Result<(), O
             let day = day.bytes();
             write_pieces(writer, &[refused, number, blank, name, blank, &day, end])
         }
-        RegisterFault::Damaged(object, version) => {
+        RegisterFault::Damaged {
+            object,
+            number: version,
+        } => {
             let mut left = Buffer::new();
             let mut right = Buffer::new();
             let object = left.format(object).as_bytes();

@@ -3,8 +3,7 @@
 //! - [`body`]: the page that a request asks for, of a snapshot of its revision
 //! - [`next_link`]: the target of the link to the page after it
 //! - [`feature_body`]: one feature
-//! - [`fault_body`]: why a query is refused
-//! - [`Ask`], [`Snapshot`], and the bodies that show no features (`landing_body` and its like): from the crates below
+//! - [`Ask`], [`fault_body`], [`Snapshot`], and the bodies that show no features (`landing_body` and its like): from the crates below
 //! - `laws`: that what asks the same is answered by the same page, and has the same answer
 //!
 //! Each body is compact text, with the members of each object in byte order of their names. What a body holds is said as
@@ -12,18 +11,17 @@
 //! `{"features":[],"links":[{"href":"/collections/parcels/items","rel":"self","type":"application/json"}],"numberReturned":0,"revision":0,"type":"FeatureCollection"}`.
 #![tactic(auto)]
 
-mod faults;
 mod features;
 pub mod laws;
 mod links;
 mod pages;
 mod questions;
 
-pub use cad_ask::{Ask, AskFault};
+pub use cad_ask::{Ask, AskFault, fault_body};
 pub use cad_bodies::{
     collection_body, collections_body, filter_fault_body, landing_body, queryables_body, word_body,
 };
 pub use cad_snapshot::Snapshot;
-pub use faults::fault_body;
+pub use cql_filter::Cause;
 pub use features::feature_body;
 pub use pages::{body, next_link};

@@ -13,13 +13,13 @@ use std::marker::Model;
 
 /// A version, the revision that entered it, and the one that closed it.
 #[derive(Debug, Drop)]
-pub(crate) struct KeptVersion {
+pub(crate) struct StoredVersion {
     version: Version,
     entered: u64,
     closed: Option<u64>,
 }
 
-impl Model for KeptVersion {
+impl Model for StoredVersion {
     ghost use Rattle.cad_versions.specs.VersionedObject.{IsVersion};
     ghost use Rattle.cad_versions.specs.Entries.{Entry};
 
@@ -30,7 +30,7 @@ impl Model for KeptVersion {
     ghost invariant = { λ kept. IsVersion kept.version };
 }
 
-impl KeptVersion {
+impl StoredVersion {
     /// An open version that this revision enters.
     pub(crate) fn new(
         object: ObjectId,
@@ -38,12 +38,12 @@ impl KeptVersion {
         first: Day,
         body: Body,
         revision: u64,
-    ) -> KeptVersion
+    ) -> StoredVersion
         requires positive { 1 ≤ number }
         requires small { number ≤ 2147483647 }
         ensures { result ≡ entered_at revision (begun object number first body) }
     {
-        KeptVersion {
+        StoredVersion {
             version: Version {
                 object,
                 number,

@@ -1,13 +1,13 @@
 //! The ledger.
 
-use crate::versions::KeptVersions;
+use crate::versions::StoredVersions;
 use cad_versions::{Command, Ledger, RegisterFault, Version};
 use std::alloc::Global;
 
 /// A ledger in memory. The only fault of its own is `Memory`.
 #[derive(Drop)]
 pub struct PlainLedger {
-    versions: KeptVersions,
+    versions: StoredVersions,
     revision: u64,
     alloc: Global,
 }
@@ -21,7 +21,7 @@ impl PlainLedger {
         ensures { IsLedgerOf result [] }
     {
         PlainLedger {
-            versions: KeptVersions::new(alloc),
+            versions: StoredVersions::new(alloc),
             revision: 0,
             alloc,
         }

@@ -9,7 +9,7 @@ ghost use Rattle.cad_versions.specs.Sorting.{sort_by};
 ghost use Rattle.cad_versions.specs.Identifiers.{by_identifier};
 ghost use Rattle.cad_plain.specs.Plain.{AreApart};
 
-use crate::kept::KeptVersion;
+use crate::kept::StoredVersion;
 use cad_versions::Version;
 use std::alloc::{AllocError, Global};
 
@@ -18,7 +18,7 @@ use std::alloc::{AllocError, Global};
 fn push_seen(
     alloc: Global,
     found: &mut Vec<Version>,
-    kept: &KeptVersion,
+    kept: &StoredVersion,
     revision: u64,
 ) -> Result<(), AllocError>
     ensures seen { OnOk result (found.new.items ≡
@@ -35,7 +35,7 @@ fn push_seen(
 /// The versions that a revision entered or one before it, as they stood at it.
 pub(crate) fn seen_at(
     alloc: Global,
-    kept: &[KeptVersion],
+    kept: &[StoredVersion],
     revision: u64,
 ) -> Result<Vec<Version>, AllocError>
     ensures seen { IfOk result (λ found. found.items ≡ map (seen revision) (entries_at revision kept.now)) }

@@ -5,13 +5,13 @@ ghost use Rattle.cad_versions.specs.Versions.{history};
 ghost use Rattle.cad_versions.specs.Refusals.{class_at, open_since, is_entered as entered, is_full as filled, refuses_body, refusal};
 ghost use Rattle.cad_versions.specs.Entries.{version_in};
 
-use crate::kept::KeptVersion;
+use crate::kept::StoredVersion;
 use cad_day::Day;
 use cad_versions::{Body, Class, Command, ObjectId, RegisterFault};
 
 const MOST_VERSIONS: usize = 2_147_483_647;
 
-fn class_of(kept: &[KeptVersion], object: ObjectId) -> Option<Class>
+fn class_of(kept: &[StoredVersion], object: ObjectId) -> Option<Class>
     ensures { result ≡ class_at (map version_in kept.now) object }
 {
     for version in kept {
@@ -22,7 +22,7 @@ fn class_of(kept: &[KeptVersion], object: ObjectId) -> Option<Class>
     None
 }
 
-fn opened_on(kept: &[KeptVersion], object: ObjectId) -> Option<Day>
+fn opened_on(kept: &[StoredVersion], object: ObjectId) -> Option<Day>
     ensures { result ≡ open_since (map version_in kept.now) object }
 {
     for version in kept {
@@ -34,7 +34,7 @@ fn opened_on(kept: &[KeptVersion], object: ObjectId) -> Option<Day>
 }
 
 /// How many versions of the object are kept.
-pub(crate) fn count_of(kept: &[KeptVersion], object: ObjectId) -> usize
+pub(crate) fn count_of(kept: &[StoredVersion], object: ObjectId) -> usize
     ensures counted { result ≡ length (history object (map version_in kept.now)) }
     ensures small { result ≤ length kept.now }
 {
@@ -47,7 +47,7 @@ pub(crate) fn count_of(kept: &[KeptVersion], object: ObjectId) -> usize
     count
 }
 
-fn is_entered(kept: &[KeptVersion], class: Class, object: Option<ObjectId>) -> bool
+fn is_entered(kept: &[StoredVersion], class: Class, object: Option<ObjectId>) -> bool
     ensures { result ≡ entered (map version_in kept.now) class object }
 {
     match object {
@@ -59,13 +59,13 @@ fn is_entered(kept: &[KeptVersion], class: Class, object: Option<ObjectId>) -> b
     }
 }
 
-fn is_full(kept: &[KeptVersion]) -> bool
+fn is_full(kept: &[StoredVersion]) -> bool
     ensures { result ≡ filled (map version_in kept.now) }
 {
     MOST_VERSIONS <= kept.len()
 }
 
-fn refusal_of_body(kept: &[KeptVersion], body: &Body) -> Option<RegisterFault>
+fn refusal_of_body(kept: &[StoredVersion], body: &Body) -> Option<RegisterFault>
     ensures { result ≡ refuses_body (map version_in kept.now) (Some body.now) }
 {
     if !is_entered(kept, Class::Unit, body.unit()) {
@@ -81,7 +81,7 @@ fn refusal_of_body(kept: &[KeptVersion], body: &Body) -> Option<RegisterFault>
 }
 
 /// Why the command is refused where these stand.
-pub(crate) fn refusal_of(kept: &[KeptVersion], command: &Command) -> Option<RegisterFault>
+pub(crate) fn refusal_of(kept: &[StoredVersion], command: &Command) -> Option<RegisterFault>
     ensures { result ≡ refusal (map version_in kept.now) command.now }
 {
     let object = command.object();

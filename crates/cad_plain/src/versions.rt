@@ -4,7 +4,7 @@ ghost use Rattle.std.specs.Prelude.{◌≡◌, map, None, MatchResult, IfOk};
 ghost use Rattle.cad_versions.specs.Refusals.{refusal};
 ghost use Rattle.cad_versions.specs.Entries.{version_in, entries_after, entries_at, seen_at as seen};
 
-use crate::kept::KeptVersion;
+use crate::kept::StoredVersion;
 use crate::showing::{in_order, seen_at};
 use crate::standing::refusal_of;
 use crate::writing::{amend, retire};
@@ -14,11 +14,11 @@ use std::marker::Model;
 
 /// Versions in the order of their entry. Those of each object are a history, and no more than there may be.
 #[derive(Debug, Drop)]
-pub(crate) struct KeptVersions {
-    kept: Vec<KeptVersion>,
+pub(crate) struct StoredVersions {
+    kept: Vec<StoredVersion>,
 }
 
-impl Model for KeptVersions {
+impl Model for StoredVersions {
     ghost use Rattle.std.specs.Prelude.{List};
     ghost use Rattle.cad_versions.specs.Entries.{Entry};
     ghost use Rattle.cad_plain.specs.Plain.{AreHistories};
@@ -30,7 +30,7 @@ impl Model for KeptVersions {
     ghost invariant = { λ versions. AreHistories versions.kept.items };
 }
 
-impl KeptVersions {
+impl StoredVersions {
     ghost use Rattle.std.specs.Prelude.{◌≡◌, [], map, None, MatchResult, IfOk};
     ghost use Rattle.cad_versions.specs.Refusals.{refusal};
     ghost use Rattle.cad_versions.specs.Entries.{version_in, entries_after, entries_at, seen_at as seen};
@@ -38,10 +38,10 @@ impl KeptVersions {
     ghost use Rattle.cad_versions.specs.Identifiers.{by_identifier};
     ghost use Rattle.cad_versions.specs.Listing.{IsListing};
 
-    pub(crate) fn new(alloc: Global) -> KeptVersions
+    pub(crate) fn new(alloc: Global) -> StoredVersions
         ensures { result ≡ [] }
     {
-        KeptVersions {
+        StoredVersions {
             kept: Vec::new(alloc),
         }
     }
@@ -66,7 +66,7 @@ impl KeptVersions {
                 body,
             } => {
                 self.kept
-                    .push(KeptVersion::new(object, 1, first, body, revision))?;
+                    .push(StoredVersion::new(object, 1, first, body, revision))?;
             }
             Command::Amend {
                 object,

@@ -7,14 +7,14 @@ ghost use Rattle.cad_versions.specs.Versions.{begun, history};
 ghost use Rattle.cad_versions.specs.Entries.{version_in, entered_at, close_entry, ClosesInTime};
 
 use crate::days::day_before;
-use crate::kept::KeptVersion;
+use crate::kept::StoredVersion;
 use crate::standing::count_of;
 use cad_day::Day;
 use cad_versions::{Body, ObjectId};
 use std::alloc::AllocError;
 
 /// Closes the open version of the object on the day, at this revision.
-fn close(kept: &mut [KeptVersion], object: ObjectId, day: Day, revision: u64)
+fn close(kept: &mut [StoredVersion], object: ObjectId, day: Day, revision: u64)
     requires { AllByRecursion (ClosesInTime object day) kept.now }
     ensures { kept.new ≡ map (close_entry object day revision) kept.old }
 {
@@ -24,7 +24,7 @@ fn close(kept: &mut [KeptVersion], object: ObjectId, day: Day, revision: u64)
 }
 
 /// Closes the open version of the object on its last day, at this revision.
-pub(crate) fn retire(kept: &mut Vec<KeptVersion>, object: ObjectId, last: Day, revision: u64)
+pub(crate) fn retire(kept: &mut Vec<StoredVersion>, object: ObjectId, last: Day, revision: u64)
     requires { AllByRecursion (ClosesInTime object last) kept.now.items }
     ensures { kept.new.items ≡ map (close_entry object last revision) kept.old.items }
 {
@@ -33,7 +33,7 @@ pub(crate) fn retire(kept: &mut Vec<KeptVersion>, object: ObjectId, last: Day, r
 
 /// Closes the open version of the object on the day before `first`, and begins the next one.
 pub(crate) fn amend(
-    kept: &mut Vec<KeptVersion>,
+    kept: &mut Vec<StoredVersion>,
     object: ObjectId,
     first: Day,
     body: Body,
@@ -49,6 +49,6 @@ pub(crate) fn amend(
     let number = count_of(kept, object) as u32 + 1;
     kept.reserve(1)?;
     close(kept, object, day_before(first), revision);
-    kept.push(KeptVersion::new(object, number, first, body, revision))?;
+    kept.push(StoredVersion::new(object, number, first, body, revision))?;
     Ok(())
 }

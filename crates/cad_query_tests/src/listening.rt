@@ -29,3 +29,20 @@ fn serves_a_client_that_waits(rt: HostRuntime) -> Result<(), Fail> {
     assert_eq!(rt; reply.as_slice(), REPLY.as_bytes());
     Ok(())
 }
+
+/// A connection that can't be taken is told of by a line, and the next one is waited for.
+#[test]
+fn tells_of_what_goes_wrong(rt: HostRuntime) -> Result<(), Fail> {
+    let alloc = rt.alloc();
+    let mut desk = sample_desk(alloc)?;
+    let listener = TcpListener::bind(&rt, "127.0.0.1:0")?;
+    listener.set_nonblocking(true)?;
+    let mut told = Vec::new(alloc);
+    let status = listen(alloc, &listener, &mut told, 2, &mut desk);
+    assert_eq!(rt; status, 1);
+    assert_eq!(rt;
+        told.as_slice(),
+        "serve: 1 Read\nserve: 1 Read\n".as_bytes()
+    );
+    Ok(())
+}

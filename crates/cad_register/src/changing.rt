@@ -83,7 +83,10 @@ pub(crate) fn change_of(
                 last: first.number() - 1,
             };
             let entry = begin(alloc, object, number, first, body, revision)?;
-            Ok(Change::Amend(closing, entry))
+            Ok(Change::Amend {
+                closing,
+                line: entry,
+            })
         }
         Command::Retire { object, last } => Ok(Change::Retire(Closing {
             object: object.number(),

@@ -27,7 +27,7 @@ fn damage(row: &Row) -> RegisterFault
     ensures { result ≡ damage_of row.now }
 {
     let (object, number) = identifier(row);
-    RegisterFault::Damaged(object, number)
+    RegisterFault::Damaged { object, number }
 }
 
 fn comes_after(before: Option<(i64, i64)>, here: (i64, i64)) -> bool

@@ -45,9 +45,10 @@ fn row_fault(object: ObjectId, row: &Row, fault: ReadFault) -> RegisterFault
     ensures { result ≡ fault_of_row object row.now fault }
 {
     match fault {
-        ReadFault::Damaged => {
-            RegisterFault::Damaged(i64::from(object.number()), number_or_zero(row, 0))
-        }
+        ReadFault::Damaged => RegisterFault::Damaged {
+            object: i64::from(object.number()),
+            number: number_or_zero(row, 0),
+        },
         ReadFault::Memory => RegisterFault::Memory,
     }
 }

@@ -1,7 +1,5 @@
 -- The bytes of a reply (RFC 9112, section 4: status line; section 5: field syntax; section 6: message body).
 use Rattle.std.specs.Prelude.{ℕ, List, [], ◌∷◌, ◌++◌, length, codes, decimal, Bool, if◌then◌else◌}
-use Rattle.cad_reply.specs.declared.failure.Failure.{Failure}
-use Rattle.cad_reply.specs.declared.failure.Failure.TheVariants.{Memory, Register}
 use Rattle.cad_reply.specs.declared.status.Status.{Status}
 use Rattle.cad_reply.specs.declared.status.Status.TheVariants as status
 
@@ -40,13 +38,3 @@ head_lines status ends length =
 -- a whole reply
 abbrev pub reply_text : Status → Bool → List ℕ → List ℕ
 reply_text status ends body = head_lines status ends (length body) ++ body
-
--- the lines of a reply without a body after which the connection ends
-abbrev pub failure_lines : List ℕ → List ℕ
-failure_lines status =
-    line (codes "HTTP/1.1 " ++ status) ++ line (codes "Content-Length: 0") ++ line (codes "Connection: close") ++ line []
-
--- the reply in the place of a request's own (RFC 9110, section 15.6: server error)
-abbrev pub failure_text : Failure → List ℕ
-failure_text Memory = failure_lines (codes "503 Service Unavailable")
-failure_text Register = failure_lines (codes "500 Internal Server Error")

@@ -2,7 +2,6 @@
 //!
 //! - `Status`: the statuses of replies with a body
 //! - `reply_bytes`: a whole reply
-//! - `Failure`: why a request has no reply of its own, and the fixed reply in its place, for which no memory is needed
 //! - `laws`: where a reply ends is told by the reply itself
 //!
 //! Of the status `Status::NotFound`, a connection that goes on, and the body `{"fault":"no-resource"}`
@@ -10,11 +9,9 @@
 //! and then the body.
 #![tactic(auto)]
 
-mod failure;
 pub mod laws;
 mod reply;
 mod status;
 
-pub use failure::Failure;
 pub use reply::reply_bytes;
 pub use status::Status;

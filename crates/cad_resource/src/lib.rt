@@ -8,7 +8,7 @@
 //! - `laws`: the checks one after the other, and paths written and read again
 //!
 //! Of the head `GET /collections/parcels/items/3.1?f=json HTTP/1.1`, with one Host field, `decide` answers
-//! `Resource::Item(Collection::Parcels, "3.1")` and the query `f=json`. With `POST` it answers `Check::Method`,
+//! `Resource::Item { collection: Collection::Parcels, identifier: "3.1" }` and the query `f=json`. With `POST` it answers `Check::Method`,
 //! with `/collections/lakes/items` `Check::NoCollection`, and without Host `Check::Host`, after which the connection
 //! ends.
 #![tactic(auto)]

@@ -24,7 +24,12 @@ pub enum Resource<'a> {
     /// `/collections/{c}/items`: the features of a collection.
     Items(Collection),
     /// `/collections/{c}/items/{id}`: one feature, by the text of its identifier, which may be none.
-    Item(Collection, &'a str),
+    Item {
+        /// The collection.
+        collection: Collection,
+        /// The text of the identifier.
+        identifier: &'a str,
+    },
 }
 
 /// The resource that a path of this route names, where its collection is known.
@@ -37,7 +42,10 @@ pub(crate) fn resource_at(route: Route, path: &str) -> Option<Resource<'_>>
         Route::Collection => Some(Resource::Collection(collection(path)?)),
         Route::Queryables => Some(Resource::Queryables(collection(path)?)),
         Route::Items => Some(Resource::Items(collection(path)?)),
-        Route::Item => Some(Resource::Item(collection(path)?, identifier_part(path))),
+        Route::Item => Some(Resource::Item {
+            collection: collection(path)?,
+            identifier: identifier_part(path),
+        }),
     }
 }
 

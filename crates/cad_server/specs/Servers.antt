@@ -3,6 +3,7 @@ use Rattle.std.specs.Prelude.{◌≡◌, ◌≤◌, ◌⊎◌, ℕ, List, length
 use Rattle.cad_versions.specs.declared.command.Command.{Command}
 use Rattle.cad_versions.specs.declared.fault.RegisterFault.{RegisterFault}
 use Rattle.cad_versions.specs.declared.fault.RegisterFault.TheVariants.{Store, Memory}
+use Rattle.cad_versions.specs.Keeping.{MayClose}
 use Rattle.cad_versions.specs.declared.ledger.Ledger.{Ghosts}
 use Rattle.cad_snapshot.specs.Snapshots.{RevisionFeatures}
 use Rattle.cad_wanted.specs.declared.request.Wanted.{Wanted}
@@ -42,7 +43,7 @@ module _ {L : Type 0} (g : Ghosts L) where
   pub record Reads {T : Type 0} (old : Records L) (result : Result T RegisterFault) (new : Records L) : Type 0 where
     pub store : g.counts (ledger_in new) → IfErr result (λ fault. fault ≡ Store → (revision : ℕ) × g.refuses_listing (ledger_in old) (ledger_in new) revision)
     pub kept : g.counts (ledger_in new) → OnOk result ((commands : List Command) → AreRecordsOf old commands → AreRecordsOf new commands)
-    pub unchanged : g.counts (ledger_in new) → g.lives (ledger_in new) → OnErr result ((commands : List Command) → AreRecordsOf old commands → AreRecordsOf new commands)
+    pub unchanged : g.counts (ledger_in new) → IfErr result (λ fault. MayClose fault → g.lives (ledger_in new)) → OnErr result ((commands : List Command) → AreRecordsOf old commands → AreRecordsOf new commands)
     pub clean : g.counts (ledger_in new) → g.counts (ledger_in old)
 
   -- what is kept of a revision tells what is sought; only the order of what is kept changes

@@ -3,6 +3,7 @@ use Rattle.std.specs.Prelude.{◌≡◌, ◌⊎◌, ℕ, List, Bool, Result, IfO
 use Rattle.cad_versions.specs.declared.command.Command.{Command}
 use Rattle.cad_versions.specs.declared.fault.RegisterFault.{RegisterFault}
 use Rattle.cad_versions.specs.declared.fault.RegisterFault.TheVariants.{Store, Memory}
+use Rattle.cad_versions.specs.Keeping.{MayClose}
 use Rattle.cad_request.specs.Request.{Request}
 use Rattle.cad_stream.specs.declared.answer.Answer.{Answer}
 
@@ -14,5 +15,5 @@ module _ {R : Type 0} (StandsFor : R → List Command → Type 0) (Counts Lives 
     pub cause : Counts new → IfErr result (λ fault. (commands : List Command) → StandsFor old commands → (fault ≡ Memory) ⊎ FailsToAnswer commands request fault)
     pub store : Counts new → IfErr result (λ fault. fault ≡ Store → Refuses old new request)
     pub kept : Counts new → OnOk result ((commands : List Command) → StandsFor old commands → StandsFor new commands)
-    pub unchanged : Counts new → Lives new → OnErr result ((commands : List Command) → StandsFor old commands → StandsFor new commands)
+    pub unchanged : Counts new → IfErr result (λ fault. MayClose fault → Lives new) → OnErr result ((commands : List Command) → StandsFor old commands → StandsFor new commands)
     pub clean : Counts new → Counts old

@@ -5,6 +5,7 @@ use Rattle.cad_head.specs.Heads.{Fits, IsHopeless, IsIncomplete}
 use Rattle.cad_versions.specs.declared.command.Command.{Command}
 use Rattle.cad_versions.specs.declared.fault.RegisterFault.{RegisterFault}
 use Rattle.cad_versions.specs.declared.fault.RegisterFault.TheVariants.{Store, Memory}
+use Rattle.cad_versions.specs.Keeping.{MayClose}
 use Rattle.cad_request.specs.Request.{Request, request_of}
 use Rattle.cad_stream.specs.declared.connection.Connection.{Connection}
 use Rattle.cad_stream.specs.declared.connection.Fed.{Fed}
@@ -32,7 +33,7 @@ module _ {R : Type 0} (g : Ghosts R) where
   -- a call stays with the commands, and what is answered counts if what is answered later does
   pub record Stays {T : Type 0} (old : R) (result : Result T RegisterFault) (new : R) : Type 0 where
     pub kept : g.counts new → OnOk result ((commands : List Command) → g.stands_for old commands → g.stands_for new commands)
-    pub unchanged : g.counts new → g.lives new → OnErr result ((commands : List Command) → g.stands_for old commands → g.stands_for new commands)
+    pub unchanged : g.counts new → IfErr result (λ fault. MayClose fault → g.lives new) → OnErr result ((commands : List Command) → g.stands_for old commands → g.stands_for new commands)
     pub store : g.counts new → IfErr result (λ fault. fault ≡ Store → (before : R) × (request : Request) × g.refuses_answer before new request)
     pub clean : g.counts new → g.counts old
 

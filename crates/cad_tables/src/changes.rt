@@ -13,7 +13,12 @@ pub enum Change<L> {
     /// The first version of an object is added.
     Enter(L),
     /// The open version is closed, and the next one is added.
-    Amend(Closing, L),
+    Amend {
+        /// Which version is closed, on which day.
+        closing: Closing,
+        /// The row of the next one.
+        line: L,
+    },
     /// The open version is closed.
     Retire(Closing),
 }

@@ -102,7 +102,7 @@ fn change_lines<S: Alter, L: Stored>(
 {
     match change {
         Change::Enter(line) => add_line(tx, line),
-        Change::Amend(closing, line) => {
+        Change::Amend { closing, line } => {
             close_line(tx, *closing, revision)?;
             add_line(tx, line)
         }

@@ -8,3 +8,9 @@ IsOfKeeping NotARegister = Unit {0}
 IsOfKeeping Store = Unit {0}
 IsOfKeeping Memory = Unit {0}
 IsOfKeeping other = ⊥
+
+-- what keeps a ledger may be closed after this fault: it refused, or memory was wanting
+abbrev pub MayClose : RegisterFault → Type 0
+MayClose Store = Unit {0}
+MayClose Memory = Unit {0}
+MayClose other = ⊥

@@ -4,6 +4,7 @@ use Rattle.std.specs.Global.{Global}
 use Rattle.cad_versions.specs.declared.command.Command.{Command}
 use Rattle.cad_versions.specs.declared.fault.RegisterFault.{RegisterFault}
 use Rattle.cad_versions.specs.declared.fault.RegisterFault.TheVariants.{Store, UnknownRevision}
+use Rattle.cad_versions.specs.Keeping.{MayClose}
 use Rattle.cad_versions.specs.VersionedObject.{VersionedObject}
 use Rattle.cad_versions.specs.Versions.{versions}
 use Rattle.cad_versions.specs.Refusals.{refusal}
@@ -16,7 +17,7 @@ module _ {L : Type 0} (StandsFor : L → List Command → Type 0) (Counts Lives 
     pub accepted : Counts new → IfOk result (λ revision. (commands : List Command) → StandsFor old commands → (refusal (versions commands) command ≡ None) × (revision ≡ length commands + 1) × StandsFor new (commands ++ command ∷ []))
     pub refused : Counts new → IfErr result (λ fault. (commands : List Command) → StandsFor old commands → (refusal (versions commands) command ≡ Some fault) ⊎ FailsToApply commands command fault)
     pub store : Counts new → result ≡ Err Store → (commands : List Command) → StandsFor old commands → Refuses old new command (length commands)
-    pub unchanged : Counts new → Lives new → OnErr result ((commands : List Command) → StandsFor old commands → StandsFor new commands)
+    pub unchanged : Counts new → IfErr result (λ fault. MayClose fault → Lives new) → OnErr result ((commands : List Command) → StandsFor old commands → StandsFor new commands)
     pub clean : Counts new → Counts old
 
   -- the versions of a revision that was made are shown, in the order of identifiers; a revision is not shown for its cause, or for one of what keeps the ledger; nothing changes
@@ -26,5 +27,5 @@ module _ {L : Type 0} (StandsFor : L → List Command → Type 0) (Counts Lives 
     pub cause : Counts new → IfErr result (λ fault. (commands : List Command) → StandsFor old commands → ((length commands < revision) × (fault ≡ UnknownRevision)) ⊎ ((revision ≤ length commands) × FailsToList revision commands fault))
     pub store : Counts new → result ≡ Err Store → Refuses old new revision
     pub kept : Counts new → OnOk result ((commands : List Command) → StandsFor old commands → StandsFor new commands)
-    pub unchanged : Counts new → Lives new → OnErr result ((commands : List Command) → StandsFor old commands → StandsFor new commands)
+    pub unchanged : Counts new → IfErr result (λ fault. MayClose fault → Lives new) → OnErr result ((commands : List Command) → StandsFor old commands → StandsFor new commands)
     pub clean : Counts new → Counts old

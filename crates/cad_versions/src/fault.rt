@@ -31,9 +31,14 @@ pub enum RegisterFault {
     /// As many versions stand as there may be, 2,147,483,647.
     #[error("there is no room for one version more")]
     Full,
-    /// The stored row of this object and number breaks a rule of its type.
+    /// A stored row breaks a rule of its type.
     #[error("a stored row is no version of the register")]
-    Damaged(i64, i64),
+    Damaged {
+        /// The object, as the row has it.
+        object: i64,
+        /// The number, as the row has it.
+        number: i64,
+    },
     /// The database is no register of this form.
     #[error("the database is no register of this form")]
     NotARegister,
@@ -82,7 +87,7 @@ impl RegisterFault {
             RegisterFault::Retired => (5, "Retired"),
             RegisterFault::UnknownReference => (6, "UnknownReference"),
             RegisterFault::Full => (7, "Full"),
-            RegisterFault::Damaged(_, _) => (8, "Damaged"),
+            RegisterFault::Damaged { .. } => (8, "Damaged"),
             RegisterFault::NotARegister => (9, "NotARegister"),
             RegisterFault::Store => (10, "Store"),
             RegisterFault::Memory => (11, "Memory"),

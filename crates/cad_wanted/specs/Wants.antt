@@ -3,14 +3,13 @@ use Rattle.std.specs.Prelude.{◌≡◌, ◌≢◌, ℕ, List, [], ◌∷◌, co
 use Rattle.std.specs.Bool.{MatchBool}
 use Rattle.serde_json.specs.Written.{compact_text}
 use Rattle.cad_feature.specs.declared.collection.Collection.{Collection}
-use Rattle.cql_filter.specs.Causes.{name_of}
 use Rattle.cad_query.specs.declared.identifier.Identifier.{Identifier}
 use Rattle.cad_query.specs.Identifiers.{identifier_named, numbers_of, Numbers}
 use Rattle.cad_query.specs.Pairs.{PairText, pairs_of}
 use Rattle.cad_ask.specs.declared.fault.AskFault.{AskFault}
-use Rattle.cad_ask.specs.declared.fault.AskFault.TheVariants as fault
 use Rattle.cad_ask.specs.Answers.{IsAsk, IsFirstFault}
-use Rattle.cad_bodies.specs.Faults.{word_data, filter_fault_data}
+use Rattle.cad_ask.specs.Bodies.{fault_data}
+use Rattle.cad_bodies.specs.Faults.{word_data}
 use Rattle.cad_bodies.specs.Offers.{landing_data, collection_data, collections_data}
 use Rattle.cad_bodies.specs.Queryables.{queryables_data}
 use Rattle.cad_reply.specs.declared.status.Status.{Status}
@@ -46,23 +45,9 @@ IsTellingOf P (wants.Told told) = P told
 IsTellingOf P (wants.Page ask) = ⊥
 IsTellingOf P (wants.Feature c i) = ⊥
 
--- the word of a query's fault
-abbrev pub fault_word : AskFault → List ℕ
-fault_word fault.Unknown = codes "unknown"
-fault_word fault.Repeated = codes "repeated"
-fault_word fault.Limit = codes "limit"
-fault_word fault.Datetime = codes "datetime"
-fault_word fault.Bbox = codes "bbox"
-fault_word fault.FilterLang = codes "filter-lang"
-fault_word (fault.Filter place cause) = codes "filter"
-fault_word fault.Revision = codes "revision"
-fault_word fault.After = codes "after"
-fault_word fault.Memory = codes "memory"
-
--- the body of a query's fault; that of a filter tells its cause and its place beside
+-- the body of a query's fault
 abbrev pub fault_text : AskFault → List ℕ
-fault_text (fault.Filter place cause) = compact_text (filter_fault_data (name_of cause) place)
-fault_text other = compact_text (word_data (fault_word other))
+fault_text fault = compact_text (fault_data fault)
 
 -- the page that the pairs ask for, or the refusal of their first fault
 abbrev pub IsPageWanted : Collection → List PairText → Wanted → Type 0

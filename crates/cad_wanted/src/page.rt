@@ -4,12 +4,11 @@ ghost use Rattle.std.specs.Prelude.{◌≡◌, ◌≢◌, IfOk, string_bytes};
 ghost use Rattle.cad_ask.specs.declared.fault.AskFault.TheVariants as ask_fault;
 ghost use Rattle.cad_query.specs.Pairs.{pairs_of};
 ghost use Rattle.cad_reply.specs.declared.status.Status.TheVariants.{BadRequest};
-ghost use Rattle.cad_wanted.specs.Wants.{fault_word as fault_word_of, fault_text, IsTold, IsPageWanted};
+ghost use Rattle.cad_wanted.specs.Wants.{fault_text, IsTold, IsPageWanted};
 
 use crate::request::Wanted;
-use crate::told::{Told, refusal};
-use cad_ask::{Ask, AskFault};
-use cad_bodies::filter_fault_body;
+use crate::told::Told;
+use cad_ask::{Ask, AskFault, fault_body};
 use cad_feature::Collection;
 use cad_reply::Status;
 use std::alloc::{AllocError, Global};
@@ -25,37 +24,17 @@ pub(crate) fn wanted_page(
     match Ask::read(alloc, collection, query) {
         Ok(ask) => Ok(Wanted::Page(ask)),
         Err(AskFault::Memory) => Err(AllocError),
-        Err(fault) => Ok(Wanted::Told(fault_told(alloc, fault)?)),
+        Err(fault) => Ok(Wanted::Told(fault_told(alloc, &fault)?)),
     }
 }
 
 /// The refusal of a query for its fault.
-fn fault_told(alloc: Global, fault: AskFault) -> Result<Told, AllocError>
-    ensures { IfOk result (IsTold BadRequest (fault_text fault)) }
+fn fault_told(alloc: Global, fault: &AskFault) -> Result<Told, AllocError>
+    ensures { IfOk result (IsTold BadRequest (fault_text fault.now)) }
 {
-    if let AskFault::Filter { place, cause } = fault {
-        let body = filter_fault_body(alloc, cause.name(), place)?;
-        return Ok(Told {
-            status: Status::BadRequest,
-            body,
-        });
-    }
-    refusal(alloc, Status::BadRequest, fault_word(fault))
-}
-
-fn fault_word(fault: AskFault) -> &'static str
-    ensures { result.now ≡ fault_word_of fault }
-{
-    match fault {
-        AskFault::Unknown => "unknown",
-        AskFault::Repeated => "repeated",
-        AskFault::Limit => "limit",
-        AskFault::Datetime => "datetime",
-        AskFault::Bbox => "bbox",
-        AskFault::FilterLang => "filter-lang",
-        AskFault::Filter { place: _, cause: _ } => "filter",
-        AskFault::Revision => "revision",
-        AskFault::After => "after",
-        AskFault::Memory => "memory",
-    }
+    let body = fault_body(alloc, fault)?;
+    Ok(Told {
+        status: Status::BadRequest,
+        body,
+    })
 }

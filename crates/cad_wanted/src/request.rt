@@ -61,6 +61,9 @@ fn wanted_at(alloc: Global, resource: Resource<'_>, query: &str) -> Result<Wante
             Ok(Wanted::Told(plain(alloc, query, body)?))
         }
         Resource::Items(collection) => wanted_page(alloc, collection, query),
-        Resource::Item(collection, text) => wanted_feature(alloc, collection, text, query),
+        Resource::Item {
+            collection,
+            identifier,
+        } => wanted_feature(alloc, collection, identifier, query),
     }
 }

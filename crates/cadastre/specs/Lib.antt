@@ -1,6 +1,4 @@
-pub mod Commands
-pub mod Serving
+pub mod Opening
 pub mod Asking
-pub mod Listening
-pub mod Outcomes
 pub mod Entering
+pub mod Listening

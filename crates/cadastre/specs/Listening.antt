@@ -1,57 +1,24 @@
--- Listening at an address, and how that ends a run (own profile).
-use Rattle.std.specs.Prelude.{◌≡◌, ◌⊎◌, ℕ, List, Option, Result, Ok, Err}
-use Rattle.std.specs.Io.KnownBytes.{Appends}
-use Rattle.std.specs.declared.net.socket_addr.SocketAddr.{SocketAddr}
-use Rattle.std.specs.Net.Grammar.{IsSocketText}
+-- Listening at an address over a database, and how that ends a run (own profile).
+use Rattle.std.specs.Prelude.{◌≡◌, ℕ, List, Option, Result, Ok, Err}
 use Rattle.sqlite_trees.specs.declared.store.Store as store
 use Rattle.sqlite.specs.Held.{Held}
 use Rattle.cad_versions.specs.declared.fault.RegisterFault.{RegisterFault}
-use Rattle.cad_versions.specs.declared.fault.RegisterFault.TheVariants as register
-use Rattle.cad_versions.specs.declared.ledger.Ledger as ledger
 use Rattle.cad_register.specs.declared.register.Register.{Register}
 use Rattle.cad_register.specs.Registers.{connection_of}
 use Rattle.cad_register.specs.Opening.{Opened}
-use Rattle.cad_stream.specs.declared.responder.Responder as responder
-use Rattle.cad_desk.specs.declared.desk.Desk.{Desk}
-use Rattle.cad_desk.specs.Desks.{responder_of}
-use Rattle.cad_serve.specs.declared.serve_fault.ServeFault.TheVariants.{Write}
-use Rattle.cad_serve.specs.Serving.{Writes}
-use Rattle.cad_server.specs.declared.server.Server.{Server}
-use Rattle.cad_server.specs.Servers.{ledger_of}
-use Rattle.cad_listen.specs.Arguments.{listening_line}
-use Rattle.cad_listen.specs.Listening.{Listens}
-use Rattle.cadastre.specs.declared.command.Service.{Service}
-use Rattle.cadastre.specs.declared.outcome.Outcome.{Outcome}
-use Rattle.cadastre.specs.declared.outcome.Outcome.TheVariants as outcome
-use Rattle.cadastre.specs.Serving.{answers_of, IsDeskOver}
+use Rattle.cad_run.specs.declared.command.Service.{Service}
+use Rattle.cad_run.specs.declared.outcome.Outcome.{Outcome}
+use Rattle.cad_run.specs.declared.outcome.Outcome.TheVariants as outcome
+use Rattle.cad_run.specs.Listening.{IsSilent, ListensOver}
 use Rattle.cadastre.specs.Asking.{register_as_ledger}
 
 -- what standard output and standard error hold before and after
 module _ (service : Service) (before after quiet told : Option (List ℕ)) where
-  -- nothing is written
-  abbrev pub IsSilent : Type 0
-  IsSilent = (after ≡ before) × (told ≡ quiet)
-
-  -- the address cannot be had, or not be told; or it is told, connections are taken there, and the run ends as listening does
-  abbrev pub EndsListening : {P : Type 0} → responder.Ghosts P → Desk P → Outcome → Desk P → Type 0
-  EndsListening g old outcome.Address new = (new ≡ old) × IsSilent
-  EndsListening g old (outcome.Serve fault) new = (fault ≡ Write) × (new ≡ old) × (told ≡ quiet)
-  EndsListening g old (outcome.Listened status) new =
-      (asked : SocketAddr) × (bound : SocketAddr) × IsSocketText service.address.now asked × Appends before after (listening_line bound)
-      × Writes quiet told (Listens g service.count old status new)
-  EndsListening g old other new = ⊥
-
-  -- there is no memory for a desk, and nothing is written; or its connections are served over the ledger, which is given back
-  abbrev pub ListensOver : {L : Type 0} → ledger.Ghosts L → L → Outcome × L → Type 0
-  ListensOver {L} g lent ended =
-      ((ended.0 ≡ outcome.Register register.Memory) × (ended.1 ≡ lent) × IsSilent)
-      ⊎ ((old : Desk (Server L)) × (new : Desk (Server L)) × IsDeskOver g lent old × EndsListening (answers_of g) old ended.0 new × (ended.1 ≡ ledger_of (responder_of new)))
-
   -- no register was found, and nothing is written; or connections are served over the one that was, and the database's connection is given back
   abbrev pub ServesFound : {S : Type 0} → store.Ghosts S → Result (Register S) (RegisterFault × Held S) → Outcome × Held S → Type 0
-  ServesFound g (Err refused) ended = (ended.0 ≡ outcome.Register refused.0) × (ended.1 ≡ refused.1) × IsSilent
+  ServesFound g (Err refused) ended = (ended.0 ≡ outcome.Register refused.0) × (ended.1 ≡ refused.1) × IsSilent service before after quiet told
   ServesFound {S} g (Ok register) ended =
-      (left : Register S) × ListensOver (register_as_ledger g) register (ended.0, left) × (ended.1 ≡ connection_of left)
+      (left : Register S) × ListensOver service before after quiet told (register_as_ledger g) register (ended.0, left) × (ended.1 ≡ connection_of left)
 
   -- listening over a database: its register is found before the address is looked at, and none is made
   abbrev pub RunsServe : {S : Type 0} → store.Ghosts S → Held S → Outcome × Held S → Type 0

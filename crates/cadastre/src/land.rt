@@ -1,17 +1,13 @@
 //! The land office, and the server, over a register file.
 
 ghost use Rattle.std.specs.Io.KnownBytes.{IsAtEnd};
-ghost use Rattle.cad_versions.specs.LedgerCalls.{Applies};
 ghost use Rattle.std.specs.Prelude.{◌≡◌};
-ghost use Rattle.cadastre.specs.Entering.{EndsOffice, RunsOffice};
+ghost use Rattle.cadastre.specs.Entering.{RunsOffice};
 ghost use Rattle.cadastre.specs.Asking.{RunsAsk};
-ghost use Rattle.cadastre.specs.Outcomes.{opening_fault};
+ghost use Rattle.cadastre.specs.Opening.{opening_fault};
 
-use crate::outcome::Outcome;
-use crate::serving::answer_over;
-use cad_office::office;
 use cad_register::{Register, RegisterFault};
-use cad_versions::Ledger;
+use cad_run::{Outcome, answer_over, enter_commands};
 use sqlite::{Alter, Connection, Error, ErrorCode, File, FileStore};
 use std::alloc::Global;
 use std::fs;
@@ -25,19 +21,6 @@ fn open_fault(error: Error) -> RegisterFault
         Error::SqliteFailure(ErrorCode::OutOfMemory) => RegisterFault::Memory,
         _ => RegisterFault::Store,
     }
-}
-
-/// Enters the commands of the lines into the ledger, prints the answers, and says how that ends a run.
-pub fn enter_commands<R: Read, W: Write, L: Ledger>(
-    alloc: Global,
-    reader: &mut R,
-    writer: &mut W,
-    ledger: &mut L,
-) -> Outcome
-    ensures { EndsOffice (Applies L.Ledger) (R.remaining reader.old) (R.remaining reader.new)
-        (W.contents writer.old) (W.contents writer.new) (IsAtEnd (R.remaining reader.new)) ledger.old result ledger.new }
-{
-    Outcome::of_office(office(alloc, reader, writer, ledger))
 }
 
 /// Enters the commands of the lines into the register of a database, which is made where none stands, and gives the connection back.

@@ -1,24 +1,18 @@
 //! The cadastre feature server.
 //!
-//! - `command`: what the arguments ask for
-//! - `serving`: one connection served over a ledger, as the sample register
-//! - `land`: the land office, and the server, over a register file
+//! - `land`: the land office, and one connection served, over a register file
 //! - `listening`: connections taken at an address, over a register file
-//! - `outcome`: how a run ended: its status, and the line that tells it
+//!
+//! What a command line asks for, the same work over any ledger, and how a run ends stand in `cad_run`.
 #![tactic(auto)]
 
-mod command;
 mod land;
 mod listening;
-mod outcome;
-mod serving;
 
 use cad_plain::PlainLedger;
-use command::{Command, read_words};
+use cad_run::{Command, Outcome, answer_sample, read_words, tell};
 use land::{run_ask, run_office};
 use listening::run_serve;
-use outcome::{Outcome, tell};
-use serving::answer_sample;
 use std::process::ExitCode;
 
 /// Serves standard input over the sample register, which lies in memory.
@@ -37,7 +31,7 @@ fn run(rt: &HostRuntime) -> Outcome {
     match Command::of_words(&words) {
         Some(Command::Sample) => run_sample(rt),
         Some(Command::Ask(file)) => run_ask(rt, file),
-        Some(Command::Serve(file, service)) => run_serve(rt, file, service),
+        Some(Command::Serve { file, service }) => run_serve(rt, file, service),
         Some(Command::Office(file)) => run_office(rt, file),
         None => Outcome::Usage,
     }

@@ -103,7 +103,7 @@ pub enum Tree {
         place: usize,
         corner: Corner,
     },
-    /// `POLYGON((x y, ..))`: its rings, the outer one first.
+    /// `POLYGON((x y, ..))`: its rings, of which the grammar writes one.
     Polygon {
         place: usize,
         rings: Vec<Ring>,

@@ -7,17 +7,26 @@ use Rattle.cad_feature.specs.Features.{Item}
 use Rattle.cql_types.specs.declared.filter.Filter.{Filter}
 use Rattle.cql_types.specs.declared.filter.Filter.TheVariants as filter
 use Rattle.cql_truth.specs.Nodes.{sides_Or}
-use Rattle.cql_truth.specs.Sides.{Sides, compared, conjunction, disjunction, sides}
+use Rattle.cql_truth.specs.Laws.{IsUndecidedByNull}
+use Rattle.cql_truth.specs.Sides.{Sides, told, conjunction, disjunction, sides}
+use Rattle.cql_truth.specs.Values.{both}
 
 pub list_any-map : {A B : Type 0} (p : B → Bool) (f : A → B) (xs : List A) → list_any p (map f xs) ≡ list_any (λ x. p (f x)) xs
 list_any-map p f [] = refl
 list_any-map p f (x ∷ xs) = ap (λ b. p (f x) || b) (list_any-map p f xs)
 
-pub null_decides_nothing : (test : ℤ → ℤ → Bool) (a b : Option ℤ) → (a ≡ None) ⊎ (b ≡ None) → ((compared test a b).yes ≡ false) × ((compared test a b).no ≡ false)
-null_decides_nothing test None b h = (refl, refl)
-null_decides_nothing test (Some a) None h = (refl, refl)
-null_decides_nothing test (Some a) (Some b) (inl e) = absurd cc
-null_decides_nothing test (Some a) (Some b) (inr e) = absurd cc
+-- nothing is said of two operands one of which has no value
+nothing_said : {A : Type 0} (test : A → A → Option Bool) (a b : Option A) → (a ≡ None) ⊎ (b ≡ None) → ((told (both test a b)).yes ≡ false) × ((told (both test a b)).no ≡ false)
+nothing_said test None b h = (refl, refl)
+nothing_said test (Some a) None h = (refl, refl)
+nothing_said test (Some a) (Some b) (inl e) = absurd cc
+nothing_said test (Some a) (Some b) (inr e) = absurd cc
+
+pub undecided : {T V : Type 0} (value : Item → T → Option V) (test : V → V → Option Bool) (made : T → T → Filter) →
+    ((x : Item) (a b : T) → sides x (made a b) ≡ told (both test (value x a) (value x b))) → IsUndecidedByNull value made
+undecided value test made says a b x h =
+    let nothing = nothing_said test (value x a) (value x b) h in
+    (ap (λ (s : Sides). s.yes) (says x a b) ∙ nothing.0, ap (λ (s : Sides). s.no) (says x a b) ∙ nothing.1)
 
 each_equal : {T : Type 0} (x : Item) (equal : T → Filter) (said : T → Sides) → ((b : T) → sides x (equal b) ≡ said b) → (items : List T) → map (sides x) (map equal items) ≡ map said items
 each_equal x equal said each [] = refl

@@ -1,4 +1,4 @@
--- The interval from one end to another, where it is not turned round (OGC 21-065r2, 6.5: INTERVAL; own profile: whole days).
+-- The interval from one end to another, where it is not turned round (OGC 21-065r2, requirements class Temporal Functions: INTERVAL; own profile: whole days).
 use Rattle.std.specs.Prelude.{◌≡◌, int_lt, Bool, true, false, Option, Some, None}
 use Rattle.std.proofs.Common.{refl, arith}
 use Rattle.std.proofs.lemmas.Int.{ints}

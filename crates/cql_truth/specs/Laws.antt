@@ -4,10 +4,12 @@ use Rattle.std.specs.List.{list_all, list_any}
 use Rattle.std.specs.declared.alloc.Global.{Global}
 use Rattle.cad_day.specs.declared.day.Day.{Day}
 use Rattle.cad_day.specs.declared.interval.Interval.{Interval}
+use Rattle.cad_day.specs.declared.relation.Relation.{Relation}
 use Rattle.cad_day.specs.Days.{IsTurned}
 use Rattle.cad_feature.specs.Features.{Item}
 use Rattle.cql_lexer.specs.declared.token.Comparison.{Comparison}
 use Rattle.cql_lexer.specs.declared.token.Comparison.TheVariants.{Equal, AtMost, AtLeast}
+use Rattle.cql_lexer.specs.declared.token.SpatialRelation.{SpatialRelation}
 use Rattle.cql_types.specs.Conditions.{condition_in}
 use Rattle.cql_types.specs.declared.filter.WholeTerm.{WholeTerm}
 use Rattle.cql_types.specs.declared.filter.TextTerm.{TextTerm}
@@ -19,6 +21,7 @@ use Rattle.cql_types.specs.declared.filter.Filter.TheVariants as filter
 use Rattle.cql_truth.specs.Arithmetic.{whole_value}
 use Rattle.cql_truth.specs.Intervals.{interval_of}
 use Rattle.cql_truth.specs.Sides.{sides, yes, no}
+use Rattle.cql_truth.specs.Values.{day_value, flag_value, shape_value, span_value, text_value}
 
 -- no filter is both true and false of a feature
 abbrev pub YesExcludesNo : Type 0
@@ -63,10 +66,21 @@ InIsSomeEqual =
     × (days : (a : DayTerm) → IsSomeEqual (filter.InDay a) (filter.CompareDay Equal a))
     × ((a : FlagTerm) → IsSomeEqual (filter.InFlag a) (filter.CompareFlag Equal a))
 
--- a comparison with an operand that has no value is neither true nor false
+-- where one of two operands has no value, the filter made of them is neither true nor false
+abbrev pub IsUndecidedByNull : {T V : Type 0} → (Item → T → Option V) → (T → T → Filter) → Type 0
+IsUndecidedByNull {T} value made = (a b : T) (x : Item) → (value x a ≡ None) ⊎ (value x b ≡ None) →
+    (yes (made a b) x ≡ false) × (no (made a b) x ≡ false)
+
+-- a comparison of any kind, LIKE, and an S_ or T_ function with an operand that has no value are neither true nor false
 abbrev pub NullDecidesNothing : Type 0
-NullDecidesNothing = (by : Comparison) (a b : WholeTerm) (x : Item) → (whole_value x a ≡ None) ⊎ (whole_value x b ≡ None) →
-    (yes (filter.CompareWhole by a b) x ≡ false) × (no (filter.CompareWhole by a b) x ≡ false)
+NullDecidesNothing =
+    (wholes : (by : Comparison) → IsUndecidedByNull whole_value (filter.CompareWhole by))
+    × (texts : (by : Comparison) → IsUndecidedByNull text_value (filter.CompareText by))
+    × (days : (by : Comparison) → IsUndecidedByNull day_value (filter.CompareDay by))
+    × (flags : (by : Comparison) → IsUndecidedByNull flag_value (filter.CompareFlag by))
+    × (likes : IsUndecidedByNull text_value filter.Like)
+    × (shapes : (by : SpatialRelation) → IsUndecidedByNull shape_value (filter.Spatial by))
+    × ((by : Relation) → IsUndecidedByNull span_value (filter.Temporal by))
 
 -- IS NULL is true or false of each feature
 abbrev pub IsNullDecides : Type 0

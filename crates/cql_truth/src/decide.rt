@@ -3,7 +3,7 @@
 ghost use Rattle.std.specs.Prelude.{◌≡◌, false, map, IfOk, IsOk};
 ghost use Rattle.cql_truth.specs.Folding.{folds_case, folds_term, some};
 ghost use Rattle.cql_truth.specs.Said.{said};
-ghost use Rattle.cql_truth.specs.Sides.{conjunction, disjunction, is_null as is_null_of, sides};
+ghost use Rattle.cql_truth.specs.Sides.{conjunction as conjunction_of, disjunction as disjunction_of, is_null as is_null_of, sides};
 
 use crate::flag::{compare_flags, flag, in_flags};
 use crate::shape::{shape, spatial};
@@ -77,14 +77,14 @@ pub fn truth(alloc: Global, filter: &Filter, feature: &Feature) -> Result<Truth,
             Ok(temporal(*by, span(left, feature), span(right, feature)))
         }
         Filter::Not(part) => Ok(negation(truth(alloc, part, feature)?)),
-        Filter::And(parts) => all_of(alloc, parts, feature),
-        Filter::Or(parts) => some_of(alloc, parts, feature),
+        Filter::And(parts) => conjunction(alloc, parts, feature),
+        Filter::Or(parts) => disjunction(alloc, parts, feature),
     }
 }
 
 #[cycle(truth)]
-fn all_of(alloc: Global, parts: &[Filter], feature: &Feature) -> Result<Truth, AllocError>
-    ensures said { IfOk result (λ t. said t ≡ conjunction (map (sides feature.now) parts.now)) }
+fn conjunction(alloc: Global, parts: &[Filter], feature: &Feature) -> Result<Truth, AllocError>
+    ensures said { IfOk result (λ t. said t ≡ conjunction_of (map (sides feature.now) parts.now)) }
     ensures answers { some (map folds_case parts.now) ≡ false → IsOk result }
 {
     let mut all = Truth::Yes;
@@ -95,8 +95,8 @@ fn all_of(alloc: Global, parts: &[Filter], feature: &Feature) -> Result<Truth, A
 }
 
 #[cycle(truth)]
-fn some_of(alloc: Global, parts: &[Filter], feature: &Feature) -> Result<Truth, AllocError>
-    ensures said { IfOk result (λ t. said t ≡ disjunction (map (sides feature.now) parts.now)) }
+fn disjunction(alloc: Global, parts: &[Filter], feature: &Feature) -> Result<Truth, AllocError>
+    ensures said { IfOk result (λ t. said t ≡ disjunction_of (map (sides feature.now) parts.now)) }
     ensures answers { some (map folds_case parts.now) ≡ false → IsOk result }
 {
     let mut some = Truth::No;

@@ -39,7 +39,7 @@ pub fn in_is_some_equal()
     ensures { InIsSomeEqual }
 {}
 
-/// A comparison with an operand that has no value is neither true nor false.
+/// A comparison of any kind, LIKE, and an S_ or T_ function with an operand that has no value are neither true nor false.
 pub fn null_decides_nothing()
     ensures { NullDecidesNothing }
 {}

@@ -52,7 +52,7 @@ use Rattle.cql_types.specs.Kinds.{Kind, is_whole, is_text, is_day, is_flag}
 use Rattle.cql_types.specs.Laws.{HasOneFilter}
 use Rattle.cql_types.specs.Literals.{AreRings, one_ring, no_ring, closed}
 use Rattle.cql_types.specs.Means as m
-use Rattle.cql_types.specs.Means.{kind_of, whole_of, text_of, pattern_of, day_of, flag_of, span_of, shape_of, any_of, condition_of, Are, no_term, one_term, AreSteps, property_node, IsLeaf, IsTurned, as_it_is, negated, Makes, IsEnd, open_text, day_text, day_name, Draws, Means, Mean, leaf_means, node_means, literal_means, no_more, one_more}
+use Rattle.cql_types.specs.Means.{kind_of, whole_of, text_of, pattern_of, day_of, flag_of, span_of, shape_of, any_of, condition_of, Are, no_term, one_term, AreSteps, property_node, IsLeaf, IsNegatedIf, as_it_is, negated, Makes, IsEnd, open_text, day_text, day_name, Draws, Means, Mean, leaf_means, node_means, literal_means, no_more, one_more}
 use Rattle.cql_types.proofs.LiteralLemmas.{numbers_once, point_same, coordinates_once, closed_parts}
 use Rattle.cql_types.proofs.Terms.{is_true}
 
@@ -302,12 +302,12 @@ steps_alike (more_alike {i} {j} e r) (m.one_step b f fs) (m.one_step d g gs) =
 
 -- ---- what is made of them
 
-same_turned : {f g h k : Filter} {b : Bool} → condition_in f ≡ condition_in g → IsTurned f b h → IsTurned g b k → condition_in h ≡ condition_in k
+same_turned : {f g h k : Filter} {b : Bool} → condition_in f ≡ condition_in g → IsNegatedIf f b h → IsNegatedIf g b k → condition_in h ≡ condition_in k
 same_turned e as_it_is as_it_is = e
 same_turned e (negated x is) (negated y is_other) =
     in_not x ∙ (ap c.negation (ap condition_in is ∙ (e ∙ sym (ap condition_in is_other))) ∙ sym (in_not y))
 
-turned_alike : {f g h k : Filter} {b : Bool} → condition_in f ≡ condition_in g → IsTurned f b h → IsTurned g b k → Matches (n.Condition h) (n.Condition k)
+turned_alike : {f g h k : Filter} {b : Bool} → condition_in f ≡ condition_in g → IsNegatedIf f b h → IsNegatedIf g b k → Matches (n.Condition h) (n.Condition k)
 turned_alike e t u = same_condition (same_turned e t u)
 
 computed_alike : {x y : Box WholeTerm Global} (s t : Vec Step Global) → numeric x.value ≡ numeric y.value → map operation_in s.items ≡ map operation_in t.items →

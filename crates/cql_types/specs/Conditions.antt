@@ -1,4 +1,4 @@
--- A filter without where it lies in memory (OGC 21-065r2, 6: the expressions of CQL2).
+-- A filter without where it lies in memory (OGC 21-065r2, requirements class Basic CQL2).
 use Rattle.std.specs.Prelude.{ℕ, ℤ, Bool, List, [], ◌∷◌, map, string_bytes}
 use Rattle.cad_day.specs.declared.relation.Relation.{Relation}
 use Rattle.cql_lexer.specs.declared.token.Comparison.{Comparison}

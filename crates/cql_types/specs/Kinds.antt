@@ -1,4 +1,4 @@
--- The kinds of trees, and what is wrong in one (OGC 21-065r2, 6: data types of operands; the kinds of each function: own profile).
+-- The kinds of trees, and what is wrong in one (OGC 21-065r2, requirements class Basic CQL2: data types of operands; the kinds of each function: own profile).
 use Rattle.std.specs.Prelude.{◌≡◌, ℕ, ℤ, Bool, true, false, List, [], ◌∷◌, codes, Option, Some, None, Result, Ok, Err, if◌then◌else◌, ◌≤◌}
 use Rattle.std.specs.Str.{bytes_eq}
 use Rattle.cad_day.specs.DayTexts.{day_named}

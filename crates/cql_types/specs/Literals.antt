@@ -1,4 +1,4 @@
--- What the numbers and the texts of a literal are those of (OGC 21-065r2, 6.4: spatial literals, 6.5: INTERVAL; the limits: own profile).
+-- What the numbers and the texts of a literal are those of (OGC 21-065r2, requirements classes Basic Spatial Functions: spatial literals, and Temporal Functions: INTERVAL; the limits: own profile).
 use Rattle.std.specs.Prelude.{◌≡◌, ℕ, ℤ, int_lt, ◌<ℤ◌, Bool, false, List, [], ◌∷◌, ◌++◌, Option, Some, None, Ok}
 use Rattle.cad_day.specs.DayTexts.{day_named}
 use Rattle.cad_shape.specs.declared.point.Point.{Point}

@@ -166,9 +166,9 @@ pub data AreSteps : List Operation → List Judged → List Step → Type 0 wher
       step.by ≡ b → whole_of j.node ≡ Some step.term → AreSteps bs js steps → AreSteps (b ∷ bs) (j ∷ js) (step ∷ steps)
 
 -- a filter, or its negation
-pub data IsTurned (f : Filter) : Bool → Filter → Type 0 where
-  as_it_is : IsTurned f false f
-  negated : (b : Box Filter Global) → b.value ≡ f → IsTurned f true (filter.Not b)
+pub data IsNegatedIf (f : Filter) : Bool → Filter → Type 0 where
+  as_it_is : IsNegatedIf f false f
+  negated : (b : Box Filter Global) → b.value ≡ f → IsNegatedIf f true (filter.Not b)
 
 -- what a node is, by what its parts are: a rule a row of the table
 pub data Makes : Op → List Judged → Node → Type 0 where
@@ -180,19 +180,19 @@ pub data Makes : Op → List Judged → Node → Type 0 where
   compare_day : {c : Comparison} {i j : Judged} {x y : DayTerm} → day_of i.node ≡ Some x → day_of j.node ≡ Some y → Makes (compare_op c) (i ∷ j ∷ []) (n.Condition (filter.CompareDay c x y))
   compare_flag : {c : Comparison} {i j : Judged} {x y : FlagTerm} → is_equality c ≡ true → flag_of i.node ≡ Some x → flag_of j.node ≡ Some y → Makes (compare_op c) (i ∷ j ∷ []) (n.Condition (filter.CompareFlag c x y))
   like : {is_negated : Bool} {i j : Judged} {x y : TextTerm} {f : Filter} → text_of i.node ≡ Some x → pattern_of j.node ≡ Some y →
-      IsTurned (filter.Like x y) is_negated f → Makes (like_op is_negated) (i ∷ j ∷ []) (n.Condition f)
+      IsNegatedIf (filter.Like x y) is_negated f → Makes (like_op is_negated) (i ∷ j ∷ []) (n.Condition f)
   between : {is_negated : Bool} {i j k : Judged} {x y z : WholeTerm} {f : Filter} → whole_of i.node ≡ Some x → whole_of j.node ≡ Some y → whole_of k.node ≡ Some z →
-      IsTurned (filter.Between x y z) is_negated f → Makes (between_op is_negated) (i ∷ j ∷ k ∷ []) (n.Condition f)
+      IsNegatedIf (filter.Between x y z) is_negated f → Makes (between_op is_negated) (i ∷ j ∷ k ∷ []) (n.Condition f)
   in_whole : {is_negated : Bool} {i : Judged} {js : List Judged} {x : WholeTerm} {f : Filter} (xs : Vec WholeTerm Global) → whole_of i.node ≡ Some x → Are whole_of js xs.items →
-      IsTurned (filter.InWhole x xs) is_negated f → Makes (in_op is_negated) (i ∷ js) (n.Condition f)
+      IsNegatedIf (filter.InWhole x xs) is_negated f → Makes (in_op is_negated) (i ∷ js) (n.Condition f)
   in_text : {is_negated : Bool} {i : Judged} {js : List Judged} {x : TextTerm} {f : Filter} (xs : Vec TextTerm Global) → text_of i.node ≡ Some x → Are text_of js xs.items →
-      IsTurned (filter.InText x xs) is_negated f → Makes (in_op is_negated) (i ∷ js) (n.Condition f)
+      IsNegatedIf (filter.InText x xs) is_negated f → Makes (in_op is_negated) (i ∷ js) (n.Condition f)
   in_day : {is_negated : Bool} {i : Judged} {js : List Judged} {x : DayTerm} {f : Filter} (xs : Vec DayTerm Global) → day_of i.node ≡ Some x → Are day_of js xs.items →
-      IsTurned (filter.InDay x xs) is_negated f → Makes (in_op is_negated) (i ∷ js) (n.Condition f)
+      IsNegatedIf (filter.InDay x xs) is_negated f → Makes (in_op is_negated) (i ∷ js) (n.Condition f)
   in_flag : {is_negated : Bool} {i : Judged} {js : List Judged} {x : FlagTerm} {f : Filter} (xs : Vec FlagTerm Global) → flag_of i.node ≡ Some x → Are flag_of js xs.items →
-      IsTurned (filter.InFlag x xs) is_negated f → Makes (in_op is_negated) (i ∷ js) (n.Condition f)
+      IsNegatedIf (filter.InFlag x xs) is_negated f → Makes (in_op is_negated) (i ∷ js) (n.Condition f)
   is_null : {is_negated : Bool} {j : Judged} {x : AnyTerm} {f : Filter} → any_of j.node ≡ Some x →
-      IsTurned (filter.IsNull x) is_negated f → Makes (is_null_op is_negated) (j ∷ []) (n.Condition f)
+      IsNegatedIf (filter.IsNull x) is_negated f → Makes (is_null_op is_negated) (j ∷ []) (n.Condition f)
   sum : {signs : List Addition} {j : Judged} {js : List Judged} (first : Box WholeTerm Global) (steps : Vec Step Global) → whole_of j.node ≡ Some first.value →
       AreSteps (map added_by signs) js steps.items → Makes (sum_op signs) (j ∷ js) (n.Whole (whole.Computed first steps))
   product : {signs : List Multiplication} {j : Judged} {js : List Judged} (first : Box WholeTerm Global) (steps : Vec Step Global) → whole_of j.node ≡ Some first.value →

@@ -1,4 +1,4 @@
--- Numbers as they are written (OGC 21-065r2, 6.2: numeric literals; whole numbers of 64 bits alone: own profile).
+-- Numbers as they are written (OGC 21-065r2, requirements class Basic CQL2: numeric literals; whole numbers of 64 bits alone: own profile).
 use Rattle.std.specs.Prelude.{ℕ, ℤ, pos, neg_ℤ, int_lt, not, ◌==◌, ◌&&◌, Bool, if◌then◌else◌, List, Result, Ok, Err}
 use Rattle.std.specs.Char.{is_ascii_digit}
 use Rattle.std.specs.List.{list_all, before_first, after_first}

@@ -6,7 +6,7 @@ ghost use Rattle.cql_parser.specs.declared.tree.Addition.{Addition};
 ghost use Rattle.cql_parser.specs.declared.tree.Multiplication.{Multiplication};
 ghost use Rattle.cql_types.specs.Kinds as kinds;
 ghost use Rattle.cql_types.specs.Kinds.{is_equality, is_related};
-ghost use Rattle.cql_types.specs.Means.{kind_of, IsTurned, added_by, multiplied_by};
+ghost use Rattle.cql_types.specs.Means.{kind_of, IsNegatedIf, added_by, multiplied_by};
 ghost use Rattle.cql_types.specs.Contract.{Combines, CombinesFlags, CombinesTexts, parts_judged, operations_of};
 ghost use Rattle.cql_types.specs.declared.judged.Node.TheVariants as n;
 
@@ -28,8 +28,8 @@ fn condition(place: usize, filter: Filter) -> Judged
 }
 
 // The filter, or its negation where a NOT stands in the node.
-fn turned(alloc: Global, is_negated: bool, filter: Filter) -> Result<Filter, AllocError>
-    ensures { IfOk result (IsTurned filter is_negated) }
+fn negated_if(alloc: Global, is_negated: bool, filter: Filter) -> Result<Filter, AllocError>
+    ensures { IfOk result (IsNegatedIf filter is_negated) }
 {
     if is_negated {
         Ok(Filter::Not(Box::new(alloc, filter)?))
@@ -135,7 +135,7 @@ pub fn like(
     match node {
         Node::Pattern(pattern) => {
             let value = Box::into_inner(value);
-            let filter = turned(alloc, is_negated, Filter::Like { value, pattern })?;
+            let filter = negated_if(alloc, is_negated, Filter::Like { value, pattern })?;
             Ok(condition(place, filter))
         }
         _ => Err(wrong_kind(second)),
@@ -156,7 +156,7 @@ pub fn between(
     let value: WholeTerm = one(value)?;
     let low: WholeTerm = one(low)?;
     let high: WholeTerm = one(high)?;
-    let filter = turned(alloc, is_negated, Filter::Between { value, low, high })?;
+    let filter = negated_if(alloc, is_negated, Filter::Between { value, low, high })?;
     Ok(condition(place, filter))
 }
 
@@ -174,33 +174,33 @@ pub fn is_in(
     match node {
         Node::Whole(value) => {
             let items = gather(alloc, first, others)?;
-            let filter = turned(alloc, is_negated, Filter::InWhole { value, items })?;
+            let filter = negated_if(alloc, is_negated, Filter::InWhole { value, items })?;
             Ok(condition(place, filter))
         }
         Node::Text(value) => {
             let items = gather(alloc, first, others)?;
-            let filter = turned(alloc, is_negated, Filter::InText { value, items })?;
+            let filter = negated_if(alloc, is_negated, Filter::InText { value, items })?;
             Ok(condition(place, filter))
         }
         Node::Pattern(value) => {
             let items = gather(alloc, first, others)?;
-            let filter = turned(alloc, is_negated, Filter::InText { value, items })?;
+            let filter = negated_if(alloc, is_negated, Filter::InText { value, items })?;
             Ok(condition(place, filter))
         }
         Node::Day(value) => {
             let items = gather(alloc, first, others)?;
-            let filter = turned(alloc, is_negated, Filter::InDay { value, items })?;
+            let filter = negated_if(alloc, is_negated, Filter::InDay { value, items })?;
             Ok(condition(place, filter))
         }
         Node::Flag(value) => {
             let items = gather(alloc, first, others)?;
-            let filter = turned(alloc, is_negated, Filter::InFlag { value, items })?;
+            let filter = negated_if(alloc, is_negated, Filter::InFlag { value, items })?;
             Ok(condition(place, filter))
         }
         Node::Truth(value) => {
             let value = FlagTerm::Constant(value);
             let items = gather(alloc, first, others)?;
-            let filter = turned(alloc, is_negated, Filter::InFlag { value, items })?;
+            let filter = negated_if(alloc, is_negated, Filter::InFlag { value, items })?;
             Ok(condition(place, filter))
         }
         _ => Err(wrong_kind(place)),
@@ -213,7 +213,7 @@ pub fn is_null(alloc: Global, is_negated: bool, value: Judged) -> Result<Judged,
 {
     let place = value.place;
     let value: AnyTerm = one(value)?;
-    let filter = turned(alloc, is_negated, Filter::IsNull(value))?;
+    let filter = negated_if(alloc, is_negated, Filter::IsNull(value))?;
     Ok(condition(place, filter))
 }
 

@@ -17,18 +17,18 @@ truth-returns-in-InDay-clause-said t c = rw (c.in-InDay.is, sides_InDay, ← c.d
 pub truth-returns-in-InFlag-clause-said : goal.truth-returns-in-InFlag-clause-said
 truth-returns-in-InFlag-clause-said t c = rw (c.in-InFlag.is, sides_InFlag, ← c.flag-in-InFlag.ensures, ← c.deref-in-InFlag.ensures.value) c.in_flags.ensures
 
-pub all_of-returns-in_err-truth-clause-answers : goal.all_of-returns-in_err-truth-clause-answers
-all_of-returns-in_err-truth-clause-answers t c =
+pub conjunction-returns-in_err-truth-clause-answers : goal.conjunction-returns-in_err-truth-clause-answers
+conjunction-returns-in_err-truth-clause-answers t c =
     λ h. absurd (false≢true (c.in_err-truth.ensures.answers (no_part_folds c.args.parts.now c.loop-part.part-index c.part-item.result h c.loop-part-test.true c.part-item.is)))
 
-pub all_of-loop-part-preserved : goal.all_of-loop-part-preserved
-all_of-loop-part-preserved t c =
+pub conjunction-loop-part-preserved : goal.conjunction-loop-part-preserved
+conjunction-loop-part-preserved t c =
     and_more c.args.feature.now (said c.loop-part.all) _ (said c.and-all.result) c.part-item.result c.args.parts.now c.loop-part.part-index c.loop-part.invariant c.loop-part-test.true c.part-item.is c.in_ok-truth.ensures.said c.and-all.ensures
 
-pub some_of-returns-in_err-truth-clause-answers : goal.some_of-returns-in_err-truth-clause-answers
-some_of-returns-in_err-truth-clause-answers t c =
+pub disjunction-returns-in_err-truth-clause-answers : goal.disjunction-returns-in_err-truth-clause-answers
+disjunction-returns-in_err-truth-clause-answers t c =
     λ h. absurd (false≢true (c.in_err-truth.ensures.answers (no_part_folds c.args.parts.now c.loop-part.part-index c.part-item.result h c.loop-part-test.true c.part-item.is)))
 
-pub some_of-loop-part-preserved : goal.some_of-loop-part-preserved
-some_of-loop-part-preserved t c =
+pub disjunction-loop-part-preserved : goal.disjunction-loop-part-preserved
+disjunction-loop-part-preserved t c =
     or_more c.args.feature.now (said c.loop-part.some) _ (said c.or-some.result) c.part-item.result c.args.parts.now c.loop-part.part-index c.loop-part.invariant c.loop-part-test.true c.part-item.is c.in_ok-truth.ensures.said c.or-some.ensures

@@ -1,0 +1,14 @@
+use Rattle.std.proofs.Common.{ap, ◌∙◌, inr}
+use Rattle.cad_server.specs.Servers.{ledger_of}
+use Rattle.cad_run.proofs.DeskLemmas.{desk_over}
+use Rattle.cad_run.proofs.serving.answer_over.Goals as goal
+
+pub returns-in-Ok : goal.returns-in-Ok
+returns-in-Ok g c =
+    inr (
+      c.new-desk.result,
+      c.serve_one-outcome.new.desk,
+      desk_over g.L.Ledger c.args.ledger c.in-Ok.server c.new-desk.result c.in-Ok.ensures.made c.in-Ok.ensures.same c.new-desk.ensures.responder c.new-desk.ensures.empty,
+      c.serve_one-outcome.ensures,
+      c.release-in-Ok.ensures ∙ ap ledger_of c.release.ensures,
+    )

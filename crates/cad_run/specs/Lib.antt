@@ -1,0 +1,5 @@
+pub mod Commands
+pub mod Outcomes
+pub mod Serving
+pub mod Listening
+pub mod Entering

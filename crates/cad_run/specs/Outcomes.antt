@@ -1,0 +1,57 @@
+-- How runs end (exit statuses: own profile).
+use Rattle.std.specs.Prelude.{ℕ, Bool, true, false, List, codes, Option, Some, None, Result, Ok, Err}
+use Rattle.cad_desk.specs.declared.fault.DeskFault.TheVariants as desk
+use Rattle.cad_desk.specs.Faults.{desk_fault_number, desk_fault_name}
+use Rattle.cad_serve.specs.declared.ending.Ending.{Ending}
+use Rattle.cad_serve.specs.declared.ending.Ending.TheVariants.{PeerEnded, WeEnded, Refused}
+use Rattle.cad_serve.specs.declared.serve_fault.ServeFault.{ServeFault}
+use Rattle.cad_serve.specs.Faults.{serve_fault_number, serve_fault_name}
+use Rattle.cad_office.specs.declared.fault.OfficeFault.{OfficeFault}
+use Rattle.cad_office.specs.declared.fault.OfficeFault.TheVariants as office
+use Rattle.cad_office.specs.OfficeFaults.{fault_number as office_fault_number, fault_name as office_fault_name}
+use Rattle.cad_versions.specs.declared.fault.RegisterFault.{RegisterFault}
+use Rattle.cad_versions.specs.declared.fault.RegisterFault.TheVariants as register
+use Rattle.cad_versions.specs.Fault.{fault_number as register_fault_number, fault_name as register_fault_name}
+use Rattle.cad_run.specs.declared.outcome.Outcome.{Outcome}
+use Rattle.cad_run.specs.declared.outcome.Outcome.TheVariants as outcome
+
+-- the status of the process
+abbrev pub status_of : Outcome → ℕ
+status_of outcome.Good = 0
+status_of outcome.Refused = 1
+status_of (outcome.Serve fault) = 1
+status_of (outcome.Office fault) = 1
+status_of (outcome.Desk fault) = 1
+status_of (outcome.Listened status) = status
+status_of outcome.Usage = 2
+status_of (outcome.Register fault) = 3
+status_of outcome.Address = 4
+
+-- what failed, and its fault's number and name, as the line on standard error tells them
+abbrev pub fault_of : Outcome → Option (List ℕ × ℕ × List ℕ)
+fault_of outcome.Good = None
+fault_of outcome.Refused = None
+fault_of (outcome.Listened status) = None
+fault_of outcome.Usage = None
+fault_of outcome.Address = None
+fault_of (outcome.Serve fault) = Some (codes "serve", serve_fault_number fault, serve_fault_name fault)
+fault_of (outcome.Office fault) = Some (codes "serve", office_fault_number fault, office_fault_name fault)
+fault_of (outcome.Desk fault) = Some (codes "desk", desk_fault_number fault, desk_fault_name fault)
+fault_of (outcome.Register fault) = Some (codes "register", register_fault_number fault, register_fault_name fault)
+
+-- how serving one connection ends a run; what the database refuses is the register's fault
+abbrev pub outcome_of : Result Ending ServeFault → Outcome
+outcome_of (Ok PeerEnded) = outcome.Good
+outcome_of (Ok WeEnded) = outcome.Good
+outcome_of (Ok (Refused (desk.Register register.Store))) = outcome.Register register.Store
+outcome_of (Ok (Refused fault)) = outcome.Desk fault
+outcome_of (Err fault) = outcome.Serve fault
+
+-- how the office ends a run
+abbrev pub office_outcome_of : Result Bool OfficeFault → Outcome
+office_outcome_of (Ok true) = outcome.Good
+office_outcome_of (Ok false) = outcome.Refused
+office_outcome_of (Err office.Read) = outcome.Office office.Read
+office_outcome_of (Err office.Write) = outcome.Office office.Write
+office_outcome_of (Err office.TurnsSpent) = outcome.Office office.TurnsSpent
+office_outcome_of (Err office.Register) = outcome.Register register.Store

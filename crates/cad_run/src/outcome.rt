@@ -1,0 +1,118 @@
+//! How a run ended: its status, and the line that tells it.
+
+use cad_desk::DeskFault;
+use cad_office::OfficeFault;
+use cad_serve::{Ending, ServeFault};
+use cad_versions::RegisterFault;
+
+/// How a run ended.
+#[derive(Clone, Copy, Debug, PartialEq, Eq)]
+pub enum Outcome {
+    /// All went well.
+    Good,
+    /// A line of the office was refused.
+    Refused,
+    /// Reading or writing failed.
+    Serve(ServeFault),
+    /// Reading or writing failed in the office, or there were too many reads.
+    Office(OfficeFault),
+    /// The connection was refused.
+    Desk(DeskFault),
+    /// There was no register or no desk over it, or its database refused what it was asked.
+    Register(RegisterFault),
+    /// The program listened, and this is its status. What went wrong was told.
+    Listened(u8),
+    /// The arguments are wrong.
+    Usage,
+    /// The address cannot be read or bound.
+    Address,
+}
+
+impl Outcome {
+    ghost use Rattle.std.specs.Prelude.{◌≡◌, option_map};
+    ghost use Rattle.cad_run.specs.Outcomes.{fault_of, office_outcome_of, outcome_of, status_of};
+
+    /// How serving one connection ends a run. What the database refuses is told as the register's fault.
+    pub fn of_serving(served: Result<Ending, ServeFault>) -> Outcome
+        ensures { result ≡ outcome_of served }
+    {
+        match served {
+            Ok(Ending::PeerEnded | Ending::WeEnded) => Outcome::Good,
+            Ok(Ending::Refused(DeskFault::Register(RegisterFault::Store))) => Outcome::Register(
+                RegisterFault::Store,
+            ),
+            Ok(Ending::Refused(fault)) => Outcome::Desk(fault),
+            Err(fault) => Outcome::Serve(fault),
+        }
+    }
+
+    /// How the office ends a run. It answers whether no line was refused.
+    pub fn of_office(kept: Result<bool, OfficeFault>) -> Outcome
+        ensures { result ≡ office_outcome_of kept }
+    {
+        match kept {
+            Ok(true) => Outcome::Good,
+            Ok(false) => Outcome::Refused,
+            Err(OfficeFault::Register) => Outcome::Register(RegisterFault::Store),
+            Err(fault) => Outcome::Office(fault),
+        }
+    }
+
+    /// The status of the process.
+    pub fn status(self) -> u8
+        ensures { result ≡ status_of self }
+    {
+        match self {
+            Outcome::Good => 0,
+            Outcome::Refused | Outcome::Serve(_) | Outcome::Office(_) | Outcome::Desk(_) => 1,
+            Outcome::Listened(status) => status,
+            Outcome::Usage => 2,
+            Outcome::Register(_) => 3,
+            Outcome::Address => 4,
+        }
+    }
+
+    /// The fault of a bad outcome, which is told on standard error.
+    ///
+    /// Refused lines were told on standard output, and what went wrong while the program listened on standard error. Wrong
+    /// arguments and a wrong address have a line of their own.
+    pub fn fault(self) -> Option<Fault>
+        ensures { option_map (λ f. (f.kind.now, f.number, f.name.now)) result ≡ fault_of self }
+    {
+        let (kind, number, name) = match self {
+            Outcome::Good
+            | Outcome::Refused
+            | Outcome::Listened(_)
+            | Outcome::Usage
+            | Outcome::Address => return None,
+            Outcome::Serve(fault) => ("serve", fault.number(), fault.name()),
+            Outcome::Office(fault) => ("serve", fault.number(), fault.name()),
+            Outcome::Desk(fault) => ("desk", fault.number(), fault.name()),
+            Outcome::Register(fault) => ("register", fault.number(), fault.name()),
+        };
+        Some(Fault { kind, number, name })
+    }
+}
+
+/// A fault as it is told: `KIND: NUMBER NAME`.
+#[derive(Clone, Copy, Debug, PartialEq, Eq)]
+pub struct Fault {
+    pub kind: &'static str,
+    pub number: u8,
+    pub name: &'static str,
+}
+
+/// Tells a bad outcome on standard error. Where that cannot be written, the status alone tells it.
+pub fn tell(rt: &impl Eprint, outcome: Outcome) {
+    if outcome == Outcome::Usage {
+        let _ = eprintln!(rt;
+            "usage: cadastre sample | office FILE | ask FILE | serve FILE ADDRESS COUNT"
+        );
+    }
+    if outcome == Outcome::Address {
+        let _ = eprintln!(rt; "address");
+    }
+    if let Some(fault) = outcome.fault() {
+        let _ = eprintln!(rt; "{}: {} {}", fault.kind, fault.number, fault.name);
+    }
+}
