@@ -3,7 +3,7 @@ RT ?= rt
 # How many crates `make sample` and `make check` prove side by side.
 JOBS ?= $(shell nproc)
 
-.PHONY: sample cases test check refused bench register-file office-file serve-file clients proxy clean
+.PHONY: sample cases test check wrong-bodies refused bench register-file office-file serve-file clients proxy clean
 
 # Proves and builds the program and all that it stands on, and answers the request in crates/cadastre/stdin. Crates that do not wait for each other are proved side by side.
 sample:
@@ -20,6 +20,7 @@ cases:
 
 # The whole gate: the cases held against a second reading, every proof from nothing, the must-fail edits, the tests, each program as two compilers build it, and the program on files of the office and at an address.
 test: cases
+	scripts/check_wrong_bodies
 	$(RT) ci
 	scripts/check_office
 	scripts/check_serve
@@ -27,6 +28,10 @@ test: cases
 # Every crate, over what earlier checks kept.
 check:
 	$(RT) all check --jobs $(JOBS)
+
+# Has the prover refuse the wrong bodies that the gate leaves out, of folder wrong-bodies/.
+wrong-bodies: check
+	scripts/wrong_bodies
 
 # Refuses each growth of a run of the case programs in turn. Needs a C compiler.
 refused:
