@@ -28,6 +28,8 @@ pub trait Term: Sized + Drop {
     ghost fits: { (x : Node) → is_some (as_term x) ≡ has_kind (kind_of x) };
 }
 
+// What is of another kind is dropped by one call: left to its scope it would be taken apart there, variant by variant
+// down to the least part, and proved so.
 impl Term for WholeTerm {
     ghost as_term = { whole_of };
 
@@ -38,7 +40,10 @@ impl Term for WholeTerm {
     fn of(node: Node) -> Option<Self> {
         match node {
             Node::Whole(term) => Some(term),
-            _ => None,
+            other => {
+                drop(other);
+                None
+            }
         }
     }
 }
@@ -53,7 +58,10 @@ impl Term for TextTerm {
     fn of(node: Node) -> Option<Self> {
         match node {
             Node::Text(term) | Node::Pattern(term) => Some(term),
-            _ => None,
+            other => {
+                drop(other);
+                None
+            }
         }
     }
 }
@@ -68,7 +76,10 @@ impl Term for DayTerm {
     fn of(node: Node) -> Option<Self> {
         match node {
             Node::Day(term) => Some(term),
-            _ => None,
+            other => {
+                drop(other);
+                None
+            }
         }
     }
 }
@@ -84,7 +95,10 @@ impl Term for FlagTerm {
         match node {
             Node::Flag(term) => Some(term),
             Node::Truth(value) => Some(FlagTerm::Constant(value)),
-            _ => None,
+            other => {
+                drop(other);
+                None
+            }
         }
     }
 }
@@ -100,7 +114,10 @@ impl Term for SpanTerm {
         match node {
             Node::Span(term) => Some(term),
             Node::Day(term) => Some(SpanTerm::Day(term)),
-            _ => None,
+            other => {
+                drop(other);
+                None
+            }
         }
     }
 }
@@ -115,7 +132,10 @@ impl Term for ShapeTerm {
     fn of(node: Node) -> Option<Self> {
         match node {
             Node::Spot(term) | Node::Area(term) | Node::Frame(term) => Some(term),
-            _ => None,
+            other => {
+                drop(other);
+                None
+            }
         }
     }
 }
@@ -136,7 +156,10 @@ impl Term for AnyTerm {
             Node::Truth(value) => Some(AnyTerm::Flag(FlagTerm::Constant(value))),
             Node::Span(term) => Some(AnyTerm::Span(term)),
             Node::Spot(term) | Node::Area(term) | Node::Frame(term) => Some(AnyTerm::Shape(term)),
-            _ => None,
+            other => {
+                drop(other);
+                None
+            }
         }
     }
 }
@@ -152,7 +175,10 @@ impl Term for Filter {
         match node {
             Node::Condition(filter) => Some(filter),
             Node::Truth(value) => Some(Filter::Truth(value)),
-            _ => None,
+            other => {
+                drop(other);
+                None
+            }
         }
     }
 }

@@ -1,14 +1,15 @@
 //! Nodes from their parts, each of which has a kind.
 
-ghost use Rattle.std.specs.Prelude.{◌≡◌, [], ◌∷◌, map, List, IfOk, IsTrue, ◌↔◌, true};
+ghost use Rattle.std.specs.Prelude.{◌≡◌, [], ◌∷◌, map, List, Some, Bool, IfOk, IfErr, IsTrue, ◌↔◌, true, false};
 ghost use Rattle.cql_parser.specs.Syntax.{or_op, and_op, not_op, compare_op, like_op, between_op, in_op, is_null_op, sum_op, product_op, casei_op, date_op, spatial_op, temporal_op};
 ghost use Rattle.cql_parser.specs.declared.tree.Addition.{Addition};
 ghost use Rattle.cql_parser.specs.declared.tree.Multiplication.{Multiplication};
 ghost use Rattle.cql_types.specs.Kinds as kinds;
-ghost use Rattle.cql_types.specs.Kinds.{is_equality, is_related};
-ghost use Rattle.cql_types.specs.Means.{kind_of, IsNegatedIf, added_by, multiplied_by};
-ghost use Rattle.cql_types.specs.Contract.{Combines, CombinesFlags, CombinesTexts, parts_judged, operations_of};
+ghost use Rattle.cql_types.specs.Kinds.{is_equality, is_pattern, is_related, misfit};
+ghost use Rattle.cql_types.specs.Means.{Makes, kind_of, marks_of, pattern_of, IsNegatedIf, added_by, multiplied_by};
+ghost use Rattle.cql_types.specs.Contract.{Combines, ForFault, CombinesFlags, CombinesTexts, parts_judged, operations_of};
 ghost use Rattle.cql_types.specs.declared.judged.Node.TheVariants as n;
+ghost use Rattle.cql_types.specs.declared.fault.TypeFault.TheVariants.{At};
 
 use crate::collect::{collect_steps, gather, one, wrong_kind};
 use crate::fault::TypeFault;
@@ -86,7 +87,11 @@ pub fn compare(by: Comparison, left: Judged, right: Judged) -> Result<Judged, Ty
         }
         Node::Flag(left) => compare_flag(by, place, left, right),
         Node::Truth(value) => compare_flag(by, place, FlagTerm::Constant(value), right),
-        _ => Err(wrong_kind(place)),
+        // One call drops it, as in `collect`.
+        other => {
+            drop(other);
+            Err(wrong_kind(place))
+        }
     }
 }
 
@@ -128,17 +133,24 @@ pub fn like(
 {
     let place = left.place;
     let value: Box<TextTerm> = Box::new(alloc, one(left)?)?;
-    let Judged {
-        place: second,
-        node,
-    } = right;
+    let pattern = one_pattern(right)?;
+    let value = Box::into_inner(value);
+    let filter = negated_if(alloc, is_negated, Filter::Like { value, pattern })?;
+    Ok(condition(place, filter))
+}
+
+// The text literal, or the CASEI round one, that stands behind LIKE.
+fn one_pattern(part: Judged) -> Result<TextTerm, TypeFault>
+    ensures ok { IfOk result (λ x. pattern_of part.node ≡ Some x) }
+    ensures err { IfErr result (λ e. (e ≡ At (kinds.wrong_kind part.place)) × (is_pattern (kind_of part.node) ≡ false)) }
+{
+    let Judged { place, node } = part;
     match node {
-        Node::Pattern(pattern) => {
-            let value = Box::into_inner(value);
-            let filter = negated_if(alloc, is_negated, Filter::Like { value, pattern })?;
-            Ok(condition(place, filter))
+        Node::Pattern(pattern) => Ok(pattern),
+        other => {
+            drop(other);
+            Err(wrong_kind(place))
         }
-        _ => Err(wrong_kind(second)),
     }
 }
 
@@ -170,40 +182,50 @@ pub fn is_in(
 ) -> Result<Judged, TypeFault>
     ensures { Combines (in_op is_negated) (value ∷ first ∷ others.items) result }
 {
+    let place = value.place;
+    let filter = one_of(alloc, value, first, others)?;
+    let filter = negated_if(alloc, is_negated, filter)?;
+    Ok(condition(place, filter))
+}
+
+// The value is one of the items, all of its kind.
+fn one_of(
+    alloc: Global,
+    value: Judged,
+    first: Judged,
+    others: Vec<Judged>,
+) -> Result<Filter, TypeFault>
+    ensures ok { IfOk result (λ is_one. (is_negated : Bool) (filter : Filter) → IsNegatedIf is_one is_negated filter
+        → Makes (in_op is_negated) (value ∷ first ∷ others.items) (n.Condition filter)) }
+    ensures err { IfErr result (ForFault (λ fault. misfit (in_op false) (marks_of (value ∷ first ∷ others.items)) ≡ Some fault)) }
+{
     let Judged { place, node } = value;
     match node {
         Node::Whole(value) => {
             let items = gather(alloc, first, others)?;
-            let filter = negated_if(alloc, is_negated, Filter::InWhole { value, items })?;
-            Ok(condition(place, filter))
+            Ok(Filter::InWhole { value, items })
         }
-        Node::Text(value) => {
+        Node::Text(value) | Node::Pattern(value) => {
             let items = gather(alloc, first, others)?;
-            let filter = negated_if(alloc, is_negated, Filter::InText { value, items })?;
-            Ok(condition(place, filter))
-        }
-        Node::Pattern(value) => {
-            let items = gather(alloc, first, others)?;
-            let filter = negated_if(alloc, is_negated, Filter::InText { value, items })?;
-            Ok(condition(place, filter))
+            Ok(Filter::InText { value, items })
         }
         Node::Day(value) => {
             let items = gather(alloc, first, others)?;
-            let filter = negated_if(alloc, is_negated, Filter::InDay { value, items })?;
-            Ok(condition(place, filter))
+            Ok(Filter::InDay { value, items })
         }
         Node::Flag(value) => {
             let items = gather(alloc, first, others)?;
-            let filter = negated_if(alloc, is_negated, Filter::InFlag { value, items })?;
-            Ok(condition(place, filter))
+            Ok(Filter::InFlag { value, items })
         }
         Node::Truth(value) => {
             let value = FlagTerm::Constant(value);
             let items = gather(alloc, first, others)?;
-            let filter = negated_if(alloc, is_negated, Filter::InFlag { value, items })?;
-            Ok(condition(place, filter))
+            Ok(Filter::InFlag { value, items })
         }
-        _ => Err(wrong_kind(place)),
+        other => {
+            drop(other);
+            Err(wrong_kind(place))
+        }
     }
 }
 
@@ -244,7 +266,10 @@ pub fn casei(alloc: Global, place: usize, part: Judged) -> Result<Judged, TypeFa
             let node = Node::Pattern(TextTerm::Folded(Box::new(alloc, term)?));
             Ok(Judged { place, node })
         }
-        _ => Err(wrong_kind(first)),
+        other => {
+            drop(other);
+            Err(wrong_kind(first))
+        }
     }
 }
 

@@ -1,9 +1,8 @@
-use Rattle.std.proofs.Common.{◌≡◌, ◌≢◌, refl, None, ap, sym, ◌∙◌}
+use Rattle.std.proofs.Common.{◌≡◌, ◌≢◌, refl, None, sym}
 use Rattle.cql_types.specs.declared.filter.DayTerm.{DayTerm}
 use Rattle.cql_types.specs.declared.judged.Node.{Node}
 use Rattle.cql_types.specs.declared.judged.Node.TheVariants as n
 use Rattle.cql_types.specs.Means.{day_of}
-use Rattle.cql_types.proofs.collect.DayTermTerm.of.Goals.{in-Day, in_default}
 use Rattle.cql_types.proofs.collect.DayTermTerm.of.Goals as goal
 
 no_day : (x : Node) → ((a : DayTerm) → x ≢ n.Day a) → day_of x ≡ None
@@ -19,5 +18,5 @@ no_day (n.Area a) h = refl
 no_day (n.Frame a) h = refl
 no_day (n.Condition a) h = refl
 
-pub returns : goal.returns
-returns c = elim c.match-node.branch [ in-Day w ↦ w.result-is ∙ sym (ap day_of w.in-Day.is) | in_default w ↦ w.result-is ∙ sym (no_day c.args.node w.in_default.not-Day) ]
+pub returns-in_default : goal.returns-in_default
+returns-in_default c = sym (no_day c.args.node c.in_default.not-Day)
