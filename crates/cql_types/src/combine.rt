@@ -1,4 +1,7 @@
 //! Nodes from their parts, each of which has a kind.
+//!
+//! A part is made a term, or dropped by a call, before a fault is told: where it is left to its scope it is taken apart
+//! there, variant by variant down to the least part, and proved so.
 
 ghost use Rattle.std.specs.Prelude.{◌≡◌, [], ◌∷◌, map, List, Some, Bool, IfOk, IfErr, IsTrue, ◌↔◌, true, false};
 ghost use Rattle.cql_parser.specs.Syntax.{or_op, and_op, not_op, compare_op, like_op, between_op, in_op, is_null_op, sum_op, product_op, casei_op, date_op, spatial_op, temporal_op};
@@ -87,9 +90,9 @@ pub fn compare(by: Comparison, left: Judged, right: Judged) -> Result<Judged, Ty
         }
         Node::Flag(left) => compare_flag(by, place, left, right),
         Node::Truth(value) => compare_flag(by, place, FlagTerm::Constant(value), right),
-        // One call drops it, as in `collect`.
         other => {
             drop(other);
+            drop(right);
             Err(wrong_kind(place))
         }
     }
@@ -115,10 +118,11 @@ fn compare_flag(
 ) -> Result<Judged, TypeFault>
     ensures { CombinesFlags by place left right result }
 {
+    let right = one(right);
     if !tests_equality(by) {
         return Err(wrong_kind(place));
     }
-    let right = one(right)?;
+    let right = right?;
     Ok(condition(place, Filter::CompareFlag { by, left, right }))
 }
 
@@ -132,9 +136,9 @@ pub fn like(
     ensures { Combines (like_op is_negated) (left ∷ right ∷ []) result }
 {
     let place = left.place;
-    let value: Box<TextTerm> = Box::new(alloc, one(left)?)?;
-    let pattern = one_pattern(right)?;
-    let value = Box::into_inner(value);
+    let pattern = one_pattern(right);
+    let value: TextTerm = one(left)?;
+    let pattern = pattern?;
     let filter = negated_if(alloc, is_negated, Filter::Like { value, pattern })?;
     Ok(condition(place, filter))
 }
@@ -165,9 +169,10 @@ pub fn between(
     ensures { Combines (between_op is_negated) (value ∷ low ∷ high ∷ []) result }
 {
     let place = value.place;
+    let (low, high) = (one(low), one(high));
     let value: WholeTerm = one(value)?;
-    let low: WholeTerm = one(low)?;
-    let high: WholeTerm = one(high)?;
+    let low: WholeTerm = low?;
+    let high: WholeTerm = high?;
     let filter = negated_if(alloc, is_negated, Filter::Between { value, low, high })?;
     Ok(condition(place, filter))
 }
@@ -224,6 +229,7 @@ fn one_of(
         }
         other => {
             drop(other);
+            drop(first);
             Err(wrong_kind(place))
         }
     }
@@ -333,11 +339,12 @@ pub fn spatial(
 {
     let second = right.place;
     let related = are_related(by, &left.node, &right.node);
+    let right = one(right);
     let left: ShapeTerm = one(left)?;
     if !related {
         return Err(wrong_kind(second));
     }
-    let right: ShapeTerm = one(right)?;
+    let right: ShapeTerm = right?;
     Ok(condition(place, Filter::Spatial { by, left, right }))
 }
 
@@ -350,7 +357,8 @@ pub fn temporal(
 ) -> Result<Judged, TypeFault>
     ensures { Combines (temporal_op place by) (left ∷ right ∷ []) result }
 {
+    let right = one(right);
     let left: SpanTerm = one(left)?;
-    let right: SpanTerm = one(right)?;
+    let right: SpanTerm = right?;
     Ok(condition(place, Filter::Temporal { by, left, right }))
 }
