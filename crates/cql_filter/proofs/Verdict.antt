@@ -14,8 +14,8 @@ use Rattle.cql_parser.specs.Answer as parsed
 use Rattle.cql_parser.specs.Answer.{IsParsed}
 use Rattle.cql_parser.specs.Faults.{HasFault}
 use Rattle.cql_parser.specs.Laws as parser
-use Rattle.cql_parser.specs.Order.{Ascend, IsOrdered}
-use Rattle.cql_parser.specs.Syntax.{Syntax}
+use Rattle.cql_tree.specs.Order.{Ascend, IsOrdered}
+use Rattle.cql_tree.specs.Syntax.{Syntax}
 use Rattle.cql_parser.specs.declared.fault.GrammarFault.{GrammarFault}
 use Rattle.cql_parser.specs.declared.fault.ParseFault.{ParseFault}
 use Rattle.cql_parser.specs.declared.fault.ParseFault.TheVariants as parse

@@ -7,7 +7,7 @@ use Rattle.cql_lexer.specs.Mark.{Mark}
 use Rattle.cql_lexer.specs.declared.fault.SpellingFault.{SpellingFault}
 use Rattle.cql_parser.specs.Answer.{IsParsed}
 use Rattle.cql_parser.specs.Faults as parser
-use Rattle.cql_parser.specs.Syntax.{Syntax}
+use Rattle.cql_tree.specs.Syntax.{Syntax}
 use Rattle.cql_parser.specs.declared.fault.GrammarFault.{GrammarFault}
 use Rattle.cql_types.specs.Kinds.{IsCondition, IsLeast}
 use Rattle.cql_types.specs.Means.{IsFilter}

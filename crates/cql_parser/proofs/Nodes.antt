@@ -4,64 +4,15 @@ use Rattle.std.specs.declared.alloc.Global.{Global}
 use Rattle.std.specs.declared.boxed.Box.{Box}
 use Rattle.std.specs.declared.vec.Vec.{Vec}
 use Rattle.std.specs.Vec.{vec_len}
-use Rattle.cql_parser.specs.Syntax.{Syntax, Op, node, part, parts_of, joined, or_op, and_op, sum_op, product_op, in_op}
+use Rattle.cql_tree.specs.Syntax.{Syntax, Op, node, part, parts_of, joined, or_op, and_op, sum_op, product_op, in_op}
 use Rattle.cql_parser.specs.Machine.{in_node}
-use Rattle.cql_parser.specs.Views.{syntax_of, parts_in, syntaxes_of, terms_in, terms_of, additions_in, additions_of, term_of, factor_of, factors_in, factors_of, multiplications_in, multiplications_of}
-use Rattle.cql_parser.specs.declared.tree.Term.{Term}
-use Rattle.cql_parser.specs.declared.tree.Factor.{Factor}
-use Rattle.cql_parser.specs.declared.tree.Tree.{Tree, Row_of-Tree, end_of-Tree, more_of-Tree, items-the_row-Tree, items_hidden-the_row-Tree-0, Row_of-Term, end_of-Term, more_of-Term, items-the_row-Term, items_hidden-the_row-Term-1, Row_of-Factor, end_of-Factor, more_of-Factor, items-the_row-Factor, items_hidden-the_row-Factor-2}
-use Rattle.cql_parser.specs.declared.tree.Tree.TheBlock.{hidden-the_row-Tree-0, hidden-the_row-Term-1, hidden-the_row-Factor-2}
-use Rattle.cql_parser.specs.declared.tree.Tree.TheVariants.{Or, And, In, Sum, Product}
-
-row_parts : (n : _) (row : Row_of-Tree n) → parts_in row ≡ parts_of (syntaxes_of (items-the_row-Tree n row))
-unfolding syntax_of
-row_parts n end_of-Tree = refl
-row_parts n (more_of-Tree t rest) = ap (part (syntax_of t)) (row_parts _ rest)
-
--- the parts of a vector
-vec_parts : (ts : Vec Tree Global) → parts_in (hidden-the_row-Tree-0 ts) ≡ parts_of (syntaxes_of ts.items)
-vec_parts ts =
-    row_parts _ (hidden-the_row-Tree-0 ts) ∙
-    ap (λ us. parts_of (syntaxes_of us)) (items_hidden-the_row-Tree-0 ts)
-
-row_terms : (n : _) (row : Row_of-Term n) → terms_in row ≡ parts_of (terms_of (items-the_row-Term n row))
-unfolding syntax_of
-row_terms n end_of-Term = refl
-row_terms n (more_of-Term by t rest) = ap (part (syntax_of t)) (row_terms _ rest)
-
-row_additions : (n : _) (row : Row_of-Term n) → additions_in row ≡ additions_of (items-the_row-Term n row)
-unfolding syntax_of
-row_additions n end_of-Term = refl
-row_additions n (more_of-Term by t rest) = ap (λ js. by ∷ js) (row_additions _ rest)
-
-row_factors : (n : _) (row : Row_of-Factor n) → factors_in row ≡ parts_of (factors_of (items-the_row-Factor n row))
-unfolding syntax_of
-row_factors n end_of-Factor = refl
-row_factors n (more_of-Factor by t rest) = ap (part (syntax_of t)) (row_factors _ rest)
-
-row_multiplications : (n : _) (row : Row_of-Factor n) →
-    multiplications_in row ≡ multiplications_of (items-the_row-Factor n row)
-unfolding syntax_of
-row_multiplications n end_of-Factor = refl
-row_multiplications n (more_of-Factor by t rest) = ap (λ ms. by ∷ ms) (row_multiplications _ rest)
-
-vec_terms : (ts : Vec Term Global) → terms_in (hidden-the_row-Term-1 ts) ≡ parts_of (terms_of ts.items)
-vec_terms ts =
-    row_terms _ (hidden-the_row-Term-1 ts) ∙ ap (λ us. parts_of (terms_of us)) (items_hidden-the_row-Term-1 ts)
-
-vec_additions : (ts : Vec Term Global) → additions_in (hidden-the_row-Term-1 ts) ≡ additions_of ts.items
-vec_additions ts =
-    row_additions _ (hidden-the_row-Term-1 ts) ∙ ap (λ us. additions_of us) (items_hidden-the_row-Term-1 ts)
-
-vec_factors : (ts : Vec Factor Global) → factors_in (hidden-the_row-Factor-2 ts) ≡ parts_of (factors_of ts.items)
-vec_factors ts =
-    row_factors _ (hidden-the_row-Factor-2 ts) ∙ ap (λ us. parts_of (factors_of us)) (items_hidden-the_row-Factor-2 ts)
-
-vec_multiplications : (ts : Vec Factor Global) →
-    multiplications_in (hidden-the_row-Factor-2 ts) ≡ multiplications_of ts.items
-vec_multiplications ts =
-    row_multiplications _ (hidden-the_row-Factor-2 ts) ∙
-    ap (λ us. multiplications_of us) (items_hidden-the_row-Factor-2 ts)
+use Rattle.cql_tree.specs.Views.{syntax_of, parts_in, syntaxes_of, terms_in, terms_of, additions_in, additions_of, term_of, factor_of, factors_in, factors_of, multiplications_in, multiplications_of}
+use Rattle.cql_tree.specs.Rows.{vec_parts, vec_terms, vec_additions, vec_factors, vec_multiplications}
+use Rattle.cql_tree.specs.declared.tree.Term.{Term}
+use Rattle.cql_tree.specs.declared.tree.Factor.{Factor}
+use Rattle.cql_tree.specs.declared.tree.Tree.{Tree, Row_of-Tree, end_of-Tree, more_of-Tree, items-the_row-Tree, items_hidden-the_row-Tree-0, Row_of-Term, end_of-Term, more_of-Term, items-the_row-Term, items_hidden-the_row-Term-1, Row_of-Factor, end_of-Factor, more_of-Factor, items-the_row-Factor, items_hidden-the_row-Factor-2}
+use Rattle.cql_tree.specs.declared.tree.Tree.TheBlock.{hidden-the_row-Tree-0, hidden-the_row-Term-1, hidden-the_row-Factor-2}
+use Rattle.cql_tree.specs.declared.tree.Tree.TheVariants.{Or, And, In, Sum, Product}
 
 some_joined : {A : Type 0} (op : Op) (f : Syntax) (us : List A) (to : A → Syntax) (n : ℕ) → n ≡ length us →
     false ≡ (n == 0) → node op (part f (parts_of (map to us))) ≡

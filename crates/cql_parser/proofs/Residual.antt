@@ -4,11 +4,11 @@ use Rattle.cad_day.specs.declared.relation.Relation.{Relation}
 use Rattle.cql_lexer.specs.Mark.{Mark, at, opening, closing, comma, plus, minus, times, modulo, compare, word, name, text, number}
 use Rattle.cql_lexer.specs.declared.token.SpatialRelation.{SpatialRelation}
 use Rattle.cql_lexer.specs.declared.token.Keyword.TheVariants.{And, Or, Not, Like, Between, In, Is, Null, True, False, Div, Casei, Date, Interval, Point, Polygon, Bbox, Spatial, Temporal}
-use Rattle.cql_parser.specs.declared.tree.Addition.{Addition}
-use Rattle.cql_parser.specs.declared.tree.Addition.TheVariants.{Plus, Minus}
-use Rattle.cql_parser.specs.declared.tree.Multiplication.{Multiplication}
-use Rattle.cql_parser.specs.declared.tree.Multiplication.TheVariants as by
-use Rattle.cql_parser.specs.Syntax.{Syntax, joined, leaf, name_leaf, number_leaf, day_leaf, bound_leaf, Op, or_op, and_op, sum_op, product_op, casei_op, date_op, interval_op, point_op, polygon_op, bbox_op, spatial_op, temporal_op}
+use Rattle.cql_tree.specs.declared.tree.Addition.{Addition}
+use Rattle.cql_tree.specs.declared.tree.Addition.TheVariants.{Plus, Minus}
+use Rattle.cql_tree.specs.declared.tree.Multiplication.{Multiplication}
+use Rattle.cql_tree.specs.declared.tree.Multiplication.TheVariants as by
+use Rattle.cql_tree.specs.Syntax.{Syntax, joined, leaf, name_leaf, number_leaf, day_leaf, bound_leaf, Op, or_op, and_op, sum_op, product_op, casei_op, date_op, interval_op, point_op, polygon_op, bbox_op, spatial_op, temporal_op}
 use Rattle.cql_parser.specs.Grammar.{IsWhole, number_rule, plus_rule, minus_rule, IsBound, text_bound, name_bound, IsCornersRest, corners_end, corners_more, ring_rule, IsNegation, negated, IsOr, or_rule, IsOrRest, or_end, or_more, IsAnd, and_rule, IsAndRest, and_end, and_more, IsNot, not_rule, plain_rule, IsPredicate, predicate_rule, IsTail, no_tail, compare_tail, like_tail, between_tail, in_tail, null_tail, IsItemsRest, items_end, items_more, IsSum, sum_rule, IsSumRest, sum_end, sum_more, IsProduct, product_rule, IsProductRest, product_end, product_more, IsPrimary, paren_rule, name_rule, text_rule, whole_rule, true_rule, false_rule, casei_rule, date_rule, interval_rule, point_rule, polygon_rule, bbox_rule, spatial_rule, temporal_rule}
 use Rattle.cql_parser.specs.Grammar as grammar
 use Rattle.cql_parser.specs.Machine.{Sign, comma_sign, close_sign, Slot, open_slot, sign_slot, text_slot, bound_slot, whole_slot, corners_slot, sum_slot, ForOr, whole, in_paren, ForAnd, or_part, ForNot, and_part, ForPredicate, plain, under_not, ForSum, left, right, pattern, low, high, item, argument, ForProduct, sum_part, ForPrimary, product_part, ForWhole, as_primary, as_slot, State, want_not, want_primary, after_sign, after_not, after_in, after_is, want_null, want_slot, have_factors, have_terms, have_sum, have_items, have_ands, have_ors, have_or, want_product, want_sum, want_predicate, want_and, want_or, have_primary, have_predicate, have_whole, want_slots, not_node, compare_node, like_node, between_node, in_node, null_node, filled, Inner, tails, adds, multiplies, Role, joins_or, joins_and, inner, role_of, Step, refuse, whole_tree, go_on, or_step, ors_step, and_step, ands_step, not_step, predicate_step, left_step, low_step, item_step, sign_step, sum_step, terms_step, product_step, factors_step, two_sums, date_slots, interval_slots, point_slots, polygon_slots, bbox_slots, begin_digits, begin_whole, begin_primary, begin_not, begin_negated, begin_items, begin_null, begin_is, slot_step, on_first, step}

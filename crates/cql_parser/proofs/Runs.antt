@@ -2,7 +2,7 @@
 use Rattle.std.proofs.Common.{◌≡◌, ℕ, true, false, List, [], ◌∷◌, ◌++◌, refl, subst, ap}
 use Rattle.cql_lexer.specs.Mark.{Sort, Mark, at, opening, closing, comma, word, text, number}
 use Rattle.cql_lexer.specs.declared.token.Keyword.TheVariants.{And, Like, Null}
-use Rattle.cql_parser.specs.Syntax.{Syntax, leaf, number_leaf, day_leaf, bound_leaf, joined, or_op, and_op, sum_op, product_op}
+use Rattle.cql_tree.specs.Syntax.{Syntax, leaf, number_leaf, day_leaf, bound_leaf, joined, or_op, and_op, sum_op, product_op}
 use Rattle.cql_parser.specs.Grammar.{or_end, and_end, plain_rule, predicate_rule, no_tail, items_end, IsSum, sum_rule, sum_end, product_rule, product_end, whole_rule, number_rule, text_bound}
 use Rattle.cql_parser.specs.Machine.{Sign, comma_sign, close_sign, Slot, open_slot, sign_slot, text_slot, bound_slot, whole_slot, corners_slot, sum_slot, ForOr, whole, in_paren, ForAnd, or_part, ForNot, and_part, ForPredicate, plain, under_not, ForSum, left, right, pattern, low, high, item, argument, ForProduct, sum_part, ForPrimary, product_part, ForWhole, as_primary, as_slot, State, want_not, want_primary, after_sign, after_not, after_in, after_is, want_null, want_slot, have_factors, have_terms, have_sum, have_items, have_ands, have_ors, have_or, not_node, compare_node, like_node, between_node, in_node, null_node, filled, Step, refuse, whole_tree, go_on, step, Outcome, spells, stops, ended, continued, run}
 use Rattle.cql_parser.proofs.Residual.{Takes, closed, parted, digits, high_end, items, is_null, null, not_like, Fills, fill_end, fill_open, fill_sign, fill_text, fill_bound, fill_whole, fill_last, fill_sum, GetsOr, GetsAnd, GetsNot, GetsPredicate, GetsSum, GetsProduct, GetsPrimary, GetsWhole, Completes, Follows, step_to, step_from}

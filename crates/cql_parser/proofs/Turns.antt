@@ -7,18 +7,18 @@ use Rattle.cql_lexer.specs.declared.token.Comparison.{Comparison}
 use Rattle.cql_lexer.specs.declared.token.Keyword.{Keyword}
 use Rattle.cql_lexer.specs.declared.token.Keyword.TheVariants.{And, Or, Not, Like, Between, In, Is, Null, True, False, Div, Casei, Date, Interval, Point, Polygon, Bbox, Spatial, Temporal}
 use Rattle.cql_lexer.specs.declared.token.Token.{Token}
-use Rattle.cql_parser.specs.declared.tree.Addition.{Addition}
-use Rattle.cql_parser.specs.declared.tree.Addition.TheVariants.{Plus, Minus}
-use Rattle.cql_parser.specs.declared.tree.Multiplication.{Multiplication}
-use Rattle.cql_parser.specs.declared.tree.Multiplication.TheVariants as by
-use Rattle.cql_parser.specs.declared.tree.Corner.{Corner}
+use Rattle.cql_tree.specs.declared.tree.Addition.{Addition}
+use Rattle.cql_tree.specs.declared.tree.Addition.TheVariants.{Plus, Minus}
+use Rattle.cql_tree.specs.declared.tree.Multiplication.{Multiplication}
+use Rattle.cql_tree.specs.declared.tree.Multiplication.TheVariants as by
+use Rattle.cql_tree.specs.declared.tree.Corner.{Corner}
 use Rattle.cql_parser.specs.declared.start.Pairing.{Pairing}
 use Rattle.cql_parser.specs.declared.start.Pairing.TheVariants as pairing
 use Rattle.cql_parser.specs.Grammar.{addition_sort, multiplication_sort}
-use Rattle.cql_parser.specs.Syntax.{Syntax, Op, joined, leaf, name_leaf, number_leaf, day_leaf, bound_leaf, truth_leaf, or_op, and_op, sum_op, product_op, polygon_op}
+use Rattle.cql_tree.specs.Syntax.{Syntax, Op, joined, leaf, name_leaf, number_leaf, day_leaf, bound_leaf, truth_leaf, or_op, and_op, sum_op, product_op, polygon_op}
 use Rattle.cql_parser.specs.Descent.{Begins, BeginsNo, Parses, IsStopped, ForSlot, for_slot, want_here, pass_here, have_here, want_corner, want_pair, have_corner, ForRing, for_ring, want_ring, have_corners, have_ring}
 use Rattle.cql_parser.specs.Starts.{IsNoTail, IsNoNegated, BeginsNegated, IsNoCall, IsNoLiteral, word_of, pair_op}
-use Rattle.cql_parser.specs.Views.{syntax_of, number_of, numbers_of}
+use Rattle.cql_tree.specs.Views.{syntax_of, number_of, numbers_of}
 use Rattle.cql_parser.specs.declared.stop.Stop.{Stop}
 use Rattle.cql_parser.specs.declared.stop.Stop.TheVariants.{Memory, At}
 use Rattle.cql_parser.specs.declared.stop.Parsed.{Parsed}

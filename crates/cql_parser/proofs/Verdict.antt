@@ -2,14 +2,14 @@
 use Rattle.std.proofs.Common.{◌≡◌, ℕ, ◌⊎◌, inl, inr, List, [], ◌∷◌, ◌++◌, refl, sym, ap, subst, ◌∙◌, append_assoc, append-nil}
 use Rattle.std.specs.Prelude.{Option, Some, None, Result, Ok, Err, IfOk, IsOk}
 use Rattle.cql_lexer.specs.Mark.{Sort, Mark, at}
-use Rattle.cql_parser.specs.Syntax.{Syntax}
+use Rattle.cql_tree.specs.Syntax.{Syntax}
 use Rattle.cql_parser.specs.Grammar.{Reads, IsViable, IsOr}
 use Rattle.cql_parser.specs.Faults.{deep_at, IsUnexpected, IsUnfinished, HasFault}
 use Rattle.cql_parser.specs.Answer.{IsReading, IsParsed, Answers, OrMemory, fault_of}
 use Rattle.cql_parser.specs.Laws.{HasTreeOrFault, HasFaultOrTree, HasOneFault}
-use Rattle.cql_parser.specs.Order.{Ascend, IsOrdered}
-use Rattle.cql_parser.specs.Views.{syntax_of}
-use Rattle.cql_parser.specs.declared.tree.Tree.{Tree}
+use Rattle.cql_tree.specs.Order.{Ascend, IsOrdered}
+use Rattle.cql_tree.specs.Views.{syntax_of}
+use Rattle.cql_tree.specs.declared.tree.Tree.{Tree}
 use Rattle.cql_parser.specs.declared.fault.ParseFault.{ParseFault}
 use Rattle.cql_parser.specs.declared.fault.ParseFault.TheVariants.{At, Memory}
 use Rattle.cql_parser.specs.declared.fault.GrammarFault.{GrammarFault}

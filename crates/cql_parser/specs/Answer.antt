@@ -1,11 +1,11 @@
 -- What parsing answers.
 use Rattle.std.specs.Prelude.{◌≡◌, ℕ, ◌⊎◌, List, [], ◌∷◌, Result, Ok, Err, None}
 use Rattle.cql_lexer.specs.Mark.{Mark, at}
-use Rattle.cql_parser.specs.Syntax.{Syntax}
+use Rattle.cql_tree.specs.Syntax.{Syntax}
 use Rattle.cql_parser.specs.Grammar.{Reads}
 use Rattle.cql_parser.specs.Faults.{deep_at, HasFault}
-use Rattle.cql_parser.specs.Views.{syntax_of}
-use Rattle.cql_parser.specs.declared.tree.Tree.{Tree}
+use Rattle.cql_tree.specs.Views.{syntax_of}
+use Rattle.cql_tree.specs.declared.tree.Tree.{Tree}
 use Rattle.cql_parser.specs.declared.fault.GrammarFault.{GrammarFault}
 use Rattle.cql_parser.specs.declared.fault.GrammarFault.TheVariants.{NotExpected, EndOfFilter}
 use Rattle.cql_parser.specs.declared.fault.ParseFault.{ParseFault}

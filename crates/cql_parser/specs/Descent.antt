@@ -3,14 +3,14 @@ use Rattle.std.specs.Prelude.{◌≡◌, ℕ, List, [], ◌∷◌, ◌++◌, Res
 use Rattle.std.specs.declared.alloc.Global.{Global}
 use Rattle.std.specs.declared.boxed.Box.{Box}
 use Rattle.cql_lexer.specs.Mark.{Sort, Mark, at, marks}
-use Rattle.cql_parser.specs.Syntax.{Syntax, Op, polygon_op}
+use Rattle.cql_tree.specs.Syntax.{Syntax, Op, polygon_op}
 use Rattle.cql_parser.specs.Machine.{Slot, open_slot, whole_slot, corners_slot, sign_slot, comma_sign, close_sign, ForPrimary, State, whole, want_or, want_slot, want_slots, spells, stops, run}
-use Rattle.cql_parser.specs.Views.{syntax_of, numbers_of}
+use Rattle.cql_tree.specs.Views.{syntax_of, numbers_of}
 use Rattle.cql_parser.specs.declared.stop.Stop.{Stop}
 use Rattle.cql_parser.specs.declared.stop.Stop.TheVariants.{Memory, At}
 use Rattle.cql_parser.specs.declared.stop.Parsed.{Parsed}
-use Rattle.cql_parser.specs.declared.tree.Corner.{Corner}
-use Rattle.cql_parser.specs.declared.tree.Tree.{Tree}
+use Rattle.cql_tree.specs.declared.tree.Corner.{Corner}
+use Rattle.cql_tree.specs.declared.tree.Tree.{Tree}
 
 -- no tree can come at these tokens, unless memory ran out
 abbrev pub IsStopped : {K : Type 0} → (K → State) → List Mark → Stop → Type 0

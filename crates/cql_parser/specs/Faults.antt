@@ -1,7 +1,7 @@
 -- What is wrong with tokens that are no filter.
 use Rattle.std.specs.Prelude.{◌≡◌, ℕ, ◌+◌, ◌-◌, ◌≤◌, List, [], ◌∷◌, ◌++◌, Option, Some, None, if◌then◌else◌, ◌==◌, codes}
 use Rattle.cql_lexer.specs.Mark.{Sort, Mark, at, opening, closing}
-use Rattle.cql_parser.specs.Syntax.{Syntax}
+use Rattle.cql_tree.specs.Syntax.{Syntax}
 use Rattle.cql_parser.specs.Grammar.{Reads, IsViable}
 use Rattle.cql_parser.specs.declared.fault.GrammarFault.{GrammarFault}
 use Rattle.cql_parser.specs.declared.fault.GrammarFault.TheVariants.{TooDeep, NotExpected, EndOfFilter}

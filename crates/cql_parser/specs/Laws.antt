@@ -1,11 +1,11 @@
 -- What holds of every list of tokens.
 use Rattle.std.specs.Prelude.{◌≡◌, ◌↔◌, ℕ, ◌⊎◌, List, None}
 use Rattle.cql_lexer.specs.Mark.{Mark}
-use Rattle.cql_parser.specs.Syntax.{Syntax}
+use Rattle.cql_tree.specs.Syntax.{Syntax}
 use Rattle.cql_parser.specs.Grammar.{Reads}
 use Rattle.cql_parser.specs.Faults.{deep_at, IsShallow, HasFault}
 use Rattle.cql_parser.specs.Answer.{IsParsed}
-use Rattle.cql_parser.specs.Order.{Ascend, IsOrdered}
+use Rattle.cql_tree.specs.Order.{Ascend, IsOrdered}
 use Rattle.cql_parser.specs.declared.fault.GrammarFault.{GrammarFault}
 
 -- tokens have one tree

@@ -1,9 +1,6 @@
-pub mod Syntax
-pub mod Views
 pub mod Grammar
 pub mod Machine
 pub mod Faults
-pub mod Order
 pub mod Answer
 pub mod Laws
 pub mod Descent

@@ -2,10 +2,10 @@
 
 ghost use Rattle.std.specs.Prelude.{◌<◌, ◌≤◌, [], ◌∷◌, length, IfOk};
 ghost use Rattle.cql_lexer.specs.Mark.{marks};
-ghost use Rattle.cql_parser.specs.Syntax.{casei_op};
+ghost use Rattle.cql_tree.specs.Syntax.{casei_op};
 ghost use Rattle.cql_parser.specs.Machine.{left, right, pattern, low, in_paren, open_slot, sum_slot, close_sign, two_sums, want_or, want_and, want_not, want_predicate, want_sum, want_product, want_primary, want_slot, want_slots, want_null, after_in, after_is, have_or, have_and, have_not, have_predicate, have_sum, have_product, have_primary};
 ghost use Rattle.cql_parser.specs.Starts.{pair_op};
-ghost use Rattle.cql_parser.specs.Views.{syntax_of};
+ghost use Rattle.cql_tree.specs.Views.{syntax_of};
 ghost use Rattle.cql_parser.specs.Descent.{Parses, ParsesAll};
 
 use crate::literal::parse_literal;
@@ -20,8 +20,8 @@ use crate::node::{
 use crate::slot::{pass_close, pass_comma, pass_open};
 use crate::start::{CallStart, Pairing, TailStart, call_start, tail_start};
 use crate::stop::{Parsed, Stop};
-use crate::tree::{Factor, Term, Tree};
 use cql_lexer::{Comparison, Token};
+use cql_tree::{Factor, Term, Tree};
 use std::alloc::Global;
 
 /// Reads a whole filter: `or`, and nothing after it.

@@ -20,8 +20,7 @@ mod parser;
 mod slot;
 mod start;
 mod stop;
-mod tree;
 
+pub use cql_tree::{Addition, Bound, Corner, Factor, Multiplication, Number, Ring, Term, Tree};
 pub use fault::{GrammarFault, ParseFault};
 pub use parser::parse;
-pub use tree::{Addition, Bound, Corner, Factor, Multiplication, Number, Ring, Term, Tree};

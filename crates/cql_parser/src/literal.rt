@@ -2,9 +2,9 @@
 
 ghost use Rattle.std.specs.Prelude.{◌≡◌, ◌<◌, [], length, IfOk, MatchResult};
 ghost use Rattle.cql_lexer.specs.Mark.{marks};
-ghost use Rattle.cql_parser.specs.Syntax.{date_op, interval_op, point_op, polygon_op, bbox_op};
+ghost use Rattle.cql_tree.specs.Syntax.{date_op, interval_op, point_op, polygon_op, bbox_op};
 ghost use Rattle.cql_parser.specs.Machine.{as_primary, run, want_primary, want_slots, after_sign, have_primary, date_slots, interval_slots, point_slots, polygon_slots, bbox_slots};
-ghost use Rattle.cql_parser.specs.Views.{numbers_of};
+ghost use Rattle.cql_tree.specs.Views.{numbers_of};
 ghost use Rattle.cql_parser.specs.Starts.{IsNoCall};
 ghost use Rattle.cql_parser.specs.Descent.{Parses, IsStopped, ForRing, want_ring, have_ring};
 
@@ -18,8 +18,8 @@ use crate::slot::{
 };
 use crate::start::{LiteralStart, literal_start};
 use crate::stop::{Parsed, Stop};
-use crate::tree::Ring;
 use cql_lexer::Token;
+use cql_tree::Ring;
 use std::alloc::Global;
 
 /// Reads a name, or a literal. Parentheses and functions of expressions are read elsewhere.

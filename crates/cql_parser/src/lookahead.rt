@@ -6,8 +6,8 @@ ghost use Rattle.cql_parser.specs.Descent.{Begins, BeginsNo};
 ghost use Rattle.cql_parser.specs.Grammar.{addition_sort, multiplication_sort};
 ghost use Rattle.cql_lexer.specs.declared.token.Keyword.TheVariants.{And, Or, Not, Null, Div};
 
-use crate::tree::{Addition, Multiplication};
 use cql_lexer::{Keyword, Kind, Token};
+use cql_tree::{Addition, Multiplication};
 
 /// What follows an OR.
 pub fn after_or(tokens: &[Token]) -> Option<&[Token]>

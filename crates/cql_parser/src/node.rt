@@ -1,15 +1,15 @@
 // Nodes from their parts.
 
 ghost use Rattle.std.specs.Prelude.{◌≡◌, [], ◌∷◌, IfOk, string_bytes};
-ghost use Rattle.cql_parser.specs.Syntax.{joined, leaf, name_leaf, text_leaf, truth_leaf, or_op, and_op, sum_op, product_op, spatial_op, temporal_op, casei_op, date_op, interval_op, point_op, polygon_op, bbox_op, day_leaf, bound_leaf, number_leaf};
+ghost use Rattle.cql_tree.specs.Syntax.{joined, leaf, name_leaf, text_leaf, truth_leaf, or_op, and_op, sum_op, product_op, spatial_op, temporal_op, casei_op, date_op, interval_op, point_op, polygon_op, bbox_op, day_leaf, bound_leaf, number_leaf};
 ghost use Rattle.cql_parser.specs.Starts.{pair_op};
 ghost use Rattle.cql_parser.specs.Machine.{not_node, compare_node, like_node, between_node, in_node, null_node, filled};
-ghost use Rattle.cql_parser.specs.Views.{syntax_of, syntaxes_of, terms_of, additions_of, factors_of, multiplications_of, number_of, bound_of, numbers_of};
+ghost use Rattle.cql_tree.specs.Views.{syntax_of, syntaxes_of, terms_of, additions_of, factors_of, multiplications_of, number_of, bound_of, numbers_of};
 
 use crate::start::Pairing;
-use crate::tree::{Bound, Corner, Factor, Number, Ring, Term, Tree};
 use cad_day::Relation;
 use cql_lexer::{Comparison, SpatialRelation};
+use cql_tree::{Bound, Corner, Factor, Number, Ring, Term, Tree};
 use std::alloc::{AllocError, Global};
 
 /// The parts joined by OR; one part alone is that part.
@@ -59,7 +59,7 @@ pub fn product_tree(
 }
 
 /// A tree with NOT before it.
-#[tactic(auto, unfolding(crate::specs::Views::syntax_of))]
+#[tactic(auto, unfolding(cql_tree::specs::Views::syntax_of))]
 pub fn not_tree(alloc: Global, place: usize, part: Box<Tree>) -> Result<Box<Tree>, AllocError>
     ensures { IfOk result (λ t. syntax_of t.value ≡ not_node place (syntax_of part.value)) }
 {
@@ -67,7 +67,7 @@ pub fn not_tree(alloc: Global, place: usize, part: Box<Tree>) -> Result<Box<Tree
 }
 
 /// Two trees compared.
-#[tactic(auto, unfolding(crate::specs::Views::syntax_of))]
+#[tactic(auto, unfolding(cql_tree::specs::Views::syntax_of))]
 pub fn compare_tree(
     alloc: Global,
     by: Comparison,
@@ -80,7 +80,7 @@ pub fn compare_tree(
 }
 
 /// A value held against a pattern.
-#[tactic(auto, unfolding(crate::specs::Views::syntax_of))]
+#[tactic(auto, unfolding(cql_tree::specs::Views::syntax_of))]
 pub fn like_tree(
     alloc: Global,
     is_negated: bool,
@@ -98,7 +98,7 @@ pub fn like_tree(
 }
 
 /// A value between two others.
-#[tactic(auto, unfolding(crate::specs::Views::syntax_of))]
+#[tactic(auto, unfolding(cql_tree::specs::Views::syntax_of))]
 pub fn between_tree(
     alloc: Global,
     is_negated: bool,
@@ -139,7 +139,7 @@ pub fn in_tree(
 }
 
 /// A value that is asked for.
-#[tactic(auto, unfolding(crate::specs::Views::syntax_of))]
+#[tactic(auto, unfolding(cql_tree::specs::Views::syntax_of))]
 pub fn null_tree(alloc: Global, is_negated: bool, value: Box<Tree>) -> Result<Box<Tree>, AllocError>
     ensures { IfOk result (λ t. syntax_of t.value ≡ null_node is_negated (syntax_of value.value)) }
 {
@@ -147,7 +147,7 @@ pub fn null_tree(alloc: Global, is_negated: bool, value: Box<Tree>) -> Result<Bo
 }
 
 /// A text whose case is folded.
-#[tactic(auto, unfolding(crate::specs::Views::syntax_of))]
+#[tactic(auto, unfolding(cql_tree::specs::Views::syntax_of))]
 pub fn casei_tree(alloc: Global, place: usize, part: Box<Tree>) -> Result<Box<Tree>, AllocError>
     ensures { IfOk result (λ t. syntax_of t.value ≡ filled (casei_op place) (syntax_of part.value ∷ [])) }
 {
@@ -155,7 +155,7 @@ pub fn casei_tree(alloc: Global, place: usize, part: Box<Tree>) -> Result<Box<Tr
 }
 
 /// Two shapes compared.
-#[tactic(auto, unfolding(crate::specs::Views::syntax_of))]
+#[tactic(auto, unfolding(cql_tree::specs::Views::syntax_of))]
 pub fn spatial_tree(
     alloc: Global,
     place: usize,
@@ -176,7 +176,7 @@ pub fn spatial_tree(
 }
 
 /// Two spans of days compared.
-#[tactic(auto, unfolding(crate::specs::Views::syntax_of))]
+#[tactic(auto, unfolding(cql_tree::specs::Views::syntax_of))]
 pub fn temporal_tree(
     alloc: Global,
     place: usize,
@@ -197,7 +197,7 @@ pub fn temporal_tree(
 }
 
 /// A name.
-#[tactic(auto, unfolding(crate::specs::Views::syntax_of))]
+#[tactic(auto, unfolding(cql_tree::specs::Views::syntax_of))]
 pub fn name_tree(alloc: Global, place: usize, name: &String) -> Result<Box<Tree>, AllocError>
     ensures { IfOk result (λ t. syntax_of t.value ≡ leaf place (name_leaf (string_bytes name.now))) }
 {
@@ -206,7 +206,7 @@ pub fn name_tree(alloc: Global, place: usize, name: &String) -> Result<Box<Tree>
 }
 
 /// A text.
-#[tactic(auto, unfolding(crate::specs::Views::syntax_of))]
+#[tactic(auto, unfolding(cql_tree::specs::Views::syntax_of))]
 pub fn text_tree(alloc: Global, place: usize, content: &String) -> Result<Box<Tree>, AllocError>
     ensures { IfOk result (λ t. syntax_of t.value ≡ leaf place (text_leaf (string_bytes content.now))) }
 {
@@ -215,7 +215,7 @@ pub fn text_tree(alloc: Global, place: usize, content: &String) -> Result<Box<Tr
 }
 
 /// TRUE or FALSE.
-#[tactic(auto, unfolding(crate::specs::Views::syntax_of))]
+#[tactic(auto, unfolding(cql_tree::specs::Views::syntax_of))]
 pub fn truth_tree(alloc: Global, place: usize, value: bool) -> Result<Box<Tree>, AllocError>
     ensures { IfOk result (λ t. syntax_of t.value ≡ leaf place (truth_leaf value)) }
 {
@@ -223,7 +223,7 @@ pub fn truth_tree(alloc: Global, place: usize, value: bool) -> Result<Box<Tree>,
 }
 
 /// A number.
-#[tactic(auto, unfolding(crate::specs::Views::syntax_of))]
+#[tactic(auto, unfolding(cql_tree::specs::Views::syntax_of))]
 pub fn number_tree(alloc: Global, number: Number) -> Result<Box<Tree>, AllocError>
     ensures { IfOk result (λ t. syntax_of t.value ≡ number_of number) }
 {
@@ -231,7 +231,7 @@ pub fn number_tree(alloc: Global, number: Number) -> Result<Box<Tree>, AllocErro
 }
 
 /// A day.
-#[tactic(auto, unfolding(crate::specs::Views::syntax_of))]
+#[tactic(auto, unfolding(cql_tree::specs::Views::syntax_of))]
 pub fn date_tree(
     alloc: Global,
     place: usize,
@@ -251,7 +251,7 @@ pub fn date_tree(
 }
 
 /// A span of days.
-#[tactic(auto, unfolding(crate::specs::Views::syntax_of))]
+#[tactic(auto, unfolding(cql_tree::specs::Views::syntax_of))]
 pub fn interval_tree(
     alloc: Global,
     place: usize,
@@ -264,7 +264,7 @@ pub fn interval_tree(
 }
 
 /// A point.
-#[tactic(auto, unfolding(crate::specs::Views::syntax_of))]
+#[tactic(auto, unfolding(cql_tree::specs::Views::syntax_of))]
 pub fn point_tree(alloc: Global, place: usize, corner: Corner) -> Result<Box<Tree>, AllocError>
     ensures { IfOk result (λ t. syntax_of t.value ≡ filled (point_op place) (numbers_of (corner ∷ []))) }
 {
@@ -272,7 +272,7 @@ pub fn point_tree(alloc: Global, place: usize, corner: Corner) -> Result<Box<Tre
 }
 
 /// A frame.
-#[tactic(auto, unfolding(crate::specs::Views::syntax_of))]
+#[tactic(auto, unfolding(cql_tree::specs::Views::syntax_of))]
 pub fn bbox_tree(
     alloc: Global,
     place: usize,
@@ -285,7 +285,7 @@ pub fn bbox_tree(
 }
 
 /// An area of one ring.
-#[tactic(auto, unfolding(crate::specs::Views::syntax_of))]
+#[tactic(auto, unfolding(cql_tree::specs::Views::syntax_of))]
 pub fn polygon_tree(alloc: Global, place: usize, ring: Ring) -> Result<Box<Tree>, AllocError>
     ensures { IfOk result (λ t. syntax_of t.value ≡ filled (polygon_op place) (numbers_of ring.corners.items)) }
 {

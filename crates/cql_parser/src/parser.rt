@@ -4,17 +4,17 @@ ghost use Rattle.std.specs.Prelude.{◌≡◌, Err, IfOk, IsOk};
 ghost use Rattle.cql_lexer.specs.Mark.{marks};
 ghost use Rattle.cql_parser.specs.Answer.{Answers, IsParsed, OrMemory, fault_of};
 ghost use Rattle.cql_parser.specs.Faults.{deep_at, HasFault};
-ghost use Rattle.cql_parser.specs.Order.{Ascend, IsOrdered};
-ghost use Rattle.cql_parser.specs.Syntax.{Syntax};
-ghost use Rattle.cql_parser.specs.Views.{syntax_of};
+ghost use Rattle.cql_tree.specs.Order.{Ascend, IsOrdered};
+ghost use Rattle.cql_tree.specs.Syntax.{Syntax};
+ghost use Rattle.cql_tree.specs.Views.{syntax_of};
 ghost use Rattle.cql_parser.specs.declared.fault.GrammarFault.{GrammarFault};
 ghost use Rattle.cql_parser.specs.declared.fault.ParseFault.TheVariants.{At};
 
 use crate::descent::parse_filter;
 use crate::fault::{GrammarFault, ParseFault};
 use crate::stop::Stop;
-use crate::tree::Tree;
 use cql_lexer::{Kind, Token, Tokens};
+use cql_tree::Tree;
 use std::alloc::Global;
 
 // How many parentheses may be open at one time

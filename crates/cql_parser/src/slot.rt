@@ -2,9 +2,9 @@
 
 ghost use Rattle.std.specs.Prelude.{◌≡◌, ◌<◌, length, IfOk, MatchResult, string_bytes};
 ghost use Rattle.cql_lexer.specs.Mark.{marks};
-ghost use Rattle.cql_parser.specs.Syntax.{leaf, day_leaf};
+ghost use Rattle.cql_tree.specs.Syntax.{leaf, day_leaf};
 ghost use Rattle.cql_parser.specs.Machine.{ForWhole, run, after_sign, have_whole, open_slot, sign_slot, comma_sign, close_sign, text_slot, bound_slot, whole_slot};
-ghost use Rattle.cql_parser.specs.Views.{number_of, bound_of};
+ghost use Rattle.cql_tree.specs.Views.{number_of, bound_of};
 ghost use Rattle.cql_parser.specs.Descent.{IsStopped, ForSlot, want_here, pass_here, have_here, want_corner, want_pair, have_corner};
 
 use crate::lookahead::{
@@ -12,8 +12,8 @@ use crate::lookahead::{
 };
 use crate::node::{name_bound, number, text_bound};
 use crate::stop::Stop;
-use crate::tree::{Bound, Corner, Number};
 use cql_lexer::Token;
+use cql_tree::{Bound, Corner, Number};
 
 /// What follows an opening parenthesis.
 pub fn pass_open(tokens: &[Token]) -> Result<&[Token], Stop<'_>>

@@ -3,8 +3,8 @@
 ghost use Rattle.std.specs.Prelude.{◌≡◌};
 ghost use Rattle.cql_parser.specs.declared.stop.Stop.TheVariants.{Memory};
 
-use crate::tree::Tree;
 use cql_lexer::Token;
+use cql_tree::Tree;
 use std::alloc::{AllocError, AllocFailed};
 
 /// Memory ran out, or no tree can come at the first of these tokens.

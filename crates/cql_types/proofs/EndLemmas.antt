@@ -6,7 +6,7 @@ use Rattle.cad_day.specs.DayTexts.{day_named}
 use Rattle.cad_feature.specs.declared.property.PropertyKind.{PropertyKind}
 use Rattle.cad_feature.specs.declared.property.PropertyKind.TheVariants as property
 use Rattle.cad_feature.specs.Schema.{Named, find}
-use Rattle.cql_parser.specs.Syntax.{Syntax, none, part, leaf, name_leaf, node, place_of, interval_op}
+use Rattle.cql_tree.specs.Syntax.{Syntax, none, part, leaf, name_leaf, node, place_of, interval_op}
 use Rattle.cql_types.specs.declared.fault.TypeFault.{TypeFault}
 use Rattle.cql_types.specs.declared.fault.TypeFault.TheVariants.{Memory, At}
 use Rattle.cql_types.specs.declared.filter.EndTerm.{EndTerm}

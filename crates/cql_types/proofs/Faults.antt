@@ -1,11 +1,11 @@
 -- A tree has one kind or a fault, and the first fault in the order of reading is the least.
 use Rattle.std.proofs.Common.{if◌then◌else◌, ◌≡◌, ◌⊎◌, inl, inr, ◌<◌, ◌≤◌, refl, ap, sym, subst, ◌∙◌, ℕ, Bool, true, false, List, [], ◌∷◌, Option, Some, None, Result, Ok, Err, arith}
 use Rattle.cad_feature.specs.Schema.{Named}
-use Rattle.cql_parser.specs.Syntax.{Syntax, Parts, none, part, leaf, node, Leaf, Op, place_of, or_op, and_op, not_op, compare_op, like_op, between_op, in_op, is_null_op, sum_op, product_op, casei_op, date_op, interval_op, point_op, polygon_op, ring_op, bbox_op, spatial_op, temporal_op}
+use Rattle.cql_tree.specs.Syntax.{Syntax, Parts, none, part, leaf, node, Leaf, Op, place_of, or_op, and_op, not_op, compare_op, like_op, between_op, in_op, is_null_op, sum_op, product_op, casei_op, date_op, interval_op, point_op, polygon_op, ring_op, bbox_op, spatial_op, temporal_op}
 use Rattle.cql_types.specs.declared.fault.Misuse.{Misuse}
 use Rattle.cql_types.specs.declared.fault.Fault.{Fault}
 use Rattle.cql_types.specs.Kinds.{Kind, Mark, first_not, first_unlike, misfit, made, leaf_kind, wrong_kind, unsound, Has, Have, leaf_has, node_has, no_more, one_more, IsWrong, IsWrongIn, leaf_wrong, node_wrong, node_unsound, inside, here, later}
-use Rattle.cql_parser.specs.Order.{InOrder, AreInOrder, leaf_in_order, node_in_order, no_part, one_part}
+use Rattle.cql_tree.specs.Order.{InOrder, AreInOrder, leaf_in_order, node_in_order, no_part, one_part}
 use Rattle.cql_types.specs.Contract.{IsFirst, IsFirstIn, leaf_first, node_first, unsound_first, inside_first, here_first, later_first}
 
 one_result : {A B : Type 0} {r : Result A B} {x : A} {y : B} → r ≡ Ok x → r ≡ Err y → ⊥

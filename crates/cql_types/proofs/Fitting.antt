@@ -6,7 +6,7 @@ use Rattle.cad_feature.specs.declared.property.PropertyKind.TheVariants as prope
 use Rattle.cad_feature.specs.Schema.{Named}
 use Rattle.cad_shape.specs.declared.point.Point.{Point}
 use Rattle.cad_shape.specs.Rings.{ring_is}
-use Rattle.cql_parser.specs.Syntax.{Syntax, Parts, Leaf, Op, part, node, place_of}
+use Rattle.cql_tree.specs.Syntax.{Syntax, Parts, Leaf, Op, part, node, place_of}
 use Rattle.cql_types.specs.declared.filter.EndTerm.{EndTerm}
 use Rattle.cql_types.specs.declared.filter.Operation.{Operation}
 use Rattle.cql_types.specs.declared.filter.Step.{Step}

@@ -12,11 +12,11 @@ use Rattle.std.specs.declared.alloc.Global.{Global}
 use Rattle.std.specs.declared.vec.Vec.{Vec}
 use Rattle.std.specs.Prelude.{MatchResult, MatchOption}
 use Rattle.std.specs.Result.{result_ok}
-use Rattle.cql_parser.specs.declared.tree.Number.{Number}
-use Rattle.cql_parser.specs.declared.tree.Corner.{Corner}
-use Rattle.cql_parser.specs.declared.tree.Ring.{Ring as Line}
-use Rattle.cql_parser.specs.Syntax.{Syntax, Parts, none, part, parts_of, node, Op, ring_op, point_op, bbox_op, polygon_op}
-use Rattle.cql_parser.specs.Views.{number_of, numbers_of, ring_of, rings_of}
+use Rattle.cql_tree.specs.declared.tree.Number.{Number}
+use Rattle.cql_tree.specs.declared.tree.Corner.{Corner}
+use Rattle.cql_tree.specs.declared.tree.Ring.{Ring as Line}
+use Rattle.cql_tree.specs.Syntax.{Syntax, Parts, none, part, parts_of, node, Op, ring_op, point_op, bbox_op, polygon_op}
+use Rattle.cql_tree.specs.Views.{number_of, numbers_of, ring_of, rings_of}
 use Rattle.cql_types.specs.declared.fault.Misuse.{Misuse}
 use Rattle.cql_types.specs.declared.fault.Fault.{Fault}
 use Rattle.cql_types.specs.declared.fault.TypeFault.{TypeFault}

@@ -16,7 +16,7 @@ use Rattle.cad_shape.specs.declared.point.Point.{Point}
 use Rattle.cad_shape.specs.declared.shape.Shape.TheVariants as shape
 use Rattle.cql_lexer.specs.declared.token.Comparison.{Comparison}
 use Rattle.cql_lexer.specs.declared.token.SpatialRelation.{SpatialRelation}
-use Rattle.cql_parser.specs.Syntax.{Syntax, Parts, Leaf, Op}
+use Rattle.cql_tree.specs.Syntax.{Syntax, Parts, Leaf, Op}
 use Rattle.cql_types.specs.declared.filter.Operation.{Operation}
 use Rattle.cql_types.specs.declared.filter.WholeTerm.{WholeTerm}
 use Rattle.cql_types.specs.declared.filter.WholeTerm.TheVariants as whole

@@ -8,61 +8,21 @@ use Rattle.std.specs.declared.vec.Vec.{Vec}
 use Rattle.cad_day.specs.declared.relation.Relation.{Relation}
 use Rattle.cql_lexer.specs.declared.token.Comparison.{Comparison}
 use Rattle.cql_lexer.specs.declared.token.SpatialRelation.{SpatialRelation}
-use Rattle.cql_parser.specs.declared.tree.Addition.{Addition}
-use Rattle.cql_parser.specs.declared.tree.Multiplication.{Multiplication}
-use Rattle.cql_parser.specs.declared.tree.Bound.{Bound}
-use Rattle.cql_parser.specs.declared.tree.Corner.{Corner}
-use Rattle.cql_parser.specs.declared.tree.Factor.{Factor}
-use Rattle.cql_parser.specs.declared.tree.Ring.{Ring}
-use Rattle.cql_parser.specs.declared.tree.Term.{Term}
-use Rattle.cql_parser.specs.Syntax.{Syntax, Parts, leaf, node, part, none, parts_of, name_leaf, text_leaf, truth_leaf, day_leaf, or_op, and_op, not_op, compare_op, like_op, between_op, in_op, is_null_op, sum_op, product_op, casei_op, date_op, interval_op, point_op, polygon_op, bbox_op, spatial_op, temporal_op}
-use Rattle.cql_parser.specs.Views.{syntax_of, parts_in, terms_in, additions_in, factors_in, multiplications_in, syntaxes_of, terms_of, additions_of, factors_of, multiplications_of, number_of, numbers_of, bound_of, rings_of}
-use Rattle.cql_parser.specs.declared.tree.Number.{Number}
-use Rattle.cql_parser.specs.declared.tree.Tree.{Tree, Row_of-Tree, end_of-Tree, more_of-Tree, items-the_row-Tree, items_hidden-the_row-Tree-0, Row_of-Term, end_of-Term, more_of-Term, items-the_row-Term, items_hidden-the_row-Term-1, Row_of-Factor, end_of-Factor, more_of-Factor, items-the_row-Factor, items_hidden-the_row-Factor-2}
-use Rattle.cql_parser.specs.declared.tree.Tree.TheBlock.{hidden-the_row-Tree-0, hidden-the_row-Term-1, hidden-the_row-Factor-2}
-use Rattle.cql_parser.specs.declared.tree.Tree.TheVariants.{Name, Text, Truth, Or, And, Not, Compare, Like, Between, In, IsNull, Sum, Product, Casei, Date, Interval, Point, Polygon, Bbox, Spatial, Temporal}
-use Rattle.cql_parser.specs.declared.tree.Tree.TheVariants as tree
-
-row_parts : (n : _) (row : Row_of-Tree n) → parts_in row ≡ parts_of (syntaxes_of (items-the_row-Tree n row))
-unfolding syntax_of
-row_parts n end_of-Tree = refl
-row_parts n (more_of-Tree t rest) = ap (part (syntax_of t)) (row_parts _ rest)
-
--- the parts of a vector
-vec_parts : (ts : Vec Tree Global) → parts_in (hidden-the_row-Tree-0 ts) ≡ parts_of (syntaxes_of ts.items)
-vec_parts ts = row_parts _ (hidden-the_row-Tree-0 ts) ∙ ap (λ us. parts_of (syntaxes_of us)) (items_hidden-the_row-Tree-0 ts)
-
-term_parts : (n : _) (row : Row_of-Term n) → terms_in row ≡ parts_of (terms_of (items-the_row-Term n row))
-unfolding syntax_of
-term_parts n end_of-Term = refl
-term_parts n (more_of-Term by t rest) = ap (part (syntax_of t)) (term_parts _ rest)
-
-term_signs : (n : _) (row : Row_of-Term n) → additions_in row ≡ additions_of (items-the_row-Term n row)
-unfolding syntax_of
-term_signs n end_of-Term = refl
-term_signs n (more_of-Term by t rest) = ap (λ bs. by ∷ bs) (term_signs _ rest)
-
-vec_terms : (ts : Vec Term Global) → terms_in (hidden-the_row-Term-1 ts) ≡ parts_of (terms_of ts.items)
-vec_terms ts = term_parts _ (hidden-the_row-Term-1 ts) ∙ ap (λ us. parts_of (terms_of us)) (items_hidden-the_row-Term-1 ts)
-
-vec_additions : (ts : Vec Term Global) → additions_in (hidden-the_row-Term-1 ts) ≡ additions_of ts.items
-vec_additions ts = term_signs _ (hidden-the_row-Term-1 ts) ∙ ap (λ us. additions_of us) (items_hidden-the_row-Term-1 ts)
-
-factor_parts : (n : _) (row : Row_of-Factor n) → factors_in row ≡ parts_of (factors_of (items-the_row-Factor n row))
-unfolding syntax_of
-factor_parts n end_of-Factor = refl
-factor_parts n (more_of-Factor by t rest) = ap (part (syntax_of t)) (factor_parts _ rest)
-
-factor_signs : (n : _) (row : Row_of-Factor n) → multiplications_in row ≡ multiplications_of (items-the_row-Factor n row)
-unfolding syntax_of
-factor_signs n end_of-Factor = refl
-factor_signs n (more_of-Factor by t rest) = ap (λ bs. by ∷ bs) (factor_signs _ rest)
-
-vec_factors : (ts : Vec Factor Global) → factors_in (hidden-the_row-Factor-2 ts) ≡ parts_of (factors_of ts.items)
-vec_factors ts = factor_parts _ (hidden-the_row-Factor-2 ts) ∙ ap (λ us. parts_of (factors_of us)) (items_hidden-the_row-Factor-2 ts)
-
-vec_multiplications : (ts : Vec Factor Global) → multiplications_in (hidden-the_row-Factor-2 ts) ≡ multiplications_of ts.items
-vec_multiplications ts = factor_signs _ (hidden-the_row-Factor-2 ts) ∙ ap (λ us. multiplications_of us) (items_hidden-the_row-Factor-2 ts)
+use Rattle.cql_tree.specs.declared.tree.Addition.{Addition}
+use Rattle.cql_tree.specs.declared.tree.Multiplication.{Multiplication}
+use Rattle.cql_tree.specs.declared.tree.Bound.{Bound}
+use Rattle.cql_tree.specs.declared.tree.Corner.{Corner}
+use Rattle.cql_tree.specs.declared.tree.Factor.{Factor}
+use Rattle.cql_tree.specs.declared.tree.Ring.{Ring}
+use Rattle.cql_tree.specs.declared.tree.Term.{Term}
+use Rattle.cql_tree.specs.Syntax.{Syntax, Parts, leaf, node, part, none, parts_of, name_leaf, text_leaf, truth_leaf, day_leaf, or_op, and_op, not_op, compare_op, like_op, between_op, in_op, is_null_op, sum_op, product_op, casei_op, date_op, interval_op, point_op, polygon_op, bbox_op, spatial_op, temporal_op}
+use Rattle.cql_tree.specs.Views.{syntax_of, parts_in, terms_in, additions_in, factors_in, multiplications_in, syntaxes_of, terms_of, additions_of, factors_of, multiplications_of, number_of, numbers_of, bound_of, rings_of}
+use Rattle.cql_tree.specs.Rows.{vec_parts, vec_terms, vec_additions, vec_factors, vec_multiplications}
+use Rattle.cql_tree.specs.declared.tree.Number.{Number}
+use Rattle.cql_tree.specs.declared.tree.Tree.{Tree, Row_of-Tree, end_of-Tree, more_of-Tree, items-the_row-Tree, items_hidden-the_row-Tree-0, Row_of-Term, end_of-Term, more_of-Term, items-the_row-Term, items_hidden-the_row-Term-1, Row_of-Factor, end_of-Factor, more_of-Factor, items-the_row-Factor, items_hidden-the_row-Factor-2}
+use Rattle.cql_tree.specs.declared.tree.Tree.TheBlock.{hidden-the_row-Tree-0, hidden-the_row-Term-1, hidden-the_row-Factor-2}
+use Rattle.cql_tree.specs.declared.tree.Tree.TheVariants.{Name, Text, Truth, Or, And, Not, Compare, Like, Between, In, IsNull, Sum, Product, Casei, Date, Interval, Point, Polygon, Bbox, Spatial, Temporal}
+use Rattle.cql_tree.specs.declared.tree.Tree.TheVariants as tree
 
 pub syntax_of-Name : (p : ℕ) (s : String Global) → syntax_of (Name p s) ≡ leaf p (name_leaf (string_bytes s))
 unfolding syntax_of

@@ -5,8 +5,8 @@ use Rattle.std.proofs.Math.Logic.{∥∥₁_elim}
 use Rattle.std.proofs.Math.Bridge.{le_prop}
 use Rattle.std.proofs.Math.Nat.{ℕ_set}
 use Rattle.cad_feature.specs.Schema.{Named}
-use Rattle.cql_parser.specs.Order.{InOrder, IsOrdered}
-use Rattle.cql_parser.specs.Syntax.{Syntax, place_of}
+use Rattle.cql_tree.specs.Order.{InOrder, IsOrdered}
+use Rattle.cql_tree.specs.Syntax.{Syntax, place_of}
 use Rattle.cql_types.specs.declared.fault.Misuse.{Misuse}
 use Rattle.cql_types.specs.declared.fault.Misuse.TheVariants as cause
 use Rattle.cql_types.specs.declared.fault.Fault.{Fault}

@@ -1,6 +1,6 @@
 -- How many trees are in a tree, itself among them: by it the walk ends.
 use Rattle.std.proofs.Common.{◌≡◌, ap, ◌+◌, ◌*◌, ◌<◌, ◌≤◌, ℕ, zero, suc, List, [], ◌∷◌, length, get_or, map, arith}
-use Rattle.cql_parser.specs.Syntax.{Syntax, Parts, leaf, node, part, none, parts_of, Op}
+use Rattle.cql_tree.specs.Syntax.{Syntax, Parts, leaf, node, part, none, parts_of, Op}
 
 abbrev mutual
   pub weight_of : Syntax → ℕ

@@ -3,7 +3,7 @@ use Rattle.std.specs.Prelude.{◌≡◌, ◌⊎◌, ℕ, List, [], ◌∷◌, So
 use Rattle.std.specs.declared.alloc.Global.{Global}
 use Rattle.cad_feature.specs.Schema.{Named}
 use Rattle.cql_lexer.specs.declared.token.Comparison.{Comparison}
-use Rattle.cql_parser.specs.Syntax.{Syntax, Parts, none, part, leaf, node, place_of, Leaf, Op, keyed, compare_op}
+use Rattle.cql_tree.specs.Syntax.{Syntax, Parts, none, part, leaf, node, place_of, Leaf, Op, keyed, compare_op}
 use Rattle.cql_types.specs.declared.fault.Misuse.{Misuse}
 use Rattle.cql_types.specs.declared.fault.Fault.{Fault}
 use Rattle.cql_types.specs.declared.fault.TypeFault.{TypeFault}

@@ -1,8 +1,8 @@
 -- What holds of every tree and its faults.
 use Rattle.std.specs.Prelude.{◌≡◌, ◌⊎◌, List}
 use Rattle.cad_feature.specs.Schema.{Named}
-use Rattle.cql_parser.specs.Order.{IsOrdered}
-use Rattle.cql_parser.specs.Syntax.{Syntax}
+use Rattle.cql_tree.specs.Order.{IsOrdered}
+use Rattle.cql_tree.specs.Syntax.{Syntax}
 use Rattle.cql_types.specs.Conditions.{condition_in}
 use Rattle.cql_types.specs.Kinds.{Kind, Has, IsCondition, IsFault, IsLeast}
 use Rattle.cql_types.specs.Means.{IsFilter}

@@ -4,7 +4,7 @@ use Rattle.cad_day.specs.DayTexts.{day_named}
 use Rattle.cad_shape.specs.declared.point.Point.{Point}
 use Rattle.cad_shape.specs.Coordinates.{IsCoordinate}
 use Rattle.cad_shape.specs.Outlines.{IsRing}
-use Rattle.cql_parser.specs.Syntax.{Syntax, Parts, none, part, leaf, node, number_leaf, bound_leaf, ring_op}
+use Rattle.cql_tree.specs.Syntax.{Syntax, Parts, none, part, leaf, node, number_leaf, bound_leaf, ring_op}
 use Rattle.cql_types.specs.Numbers.{written}
 
 -- the parts are numbers, of these values

@@ -16,11 +16,11 @@ use Rattle.cad_shape.specs.declared.shape.Shape.TheVariants as shape
 use Rattle.cad_shape.specs.Rings.{corners_of}
 use Rattle.cql_lexer.specs.declared.token.Comparison.{Comparison}
 use Rattle.cql_lexer.specs.declared.token.SpatialRelation.{SpatialRelation}
-use Rattle.cql_parser.specs.declared.tree.Addition.{Addition}
-use Rattle.cql_parser.specs.declared.tree.Addition.TheVariants as addition
-use Rattle.cql_parser.specs.declared.tree.Multiplication.{Multiplication}
-use Rattle.cql_parser.specs.declared.tree.Multiplication.TheVariants as multiplication
-use Rattle.cql_parser.specs.Syntax.{Syntax, Parts, none, part, leaf, node, place_of, Leaf, name_leaf, number_leaf, text_leaf, truth_leaf, day_leaf, bound_leaf, Op, or_op, and_op, not_op, compare_op, like_op, between_op, in_op, is_null_op, sum_op, product_op, casei_op, date_op, interval_op, point_op, polygon_op, bbox_op, spatial_op, temporal_op}
+use Rattle.cql_tree.specs.declared.tree.Addition.{Addition}
+use Rattle.cql_tree.specs.declared.tree.Addition.TheVariants as addition
+use Rattle.cql_tree.specs.declared.tree.Multiplication.{Multiplication}
+use Rattle.cql_tree.specs.declared.tree.Multiplication.TheVariants as multiplication
+use Rattle.cql_tree.specs.Syntax.{Syntax, Parts, none, part, leaf, node, place_of, Leaf, name_leaf, number_leaf, text_leaf, truth_leaf, day_leaf, bound_leaf, Op, or_op, and_op, not_op, compare_op, like_op, between_op, in_op, is_null_op, sum_op, product_op, casei_op, date_op, interval_op, point_op, polygon_op, bbox_op, spatial_op, temporal_op}
 use Rattle.cql_types.specs.declared.filter.Operation.{Operation}
 use Rattle.cql_types.specs.declared.filter.Operation.TheVariants as operation
 use Rattle.cql_types.specs.declared.filter.WholeTerm.{WholeTerm}

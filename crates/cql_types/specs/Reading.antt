@@ -6,11 +6,11 @@ use Rattle.cad_feature.specs.declared.property.PropertyKind.{PropertyKind}
 use Rattle.cad_feature.specs.declared.property.PropertyKind.TheVariants as property
 use Rattle.cad_feature.specs.Schema.{Named}
 use Rattle.cad_shape.specs.Coordinates.{IsCoordinate}
-use Rattle.cql_parser.specs.declared.tree.Number.{Number}
-use Rattle.cql_parser.specs.declared.tree.Corner.{Corner}
-use Rattle.cql_parser.specs.declared.tree.Ring.{Ring}
-use Rattle.cql_parser.specs.Syntax.{Syntax, Parts, none, part, parts_of, node, ring_op}
-use Rattle.cql_parser.specs.Views.{numbers_of, rings_of}
+use Rattle.cql_tree.specs.declared.tree.Number.{Number}
+use Rattle.cql_tree.specs.declared.tree.Corner.{Corner}
+use Rattle.cql_tree.specs.declared.tree.Ring.{Ring}
+use Rattle.cql_tree.specs.Syntax.{Syntax, Parts, none, part, parts_of, node, ring_op}
+use Rattle.cql_tree.specs.Views.{numbers_of, rings_of}
 use Rattle.cql_types.specs.declared.fault.Fault.{Fault}
 use Rattle.cql_types.specs.declared.fault.TypeFault.{TypeFault}
 use Rattle.cql_types.specs.declared.filter.DayTerm.TheVariants as day

@@ -2,14 +2,14 @@
 
 ghost use Rattle.std.specs.Prelude.{◌≡◌, Err, IfErr, IfOk, IsOk, OnOk, map};
 ghost use Rattle.cad_feature.specs.Schema.{schema_of};
-ghost use Rattle.cql_parser.specs.Syntax.{leaf, node, part, parts_of, none, day_leaf, or_op, and_op, not_op, compare_op, like_op, between_op, in_op, is_null_op, sum_op, product_op, casei_op, date_op, spatial_op, temporal_op};
-ghost use Rattle.cql_parser.specs.Views.{syntax_of, syntaxes_of, terms_of, factors_of, additions_of, multiplications_of};
+ghost use Rattle.cql_tree.specs.Syntax.{leaf, node, part, parts_of, none, day_leaf, or_op, and_op, not_op, compare_op, like_op, between_op, in_op, is_null_op, sum_op, product_op, casei_op, date_op, spatial_op, temporal_op};
+ghost use Rattle.cql_tree.specs.Views.{syntax_of, syntaxes_of, terms_of, factors_of, additions_of, multiplications_of};
 ghost use Rattle.cql_types.specs.Contract.{ForFault, OrMemory, Judges, JudgesList, JudgesPair, JudgesParts, JudgesSteps};
 ghost use Rattle.cql_types.specs.Kinds.{IsCondition, IsFault, IsLeast};
 ghost use Rattle.cql_types.specs.Means.{IsFilter, added_by, multiplied_by};
 ghost use Rattle.cql_types.specs.declared.fault.Fault.{Fault};
 ghost use Rattle.cql_types.specs.declared.fault.TypeFault.TheVariants.{At};
-ghost use Rattle.cql_parser.specs.Order.{IsOrdered};
+ghost use Rattle.cql_tree.specs.Order.{IsOrdered};
 
 use crate::collect::one;
 use crate::fault::TypeFault;
@@ -20,7 +20,7 @@ use crate::{combine, leaf, literal};
 use cad_day::Relation;
 use cad_feature::Collection;
 use cql_lexer::{Comparison, SpatialRelation};
-use cql_parser::{Addition, Factor, Multiplication, Term, Tree};
+use cql_tree::{Addition, Factor, Multiplication, Term, Tree};
 use std::alloc::Global;
 
 /// The filter of the collection that the tree writes, or the fault with the least place.

@@ -4,9 +4,9 @@
 //! there, variant by variant down to the least part, and proved so.
 
 ghost use Rattle.std.specs.Prelude.{◌≡◌, [], ◌∷◌, map, List, Some, Bool, IfOk, IfErr, IsTrue, ◌↔◌, true, false};
-ghost use Rattle.cql_parser.specs.Syntax.{or_op, and_op, not_op, compare_op, like_op, between_op, in_op, is_null_op, sum_op, product_op, casei_op, date_op, spatial_op, temporal_op};
-ghost use Rattle.cql_parser.specs.declared.tree.Addition.{Addition};
-ghost use Rattle.cql_parser.specs.declared.tree.Multiplication.{Multiplication};
+ghost use Rattle.cql_tree.specs.Syntax.{or_op, and_op, not_op, compare_op, like_op, between_op, in_op, is_null_op, sum_op, product_op, casei_op, date_op, spatial_op, temporal_op};
+ghost use Rattle.cql_tree.specs.declared.tree.Addition.{Addition};
+ghost use Rattle.cql_tree.specs.declared.tree.Multiplication.{Multiplication};
 ghost use Rattle.cql_types.specs.Kinds as kinds;
 ghost use Rattle.cql_types.specs.Kinds.{is_equality, is_pattern, is_related, misfit};
 ghost use Rattle.cql_types.specs.Means.{Makes, kind_of, marks_of, pattern_of, IsNegatedIf, added_by, multiplied_by};

@@ -2,9 +2,9 @@
 
 ghost use Rattle.std.specs.Prelude.{◌≡◌, ℕ, List};
 ghost use Rattle.cad_feature.specs.Schema.{Named};
-ghost use Rattle.cql_parser.specs.Syntax.{Syntax};
+ghost use Rattle.cql_tree.specs.Syntax.{Syntax};
 ghost use Rattle.cql_types.specs.Kinds.{Kind, Has, IsWrong};
-ghost use Rattle.cql_parser.specs.Order.{InOrder};
+ghost use Rattle.cql_tree.specs.Order.{InOrder};
 ghost use Rattle.cql_types.specs.Laws.{HasConditionOrFault, HasFaultOrCondition, HasFiltersOfConditions, HasOneFilter, HasOneLeastFault};
 ghost use Rattle.cql_types.specs.declared.fault.Fault.{Fault};
 

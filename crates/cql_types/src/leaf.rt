@@ -2,8 +2,8 @@
 
 ghost use Rattle.std.specs.Prelude.{◌≡◌, string_bytes};
 ghost use Rattle.cad_feature.specs.Schema.{schema_of};
-ghost use Rattle.cql_parser.specs.Syntax.{leaf, name_leaf, text_leaf, truth_leaf, day_leaf};
-ghost use Rattle.cql_parser.specs.Views.{number_of};
+ghost use Rattle.cql_tree.specs.Syntax.{leaf, name_leaf, text_leaf, truth_leaf, day_leaf};
+ghost use Rattle.cql_tree.specs.Views.{number_of};
 ghost use Rattle.cql_types.specs.Means as means;
 ghost use Rattle.cql_types.specs.Contract.{Judges, IsJudged};
 ghost use Rattle.cql_types.specs.declared.fault.TypeFault.TheVariants.{At};
@@ -14,7 +14,7 @@ use crate::judged::{Judged, Node};
 use crate::number::whole_number;
 use cad_day::Day;
 use cad_feature::{Collection, PropertyKind, find_property};
-use cql_parser::Number;
+use cql_tree::Number;
 
 /// The part at the place is misused.
 pub fn at(place: usize, cause: Misuse) -> TypeFault

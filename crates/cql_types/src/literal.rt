@@ -7,8 +7,8 @@ ghost use Rattle.cad_shape.specs.Coordinates.{IsCoordinate};
 ghost use Rattle.cad_shape.specs.Outlines.{IsRing};
 ghost use Rattle.cad_shape.specs.Rings.{corners_of};
 ghost use Rattle.cad_shape.specs.declared.point.Point.{Point};
-ghost use Rattle.cql_parser.specs.Syntax.{leaf, node, part, parts_of, none, place_of, name_leaf, bound_leaf, interval_op, point_op, bbox_op, polygon_op};
-ghost use Rattle.cql_parser.specs.Views.{bound_of, numbers_of, rings_of};
+ghost use Rattle.cql_tree.specs.Syntax.{leaf, node, part, parts_of, none, place_of, name_leaf, bound_leaf, interval_op, point_op, bbox_op, polygon_op};
+ghost use Rattle.cql_tree.specs.Views.{bound_of, numbers_of, rings_of};
 ghost use Rattle.cql_types.specs.Literals.{coordinates_of, closed, is_turned};
 ghost use Rattle.cql_types.specs.Contract.{Judges};
 ghost use Rattle.cql_types.specs.Reading.{ReadsEnd, ReadsNumber, ReadsPosition, ReadsLine, ReadsLines, positions_of, property_end, end_day, IsFrame};
@@ -22,7 +22,7 @@ use crate::number::whole_number;
 use cad_day::Day;
 use cad_feature::{Collection, PropertyKind, find_property};
 use cad_shape::{Bounds, Point, Ring, Shape};
-use cql_parser::{Bound, Corner, Number};
+use cql_tree::{Bound, Corner, Number};
 use std::alloc::{AllocError, Global};
 
 /// A point of a literal, before it is known to be one of the plane.
@@ -198,7 +198,7 @@ fn frame_between(low: Position, high: Position) -> Option<Bounds>
 pub fn polygon(
     alloc: Global,
     place: usize,
-    rings: &[cql_parser::Ring],
+    rings: &[cql_tree::Ring],
     collection: Collection,
 ) -> Result<Judged, TypeFault>
     ensures { Judges (schema_of collection) (node (polygon_op place) (parts_of (rings_of rings.now))) result }
@@ -215,7 +215,7 @@ pub fn polygon(
     Ok(Judged { place, node })
 }
 
-fn read_lines(alloc: Global, rings: &[cql_parser::Ring]) -> Result<Vec<Vec<Position>>, TypeFault>
+fn read_lines(alloc: Global, rings: &[cql_tree::Ring]) -> Result<Vec<Vec<Position>>, TypeFault>
     ensures { ReadsLines rings.now result }
 {
     let mut lines = Vec::new(alloc);

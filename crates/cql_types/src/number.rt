@@ -8,7 +8,7 @@ ghost use Rattle.cql_types.specs.Numbers as spec;
 ghost use Rattle.cql_types.specs.Numbers.{written, held, is_point, is_zero};
 
 use crate::fault::Misuse;
-use cql_parser::Number;
+use cql_tree::Number;
 
 /// The value of a number with its sign.
 pub fn whole_number(number: &Number) -> Result<i64, Misuse>

@@ -2,7 +2,7 @@ use Rattle.std.proofs.Common.{length}
 use Rattle.std.proofs.lemmas.Result.{err_from_is_err_and}
 use Rattle.cad_feature.specs.Schema.{schema_of}
 use Rattle.cql_lexer.specs.Mark.{marks}
-use Rattle.cql_parser.specs.Views.{syntax_of}
+use Rattle.cql_tree.specs.Views.{syntax_of}
 use Rattle.cql_filter.specs.Filters.{IsRead}
 use Rattle.cql_filter.proofs.Verdict.{ascend, of_lexer_answers, of_parser_answers, of_types_answers}
 use Rattle.cql_filter.proofs.reading.read_filter.Goals as goal

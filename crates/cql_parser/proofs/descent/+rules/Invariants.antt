@@ -1,7 +1,7 @@
 use Rattle.std.proofs.Common.{◌≡◌, ◌∷◌, ◌+◌, ◌*◌, ◌<◌, length}
 use Rattle.cql_lexer.specs.Mark.{marks}
 use Rattle.cql_parser.specs.Machine.{ForOr, ForAnd, ForSum, ForProduct, ForPredicate, want_or, want_and, want_sum, want_product, after_in, have_ors, have_ands, have_terms, have_factors, have_items, run}
-use Rattle.cql_parser.specs.Views.{syntax_of, syntaxes_of, terms_of, additions_of, factors_of, multiplications_of}
+use Rattle.cql_tree.specs.Views.{syntax_of, syntaxes_of, terms_of, additions_of, factors_of, multiplications_of}
 use Rattle.cql_parser.proofs.descent.+rules.Given as goal
 
 -- fewer tokens, and for the same tokens an inner rule

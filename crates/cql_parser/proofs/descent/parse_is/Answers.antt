@@ -2,7 +2,7 @@ use Rattle.std.proofs.Common.{true, false, refl}
 use Rattle.cql_lexer.specs.Mark.{marks, word}
 use Rattle.cql_lexer.specs.declared.token.Keyword.TheVariants.{Not}
 use Rattle.cql_parser.specs.Machine.{after_is, want_null, have_predicate}
-use Rattle.cql_parser.specs.Views.{syntax_of}
+use Rattle.cql_tree.specs.Views.{syntax_of}
 use Rattle.cql_parser.proofs.Turns.{goes_at, is_stays, parses_from}
 use Rattle.cql_parser.proofs.descent.parse_is.Goals as goal
 

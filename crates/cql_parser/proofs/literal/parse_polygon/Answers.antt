@@ -2,7 +2,7 @@ use Rattle.std.proofs.Common.{[], ◌∷◌, refl, ◌∙◌}
 use Rattle.std.proofs.lemmas.Result.{err_from_is_err_and}
 use Rattle.cql_lexer.specs.Mark.{marks}
 use Rattle.cql_parser.specs.Machine.{open_slot, sign_slot, close_sign, whole_slot, corners_slot, want_slots, polygon_slots}
-use Rattle.cql_parser.specs.Syntax.{polygon_op}
+use Rattle.cql_tree.specs.Syntax.{polygon_op}
 use Rattle.cql_parser.specs.Descent.{for_slot, want_here, for_ring, want_ring}
 use Rattle.cql_parser.proofs.Turns.{stops_from}
 use Rattle.cql_parser.proofs.literal.parse_polygon.Goals as goal

@@ -1,7 +1,7 @@
 use Rattle.std.proofs.Common.{◌≡◌, ◌<◌, length}
 use Rattle.cql_lexer.specs.Mark.{marks}
 use Rattle.cql_parser.specs.Machine.{run}
-use Rattle.cql_parser.specs.Views.{numbers_of}
+use Rattle.cql_tree.specs.Views.{numbers_of}
 use Rattle.cql_parser.specs.Descent.{ForRing, want_ring, have_corners}
 use Rattle.cql_parser.proofs.literal.parse_ring.Given as goal
 

@@ -1,5 +1,5 @@
 use Rattle.std.proofs.Common.{◌∙◌, ap}
-use Rattle.cql_parser.specs.Views.{syntax_of}
+use Rattle.cql_tree.specs.Views.{syntax_of}
 use Rattle.cql_parser.proofs.Nodes.{sum_made}
 use Rattle.cql_parser.proofs.node.sum_tree.Goals as goal
 

@@ -1,7 +1,7 @@
 use Rattle.std.proofs.Common.{◌≡◌, ◌+◌, ◌*◌, ◌++◌, List, drop, map}
 use Rattle.cad_feature.specs.Schema.{schema_of}
-use Rattle.cql_parser.specs.Syntax.{none, part, parts_of}
-use Rattle.cql_parser.specs.Views.{syntax_of, syntaxes_of, terms_of, factors_of, additions_of, multiplications_of}
+use Rattle.cql_tree.specs.Syntax.{none, part, parts_of}
+use Rattle.cql_tree.specs.Views.{syntax_of, syntaxes_of, terms_of, factors_of, additions_of, multiplications_of}
 use Rattle.cql_types.specs.declared.fault.Fault.{Fault}
 use Rattle.cql_types.specs.declared.judged.Judged.{Judged}
 use Rattle.cql_types.specs.Means.{Mean, added_by, multiplied_by}

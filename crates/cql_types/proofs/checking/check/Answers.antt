@@ -1,5 +1,5 @@
 use Rattle.cad_feature.specs.Schema.{schema_of}
-use Rattle.cql_parser.specs.Views.{syntax_of}
+use Rattle.cql_tree.specs.Views.{syntax_of}
 use Rattle.cql_types.proofs.Verdict.{accepted, refused}
 use Rattle.cql_types.proofs.checking.check.Goals as goal
 

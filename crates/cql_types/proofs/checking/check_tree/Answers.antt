@@ -1,6 +1,6 @@
 use Rattle.std.proofs.lemmas.Result.{err_from_is_err_and}
 use Rattle.cad_feature.specs.Schema.{schema_of}
-use Rattle.cql_parser.specs.Views.{syntax_of}
+use Rattle.cql_tree.specs.Views.{syntax_of}
 use Rattle.cql_types.proofs.Verdict.{whole_faults, whole_wrong, whole_answer, match_ok, match_err, match_condition, match_fault}
 use Rattle.cql_types.proofs.checking.check_tree.Goals as goal
 

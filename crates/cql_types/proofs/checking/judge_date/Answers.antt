@@ -1,6 +1,6 @@
 use Rattle.std.proofs.lemmas.Result.{err_from_is_err_and}
 use Rattle.cad_feature.specs.Schema.{schema_of}
-use Rattle.cql_parser.specs.Syntax.{none, leaf, day_leaf, date_op}
+use Rattle.cql_tree.specs.Syntax.{none, leaf, day_leaf, date_op}
 use Rattle.cql_types.proofs.Judging.{node_judged, last_part, fault_here}
 use Rattle.cql_types.proofs.checking.judge_date.Goals as goal
 

@@ -1,8 +1,8 @@
 use Rattle.std.proofs.Common.{refl, [], ◌∷◌}
 use Rattle.std.proofs.lemmas.Result.{err_from_is_err_and}
 use Rattle.cad_feature.specs.Schema.{schema_of}
-use Rattle.cql_parser.specs.Syntax.{parts_of, bbox_op}
-use Rattle.cql_parser.specs.Views.{numbers_of}
+use Rattle.cql_tree.specs.Syntax.{parts_of, bbox_op}
+use Rattle.cql_tree.specs.Views.{numbers_of}
 use Rattle.cql_types.specs.Means.{literal_means}
 use Rattle.cql_types.proofs.LiteralLemmas.{number_inside, numbers_more, of_corner, after_corner, box_unsound, box_drawn}
 use Rattle.cql_types.proofs.literal.bbox.Goals as goal

@@ -1,8 +1,8 @@
 use Rattle.std.proofs.Common.{◌≡◌, refl, sym, ◌∙◌, length}
 use Rattle.std.proofs.lemmas.Result.{err_from_is_err_and}
 use Rattle.cad_feature.specs.Schema.{schema_of}
-use Rattle.cql_parser.specs.Syntax.{parts_of, polygon_op}
-use Rattle.cql_parser.specs.Views.{rings_of}
+use Rattle.cql_tree.specs.Syntax.{parts_of, polygon_op}
+use Rattle.cql_tree.specs.Views.{rings_of}
 use Rattle.cql_types.specs.Means.{literal_means}
 use Rattle.cql_types.proofs.LiteralLemmas.{number_inside, not_single, only_line, no_region, region_drawn}
 use Rattle.cql_types.proofs.literal.polygon.Goals as goal

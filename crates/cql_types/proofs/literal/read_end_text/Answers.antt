@@ -2,7 +2,7 @@ use Rattle.std.proofs.Common.{◌∙◌, sym, ap}
 use Rattle.std.specs.Option.{option_map}
 use Rattle.cad_day.specs.Days.{number_of}
 use Rattle.cql_types.specs.declared.fault.Misuse.TheVariants.{NotADate}
-use Rattle.cql_parser.specs.Syntax.{bound_leaf}
+use Rattle.cql_tree.specs.Syntax.{bound_leaf}
 use Rattle.cql_types.specs.Kinds.{kind_of_day}
 use Rattle.cql_types.specs.Contract.{leaf_first}
 use Rattle.cql_types.specs.Means.{open_text, day_text}

@@ -1,6 +1,6 @@
 use Rattle.std.proofs.Common.{◌++◌, ℤ, List, drop}
-use Rattle.cql_parser.specs.Syntax.{parts_of}
-use Rattle.cql_parser.specs.Views.{numbers_of}
+use Rattle.cql_tree.specs.Syntax.{parts_of}
+use Rattle.cql_tree.specs.Views.{numbers_of}
 use Rattle.cql_types.specs.declared.fault.Fault.{Fault}
 use Rattle.cql_types.specs.Literals.{AreNumbers}
 use Rattle.cql_types.specs.Reading.{IsFirstNumber, positions_of}

@@ -1,18 +1,18 @@
 -- A tree without where it lies in memory.
 use Rattle.std.specs.Prelude.{List, [], ◌∷◌, map, string_bytes}
-use Rattle.cql_parser.specs.Syntax.{Syntax, Parts, none, part, parts_of, leaf, node, name_leaf, number_leaf, text_leaf, truth_leaf, day_leaf, bound_leaf, or_op, and_op, not_op, compare_op, like_op, between_op, in_op, is_null_op, sum_op, product_op, casei_op, date_op, interval_op, point_op, polygon_op, ring_op, bbox_op, spatial_op, temporal_op}
-use Rattle.cql_parser.specs.declared.tree.Addition.{Addition}
-use Rattle.cql_parser.specs.declared.tree.Multiplication.{Multiplication}
-use Rattle.cql_parser.specs.declared.tree.Number.{Number}
-use Rattle.cql_parser.specs.declared.tree.Bound.{Bound}
-use Rattle.cql_parser.specs.declared.tree.Bound.TheVariants as bound
-use Rattle.cql_parser.specs.declared.tree.Tree.TheVariants as tree
-use Rattle.cql_parser.specs.declared.tree.Corner.{Corner}
-use Rattle.cql_parser.specs.declared.tree.Ring.{Ring}
-use Rattle.cql_parser.specs.declared.tree.Term.{Term}
-use Rattle.cql_parser.specs.declared.tree.Factor.{Factor}
-use Rattle.cql_parser.specs.declared.tree.Tree.{Tree, Row_of-Tree, end_of-Tree, more_of-Tree, Row_of-Term, end_of-Term, more_of-Term, Row_of-Factor, end_of-Factor, more_of-Factor}
-use Rattle.cql_parser.specs.declared.tree.Tree.TheVariants.{Name, Text, Truth, Or', And', Not', Compare', Like', Between', In', IsNull', Sum', Product', Casei', Date, Interval, Point, Polygon, Bbox, Spatial', Temporal'}
+use Rattle.cql_tree.specs.Syntax.{Syntax, Parts, none, part, parts_of, leaf, node, name_leaf, number_leaf, text_leaf, truth_leaf, day_leaf, bound_leaf, or_op, and_op, not_op, compare_op, like_op, between_op, in_op, is_null_op, sum_op, product_op, casei_op, date_op, interval_op, point_op, polygon_op, ring_op, bbox_op, spatial_op, temporal_op}
+use Rattle.cql_tree.specs.declared.tree.Addition.{Addition}
+use Rattle.cql_tree.specs.declared.tree.Multiplication.{Multiplication}
+use Rattle.cql_tree.specs.declared.tree.Number.{Number}
+use Rattle.cql_tree.specs.declared.tree.Bound.{Bound}
+use Rattle.cql_tree.specs.declared.tree.Bound.TheVariants as bound
+use Rattle.cql_tree.specs.declared.tree.Tree.TheVariants as tree
+use Rattle.cql_tree.specs.declared.tree.Corner.{Corner}
+use Rattle.cql_tree.specs.declared.tree.Ring.{Ring}
+use Rattle.cql_tree.specs.declared.tree.Term.{Term}
+use Rattle.cql_tree.specs.declared.tree.Factor.{Factor}
+use Rattle.cql_tree.specs.declared.tree.Tree.{Tree, Row_of-Tree, end_of-Tree, more_of-Tree, Row_of-Term, end_of-Term, more_of-Term, Row_of-Factor, end_of-Factor, more_of-Factor}
+use Rattle.cql_tree.specs.declared.tree.Tree.TheVariants.{Name, Text, Truth, Or', And', Not', Compare', Like', Between', In', IsNull', Sum', Product', Casei', Date, Interval, Point, Polygon, Bbox, Spatial', Temporal'}
 
 abbrev pub number_of : Number → Syntax
 number_of n = leaf n.place (number_leaf n.is_negative (string_bytes n.digits))

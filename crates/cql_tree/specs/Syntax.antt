@@ -3,8 +3,8 @@ use Rattle.std.specs.Prelude.{ℕ, Bool, List, [], ◌∷◌}
 use Rattle.cad_day.specs.declared.relation.Relation.{Relation}
 use Rattle.cql_lexer.specs.declared.token.Comparison.{Comparison}
 use Rattle.cql_lexer.specs.declared.token.SpatialRelation.{SpatialRelation}
-use Rattle.cql_parser.specs.declared.tree.Addition.{Addition}
-use Rattle.cql_parser.specs.declared.tree.Multiplication.{Multiplication}
+use Rattle.cql_tree.specs.declared.tree.Addition.{Addition}
+use Rattle.cql_tree.specs.declared.tree.Multiplication.{Multiplication}
 
 pub data Leaf : Type 0 where
   name_leaf : (name : List ℕ) → Leaf

@@ -1,7 +1,7 @@
 -- Places ascend in the order of reading.
 use Rattle.std.specs.Prelude.{ℕ, ◌<◌, ◌≤◌, ◌+◌, List, [], ◌∷◌}
 use Rattle.cql_lexer.specs.Mark.{Mark, at}
-use Rattle.cql_parser.specs.Syntax.{Syntax, Parts, none, part, leaf, node, Leaf, Op, keyed, place_in}
+use Rattle.cql_tree.specs.Syntax.{Syntax, Parts, none, part, leaf, node, Leaf, Op, keyed, place_in}
 
 -- the places of the tokens ascend from the first on
 abbrev pub Ascend : ℕ → List Mark → Type 0
