@@ -7,7 +7,7 @@ use Rattle.cad_desk.specs.Connections.{rest_at}
 use Rattle.cad_desk.specs.Desks.{responder_of, connections_of}
 use Rattle.cad_server.specs.declared.server.Server.{Server}
 use Rattle.cad_server.specs.Servers.{ledger_of, IsServerOf}
-use Rattle.cad_run.specs.Serving.{IsDeskOver}
+use Rattle.cad_program.specs.Serving.{IsDeskOver}
 
 module _ {L : Type 0} (g : Ghosts L) where
   -- of a server that stands for what the ledger stands for

@@ -2,8 +2,8 @@
 use Rattle.std.specs.Prelude.{◌≡◌, ℕ, List, [], ◌∷◌, codes, Option, Some, None, if◌then◌else◌}
 use Rattle.std.specs.Str.{bytes_eq}
 use Rattle.cad_listen.specs.Arguments.{count_of}
-use Rattle.cad_run.specs.declared.command.Command.{Command}
-use Rattle.cad_run.specs.declared.command.Command.TheVariants.{Sample, Ask, Serve, Office}
+use Rattle.cad_program.specs.declared.command.Command.{Command}
+use Rattle.cad_program.specs.declared.command.Command.TheVariants.{Sample, Ask, Serve, Office}
 
 -- what a command line asks for
 pub data Asked : Type 0 where

@@ -14,10 +14,10 @@ use Rattle.cad_server.specs.declared.server.Server.{Server}
 use Rattle.cad_server.specs.Servers.{ledger_of}
 use Rattle.cad_listen.specs.Arguments.{listening_line}
 use Rattle.cad_listen.specs.Listening.{Listens}
-use Rattle.cad_run.specs.declared.command.Service.{Service}
-use Rattle.cad_run.specs.declared.outcome.Outcome.{Outcome}
-use Rattle.cad_run.specs.declared.outcome.Outcome.TheVariants as outcome
-use Rattle.cad_run.specs.Serving.{answers_of, IsDeskOver}
+use Rattle.cad_program.specs.declared.command.Service.{Service}
+use Rattle.cad_program.specs.declared.outcome.Outcome.{Outcome}
+use Rattle.cad_program.specs.declared.outcome.Outcome.TheVariants as outcome
+use Rattle.cad_program.specs.Serving.{answers_of, IsDeskOver}
 
 -- what standard output and standard error hold before and after
 module _ (service : Service) (before after quiet told : Option (List ℕ)) where

@@ -12,8 +12,8 @@ use Rattle.cad_office.specs.OfficeFaults.{fault_number as office_fault_number, f
 use Rattle.cad_versions.specs.declared.fault.RegisterFault.{RegisterFault}
 use Rattle.cad_versions.specs.declared.fault.RegisterFault.TheVariants as register
 use Rattle.cad_versions.specs.Fault.{fault_number as register_fault_number, fault_name as register_fault_name}
-use Rattle.cad_run.specs.declared.outcome.Outcome.{Outcome}
-use Rattle.cad_run.specs.declared.outcome.Outcome.TheVariants as outcome
+use Rattle.cad_program.specs.declared.outcome.Outcome.{Outcome}
+use Rattle.cad_program.specs.declared.outcome.Outcome.TheVariants as outcome
 
 -- the status of the process
 abbrev pub status_of : Outcome → ℕ

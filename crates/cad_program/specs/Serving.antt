@@ -20,9 +20,9 @@ use Rattle.cad_server.specs.declared.server.Server.{Server}
 use Rattle.cad_server.specs.Replies.{IsReply, bad_head_reply, FailsToAnswer}
 use Rattle.cad_server.specs.Servers.{ledger_of, IsServerOf}
 use Rattle.cad_server.specs.Refusing.{ReadingIsRefused}
-use Rattle.cad_run.specs.declared.outcome.Outcome.{Outcome}
-use Rattle.cad_run.specs.declared.outcome.Outcome.TheVariants as outcome
-use Rattle.cad_run.specs.Outcomes.{outcome_of}
+use Rattle.cad_program.specs.declared.outcome.Outcome.{Outcome}
+use Rattle.cad_program.specs.declared.outcome.Outcome.TheVariants as outcome
+use Rattle.cad_program.specs.Outcomes.{outcome_of}
 
 -- connection 1 of the desk is served; the run ends as that did, and where the peer ended nothing is left unread
 abbrev pub EndsServing : {P : Type 0} → responder.Ghosts P → Option (List ℕ) → Option (List ℕ) → Option (List ℕ) → Option (List ℕ) → Type 0 → Desk P → Outcome → Desk P → Type 0

@@ -37,7 +37,7 @@ pub enum Command<'a> {
 impl<'a> Command<'a> {
     ghost use Rattle.std.specs.Prelude.{◌≡◌, map, string_bytes};
     ghost use Rattle.cad_listen.specs.Arguments.{count_of};
-    ghost use Rattle.cad_run.specs.Commands.{asked, service_of, IsCommandOf};
+    ghost use Rattle.cad_program.specs.Commands.{asked, service_of, IsCommandOf};
 
     /// The command of a command line, which begins with the program's name.
     pub fn of_words(words: &'a [String]) -> Option<Command<'a>>

@@ -2,7 +2,7 @@
 
 ghost use Rattle.std.specs.Io.KnownBytes.{IsAtEnd};
 ghost use Rattle.cad_versions.specs.LedgerCalls.{Applies};
-ghost use Rattle.cad_run.specs.Entering.{EndsOffice};
+ghost use Rattle.cad_program.specs.Entering.{EndsOffice};
 
 use crate::outcome::Outcome;
 use cad_office::office;

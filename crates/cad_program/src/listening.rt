@@ -1,6 +1,6 @@
 //! Connections taken at an address, and served over a ledger.
 
-ghost use Rattle.cad_run.specs.Listening.{EndsListening, ListensOver};
+ghost use Rattle.cad_program.specs.Listening.{EndsListening, ListensOver};
 
 use crate::command::Service;
 use crate::outcome::Outcome;

@@ -30,7 +30,7 @@ pub enum Outcome {
 
 impl Outcome {
     ghost use Rattle.std.specs.Prelude.{◌≡◌, option_map};
-    ghost use Rattle.cad_run.specs.Outcomes.{fault_of, office_outcome_of, outcome_of, status_of};
+    ghost use Rattle.cad_program.specs.Outcomes.{fault_of, office_outcome_of, outcome_of, status_of};
 
     /// How serving one connection ends a run. What the database refuses is told as the register's fault.
     pub fn of_serving(served: Result<Ending, ServeFault>) -> Outcome

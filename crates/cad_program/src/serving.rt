@@ -1,7 +1,7 @@
 //! One connection served over a ledger.
 
 ghost use Rattle.std.specs.Io.KnownBytes.{IsAtEnd};
-ghost use Rattle.cad_run.specs.Serving.{AnswersOver, AnswersSample, EndsServing};
+ghost use Rattle.cad_program.specs.Serving.{AnswersOver, AnswersSample, EndsServing};
 
 use crate::outcome::Outcome;
 use cad_desk::Desk;

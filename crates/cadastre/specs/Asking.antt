@@ -10,9 +10,9 @@ use Rattle.cad_register.specs.Registers.{connection_of, state_of, IsRegisterOf}
 use Rattle.cad_register.specs.Ledgers.{IsOpen, IsCut, RefusesCommand, RefusesListing}
 use Rattle.cad_register.specs.Opening.{Opened}
 use Rattle.cad_register.specs.Stands.{IsStoreFault}
-use Rattle.cad_run.specs.declared.outcome.Outcome.{Outcome}
-use Rattle.cad_run.specs.declared.outcome.Outcome.TheVariants as outcome
-use Rattle.cad_run.specs.Serving.{AnswersOver, IsUntouched}
+use Rattle.cad_program.specs.declared.outcome.Outcome.{Outcome}
+use Rattle.cad_program.specs.declared.outcome.Outcome.TheVariants as outcome
+use Rattle.cad_program.specs.Serving.{AnswersOver, IsUntouched}
 
 module _ {S : Type 0} (g : Ghosts S) where
   -- a land register as a ledger

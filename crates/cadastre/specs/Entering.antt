@@ -10,9 +10,9 @@ use Rattle.cad_register.specs.declared.register.Register.{Register}
 use Rattle.cad_register.specs.Registers.{connection_of, state_of, IsRegisterOf}
 use Rattle.cad_register.specs.Ledgers.{IsOpen, IsCut, RefusesCommand}
 use Rattle.cad_register.specs.Opening.{OpenedOrCreated}
-use Rattle.cad_run.specs.declared.outcome.Outcome.{Outcome}
-use Rattle.cad_run.specs.declared.outcome.Outcome.TheVariants as outcome
-use Rattle.cad_run.specs.Entering.{EndsOffice}
+use Rattle.cad_program.specs.declared.outcome.Outcome.{Outcome}
+use Rattle.cad_program.specs.declared.outcome.Outcome.TheVariants as outcome
+use Rattle.cad_program.specs.Entering.{EndsOffice}
 
 module _ {S : Type 0} (g : Ghosts S) (from to before after : Option (List ℕ)) (AtEnd : Type 0) where
   -- what a land register does with a command

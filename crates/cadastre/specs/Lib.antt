@@ -2,3 +2,4 @@ pub mod Opening
 pub mod Asking
 pub mod Entering
 pub mod Listening
+pub mod Sampling

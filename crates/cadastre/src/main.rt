@@ -2,26 +2,20 @@
 //!
 //! - `land`: the land office, and one connection served, over a register file
 //! - `listening`: connections taken at an address, over a register file
+//! - `sampling`: one connection served over the sample register, in a database in memory
 //!
-//! What a command line asks for, the same work over any ledger, and how a run ends stand in `cad_run`.
+//! What a command line asks for, the same work over any ledger, and how a run ends stand in `cad_program`.
 #![tactic(auto)]
 
 mod land;
 mod listening;
+mod sampling;
 
-use cad_plain::PlainLedger;
-use cad_run::{Command, Outcome, answer_sample, read_words, tell};
+use cad_program::{Command, Outcome, read_words, tell};
 use land::{run_ask, run_office};
 use listening::run_serve;
+use sampling::run_sample;
 use std::process::ExitCode;
-
-/// Serves standard input over the sample register, which lies in memory.
-fn run_sample(rt: &HostRuntime) -> Outcome {
-    let alloc = rt.alloc();
-    let ledger = PlainLedger::new(alloc);
-    let (outcome, _) = answer_sample(alloc, ledger, &mut rt.stdin(), &mut rt.stdout());
-    outcome
-}
 
 fn run(rt: &HostRuntime) -> Outcome {
     let words = match read_words(rt) {

@@ -1,7 +1,7 @@
 use Rattle.std.proofs.Common.{ap, ◌∙◌, inr}
 use Rattle.cad_server.specs.Servers.{ledger_of}
-use Rattle.cad_run.proofs.DeskLemmas.{desk_over}
-use Rattle.cad_run.proofs.serving.answer_over.Goals as goal
+use Rattle.cad_program.proofs.DeskLemmas.{desk_over}
+use Rattle.cad_program.proofs.serving.answer_over.Goals as goal
 
 pub returns-in-Ok : goal.returns-in-Ok
 returns-in-Ok g c =

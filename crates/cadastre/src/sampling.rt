@@ -1,0 +1,44 @@
+//! The server over the sample register, which lies in a database in memory.
+
+ghost use Rattle.std.specs.Io.KnownBytes.{IsAtEnd};
+ghost use Rattle.std.specs.Prelude.{◌≡◌};
+ghost use Rattle.cadastre.specs.Sampling.{RunsSample};
+
+use cad_program::{Outcome, answer_sample};
+use cad_register::{Register, RegisterFault};
+use sqlite::{Alter, Connection};
+use std::alloc::Global;
+use std::io::{Read, Write};
+
+/// Serves a connection over the sample register, which is made in the database and entered first, and gives the database's connection back.
+pub fn run_sample_over<S: Alter, R: Read, W: Write>(
+    alloc: Global,
+    connection: Connection<S>,
+    reader: &mut R,
+    writer: &mut W,
+) -> (Outcome, Connection<S>)
+    ensures { RunsSample S.Store (R.remaining reader.old) (R.remaining reader.new)
+        (W.contents writer.old) (W.contents writer.new) (IsAtEnd (R.remaining reader.new)) connection result }
+{
+    match Register::create(alloc, connection) {
+        Ok(register) => {
+            let (outcome, register) = answer_sample(alloc, register, reader, writer);
+            (outcome, register.release())
+        }
+        Err((why, connection)) => (Outcome::Register(why), connection),
+    }
+}
+
+/// Serves standard input over the sample register.
+pub fn run_sample(rt: &HostRuntime) -> Outcome {
+    let Ok(connection) = Connection::open_in_memory(rt.alloc()) else {
+        return Outcome::Register(RegisterFault::Memory);
+    };
+    let (outcome, _) = run_sample_over(
+        rt.alloc(),
+        connection,
+        &mut rt.stdin(),
+        &mut rt.stdout(),
+    );
+    outcome
+}
