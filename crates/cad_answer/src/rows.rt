@@ -7,5 +7,6 @@ use cad_feature::Feature;
 pub struct Page<'a> {
     /// By object and number.
     pub rows: Vec<&'a Feature>,
+    /// Whether the answer has features after these.
     pub more: bool,
 }

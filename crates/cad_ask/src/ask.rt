@@ -18,12 +18,15 @@ use std::alloc::Global;
 /// What a query asks of a collection.
 #[derive(Drop)]
 pub struct Ask {
+    /// The collection whose features are asked for.
     pub collection: Collection,
     /// The parameters as they were given, for the links of the page.
     pub pairs: Vec<Pair>,
+    /// How many features at most, and which days and which box they have to meet.
     pub selection: Selection,
     /// All features pass where it is `None`.
     pub filter: Option<Filter>,
+    /// Which revision is shown, and after which feature the page begins.
     pub continuation: Continuation,
 }
 

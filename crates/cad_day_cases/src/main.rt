@@ -4,6 +4,8 @@
 //! - `asked TEXT`: the days that the text asks for, or the fault
 //! - `interval FIRST LAST`: whether there is an interval between two days, by their numbers
 //! - `relations TEXT TEXT`: the relations that hold between two intervals, by their names
+//!
+//! The line `day 1969-12-31` is answered by `day 1969-12-31: -1 1969-12-31`.
 #![tactic(auto)]
 
 use cad_day::{Day, Interval, Relation, asked, holds};

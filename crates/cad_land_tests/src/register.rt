@@ -137,7 +137,7 @@ fn unit() -> Body {
     Body::Unit { name: None }
 }
 
-/// The seven commands of a short run, with an object of no number left out, and what each answers.
+/// The six commands of a short run, and what each answers.
 fn short_run<S: Alter>(alloc: Global, register: &mut Register<S>) -> Result<String, Fail> {
     let mut text = String::new(alloc);
     let commands = [

@@ -97,8 +97,11 @@ impl Outcome {
 /// A fault as it is told: `KIND: NUMBER NAME`.
 #[derive(Clone, Copy, Debug, PartialEq, Eq)]
 pub struct Fault {
+    /// What failed: `serve`, `desk` or `register`.
     pub kind: &'static str,
+    /// The fault's number among those of its own crate.
     pub number: u8,
+    /// The fault's name among those of its own crate.
     pub name: &'static str,
 }
 

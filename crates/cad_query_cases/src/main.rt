@@ -5,6 +5,8 @@
 //! - `next QUERY REVISION IDENTIFIER`: the target of the link to the next page
 //! - `body PATH`: the body of the landing page, of the collections, of one of them or of its queryables
 //! - `word WORD`, `fault CAUSE PLACE`: the body of a fault, and of that of a filter
+//!
+//! The line `asks limit=1` is answered by `asks limit=1: limit 1`, and `asks ?` by `asks ?: 1 Unknown unknown`.
 #![tactic(auto)]
 
 mod bodies;

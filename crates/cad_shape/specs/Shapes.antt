@@ -45,13 +45,13 @@ SomeIn points shape = AnyOf (λ p. IsIn p shape) points
 abbrev pub RegionsMeet : Shape → List Point → Shape → List Point → Type 0
 RegionsMeet a cs b ds = SomeMeet (edges_of cs) (edges_of ds) ⊎ (SomeIn cs b ⊎ SomeIn ds a)
 
--- the region a with these corners shares a point with b
+-- the region a with these corners meets b
 abbrev pub RegionMeets : Shape → List Point → Shape → Type 0
 RegionMeets a cs (Spot q) = IsIn q a
 RegionMeets a cs (Frame g) = RegionsMeet a cs (Frame g) (frame_corners g)
 RegionMeets a cs (Area s) = RegionsMeet a cs (Area s) (corners_of s)
 
--- the two shapes share a point
+-- the two shapes meet: a point lies in the other shape, or of two regions some edges share a point, or a corner of one lies in the other
 abbrev pub Meets : Shape → Shape → Type 0
 Meets (Spot p) b = IsIn p b
 Meets (Frame f) b = RegionMeets (Frame f) (frame_corners f) b

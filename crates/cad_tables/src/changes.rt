@@ -3,7 +3,9 @@
 /// The object whose open version is closed, and its last day, counted from 1970-01-01.
 #[derive(Clone, Copy, Debug, PartialEq, Eq)]
 pub struct Closing {
+    /// The object's number.
     pub object: u32,
+    /// The last day, 0 for 1970-01-01.
     pub last: i32,
 }
 

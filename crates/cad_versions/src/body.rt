@@ -20,12 +20,15 @@ pub enum Body {
     Unit {
         name: Option<Words>,
     },
-    /// LA_SpatialUnit, of one unit. The area is in square metres.
+    /// LA_SpatialUnit, of one unit.
     Parcel {
         unit: ObjectId,
         label: Words,
+        /// In whole square metres. It is told with the parcel, and not worked out from the outline.
         area: Option<u32>,
+        /// The outline.
         shape: Option<Ring>,
+        /// A reference point. It may stand without an outline, and may lie anywhere.
         spot: Option<Point>,
     },
     /// LA_Right on a unit. The code says what kind of right it is.

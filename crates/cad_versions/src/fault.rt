@@ -95,7 +95,7 @@ impl RegisterFault {
         }
     }
 
-    /// The number by which programs tell the fault.
+    /// The fault's number in the table of specs/Fault, from 1, by which programs may tell it.
     pub fn number(&self) -> u8
         ensures { result ≡ fault_number self.now }
     {

@@ -10,7 +10,9 @@ use std::alloc::{AllocError, Global};
 /// The status and the JSON body of a reply.
 #[derive(Debug, Drop)]
 pub struct Told {
+    /// The status of the reply's first line.
     pub status: Status,
+    /// The text of the JSON body.
     pub body: String,
 }
 

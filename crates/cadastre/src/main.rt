@@ -5,6 +5,12 @@
 //! - `sampling`: one connection served over the sample register, in a database in memory
 //!
 //! What a command line asks for, the same work over any ledger, and how a run ends stand in `cad_program`.
+//!
+//! - `cadastre sample` serves standard input over the sample register;
+//! - `cadastre ask land.db` serves it over the register of a file;
+//! - `cadastre serve land.db 127.0.0.1:8080 100` takes 100 connections at an address over that register, one after the
+//!   other;
+//! - `cadastre office land.db` enters the commands of standard input into it, and makes the register where none stands.
 #![tactic(auto)]
 
 mod land;

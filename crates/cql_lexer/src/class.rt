@@ -1,4 +1,4 @@
-// Runs of bytes of one class.
+//! Runs of bytes of one class.
 
 ghost use Rattle.std.specs.Prelude.{◌≡◌, length, take_while};
 ghost use Rattle.cql_lexer.specs.Scan.{after_run, is_in, run_of};

@@ -1,4 +1,4 @@
-// Why a text has no tokens.
+//! Why a text has no tokens.
 
 ghost use Rattle.std.specs.Prelude.{◌≡◌};
 ghost use Rattle.cql_lexer.specs.Faults.{label_of, name_of, number_of, place_of};
@@ -50,7 +50,7 @@ impl SpellingFault {
         }
     }
 
-    /// The number by which programs tell the fault.
+    /// The fault's number in the table of specs/Faults, from 1, by which programs may tell it.
     pub fn number(&self) -> u8
         ensures { result ≡ (label_of self.now).number }
     {
@@ -78,7 +78,7 @@ impl SpellingFault {
 }
 
 impl LexFault {
-    /// The number by which programs tell the fault.
+    /// The fault's number in the table of specs/Faults, from 1, by which programs may tell it.
     pub fn number(&self) -> u8
         ensures { result ≡ number_of self.now }
     {

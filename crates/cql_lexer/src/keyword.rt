@@ -1,4 +1,4 @@
-// Which bare names are keywords.
+//! Which bare names are keywords.
 
 ghost use Rattle.std.specs.Prelude.{◌≡◌, map};
 ghost use Rattle.std.specs.Str.{str_eq_ignore_ascii_case};

@@ -1,4 +1,4 @@
-// From a text to its tokens, or its fault.
+//! From a text to its tokens, or its fault.
 
 ghost use Rattle.std.specs.Prelude.{◌≡◌, ℕ, ◌≤◌, [], List, Err, IfOk, IsOk, length};
 ghost use Rattle.std.specs.Str.{IsUtf8};

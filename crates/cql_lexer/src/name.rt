@@ -1,4 +1,4 @@
-// The name at the front of some bytes.
+//! The name at the front of some bytes.
 
 ghost use Rattle.std.specs.Prelude.{◌≡◌, ◌∷◌, true, IfOk, string_bytes};
 ghost use Rattle.std.specs.Str.{IsUtf8, byte};

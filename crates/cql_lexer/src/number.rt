@@ -1,4 +1,4 @@
-// The number at the front of some bytes.
+//! The number at the front of some bytes.
 
 ghost use Rattle.std.specs.Prelude.{◌≡◌, true, IfOk};
 ghost use Rattle.cql_lexer.specs.Mark.{sort_of};

@@ -1,4 +1,4 @@
-// The symbol at the front of some bytes.
+//! The symbol at the front of some bytes.
 
 ghost use Rattle.std.specs.Prelude.{◌≡◌};
 ghost use Rattle.cql_lexer.specs.Scan.{seen, symbol_front};

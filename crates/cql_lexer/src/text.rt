@@ -1,4 +1,4 @@
-// The text at the front of some bytes.
+//! The text at the front of some bytes.
 
 ghost use Rattle.std.specs.Prelude.{◌≡◌, ◌∷◌, IfOk};
 ghost use Rattle.std.specs.Str.{IsUtf8, byte};

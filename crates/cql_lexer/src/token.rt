@@ -1,4 +1,4 @@
-// The tokens of the filter language.
+//! The tokens of the filter language.
 
 use cad_day::Relation;
 

@@ -1,4 +1,4 @@
-// The rules of the grammar, each read from the front of the tokens.
+//! The rules of the grammar, each read from the front of the tokens.
 
 ghost use Rattle.std.specs.Prelude.{◌<◌, ◌≤◌, [], ◌∷◌, length, IfOk};
 ghost use Rattle.cql_lexer.specs.Mark.{marks};

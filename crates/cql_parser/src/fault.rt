@@ -1,4 +1,4 @@
-// Why tokens are not read.
+//! Why tokens are not read.
 
 ghost use Rattle.std.specs.Prelude.{◌≡◌};
 ghost use Rattle.cql_parser.specs.Faults.{label_of, name_of, number_of, place_of};
@@ -43,7 +43,7 @@ impl GrammarFault {
         }
     }
 
-    /// The number by which programs tell the fault.
+    /// The fault's number in the table of specs/Faults, from 1, by which programs may tell it.
     pub fn number(&self) -> u8
         ensures { result ≡ (label_of self.now).number }
     {
@@ -70,7 +70,7 @@ impl GrammarFault {
 }
 
 impl ParseFault {
-    /// The number by which programs tell the fault.
+    /// The fault's number in the table of specs/Faults, from 1, by which programs may tell it.
     pub fn number(&self) -> u8
         ensures { result ≡ number_of self.now }
     {

@@ -1,4 +1,4 @@
-// Names and literals, each read from the front of the tokens.
+//! Names and literals, each read from the front of the tokens.
 
 ghost use Rattle.std.specs.Prelude.{◌≡◌, ◌<◌, [], length, IfOk, MatchResult};
 ghost use Rattle.cql_lexer.specs.Mark.{marks};

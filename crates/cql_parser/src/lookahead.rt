@@ -1,4 +1,4 @@
-// A look at the first token.
+//! A look at the first token.
 
 ghost use Rattle.std.specs.Prelude.{IfSome, IfNone, length, ◌<◌, List, ◌≡◌, ◌∷◌, ℕ, string_bytes, if◌then◌else◌};
 ghost use Rattle.cql_lexer.specs.Mark.{marks, at, opening, closing, comma, plus, minus, times, modulo, word, name, text, number};

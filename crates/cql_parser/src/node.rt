@@ -1,4 +1,4 @@
-// Nodes from their parts.
+//! Nodes from their parts.
 
 ghost use Rattle.std.specs.Prelude.{◌≡◌, [], ◌∷◌, IfOk, string_bytes};
 ghost use Rattle.cql_tree.specs.Syntax.{joined, leaf, name_leaf, text_leaf, truth_leaf, or_op, and_op, sum_op, product_op, spatial_op, temporal_op, casei_op, date_op, interval_op, point_op, polygon_op, bbox_op, day_leaf, bound_leaf, number_leaf};

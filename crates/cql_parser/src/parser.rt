@@ -1,4 +1,4 @@
-// From tokens to a tree, or the first fault.
+//! From tokens to a tree, or the first fault.
 
 ghost use Rattle.std.specs.Prelude.{◌≡◌, Err, IfOk, IsOk};
 ghost use Rattle.cql_lexer.specs.Mark.{marks};

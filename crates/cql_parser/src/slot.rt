@@ -1,4 +1,4 @@
-// The slots of functions and literals, each read from the front of the tokens.
+//! The slots of functions and literals, each read from the front of the tokens.
 
 ghost use Rattle.std.specs.Prelude.{◌≡◌, ◌<◌, length, IfOk, MatchResult, string_bytes};
 ghost use Rattle.cql_lexer.specs.Mark.{marks};

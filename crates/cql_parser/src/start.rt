@@ -1,4 +1,4 @@
-// What the first token begins.
+//! What the first token begins.
 
 ghost use Rattle.std.specs.Prelude.{length, ◌<◌};
 ghost use Rattle.cql_lexer.specs.Mark.{marks};
@@ -7,50 +7,71 @@ ghost use Rattle.cql_parser.specs.Starts.{StartsTail, StartsNegated, IsShorterTa
 use cad_day::Relation;
 use cql_lexer::{Comparison, Keyword, Kind, SpatialRelation, Token};
 
-/// What may follow a value, and the tokens behind its words; of those that may stand behind a NOT,
-/// whether one was read.
+/// What may follow a value, and the tokens behind its words.
 #[derive(Clone, Copy)]
 pub enum TailStart<'a> {
+    /// A comparison by this sign.
     Compared(Comparison, &'a [Token]),
+    /// LIKE, and whether a NOT stands before it.
     Liked(bool, &'a [Token]),
+    /// BETWEEN, and whether a NOT stands before it.
     Ranged(bool, &'a [Token]),
+    /// IN, and whether a NOT stands before it.
     Listed(bool, &'a [Token]),
+    /// IS.
     Tested(&'a [Token]),
-    /// Nothing that may follow a NOT stands here.
+    /// A NOT, and nothing that may follow it; the tokens are those behind it.
     Broken(&'a [Token]),
+    /// None of these.
     NoTail,
 }
 
 /// A function of two values.
 #[derive(Clone, Copy)]
 pub enum Pairing {
+    /// A relation of two shapes.
     Spatial(SpatialRelation),
+    /// A relation of two intervals.
     Temporal(Relation),
 }
 
 /// What opens a parenthesis round other expressions, and the tokens behind its word.
 #[derive(Clone, Copy)]
 pub enum CallStart<'a> {
+    /// The parenthesis itself, without a word.
     Paren(&'a [Token]),
+    /// CASEI, and the place of the word.
     Folded(usize, &'a [Token]),
+    /// A function of two values, with the place of its word.
     Paired(usize, Pairing, &'a [Token]),
+    /// None of these.
     NoCall,
 }
 
 /// What begins a name or a literal, and the tokens behind its first one.
 #[derive(Clone, Copy)]
 pub enum LiteralStart<'a> {
+    /// A name, at this place.
     Name(usize, &'a String, &'a [Token]),
+    /// A text and what it says, at this place.
     Text(usize, &'a String, &'a [Token]),
+    /// TRUE or FALSE: the place of the word, and whether it is TRUE.
     Truth(usize, bool, &'a [Token]),
+    /// A number without a sign, as it is written, at this place.
     Number(usize, &'a String, &'a [Token]),
     /// Whether the sign is a minus.
     Sign(bool, &'a [Token]),
+    /// DATE, and the place of the word.
     Date(usize, &'a [Token]),
+    /// INTERVAL, and the place of the word.
     Interval(usize, &'a [Token]),
+    /// POINT, and the place of the word.
     Point(usize, &'a [Token]),
+    /// POLYGON, and the place of the word.
     Polygon(usize, &'a [Token]),
+    /// BBOX, and the place of the word.
     Bbox(usize, &'a [Token]),
+    /// None of these.
     NoLiteral,
 }
 

@@ -1,4 +1,4 @@
-// How the reading of a rule ends.
+//! How the reading of a rule ends.
 
 ghost use Rattle.std.specs.Prelude.{◌≡◌};
 ghost use Rattle.cql_parser.specs.declared.stop.Stop.TheVariants.{Memory};

@@ -1,4 +1,4 @@
-// The tree of a filter.
+//! The tree of a filter.
 
 use cad_day::Relation;
 use cql_lexer::{Comparison, SpatialRelation};

@@ -72,7 +72,7 @@ impl TypeFault {
         }
     }
 
-    /// The number by which programs tell the fault.
+    /// The fault's number in the table of specs/Faults, from 1, by which programs may tell it.
     pub fn number(&self) -> u8
         ensures { result ≡ (fault_row self.now).0 }
     {

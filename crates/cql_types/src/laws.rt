@@ -8,7 +8,7 @@ ghost use Rattle.cql_tree.specs.Order.{InOrder};
 ghost use Rattle.cql_types.specs.Laws.{HasConditionOrFault, HasFaultOrCondition, HasFiltersOfConditions, HasOneFilter, HasOneLeastFault};
 ghost use Rattle.cql_types.specs.declared.fault.Fault.{Fault};
 
-/// A tree has at most one kind, TRUE and FALSE that of both.
+/// A tree has at most one kind; TRUE and FALSE have a kind of their own, which fits a flag and a condition.
 pub fn tree_has_one_kind()
     ensures { (s : List Named) (t : Syntax) (k l : Kind) → Has s t k → Has s t l → k ≡ l }
 {}

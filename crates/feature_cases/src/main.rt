@@ -1,6 +1,13 @@
 //! The features of a register, as JSON.
 //!
 //! The lines of the land office in `stdin` are entered into a ledger in memory. Then, collection by collection, each feature of the last revision is printed on a line of its own.
+//!
+//! The line `{"do":"enter","object":11,"first":"2000-01-01","unit":{}}` is answered by `revision 2`, and its feature is
+//! printed as
+//!
+//! ```text
+//! units {"geometry":null,"id":"11.1","properties":{"begin":"2000-01-01","end":null,"name":null,"number":1,"object":11},"type":"Feature"}
+//! ```
 #![tactic(auto)]
 
 ghost use Rattle.cad_versions.specs.Listing.{IsListing};
