@@ -49,14 +49,13 @@ pub fn answer_over<L: Ledger, R: Read, W: Write>(
 /// Serves a connection over the sample register, which is entered into the ledger first, and gives the ledger back.
 pub fn answer_sample<L: Ledger, R: Read, W: Write>(
     alloc: Global,
-    ledger: L,
+    mut ledger: L,
     reader: &mut R,
     writer: &mut W,
 ) -> (Outcome, L)
     ensures { AnswersSample L.Ledger (R.remaining reader.old) (R.remaining reader.new)
         (W.contents writer.old) (W.contents writer.new) (IsAtEnd (R.remaining reader.new)) ledger result }
 {
-    let mut ledger = ledger;
     match fill(alloc, &mut ledger) {
         Ok(_) => answer_over(alloc, ledger, reader, writer),
         Err(fault) => (Outcome::Register(fault), ledger),

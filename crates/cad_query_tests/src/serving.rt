@@ -1,6 +1,6 @@
-//! Connections served over readers and writers that fail, and where memory is refused.
+//! Connections served over readers and writers that fail, and one after another.
 
-use cad_desk::{DeskFault, Event};
+use cad_desk::Event;
 use cad_plain_desk::sample_desk;
 use cad_serve::{Ending, ServeFault, serve};
 use std::test::Fail;
@@ -18,9 +18,6 @@ const LAST: &str =
 
 const LAST_REPLY: &str =
     "HTTP/1.1 404 Not Found\r\nContent-Type: application/json\r\nContent-Length: 22\r\nConnection: close\r\n\r\n{\"fault\":\"no-feature\"}";
-
-const NO_MEMORY: &str =
-    "HTTP/1.1 503 Service Unavailable\r\nContent-Length: 0\r\nConnection: close\r\n\r\n";
 
 /// How reading may go: the most bytes a read gives, and what comes behind the last byte.
 const READINGS: [(usize, Stop); 4] = [
@@ -108,32 +105,20 @@ fn stops_where_writing_does(rt: HostRuntime) -> Result<(), Fail> {
     Ok(())
 }
 
-/// The reply, or where an allocation is refused the fixed head. The connection is closed then, the register is as it was, and
-/// another connection goes on. The gate runs this with ample memory alone; `make refused` serves such a connection with each
-/// growth refused in turn, in a run of the cases.
+/// A desk serves one connection after another, while a third stays open. What it does where a growth is refused is a run of
+/// the cases, in `make refused`.
 #[test]
-fn refuses_for_memory_alone(rt: HostRuntime) {
+fn replies_twice_on_one_desk(rt: HostRuntime) -> Result<(), Fail> {
     let alloc = rt.alloc();
-    let Ok(mut desk) = sample_desk(alloc) else {
-        return;
-    };
-    let is_open = desk.step(Event::Open(2)).is_ok();
-    let mut is_replied = false;
+    let mut desk = sample_desk(alloc)?;
+    assert!(rt; desk.step(Event::Open(2)).is_ok());
     for _ in 0..2 {
         let mut reader = Peer::new(REQUEST.as_bytes(), 4096, REQUEST.len(), Stop::Ends);
         let mut writer = Taker::new(512, 512, Stop::Fails);
-        match serve(alloc, &mut reader, &mut writer, &mut desk, 1) {
-            Ok(Ending::PeerEnded) => {
-                assert!(rt; writer.has_taken(REPLY.as_bytes()));
-                is_replied = true;
-            }
-            Ok(Ending::Refused(DeskFault::Memory)) => assert!(rt;
-                writer.has_taken(NO_MEMORY.as_bytes())
-            ),
-            Ok(Ending::WeEnded | Ending::Refused(_)) | Err(_) => assert!(rt; false),
-        }
+        let served = serve(alloc, &mut reader, &mut writer, &mut desk, 1);
+        assert_eq!(rt; served, Ok(Ending::PeerEnded));
+        assert!(rt; writer.has_taken(REPLY.as_bytes()));
     }
-    // One growth is refused at the most.
-    assert!(rt; is_replied);
-    assert_eq!(rt; desk.step(Event::Close(2)).is_ok(), is_open);
+    assert!(rt; desk.step(Event::Close(2)).is_ok());
+    Ok(())
 }

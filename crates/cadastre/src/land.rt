@@ -34,8 +34,7 @@ pub fn run_office_over<S: Alter, R: Read, W: Write>(
         (W.contents writer.old) (W.contents writer.new) (IsAtEnd (R.remaining reader.new)) connection result }
 {
     match Register::open_or_create(alloc, connection) {
-        Ok(register) => {
-            let mut register = register;
+        Ok(mut register) => {
             let outcome = enter_commands(alloc, reader, writer, &mut register);
             (outcome, register.release())
         }

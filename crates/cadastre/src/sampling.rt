@@ -34,11 +34,6 @@ pub fn run_sample(rt: &HostRuntime) -> Outcome {
     let Ok(connection) = Connection::open_in_memory(rt.alloc()) else {
         return Outcome::Register(RegisterFault::Memory);
     };
-    let (outcome, _) = run_sample_over(
-        rt.alloc(),
-        connection,
-        &mut rt.stdin(),
-        &mut rt.stdout(),
-    );
+    let (outcome, _) = run_sample_over(rt.alloc(), connection, &mut rt.stdin(), &mut rt.stdout());
     outcome
 }
