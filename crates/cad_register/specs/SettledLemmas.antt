@@ -1,5 +1,5 @@
 -- A database that is as it was, one question after another, and the register in it.
-use Rattle.std.proofs.Common.{◌≡◌, refl, ◌∙◌, sym, subst, IsTrue, inl, inr}
+use Rattle.std.proofs.Common.{refl, ◌∙◌, sym, subst, IsTrue, inl, inr}
 use Rattle.std.proofs.Math.Nat.{le_refl, le_trans}
 use Rattle.sqlite_trees.specs.declared.store.Store.{Ghosts}
 use Rattle.sqlite.specs.State.{State, IsUnchanged, Survives}
