@@ -2,9 +2,8 @@
 use Rattle.std.specs.Prelude.{◌≡◌, List, length, Result, IfErr, OnOk, OnErr}
 use Rattle.cad_versions.specs.declared.command.Command.{Command}
 use Rattle.cad_versions.specs.declared.fault.RegisterFault.TheVariants.{Store}
-use Rattle.cad_request.specs.Request.{Request}
 use Rattle.cad_stream.specs.declared.responder.Responder.{Ghosts}
-use Rattle.cad_stream.specs.Feeding.{Under}
+use Rattle.cad_stream.specs.Feeding.{Under, RefusesLater}
 use Rattle.cad_desk.specs.declared.desk.Desk.{Desk}
 use Rattle.cad_desk.specs.declared.event.Event.{Event}
 use Rattle.cad_desk.specs.declared.event.Event.TheVariants.{Open, Bytes, Close, Office}
@@ -37,7 +36,7 @@ module _ {R : Type 0} (g : Ghosts R) where
   -- what keeps the commands refused a part of the event
   abbrev pub IsRefused : R → Event → R → Type 0
   IsRefused old (Open c) new = ⊥
-  IsRefused old (Bytes c piece) new = (before : R) × (request : Request) × g.refuses_answer before new request
+  IsRefused old (Bytes c piece) new = RefusesLater g old new
   IsRefused old (Close c) new = ⊥
   IsRefused old (Office command) new = (commands : List Command) → g.stands_for old commands → g.refuses_command old new command (length commands)
 

@@ -29,6 +29,7 @@ impl PlainLedger {
 }
 
 impl Ledger for PlainLedger {
+    ghost use Rattle.std.proofs.Common.{◌≡◌, refl, ◌∙◌};
     ghost use Rattle.cad_plain.specs.Ledgers.{IsLedgerOf, IsMemory, memory_keeps};
 
     ghost stands_for = { IsLedgerOf };
@@ -45,9 +46,15 @@ impl Ledger for PlainLedger {
 
     ghost refuses_listing = { λ _ _ _. ⊥ };
 
+    ghost remains = { λ old new. new ≡ old };
+
     ghost apply_keeps = { λ _ _. memory_keeps };
 
     ghost list_keeps = { λ _ _. memory_keeps };
+
+    ghost remains_here = { λ _. refl };
+
+    ghost remains_then = { λ _ _ _ first later. later ∙ first };
 
     fn revision(&self) -> u64 {
         self.revision

@@ -43,6 +43,7 @@ module _ {L : Type 0} (g : ledger.Ghosts L) where
     fails_to_enter = g.fails_to_apply;
     refuses_answer = λ old new _. ReadingIsRefused g (ledger_of old) (ledger_of new);
     refuses_command = λ old new. g.refuses_command (ledger_of old) (ledger_of new);
+    remains = λ old new. g.remains (ledger_of old) (ledger_of new);
   }
 
   -- a desk without connections, whose server stands for what the ledger stands for

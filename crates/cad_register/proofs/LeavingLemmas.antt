@@ -1,5 +1,5 @@
 -- One question after another leaves what each leaves.
-use Rattle.std.proofs.Common.{◌≡◌, ℕ, Vec, IfOk, None, Result, Ok, Err, IfErr, IsErrAnd, refl, sym, subst, ◌∙◌, List}
+use Rattle.std.proofs.Common.{◌≡◌, ℕ, Vec, IfOk, None, Result, Ok, Err, OnOk, IfErr, IsErrAnd, refl, sym, subst, ◌∙◌, List}
 use Rattle.sqlite.specs.State.{State, IsUnchanged}
 use Rattle.cad_tables.specs.Asking.{OnlyReads}
 use Rattle.cad_versions.specs.declared.command.Command.{Command}
@@ -22,6 +22,11 @@ before_then a b c p q = record { now = q.now ∙ p.now; committed = q.committed 
 
 pub stands_before : (old new : State) (cs : List Command) → IsAsBefore old new → StandsFor old cs → StandsFor new cs
 stands_before old new cs same stands = stands_kept old new cs (same.now, same.committed) (same.liveness ∙ stands.live) stands
+
+-- whatever is told
+pub on_ok_anyway : {X E P : Type 0} (r : Result X E) → P → OnOk r P
+on_ok_anyway (Ok x) p = p
+on_ok_anyway (Err e) p = tt
 
 -- nothing is asked
 pub asks_nothing : {X : Type 0} (s : State) (r : Result X RegisterFault) → AsksOnly s s r

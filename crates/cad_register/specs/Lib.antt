@@ -13,4 +13,5 @@ pub mod Naming
 pub mod Registers
 pub mod Opening
 pub mod Ledgers
+pub mod SettledLemmas
 pub mod Laws

@@ -1,8 +1,9 @@
 -- What clauses see of a register.
-use Rattle.std.specs.Prelude.{◌≡◌, ◌≤◌, ℕ, List, length, None}
+use Rattle.std.specs.Prelude.{◌≡◌, ◌⊎◌, ◌≤◌, ℕ, List, length, None}
 use Rattle.sqlite_trees.specs.declared.store.Store.{Ghosts}
 use Rattle.sqlite.specs.State.{State}
 use Rattle.sqlite.specs.Held.{Held, state}
+use Rattle.cad_tables.specs.Opening.{IsSettled}
 use Rattle.cad_versions.specs.declared.command.Command.{Command}
 use Rattle.cad_versions.specs.declared.fault.RegisterFault.{RegisterFault}
 use Rattle.cad_versions.specs.declared.fault.RegisterFault.TheVariants as fault
@@ -31,6 +32,14 @@ pub record IsRegisterOf {S : Type 0} (g : Ghosts S) (register : Register S) (com
 -- it shows what it showed, and counts as many commands
 abbrev pub IsStill : {S : Type 0} → Ghosts S → Register S → Register S → Type 0
 IsStill g old new = IsAsBefore (state_of g old) (state_of g new) × (revision_of new ≡ revision_of old)
+
+-- its database is as before at a later moment, with the same limit of steps, and it counts as many commands
+abbrev pub IsStillSettled : {S : Type 0} → Ghosts S → Register S → Register S → Type 0
+IsStillSettled g old new = IsSettled g (connection_of old) (connection_of new) × (revision_of new ≡ revision_of old)
+
+-- nothing was asked of it, or it is still what it was
+abbrev pub Remains : {S : Type 0} → Ghosts S → Register S → Register S → Type 0
+Remains g old new = (new ≡ old) ⊎ IsStillSettled g old new
 
 -- why apply refuses a command: the cause of the fold, a refusal by the database, or a revision beyond which none is stored, where the fold has no cause
 abbrev pub IsRefused : List Command → Command → RegisterFault → Type 0

@@ -1,10 +1,11 @@
 //! What the tables tell of a register.
 
-ghost use Rattle.std.specs.Prelude.{◌≡◌, ◌≢◌, ◌≤◌, ◌∷◌, [], List, length, pos, IfOk, IfErr};
+ghost use Rattle.std.specs.Prelude.{◌≡◌, ◌≢◌, ◌≤◌, ◌∷◌, [], List, length, pos, IfOk, IfErr, OnOk};
 ghost use Rattle.sqlite.specs.State.{HasCleanDisk, FailsToQuery};
 ghost use Rattle.sqlite.specs.declared.error.Error.{Error};
 ghost use Rattle.sqlite_value.specs.declared.value.Value.TheVariants.{Int};
 ghost use Rattle.cad_tables.specs.Texts.{listing_text};
+ghost use Rattle.cad_tables.specs.Opening.{IsSettled};
 ghost use Rattle.sqlite.specs.Held.{state};
 ghost use Rattle.cad_versions.specs.declared.command.Command.{Command};
 ghost use Rattle.cad_versions.specs.Versions.{versions};
@@ -72,6 +73,8 @@ pub(crate) fn versions_of<S: Alter>(
         FailsToQuery listing_text (Int (pos revision) ∷ []) (state S.Store connection.old) (state S.Store connection.new) e }
     ensures asked { HasCleanDisk (state S.Store connection.new) →
         Asks S.Store connection.old connection.new (IsForLines revision) result }
+    ensures still { HasCleanDisk (state S.Store connection.new) →
+        OnOk result (IsSettled S.Store connection.old connection.new) }
     ensures leaves { AsksOnly (state S.Store connection.old) (state S.Store connection.new) result }
     ensures cause { IfErr result IsReadingFault }
     ensures read { ReadsRows (state S.Store connection.old) (state S.Store connection.new) revision result }

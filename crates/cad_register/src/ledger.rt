@@ -1,9 +1,10 @@
 //! A land register as a ledger.
 
 ghost use Rattle.sqlite.specs.State.{HasCleanDisk};
-ghost use Rattle.cad_register.specs.Registers.{state_of, IsRegisterOf};
+ghost use Rattle.cad_register.specs.Registers.{state_of, IsRegisterOf, Remains};
 ghost use Rattle.cad_register.specs.Stands.{IsStoreFault};
 ghost use Rattle.cad_register.specs.Ledgers.{IsOpen, IsCut, RefusesCommand, RefusesListing, cut_keeps, store_keeps};
+ghost use Rattle.cad_register.specs.SettledLemmas.{remains_here, remains_then};
 
 use crate::register::Register;
 use cad_versions::{Command, Ledger, RegisterFault, Version};
@@ -24,9 +25,15 @@ impl<S: Alter> Ledger for Register<S> {
 
     ghost refuses_listing = { RefusesListing S.Store };
 
+    ghost remains = { Remains S.Store };
+
     ghost apply_keeps = { cut_keeps };
 
     ghost list_keeps = { λ _ _. store_keeps };
+
+    ghost remains_here = { remains_here _ };
+
+    ghost remains_then = { remains_then _ };
 
     fn revision(&self) -> u64 {
         Register::revision(self)

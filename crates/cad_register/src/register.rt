@@ -46,7 +46,7 @@ impl<S: Alter> Register<S> {
     ghost use Rattle.cad_register.specs.Naming.{NamesShown};
     ghost use Rattle.cad_register.specs.Refusing.{IsNotForMemory, RefusesToApply, IsForCommand};
     ghost use Rattle.cad_register.specs.Surviving.{Leaves, LeavesEither};
-    ghost use Rattle.cad_register.specs.Registers.{connection_of, state_of, revision_of, IsRegisterOf, IsStill, IsRefused};
+    ghost use Rattle.cad_register.specs.Registers.{connection_of, state_of, revision_of, IsRegisterOf, IsStill, Remains, IsRefused};
 
     /// Gives the connection back.
     pub fn release(self) -> Connection<S>
@@ -143,6 +143,9 @@ impl<S: Alter> Register<S> {
         // Answered, or refused by neither the database nor want of memory.
         ensures same { HasCleanDisk (state_of S.Store self.new) → IsAnswered result →
             IsStill S.Store self.old self.new }
+        // With the same limit of steps, and no fault of the disk forgotten.
+        ensures still { HasCleanDisk (state_of S.Store self.new) →
+            OnOk result (Remains S.Store self.old self.new) }
         ensures store { HasCleanDisk (state_of S.Store self.new) →
             result ≡ Err RegisterFault.Store → (e : Error) × IsNotForMemory e ×
             FailsToQuery listing_text (Int (pos revision) ∷ []) (state_of S.Store self.old) (state_of S.Store self.new) e }

@@ -27,6 +27,13 @@ use Rattle.cad_server.specs.Servers.{AreKept, ledger_in, ledger_of, AreRecordsOf
 use Rattle.cad_server.proofs.KeptLemmas.{kept_promoted, kept_found}
 
 module _ {L : Type 0} (g : Ghosts L) where
+  -- the ledger remains what it was, where nothing was listed
+  abbrev pub RemainsHere : Type 0
+  RemainsHere = (ledger : L) → g.remains ledger ledger
+
+  remains_same : RemainsHere → (old new : Records L) → ledger_in new ≡ ledger_in old → g.remains (ledger_in old) (ledger_in new)
+  remains_same here old new same = subst (λ (l : L). g.remains (ledger_in old) l) (sym same) (here (ledger_in old))
+
   -- ---- what is kept
 
   pub recalls_none : {E : Type 0} (revision : ℕ) (sought : Sought) (old new : Records L) → ledger_in new ≡ ledger_in old
@@ -63,23 +70,24 @@ module _ {L : Type 0} (g : Ghosts L) where
     kept = kept commands records.kept;
   }
 
-  found_so : {E : Type 0} (revision : ℕ) (sought : Sought) (old new : Records L) (told : Told) → Recalls g {E = E} revision sought old (Ok (Some told)) new → Finds g revision sought old (Ok told) new
-  found_so revision sought old new told r = record {
+  found_so : {E : Type 0} → RemainsHere → (revision : ℕ) (sought : Sought) (old new : Records L) (told : Told) → Recalls g {E = E} revision sought old (Ok (Some told)) new → Finds g revision sought old (Ok told) new
+  found_so here revision sought old new told r = record {
     told = λ counts commands records within. r.told commands records.kept;
     cause = λ counts. tt;
     reads = record {
       store = λ counts. tt;
+      still = λ counts. remains_same here old new r.same;
       kept = λ counts. moved old new r.same r.kept;
       unchanged = λ counts lives. tt;
       clean = subst g.counts r.same;
     };
   }
 
-  pub found_kept : {E : Type 0} (revision : ℕ) (sought : Sought) (old new : Records L) (told : Told) (found : Option Told) (given : Result (Option Told) E) → given ≡ Ok found → found ≡ Some told
+  pub found_kept : {E : Type 0} → RemainsHere → (revision : ℕ) (sought : Sought) (old new : Records L) (told : Told) (found : Option Told) (given : Result (Option Told) E) → given ≡ Ok found → found ≡ Some told
       → Recalls g {E = E} revision sought old given new → Finds g revision sought old (Ok told) new
-  found_kept {E} revision sought old new told found given e f recalled =
+  found_kept {E} here revision sought old new told found given e f recalled =
       let is : given ≡ Ok (Some told) = e ∙ ap Ok f in
-      found_so revision sought old new told (subst (λ (r : Result (Option Told) E). Recalls g {E = E} revision sought old r new) is recalled)
+      found_so here revision sought old new told (subst (λ (r : Result (Option Told) E). Recalls g {E = E} revision sought old r new) is recalled)
 
   not_store : (fault : RegisterFault) → fault ≡ Memory → ¬ (fault ≡ Store)
   not_store fault m s = absurd (let e : Memory ≡ Store = sym m ∙ s in cc)
@@ -91,6 +99,7 @@ module _ {L : Type 0} (g : Ghosts L) where
     cause = λ counts commands records within. inl m;
     reads = record {
       store = λ counts s. absurd (not_store fault m s);
+      still = λ counts. tt;
       kept = λ counts. tt;
       unchanged = λ counts lives. moved old new r.same r.kept;
       clean = subst g.counts r.same;
@@ -104,6 +113,7 @@ module _ {L : Type 0} (g : Ghosts L) where
     cause = λ counts. tt;
     reads = record {
       store = λ counts. tt;
+      still = λ counts. subst (λ (l : L). g.remains l (ledger_in new)) r.same (f.reads.still counts);
       kept = λ counts commands records. f.reads.kept counts commands (moved old mid r.same r.kept commands records);
       unchanged = λ counts lives. tt;
       clean = λ counts. subst g.counts r.same (f.reads.clean counts);
@@ -114,6 +124,7 @@ module _ {L : Type 0} (g : Ghosts L) where
     cause = λ counts commands records. f.cause counts commands (moved old mid r.same r.kept commands records);
     reads = record {
       store = λ counts s. subst (λ (l : L). (revision : ℕ) × g.refuses_listing l (ledger_in new) revision) r.same (f.reads.store counts s);
+      still = λ counts. tt;
       kept = λ counts. tt;
       unchanged = λ counts lives commands records. f.reads.unchanged counts lives commands (moved old mid r.same r.kept commands records);
       clean = λ counts. subst g.counts r.same (f.reads.clean counts);
@@ -125,7 +136,7 @@ module _ {L : Type 0} (g : Ghosts L) where
   -- what the trait says of an answer
   abbrev IsAnswered : Server L → Request → Result Answer RegisterFault → Server L → Type 0
   IsAnswered old request result new =
-      Answered (IsServerOf g) (λ (s : Server L). g.counts (ledger_of s)) (λ (s : Server L). g.lives (ledger_of s)) IsReply ends_after (FailsToAnswer g.fails_to_list) (λ (o n : Server L) (r : Request). ReadingIsRefused g (ledger_of o) (ledger_of n)) old request result new
+      Answered (IsServerOf g) (λ (s : Server L). g.counts (ledger_of s)) (λ (s : Server L). g.lives (ledger_of s)) IsReply ends_after (FailsToAnswer g.fails_to_list) (λ (o n : Server L) (r : Request). ReadingIsRefused g (ledger_of o) (ledger_of n)) (λ (o n : Server L). g.remains (ledger_of o) (ledger_of n)) old request result new
 
   pub answered_err : (old new : Server L) (request : Request) (wanted : Wanted) (fault : RegisterFault) (given : Result Answer RegisterFault) → given ≡ Err fault → IsWanted (asked request) wanted
       → Tells g wanted old.records (Err fault) new.records → IsAnswered old request given new
@@ -137,6 +148,7 @@ module _ {L : Type 0} (g : Ghosts L) where
       | inr f ↦ inr (wanted, is, f)
     ];
     store = λ counts s. t.reads.store counts s;
+    still = λ counts. tt;
     kept = λ counts. tt;
     unchanged = t.reads.unchanged;
     clean = t.reads.clean;
@@ -151,6 +163,7 @@ module _ {L : Type 0} (g : Ghosts L) where
     ends = ends;
     cause = λ counts. tt;
     store = λ counts. tt;
+    still = t.reads.still;
     kept = t.reads.kept;
     unchanged = λ counts lives. tt;
     clean = t.reads.clean;

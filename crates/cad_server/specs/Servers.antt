@@ -39,9 +39,10 @@ module _ {L : Type 0} (g : Ghosts L) where
   abbrev pub IsServerOf : Server L → List Command → Type 0
   IsServerOf server commands = AreRecordsOf server.records commands
 
-  -- reading what is kept changes nothing
+  -- reading what is kept changes nothing, and where something is read the ledger remains what it was
   pub record Reads {T : Type 0} (old : Records L) (result : Result T RegisterFault) (new : Records L) : Type 0 where
     pub store : g.counts (ledger_in new) → IfErr result (λ fault. fault ≡ Store → (revision : ℕ) × g.refuses_listing (ledger_in old) (ledger_in new) revision)
+    pub still : g.counts (ledger_in new) → OnOk result (g.remains (ledger_in old) (ledger_in new))
     pub kept : g.counts (ledger_in new) → OnOk result ((commands : List Command) → AreRecordsOf old commands → AreRecordsOf new commands)
     pub unchanged : g.counts (ledger_in new) → IfErr result (λ fault. MayClose fault → g.lives (ledger_in new)) → OnErr result ((commands : List Command) → AreRecordsOf old commands → AreRecordsOf new commands)
     pub clean : g.counts (ledger_in new) → g.counts (ledger_in old)

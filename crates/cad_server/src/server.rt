@@ -90,9 +90,15 @@ impl<L: Ledger> Responder for Server<L> {
 
     ghost refuses_command = { λ old new. L.Ledger.refuses_command (ledger_of old) (ledger_of new) };
 
+    ghost remains = { λ old new. L.Ledger.remains (ledger_of old) (ledger_of new) };
+
     ghost answer_keeps = { failing_keeps L.Ledger.list_keeps };
 
     ghost enter_keeps = { L.Ledger.apply_keeps };
+
+    ghost remains_here = { λ server. L.Ledger.remains_here (ledger_of server) };
+
+    ghost remains_then = { λ old mid new. L.Ledger.remains_then (ledger_of old) (ledger_of mid) (ledger_of new) };
 
     fn answer(
         &mut self,

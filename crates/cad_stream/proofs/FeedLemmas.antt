@@ -32,17 +32,24 @@ request_at-head bytes front headers spans head here found =
     rw here (rw (at.method, at.path, at.version, at.fields) refl)
 
 module _ {R : Type 0} (g : Ghosts R) where
+  -- it remains what it was, where nothing was answered and over one answer after the other
+  abbrev pub RemainsHere : Type 0
+  RemainsHere = (responder : R) → g.remains responder responder
+
+  abbrev pub RemainsThen : Type 0
+  RemainsThen = (old mid new : R) → g.remains old mid → g.remains mid new → g.remains old new
+
   -- the answer to the request that spans show is that to the head
   pub answered_head : (bytes : List ℕ) (old new : R) (request : Request) (head : RequestHead) (rest : List ℕ) (answer : Answer) → request ≡ request_of head → Fits bytes head rest
-      → Answered g.stands_for g.counts g.lives g.replies g.closes g.fails_to_answer g.refuses_answer old request (Ok answer) new
+      → Answered g.stands_for g.counts g.lives g.replies g.closes g.fails_to_answer g.refuses_answer g.remains old request (Ok answer) new
       → (answer.ends ≡ g.closes (request_of head)) × Under g old new (λ commands. g.replies commands (request_of head) answer.bytes.items)
   answered_head bytes old new request head rest answer same fits a =
       (a.ends ∙ ap g.closes same, λ counts commands stands. subst (λ (r : Request). g.replies commands r answer.bytes.items) same (a.replied counts commands stands))
 
-  pub failed_head : (bytes : List ℕ) (old new : R) (request : Request) (head : RequestHead) (rest : List ℕ) (fault : RegisterFault) → request ≡ request_of head → Fits bytes head rest
-      → Answered g.stands_for g.counts g.lives g.replies g.closes g.fails_to_answer g.refuses_answer old request (Err fault) new
+  pub failed_head : RemainsHere → (bytes : List ℕ) (old new : R) (request : Request) (head : RequestHead) (rest : List ℕ) (fault : RegisterFault) → request ≡ request_of head → Fits bytes head rest
+      → Answered g.stands_for g.counts g.lives g.replies g.closes g.fails_to_answer g.refuses_answer g.remains old request (Err fault) new
       → IsNext g bytes old (Err fault) new
-  failed_head bytes old new request head rest fault same fits a = record {
+  failed_head here bytes old new request head rest fault same fits a = record {
     next = tt;
     cause = λ counts commands stands. elim (a.cause counts commands stands) [
       | inl m ↦ inl m
@@ -51,27 +58,30 @@ module _ {R : Type 0} (g : Ghosts R) where
     stays = record {
       kept = λ _. tt;
       unchanged = a.unchanged;
-      store = λ counts e. (old, request, a.store counts e);
+      store = λ counts e. (old, here old, request, a.store counts e);
+      still = λ counts. tt;
       clean = a.clean;
     };
   }
 
   -- ---- a loop from the front on
 
-  -- the bytes before this place are passed and these are the replies to them, and the responder stayed with its commands
+  -- the bytes before this place are passed and these are the replies to them, and the responder stayed with its commands and remains what it was
   pub record HasReplied (bytes : List ℕ) (old : R) (used : ℕ) (out : List ℕ) (now : R) : Type 0 where
     pub heads : List RequestHead
     pub passed : Passes g.closes heads bytes (drop used bytes)
     pub told : Under g old now (λ commands. AreReplies g.replies (heads_at commands heads) [] out)
     pub stands : g.counts now → (commands : List Command) → g.stands_for old commands → g.stands_for now commands
+    pub still : g.counts now → g.remains old now
     pub clean : g.counts now → g.counts old
 
-  pub replied_nothing : (bytes : List ℕ) (old : R) (out : List ℕ) → out ≡ [] → HasReplied bytes old 0 out old
-  replied_nothing bytes old out e = record {
+  pub replied_nothing : RemainsHere → (bytes : List ℕ) (old : R) (out : List ℕ) → out ≡ [] → HasReplied bytes old 0 out old
+  replied_nothing here bytes old out e = record {
     heads = [];
     passed = refl;
     told = λ counts commands stands. e;
     stands = λ counts commands stands. stands;
+    still = λ counts. here old;
     clean = λ counts. counts;
   }
 
@@ -85,33 +95,35 @@ module _ {R : Type 0} (g : Ghosts R) where
       ]
 
   -- what is answered is no more than what was read, and the call that failed left the commands
-  pub fails_here : (bytes : List ℕ) (old now new : R) (used : ℕ) (out : List ℕ) (fault : RegisterFault) → HasReplied bytes old used out now
+  pub fails_here : RemainsThen → (bytes : List ℕ) (old now new : R) (used : ℕ) (out : List ℕ) (fault : RegisterFault) → HasReplied bytes old used out now
       → IsNext g (drop used bytes) now (Err fault) new → RepliesTo g bytes old (Err fault) new
-  fails_here bytes old now new used out fault h n = record {
+  fails_here then bytes old now new used out fault h n = record {
     replied = tt;
     within = tt;
     cause = fails_later bytes old now new used out fault h n;
     stays = record {
       kept = λ counts. tt;
       unchanged = λ counts lives commands stands. n.stays.unchanged counts lives commands (h.stands (n.stays.clean counts) commands stands);
-      store = n.stays.store;
+      store = λ counts e. let refused = n.stays.store counts e in (refused.0, then old now refused.0 (h.still (n.stays.clean counts)) refused.1, refused.2, refused.3);
+      still = λ counts. tt;
       clean = λ counts. h.clean (n.stays.clean counts);
     };
   }
 
   -- a call that went well stays with the commands too
-  stays_well : {T : Type 0} (bytes : List ℕ) (old now new : R) (used : ℕ) (out : List ℕ) (next : Next) (result : T) → HasReplied bytes old used out now
+  stays_well : {T : Type 0} → RemainsThen → (bytes : List ℕ) (old now new : R) (used : ℕ) (out : List ℕ) (next : Next) (result : T) → HasReplied bytes old used out now
       → Stays g now (Ok next) new → Stays g old (Ok result) new
-  stays_well bytes old now new used out next result h s = record {
+  stays_well then bytes old now new used out next result h s = record {
     kept = λ counts commands stands. s.kept counts commands (h.stands (s.clean counts) commands stands);
     unchanged = λ counts lives. tt;
     store = λ counts. tt;
+    still = λ counts. then old now new (h.still (s.clean counts)) (s.still counts);
     clean = λ counts. h.clean (s.clean counts);
   }
 
-  pub waits_here : (bytes : List ℕ) (old now new : R) (used : ℕ) (out : Vec ℕ) → used ≤ length bytes → HasReplied bytes old used out.items now
+  pub waits_here : RemainsThen → (bytes : List ℕ) (old now new : R) (used : ℕ) (out : Vec ℕ) → used ≤ length bytes → HasReplied bytes old used out.items now
       → IsNext g (drop used bytes) now (Ok next.Waiting) new → RepliesTo g bytes old (Ok (record { bytes = out; used = Some used })) new
-  waits_here bytes old now new used out within h n = record {
+  waits_here then bytes old now new used out within h n = record {
     replied = (
       waits (drop used bytes),
       (h.heads, (h.passed, n.next), λ counts commands stands. h.told (n.stays.clean counts) commands stands),
@@ -119,7 +131,7 @@ module _ {R : Type 0} (g : Ghosts R) where
     );
     within = λ count e. let same : used ≡ count = cc in subst (λ (m : ℕ). m ≤ length bytes) same within;
     cause = tt;
-    stays = stays_well bytes old now new used out.items next.Waiting (record { bytes = out; used = Some used }) h n.stays;
+    stays = stays_well then bytes old now new used out.items next.Waiting (record { bytes = out; used = Some used }) h n.stays;
   }
 
   -- one reply more
@@ -134,10 +146,10 @@ module _ {R : Type 0} (g : Ghosts R) where
       let clean = n.stays.clean counts in
       replies_push commands h.heads n.next.0 out answer.bytes.items (h.told clean commands stands) (n.next.4 counts commands (h.stands clean commands stands))
 
-  pub closes_here : (bytes : List ℕ) (old now new : R) (used len : ℕ) (out : List ℕ) (answer : Answer) (whole : Vec ℕ) → HasReplied bytes old used out now
+  pub closes_here : RemainsThen → (bytes : List ℕ) (old now new : R) (used len : ℕ) (out : List ℕ) (answer : Answer) (whole : Vec ℕ) → HasReplied bytes old used out now
       → IsNext g (drop used bytes) now (Ok (next.Answered answer len)) new → answer.ends ≡ true → whole.items ≡ out ++ answer.bytes.items
       → RepliesTo g bytes old (Ok (record { bytes = whole; used = None })) new
-  closes_here bytes old now new used len out answer whole h n ends all = record {
+  closes_here then bytes old now new used len out answer whole h n ends all = record {
     replied = (
       closed,
       (
@@ -149,13 +161,13 @@ module _ {R : Type 0} (g : Ghosts R) where
     );
     within = λ count e. absurd cc;
     cause = tt;
-    stays = stays_well bytes old now new used out (next.Answered answer len) (record { bytes = whole; used = None }) h n.stays;
+    stays = stays_well then bytes old now new used out (next.Answered answer len) (record { bytes = whole; used = None }) h n.stays;
   }
 
-  pub refused_here : (bytes : List ℕ) (old now new : R) (used : ℕ) (out : List ℕ) (reply whole : Vec ℕ) → HasReplied bytes old used out now
+  pub refused_here : RemainsThen → (bytes : List ℕ) (old now new : R) (used : ℕ) (out : List ℕ) (reply whole : Vec ℕ) → HasReplied bytes old used out now
       → IsNext g (drop used bytes) now (Ok (next.Hopeless reply)) new → whole.items ≡ out ++ reply.items
       → RepliesTo g bytes old (Ok (record { bytes = whole; used = None })) new
-  refused_here bytes old now new used out reply whole h n all = record {
+  refused_here then bytes old now new used out reply whole h n all = record {
     replied = (
       refused,
       (
@@ -169,19 +181,20 @@ module _ {R : Type 0} (g : Ghosts R) where
     );
     within = λ count e. absurd cc;
     cause = tt;
-    stays = stays_well bytes old now new used out (next.Hopeless reply) (record { bytes = whole; used = None }) h n.stays;
+    stays = stays_well then bytes old now new used out (next.Hopeless reply) (record { bytes = whole; used = None }) h n.stays;
   }
 
-  pub passes_here : (bytes : List ℕ) (old now new : R) (used len : ℕ) (out : List ℕ) (answer : Answer) (whole : List ℕ) → HasReplied bytes old used out now
+  pub passes_here : RemainsThen → (bytes : List ℕ) (old now new : R) (used len : ℕ) (out : List ℕ) (answer : Answer) (whole : List ℕ) → HasReplied bytes old used out now
       → IsNext g (drop used bytes) now (Ok (next.Answered answer len)) new → answer.ends ≡ false → whole ≡ out ++ answer.bytes.items
       → HasReplied bytes old (used + len) whole new
-  passes_here bytes old now new used len out answer whole h n ends all =
+  passes_here then bytes old now new used len out answer whole h n ends all =
       let rest : drop len (drop used bytes) ≡ drop (used + len) bytes = drop-drop len used bytes in
       record {
         heads = h.heads ++ n.next.0 ∷ [];
         passed = passes_push g.closes h.heads n.next.0 bytes (drop used bytes) (drop (used + len) bytes) h.passed (subst (λ (b : List ℕ). Fits (drop used bytes) n.next.0 b) rest n.next.1) (sym n.next.3 ∙ ends);
         told = λ counts commands stands. subst (λ (b : List ℕ). AreReplies g.replies (heads_at commands (h.heads ++ n.next.0 ∷ [])) [] b) (sym all) (told_more bytes old now new used len out answer h n counts commands stands);
         stands = λ counts commands stands. n.stays.kept counts commands (h.stands (n.stays.clean counts) commands stands);
+        still = λ counts. then old now new (h.still (n.stays.clean counts)) (n.stays.still counts);
         clean = λ counts. h.clean (n.stays.clean counts);
       }
 
@@ -196,15 +209,16 @@ module _ {R : Type 0} (g : Ghosts R) where
   -- ---- a piece
 
   -- a piece that cannot settle anything goes to what is held
-  pub holds_more : (held piece : List ℕ) (old : R) (fed : Fed) → fed.bytes.items ≡ [] → bytes_left fed.connection ≡ Some (held ++ piece) → IsIncomplete (held ++ piece)
+  pub holds_more : RemainsHere → (held piece : List ℕ) (old : R) (fed : Fed) → fed.bytes.items ≡ [] → bytes_left fed.connection ≡ Some (held ++ piece) → IsIncomplete (held ++ piece)
       → Feeds g held piece old (Ok fed) old
-  holds_more held piece old fed none left waiting = record {
+  holds_more here held piece old fed none left waiting = record {
     replied = (waits (held ++ piece), ([], (refl, waiting), λ counts commands stands. none), left);
     cause = tt;
     stays = record {
       kept = λ counts commands stands. stands;
       unchanged = λ counts lives. tt;
       store = λ counts. tt;
+      still = λ counts. here old;
       clean = λ counts. counts;
     };
   }

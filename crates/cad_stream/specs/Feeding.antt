@@ -30,11 +30,16 @@ module _ {R : Type 0} (g : Ghosts R) where
   abbrev pub Under : R → R → (List Command → Type 0) → Type 0
   Under old new Holds = g.counts new → (commands : List Command) → g.stands_for old commands → Holds commands
 
+  -- what keeps the commands refuses to tell what a request asks for, once those before it were answered
+  abbrev pub RefusesLater : R → R → Type 0
+  RefusesLater old new = (before : R) × g.remains old before × (request : Request) × g.refuses_answer before new request
+
   -- a call stays with the commands, and what is answered counts if what is answered later does
   pub record Stays {T : Type 0} (old : R) (result : Result T RegisterFault) (new : R) : Type 0 where
     pub kept : g.counts new → OnOk result ((commands : List Command) → g.stands_for old commands → g.stands_for new commands)
     pub unchanged : g.counts new → IfErr result (λ fault. MayClose fault → g.lives new) → OnErr result ((commands : List Command) → g.stands_for old commands → g.stands_for new commands)
-    pub store : g.counts new → IfErr result (λ fault. fault ≡ Store → (before : R) × (request : Request) × g.refuses_answer before new request)
+    pub store : g.counts new → IfErr result (λ fault. fault ≡ Store → RefusesLater old new)
+    pub still : g.counts new → OnOk result (g.remains old new)
     pub clean : g.counts new → g.counts old
 
   -- these are the replies, and that comes of the connection

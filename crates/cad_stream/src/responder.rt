@@ -43,6 +43,10 @@ pub trait Responder {
     // What keeps the commands refuses to tell what a request asks for.
     ghost refuses_answer: { Self → Self → Request → Type 0 };
 
+    // Where it was this one before requests were answered, it is that one since: what keeps the commands shows the same,
+    // and so does what decides whether it refuses.
+    ghost remains: { Self → Self → Type 0 };
+
     // What keeps the commands refuses the command, asked at this revision.
     ghost refuses_command: { Self → Self → CommandOf → ℕ → Type 0 };
 
@@ -54,7 +58,7 @@ pub trait Responder {
         spans: &RequestSpans,
     ) -> Result<Answer, RegisterFault>
         requires { IsRequestWithin bytes.now headers.now spans.now }
-        ensures { Answered stands_for counts lives replies closes fails_to_answer refuses_answer
+        ensures { Answered stands_for counts lives replies closes fails_to_answer refuses_answer remains
             self.old (request_at bytes.now headers.now spans.now) result self.new };
 
     /// The reply to bytes that no request can begin with.
@@ -76,4 +80,9 @@ pub trait Responder {
 
     ghost enter_keeps: { (commands : List CommandOf) (command : CommandOf) (fault : Fault) →
         fails_to_enter commands command fault → IsOfKeeping fault };
+
+    // It remains what it was where nothing was answered, and over one answer after the other.
+    ghost remains_here: { (responder : Self) → remains responder responder };
+
+    ghost remains_then: { (old mid new : Self) → remains old mid → remains mid new → remains old new };
 }

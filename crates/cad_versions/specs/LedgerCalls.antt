@@ -14,4 +14,4 @@ module _ {L : Type 0} (g : Ghosts L) where
 
   -- a call of `as_of` on the ledger
   abbrev pub Lists : L → ℕ → Result (Vec VersionedObject Global) RegisterFault → L → Type 0
-  Lists = Listed g.stands_for g.counts g.lives g.fails_to_list g.refuses_listing
+  Lists = Listed g.stands_for g.counts g.lives g.fails_to_list g.refuses_listing g.remains

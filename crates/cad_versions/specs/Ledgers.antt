@@ -20,12 +20,13 @@ module _ {L : Type 0} (StandsFor : L → List Command → Type 0) (Counts Lives 
     pub unchanged : Counts new → IfErr result (λ fault. MayClose fault → Lives new) → OnErr result ((commands : List Command) → StandsFor old commands → StandsFor new commands)
     pub clean : Counts new → Counts old
 
-  -- the versions of a revision that was made are shown, in the order of identifiers; a revision is not shown for its cause, or for one of what keeps the ledger; nothing changes
-  pub record Listed (FailsToList : ℕ → List Command → RegisterFault → Type 0) (Refuses : L → L → ℕ → Type 0) (old : L) (revision : ℕ) (result : Result (Vec VersionedObject Global) RegisterFault) (new : L) : Type 0 where
+  -- the versions of a revision that was made are shown, in the order of identifiers, and the ledger remains what it was; a revision is not shown for its cause, or for one of what keeps the ledger; nothing changes
+  pub record Listed (FailsToList : ℕ → List Command → RegisterFault → Type 0) (Refuses : L → L → ℕ → Type 0) (Remains : L → L → Type 0) (old : L) (revision : ℕ) (result : Result (Vec VersionedObject Global) RegisterFault) (new : L) : Type 0 where
     pub shown : Counts new → IfOk result (λ found. (commands : List Command) → StandsFor old commands → (revision ≤ length commands) × (found.items ≡ as_of revision commands))
     pub ascending : IfOk result (λ found. IsListing found.items)
     pub cause : Counts new → IfErr result (λ fault. (commands : List Command) → StandsFor old commands → ((length commands < revision) × (fault ≡ UnknownRevision)) ⊎ ((revision ≤ length commands) × FailsToList revision commands fault))
     pub store : Counts new → result ≡ Err Store → Refuses old new revision
+    pub still : Counts new → OnOk result (Remains old new)
     pub kept : Counts new → OnOk result ((commands : List Command) → StandsFor old commands → StandsFor new commands)
     pub unchanged : Counts new → IfErr result (λ fault. MayClose fault → Lives new) → OnErr result ((commands : List Command) → StandsFor old commands → StandsFor new commands)
     pub clean : Counts new → Counts old

@@ -33,6 +33,10 @@ pub trait Ledger {
     // What keeps the ledger itself refuses to list the revision.
     ghost refuses_listing: { Self → Self → ℕ → Type 0 };
 
+    // Where the ledger was this one before revisions were listed, it is that one since: what it shows is the same, and
+    // what decides whether it is refused a call.
+    ghost remains: { Self → Self → Type 0 };
+
     /// How many commands were accepted.
     fn revision(&self) -> u64
         ensures { (commands : List CommandOf) → stands_for self.now commands →
@@ -44,7 +48,7 @@ pub trait Ledger {
 
     /// The versions at a revision, by object and number. A closing of a later revision is not seen.
     fn as_of(&mut self, revision: u64) -> Result<Vec<Version>, RegisterFault>
-        ensures { Listed stands_for counts lives fails_to_list refuses_listing self.old revision result self.new };
+        ensures { Listed stands_for counts lives fails_to_list refuses_listing remains self.old revision result self.new };
 
     // What it fails for beside the commands is a fault of what keeps them.
     ghost apply_keeps: { (commands : List CommandOf) (command : CommandOf) (fault : Fault) →
@@ -52,4 +56,9 @@ pub trait Ledger {
 
     ghost list_keeps: { (revision : ℕ) (commands : List CommandOf) (fault : Fault) →
         fails_to_list revision commands fault → IsOfKeeping fault };
+
+    // It remains what it was where nothing was listed, and over one listing after the other.
+    ghost remains_here: { (ledger : Self) → remains ledger ledger };
+
+    ghost remains_then: { (old mid new : Self) → remains old mid → remains mid new → remains old new };
 }

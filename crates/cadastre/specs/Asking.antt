@@ -6,7 +6,7 @@ use Rattle.sqlite.specs.Held.{Held}
 use Rattle.cad_versions.specs.declared.fault.RegisterFault.{RegisterFault}
 use Rattle.cad_versions.specs.declared.ledger.Ledger as ledger
 use Rattle.cad_register.specs.declared.register.Register.{Register}
-use Rattle.cad_register.specs.Registers.{connection_of, state_of, IsRegisterOf}
+use Rattle.cad_register.specs.Registers.{connection_of, state_of, IsRegisterOf, Remains}
 use Rattle.cad_register.specs.Ledgers.{IsOpen, IsCut, RefusesCommand, RefusesListing}
 use Rattle.cad_register.specs.Opening.{Opened}
 use Rattle.cad_register.specs.Stands.{IsStoreFault}
@@ -25,6 +25,7 @@ module _ {S : Type 0} (g : Ghosts S) where
     fails_to_list = λ _ _. IsStoreFault;
     refuses_command = RefusesCommand g;
     refuses_listing = RefusesListing g;
+    remains = Remains g;
   }
 
 module _ {S : Type 0} (g : Ghosts S) (from to before after : Option (List ℕ)) (AtEnd : Type 0) where

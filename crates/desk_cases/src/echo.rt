@@ -52,7 +52,8 @@ fn echo_line(
 }
 
 impl Responder for Echo {
-    ghost use Rattle.std.specs.Prelude.{◌≡◌, codes};
+    ghost use Rattle.std.specs.Prelude.{codes};
+    ghost use Rattle.std.proofs.Common.{◌≡◌, refl, ◌∙◌};
     ghost use Rattle.cad_versions.specs.declared.fault.RegisterFault.TheVariants.{NotARegister};
     ghost use Rattle.cad_plain.specs.Ledgers.{IsMemory, memory_keeps};
     ghost use Rattle.cad_request.specs.Request.{closes_connection as closes_connection_of};
@@ -78,9 +79,15 @@ impl Responder for Echo {
 
     ghost refuses_command = { λ _ _ _ _. ⊥ };
 
+    ghost remains = { λ old new. new ≡ old };
+
     ghost answer_keeps = { λ _ _. lost_keeps };
 
     ghost enter_keeps = { λ _ _. memory_keeps };
+
+    ghost remains_here = { λ _. refl };
+
+    ghost remains_then = { λ _ _ _ first later. later ∙ first };
 
     fn answer(
         &mut self,

@@ -10,7 +10,8 @@ use Rattle.cad_register.specs.Refusing.{asking, register_fault_of, IsForObject}
 use Rattle.cad_register.proofs.OrderLemmas.{history_untied, history_rows}
 use Rattle.cad_register.proofs.StandingLemmas.{standing_told}
 use Rattle.cad_register.proofs.StandLemmas.{stands_kept, stands_same}
-use Rattle.cad_register.proofs.RefusingLemmas.{settled_here, settled_by, not_for_memory}
+use Rattle.cad_register.specs.SettledLemmas.{settled_here, settled_by}
+use Rattle.cad_register.proofs.RefusingLemmas.{not_for_memory}
 use Rattle.cad_register.proofs.LeavingLemmas.{asks_answered, asks_refused}
 use Rattle.cad_register.proofs.NamingLemmas.{rows_named, store_named, faults_settle}
 use Rattle.cad_register.proofs.asking.standing_of.Goals as goal

@@ -8,10 +8,11 @@ use Rattle.cad_register.proofs.OrderLemmas.{listing_untied}
 use Rattle.cad_register.proofs.RowLemmas.{rows_listed}
 use Rattle.cad_register.proofs.StandLemmas.{stands_kept, stands_same, listing_told}
 use Rattle.cad_tables.specs.Texts.{listing_text}
-use Rattle.cad_register.proofs.RefusingLemmas.{settled_here, not_for_memory}
+use Rattle.cad_register.specs.SettledLemmas.{settled_here, settled_by}
+use Rattle.cad_register.proofs.RefusingLemmas.{not_for_memory}
 use Rattle.cad_tables.specs.Faults.{fault_of}
 use Rattle.cad_register.specs.Refusing.{asking, register_fault_of}
-use Rattle.cad_register.proofs.LeavingLemmas.{asks_answered, asks_refused, store_reading, rows_reading, rows_read, store_reads}
+use Rattle.cad_register.proofs.LeavingLemmas.{on_ok_anyway, asks_answered, asks_refused, store_reading, rows_reading, rows_read, store_reads}
 use Rattle.std.proofs.lemmas.Result.{IfErr-weaker}
 use Rattle.cad_register.proofs.asking.versions_of.Goals as goal
 
@@ -38,6 +39,10 @@ returns-in-Err-clause-asked g c clean cs stands e =
       told = not_for_memory (fault_of told.0) (ap register_fault_of (sym told.1) ∙ sym c.store_fault.ensures.told ∙ e);
       fails = told.2;
     }
+
+pub returns-in-Ok-clause-still : goal.returns-in-Ok-clause-still
+returns-in-Ok-clause-still g c clean =
+    on_ok_anyway c.versions_at.result (settled_by g.S.Store c.args.connection.now c.listing.new.conn _ (c.in-Ok.ensures.reads.same clean) c.in-Ok.ensures.reads.survives)
 
 pub returns-in-Err-clause-told : goal.returns-in-Err-clause-told
 returns-in-Err-clause-told g c clean cs stands = (

@@ -9,4 +9,4 @@ returns-in_err-answer-in-Complete g c =
     let same = request_at-head c.args.bytes.now _ _ c.in-Complete.spans found.0 c.front_bytes.ensures found.1 in
     let failed = err_from_is_err_and c.from_residual-in_err-answer-in-Complete.result c.from_residual-in_err-answer-in-Complete.ensures.1 in
     let fault : failed.0 ≡ c.in_err-answer-in-Complete.field-0.0 = failed.2 in
-    rw (failed.1, fault) (failed_head g.R.Responder c.args.bytes.now _ _ _ found.0 _ _ same found.1.fits c.in_err-answer-in-Complete.ensures)
+    rw (failed.1, fault) (failed_head g.R.Responder g.met.R.Responder.remains_here c.args.bytes.now _ _ _ found.0 _ _ same found.1.fits c.in_err-answer-in-Complete.ensures)

@@ -1,4 +1,4 @@
-use Rattle.std.proofs.Common.{◌≤◌, ◌∙◌, ap, map, arith, length}
+use Rattle.std.proofs.Common.{◌≤◌, ◌∙◌, refl, ap, map, arith, length}
 use Rattle.cad_versions.specs.Entries.{entries_at, seen_at}
 use Rattle.cad_versions.specs.Sorting.{sort_by}
 use Rattle.cad_versions.specs.Identifiers.{by_identifier}
@@ -15,6 +15,7 @@ returns c =
       ascending = c.in_ok-found.ensures.ascending;
       cause = λ _. tt;
       store = λ _ e. absurd cc;
+      still = λ _. refl;
       kept = λ _ commands stands. stands;
       unchanged = λ _ _. tt;
       clean = λ _. tt;

@@ -9,7 +9,7 @@ returns-in_err-told g c =
 
 pub returns-in-Some : goal.returns-in-Some
 returns-in-Some g c =
-    found_kept g.L.Ledger c.args.revision c.args.sought.now c.args.self.now c.recall.new.self c.in-Some.told c.in_ok-told.field-0 c.recall.result c.in_ok-told.was c.in-Some.is c.recall.ensures
+    found_kept g.L.Ledger g.met.L.Ledger.remains_here c.args.revision c.args.sought.now c.args.self.now c.recall.new.self c.in-Some.told c.in_ok-told.field-0 c.recall.result c.in_ok-told.was c.in-Some.is c.recall.ensures
 
 pub returns-in-None : goal.returns-in-None
 returns-in-None g c = found_read g.L.Ledger c.args.revision c.args.sought.now c.args.self.now c.recall.new.self c.read.new.self _ c.read.result c.recall.ensures c.read.ensures

@@ -13,6 +13,7 @@ returns g c =
       cause = λ counts. tt;
       reads = record {
         store = λ counts. tt;
+        still = listed.still;
         kept = λ counts commands records. record {
           ledger = listed.kept counts commands records.ledger;
           kept = kept_put commands c.args.self.now.kept c.put.new.self c.args.revision c.in_ok-snapshot.snapshot c.put.result c.put.ensures.entries c.put.ensures.err records.kept
