@@ -1,11 +1,11 @@
 -- The versions of an object rise by their numbers, so no two rows have one key.
-use Rattle.std.proofs.Common.{◌≡◌, ℕ, ◌+◌, ◌≤◌, ◌<◌, pos, Bool, true, false, cond, List, [], ◌∷◌, map, filter, refl, sym, ap, ◌∙◌, subst, arith, true≢false, is_eq, Ordering, Less, Equal, Greater, int_cmp, int_eq}
-use Rattle.std.specs.List.{AllByRecursion}
-use Rattle.std.specs.Ordering.{ordering_then}
+use Rattle.std.proofs.Common.{◌≡◌, ℕ, ◌<◌, pos, Bool, true, false, cond, List, [], ◌∷◌, map, filter, refl, sym, ap, ◌∙◌, subst, arith, is_eq, Ordering, Less, int_cmp, int_eq}
+use Rattle.std.specs.List.{AllByRecursion, IsDistinct}
+use Rattle.std.specs.Ordering.{eq_by_cmp}
 use Rattle.std.proofs.lemmas.Int.{ints}
 use Rattle.sqlite_trees.specs.Tree.{IsAscending}
 use Rattle.sqlite_keyed.specs.Lists.{sort_by, insert_sorted}
-use Rattle.sqlite_keyed.proofs.ListLemmas.{filter-map, all_kept, all_weaker, all-filter}
+use Rattle.sqlite_keyed.proofs.ListLemmas.{filter-map, all-filter}
 use Rattle.cad_tables.specs.VersionRow.{VersionRow}
 use Rattle.cad_tables.specs.Listing.{identifier_order, number_order, HaveNoTies, lines_at, lines_of_object, history as known, outline_of}
 use Rattle.cad_versions.specs.declared.object_id.ObjectId.{ObjectId}
@@ -13,27 +13,19 @@ use Rattle.cad_versions.specs.declared.command.Command.{Command}
 use Rattle.cad_versions.specs.Objects.{object_number}
 use Rattle.cad_versions.specs.VersionedObject.{VersionedObject}
 use Rattle.cad_versions.specs.Versions.{is_of, history, versions}
-use Rattle.cad_versions.specs.Histories.{IsHistory}
 use Rattle.cad_versions.specs.Entries.{Entry, version_in, entries_of, entries_at}
 use Rattle.cad_versions.specs.Identifiers.{by_identifier}
 use Rattle.cad_versions.specs.AsOf.{entry_order}
 use Rattle.cad_versions.specs.EntryLemmas.{versions_of_entries}
 use Rattle.cad_versions.specs.HistoryLemmas.{HasHistories}
+use Rattle.cad_versions.specs.OrderLemmas.{NumbersRise, numbers_rise, identifiers_apart}
 use Rattle.cad_register.specs.Outlines.{outline}
 use Rattle.cad_register.proofs.RowLemmas.{IsLineOf, AreLinesOf, object_same, number_same, order_same, lines_filtered, lines_ascend, outlines_same}
 
 module _ {A B : Type 0} (R : B → B → Type 0) (f : A → B) where
-  all_mapped : (P : B → Type 0) (xs : List A) → AllByRecursion (λ x. P (f x)) xs → AllByRecursion P (map f xs)
-  all_mapped P [] h = tt
-  all_mapped P (x ∷ xs) h = (h.0, all_mapped P xs h.1)
-
   all_unmapped : (P : B → Type 0) (xs : List A) → AllByRecursion P (map f xs) → AllByRecursion (λ x. P (f x)) xs
   all_unmapped P [] h = tt
   all_unmapped P (x ∷ xs) h = (h.0, all_unmapped P xs h.1)
-
-  ascending-map : (xs : List A) → IsAscending (λ a b. R (f a) (f b)) xs → IsAscending R (map f xs)
-  ascending-map [] h = tt
-  ascending-map (x ∷ xs) h = (all_mapped (R (f x)) xs h.0, ascending-map xs h.1)
 
   ascending_unmap : (xs : List A) → IsAscending R (map f xs) → IsAscending (λ a b. R (f a) (f b)) xs
   ascending_unmap [] h = tt
@@ -43,80 +35,33 @@ ascending-filter : {A : Type 0} (R : A → A → Type 0) (p : A → Bool) (xs : 
 ascending-filter R p [] h = tt
 ascending-filter R p (x ∷ xs) h = elim (p x) as (λ b. IsAscending R (cond b (x ∷ filter p xs) (filter p xs))) [ true ↦ (all-filter (R x) p xs h.0, ascending-filter R p xs h.1) | false ↦ ascending-filter R p xs h.1 ]
 
--- ---- numbers
+-- ---- numbers and identifiers of versions, as those of sqlite's lists
 
 abbrev Below : VersionedObject → VersionedObject → Type 0
 Below a b = a.number < b.number
 
-all_above : (n : ℕ) (xs : List VersionedObject) → IsHistory n xs → AllByRecursion (λ (v : VersionedObject). n ≤ v.number) xs
-all_above n [] h = tt
-all_above n (v ∷ []) h = let e : v.number ≡ n = h.0 in (omega arith, tt)
-all_above n (v ∷ (w ∷ xs)) h =
-    let e : v.number ≡ n = h.0 in
-    (omega arith, all_weaker (λ (u : VersionedObject). n + 1 ≤ u.number) (λ (u : VersionedObject). n ≤ u.number) (λ u k. omega arith) (w ∷ xs) (all_above (n + 1) (w ∷ xs) h.3))
+numbers_ascend : (vs : List VersionedObject) → NumbersRise vs → IsAscending Below vs
+numbers_ascend [] h = tt
+numbers_ascend (v ∷ vs) h = (h.0, numbers_ascend vs h.1)
 
-numbers_rise : (n : ℕ) (xs : List VersionedObject) → IsHistory n xs → IsAscending Below xs
-numbers_rise n [] h = tt
-numbers_rise n (v ∷ []) h = (tt, tt)
-numbers_rise n (v ∷ (w ∷ xs)) h =
-    let e : v.number ≡ n = h.0 in
-    (all_weaker (λ (u : VersionedObject). n + 1 ≤ u.number) (λ (u : VersionedObject). v.number < u.number) (λ u k. omega arith) (w ∷ xs) (all_above (n + 1) (w ∷ xs) h.3), numbers_rise (n + 1) (w ∷ xs) h.3)
+abbrev Untied : VersionedObject → VersionedObject → Type 0
+Untied a b = is_eq (by_identifier a b) ≡ false
 
--- of each object the numbers rise
-abbrev Rise : List VersionedObject → Type 0
-Rise vs = (object : ObjectId) → IsAscending Below (history object vs)
-
-rises_later : (v : VersionedObject) (vs : List VersionedObject) → Rise (v ∷ vs) → Rise vs
-rises_later v vs up object = go (is_of object v) (up object)
-  where
-    go : (b : Bool) → IsAscending Below (cond b (v ∷ history object vs) (history object vs)) → IsAscending Below (history object vs)
-    go true h = h.1
-    go false h = h
-
--- ---- identifiers
-
-unequal : (o p : Ordering) → is_eq o ≡ false → is_eq (ordering_then o p) ≡ false
-unequal Less p h = refl
-unequal Equal p h = absurd (true≢false h)
-unequal Greater p h = refl
-
-less_then : (o : Ordering) → is_eq (ordering_then o Less) ≡ false
-less_then Less = refl
-less_then Equal = refl
-less_then Greater = refl
+distinct_untied : (vs : List VersionedObject) → IsDistinct (eq_by_cmp by_identifier) vs → IsAscending Untied vs
+unfolding IsDistinct
+distinct_untied [] h = tt
+distinct_untied (v ∷ vs) h = (h.0, distinct_untied vs h.1)
 
 cmp_less : (m n : ℕ) → m < n → int_cmp (pos m) (pos n) ≡ Less
 cmp_less m n h = grind (arith, ints)
 
-cmp_unequal : (m n : ℕ) → int_eq (pos n) (pos m) ≡ false → is_eq (int_cmp (pos m) (pos n)) ≡ false
-cmp_unequal m n h = grind (arith, ints)
-
-apart : (a b : VersionedObject) → (is_of a.object b ≡ true → a.number < b.number) → is_eq (by_identifier a b) ≡ false
-apart a b h = go (is_of a.object b) refl
-  where
-    go : (t : Bool) → is_of a.object b ≡ t → is_eq (by_identifier a b) ≡ false
-    go true e = rw (cmp_less a.number b.number (h e)) (less_then (int_cmp (pos (object_number a.object)) (pos (object_number b.object))))
-    go false e = unequal (int_cmp (pos (object_number a.object)) (pos (object_number b.object))) _ (cmp_unequal (object_number a.object) (object_number b.object) e)
-
-own_object : (v : VersionedObject) → is_of v.object v ≡ true
-own_object v = grind (arith, ints)
-
-no_ties : (vs : List VersionedObject) → Rise vs → IsAscending (λ a b. is_eq (by_identifier a b) ≡ false) vs
-no_ties [] up = tt
-no_ties (v ∷ vs) up =
-    let here = (rw (own_object v) at (up v.object)).0 in
-    (all_weaker (λ (b : VersionedObject). is_of v.object b ≡ true → v.number < b.number) (λ b. is_eq (by_identifier v b) ≡ false) (λ b k. apart v b k) vs (all_kept (λ (b : VersionedObject). v.number < b.number) (is_of v.object) vs here), no_ties vs (rises_later v vs up))
-
 -- ---- the rows of a revision
-
-rise : (cs : List Command) → HasHistories (versions cs) → Rise (map version_in (entries_of cs))
-rise cs all object = subst (λ vs. IsAscending Below (history object vs)) (sym (versions_of_entries cs)) (numbers_rise 1 (history object (versions cs)) (all object))
 
 abbrev Apart : Entry → Entry → Type 0
 Apart a b = is_eq (entry_order a b) ≡ false
 
 all_untied : (cs : List Command) → HasHistories (versions cs) → IsAscending Apart (entries_of cs)
-all_untied cs all = ascending_unmap (λ a b. is_eq (by_identifier a b) ≡ false) version_in (entries_of cs) (no_ties _ (rise cs all))
+all_untied cs all = ascending_unmap Untied version_in (entries_of cs) (subst (IsAscending Untied) (sym (versions_of_entries cs)) (distinct_untied (versions cs) (identifiers_apart (versions cs) all)))
 
 -- no two of the entries of a revision have one identifier
 pub entries_untied : (r : ℕ) (cs : List Command) → HasHistories (versions cs) → IsAscending Apart (entries_at r (entries_of cs))
@@ -142,7 +87,7 @@ versions_kept : (object : ObjectId) (cs : List Command) → map version_in (kept
 versions_kept object cs = sym (filter-map (is_of object) version_in (entries_of cs)) ∙ ap (history object) (versions_of_entries cs)
 
 numbers_kept : (object : ObjectId) (cs : List Command) → HasHistories (versions cs) → IsAscending (λ (a b : Entry). a.version.number < b.version.number) (kept_of object (entries_of cs))
-numbers_kept object cs all = ascending_unmap Below version_in (kept_of object (entries_of cs)) (subst (IsAscending Below) (sym (versions_kept object cs)) (numbers_rise 1 (history object (versions cs)) (all object)))
+numbers_kept object cs all = ascending_unmap Below version_in (kept_of object (entries_of cs)) (subst (IsAscending Below) (sym (versions_kept object cs)) (numbers_ascend (history object (versions cs)) (numbers_rise 1 (history object (versions cs)) (all object))))
 
 cmp_not_equal : (m n : ℕ) → m < n → is_eq (int_cmp (pos m) (pos n)) ≡ false
 cmp_not_equal m n h = rw (cmp_less m n h) refl
