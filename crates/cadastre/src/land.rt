@@ -11,7 +11,7 @@ use cad_register::{Register, RegisterFault};
 use sqlite::{Alter, Connection, Error, ErrorCode, File, FileStore};
 use std::alloc::Global;
 use std::fs;
-use std::io::{Read, Write};
+use std::io::{ErrorKind, Read, Write};
 
 /// Why a file is not opened.
 fn open_fault(error: Error) -> RegisterFault
@@ -78,12 +78,20 @@ pub fn run_ask_over<S: Alter, R: Read, W: Write>(
     }
 }
 
-/// The database of a file. Where there is no file, none is made.
+/// Whether there is no file, or one without a byte. A database's first page is written whole before its log counts, so such a file holds none.
+fn is_nothing(rt: &HostRuntime, file: &str) -> bool {
+    match fs::metadata(rt, file) {
+        Ok(found) => found.is_file() && found.len() == 0,
+        Err(error) => error.kind() == ErrorKind::NotFound,
+    }
+}
+
+/// The database of a file. Where there is no file none is made, and an empty one stays empty.
 pub fn open_standing(
     rt: &HostRuntime,
     file: &str,
 ) -> Result<Connection<FileStore<File>>, RegisterFault> {
-    if let Ok(false) = fs::exists(rt, file) {
+    if is_nothing(rt, file) {
         return Err(RegisterFault::NotARegister);
     }
     Connection::open(rt, file).map_err(open_fault)
