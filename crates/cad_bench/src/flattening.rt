@@ -3,15 +3,13 @@
 use crate::register::{PARCELS, ascends, register};
 use anyhow::{Result, ensure};
 use cad_feature::{Collection, flatten};
+use cad_versions::MOST_VERSIONS;
 use std::time::{Duration, Instant};
-
-/// How many versions there may be at most.
-const MOST: usize = 2_147_483_647;
 
 fn flattened(rt: &HostRuntime, units: u32) -> Result<Duration> {
     let versions = register(rt.alloc(), units)?;
     ensure!(
-        ascends(&versions) && versions.len() <= MOST,
+        ascends(&versions) && versions.len() <= MOST_VERSIONS as usize,
         "the register is no listing"
     );
     let start = Instant::now(rt)?;

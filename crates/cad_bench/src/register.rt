@@ -9,7 +9,7 @@ ghost use Rattle.cad_versions.specs.VersionedObject.{IsVersion};
 use anyhow::{Context, Result, anyhow, bail};
 use cad_day::{Day, Interval};
 use cad_shape::{Point, Ring};
-use cad_versions::{Body, ObjectId, Version, Words};
+use cad_versions::{Body, MOST_NUMBER, ObjectId, Version, Words};
 use std::alloc::Global;
 
 /// How many parcels stand on each unit.
@@ -25,7 +25,7 @@ fn version(object: u32, number: u32, first: i32, last: Option<i32>, body: Body) 
         Some(last) => Some(Day::new(last)?),
     };
     let _days = Interval::new(Some(first), last)?;
-    if number == 0 || number > 2_147_483_647 {
+    if number == 0 || number > MOST_NUMBER {
         return None;
     }
     Some(Version {

@@ -7,9 +7,7 @@ ghost use Rattle.cad_versions.specs.Entries.{version_in};
 
 use crate::kept::StoredVersion;
 use cad_day::Day;
-use cad_versions::{Body, Class, Command, ObjectId, RegisterFault};
-
-const MOST_VERSIONS: usize = 2_147_483_647;
+use cad_versions::{Body, Class, Command, MOST_VERSIONS, ObjectId, RegisterFault};
 
 fn class_of(kept: &[StoredVersion], object: ObjectId) -> Option<Class>
     ensures { result ≡ class_at (map version_in kept.now) object }
@@ -54,7 +52,7 @@ fn is_entered(kept: &[StoredVersion], class: Class, object: Option<ObjectId>) ->
         None => true,
         Some(object) => match class_of(kept, object) {
             None => false,
-            Some(found) => class.number() == found.number(),
+            Some(found) => class == found,
         },
     }
 }
@@ -62,7 +60,7 @@ fn is_entered(kept: &[StoredVersion], class: Class, object: Option<ObjectId>) ->
 fn is_full(kept: &[StoredVersion]) -> bool
     ensures { result ≡ filled (map version_in kept.now) }
 {
-    MOST_VERSIONS <= kept.len()
+    MOST_VERSIONS as usize <= kept.len()
 }
 
 fn refusal_of_body(kept: &[StoredVersion], body: &Body) -> Option<RegisterFault>

@@ -4,7 +4,7 @@ ghost use Rattle.std.specs.Prelude.{◌≤◌};
 
 use crate::numerals::counting_number;
 use crate::parts::part;
-use cad_versions::ObjectId;
+use cad_versions::{MOST_NUMBER, ObjectId};
 use std::alloc::{AllocError, Global};
 
 /// The identifier of a feature: an object, and the number of its version, from 1 to 2,147,483,647 each.
@@ -26,7 +26,7 @@ impl Identifier {
         ensures { MatchOption result (¬ IsVersionNumber number)
             (λ identifier. numbers_of identifier ≡ (object_number object, number)) }
     {
-        if 1 <= number && number <= 2_147_483_647 {
+        if 1 <= number && number <= MOST_NUMBER {
             Some(Identifier { object, number })
         } else {
             None

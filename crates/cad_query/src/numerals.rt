@@ -5,6 +5,8 @@ ghost use Rattle.cad_versions.specs.Objects.{IsObjectNumber};
 ghost use Rattle.cad_query.specs.Numerals as spec;
 ghost use Rattle.cad_query.specs.Numerals.{number_in, limit_of, revision_of};
 
+use cad_versions::MOST_NUMBER;
+
 /// More than every number that is asked for with a bound: 10^18.
 pub(crate) const MANY: u64 = 1_000_000_000_000_000_000;
 
@@ -45,7 +47,7 @@ pub(crate) fn counting_number(digits: &[u8]) -> Option<u32>
         return None;
     }
     let number = number(digits)?;
-    if 1 <= number && number <= 2_147_483_647 {
+    if 1 <= number && number <= u64::from(MOST_NUMBER) {
         Some(number as u32)
     } else {
         None

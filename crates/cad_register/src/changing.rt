@@ -14,7 +14,7 @@ use crate::asking::store_fault;
 use crate::writing::NewEntry;
 use cad_day::Day;
 use cad_tables::{Change, Closing};
-use cad_versions::{Body, Command, ObjectId, RegisterFault, Version};
+use cad_versions::{Body, Command, MOST_NUMBER, ObjectId, RegisterFault, Version};
 use sqlite::{Alter, Connection};
 use std::alloc::{AllocError, Global};
 
@@ -24,10 +24,10 @@ pub(crate) fn next_number(count: usize) -> u32
     ensures small { result ≤ 2147483647 }
     ensures next { count < 2147483647 → result ≡ count + 1 }
 {
-    if count < 2_147_483_647 {
+    if count < MOST_NUMBER as usize {
         count as u32 + 1
     } else {
-        2_147_483_647
+        MOST_NUMBER
     }
 }
 

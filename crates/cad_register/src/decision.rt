@@ -13,11 +13,9 @@ ghost use Rattle.cad_register.specs.Naming.{NamesShown};
 ghost use Rattle.cad_register.specs.Refusing.{Asks, IsForNamed, IsForBody, IsForRoom, IsForAddition, IsForCommand};
 
 use crate::asking::{standing_of, versions_of};
-use cad_versions::{Body, Class, Command, ObjectId, RegisterFault};
+use cad_versions::{Body, Class, Command, MOST_VERSIONS, ObjectId, RegisterFault};
 use sqlite::{Alter, Connection};
 use std::alloc::Global;
-
-const MOST_VERSIONS: u32 = 2_147_483_647;
 
 /// Whether what is named, if anything is, was entered with this class.
 fn is_entered<S: Alter>(

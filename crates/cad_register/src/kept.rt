@@ -14,7 +14,7 @@ use crate::columns::{
 };
 use crate::fields::Fields;
 use cad_day::Day;
-use cad_versions::{Body, Class, ObjectId, Version};
+use cad_versions::{Body, Class, MOST_NUMBER, ObjectId, Version};
 use sqlite::Row;
 use std::alloc::Global;
 
@@ -44,7 +44,7 @@ fn version_of(
 ) -> Option<Version>
     ensures { MatchOption result (¬ IsVersion (record { object = object; number = number; first = first; last = last; body = body })) (λ version. version ≡ record { object = object; number = number; first = first; last = last; body = body }) }
 {
-    if number < 1 || number > 2_147_483_647 {
+    if number < 1 || number > MOST_NUMBER {
         return None;
     }
     if let Some(last) = last {

@@ -9,11 +9,9 @@ ghost use Rattle.cad_versions.specs.Listing.{IsListing};
 
 use crate::columns::{ReadFault, number_or_zero};
 use crate::kept::StoredVersion;
-use cad_versions::{RegisterFault, Version};
+use cad_versions::{MOST_VERSIONS, RegisterFault, Version};
 use sqlite::Row;
 use std::alloc::Global;
-
-const MOST_VERSIONS: usize = 2_147_483_647;
 
 /// The object and the number of a row, as they are stored.
 fn identifier(row: &Row) -> (i64, i64)
@@ -50,7 +48,7 @@ fn next_version(
         (is_after before (identifier_in row.now) ≡ true) × (count < 2147483647)) }
 {
     let kept = StoredVersion::read(alloc, row)?;
-    if count < MOST_VERSIONS && comes_after(before, identifier(row)) {
+    if count < MOST_VERSIONS as usize && comes_after(before, identifier(row)) {
         Ok(kept)
     } else {
         Err(ReadFault::Damaged)

@@ -3,6 +3,7 @@
 //! - `ObjectId`, `Words`, `Share`: values that cannot hold what the register must not.
 //! - `Body`, `Class`, `Version`: one version of a party, a basic administrative unit, a parcel, a right or a restriction.
 //! - `Command`, `RegisterFault`: what the land office asks for, and why it is refused.
+//! - `MOST_NUMBER`, `MOST_VERSIONS`: how large numbers may be, and how many versions there may be.
 //! - `Ledger`: what commands are entered into, and what tells the versions at a revision.
 //! - `laws`: what holds of every register, whatever commands made it.
 //!
@@ -24,6 +25,7 @@ mod decision;
 mod fault;
 pub mod laws;
 mod ledger;
+mod limits;
 mod object_id;
 mod shape_bytes;
 mod share;
@@ -34,6 +36,7 @@ pub use body::{Body, Class};
 pub use command::Command;
 pub use fault::RegisterFault;
 pub use ledger::Ledger;
+pub use limits::{MOST_NUMBER, MOST_VERSIONS};
 pub use object_id::ObjectId;
 pub use shape_bytes::{read_shape, write_shape};
 pub use share::Share;

@@ -2,6 +2,8 @@
 
 ghost use Rattle.std.specs.Prelude.{◌≤◌};
 
+use crate::limits::MOST_NUMBER;
+
 /// The number of an object, from 1 to 2,147,483,647. It names the object for good.
 #[derive(Clone, Copy, Debug, PartialEq, Eq, PartialOrd, Ord)]
 pub struct ObjectId {
@@ -19,7 +21,7 @@ impl ObjectId {
         ensures { MatchOption result (¬ IsObjectNumber number)
             (λ object. object_number object ≡ number) }
     {
-        if 1 <= number && number <= 2_147_483_647 {
+        if 1 <= number && number <= MOST_NUMBER {
             Some(ObjectId { number })
         } else {
             None
