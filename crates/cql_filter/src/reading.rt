@@ -40,7 +40,11 @@ fn read_filter(alloc: Global, text: &str, collection: Collection) -> Result<Filt
     places_in_order();
     filters_are_of_conditions();
     let tokens = tokens(alloc, text)?;
-    let tree = parse(alloc, &tokens)?;
-    let filter = check(alloc, &tree, collection)?;
+    let parsed = parse(alloc, &tokens);
+    drop(tokens);
+    let tree = parsed?;
+    let checked = check(alloc, &tree, collection);
+    drop(tree);
+    let filter = checked?;
     Ok(filter)
 }
