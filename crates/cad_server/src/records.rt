@@ -15,6 +15,9 @@ use lru::LruCache;
 use std::alloc::{AllocError, Global};
 use std::num::NonZeroUsize;
 
+/// Of how many revisions the features are kept at most.
+const MOST_KEPT: usize = 4;
+
 /// A ledger, and the features at the revisions that were asked for last.
 pub(crate) struct Records<L: Ledger> {
     ledger: L,
@@ -45,7 +48,7 @@ impl<L: Ledger> Records<L> {
         ensures same { IfOk result (λ records. ledger_in records ≡ ledger) }
         ensures back { IfErr result (λ back. back ≡ ledger) }
     {
-        let Some(most) = NonZeroUsize::new(4) else {
+        let Some(most) = NonZeroUsize::new(MOST_KEPT) else {
             return Err(ledger);
         };
         match LruCache::new(alloc, most) {
@@ -118,15 +121,24 @@ impl<L: Ledger> Records<L> {
     }
 
     /// What is sought at the revision that is asked for, or the newest.
-    fn seek(&mut self, sought: Sought) -> Result<Told, RegisterFault>
-        ensures { Seeks L.Ledger sought self.old result self.new }
+    fn seek(&mut self, sought: &Sought) -> Result<Told, RegisterFault>
+        ensures { Seeks L.Ledger sought.now self.old result self.new }
     {
         let newest = self.ledger.revision();
         let revision = sought.revision(newest);
         if newest < revision {
             return Ok(unknown_revision(self.alloc)?);
         }
-        self.find(revision, &sought)
+        self.find(revision, sought)
+    }
+
+    /// What is sought, which ends with its answer.
+    fn answer(&mut self, sought: Sought) -> Result<Told, RegisterFault>
+        ensures { Seeks L.Ledger sought self.old result self.new }
+    {
+        let told = self.seek(&sought);
+        drop(sought);
+        told
     }
 
     /// What a request wants. An error is want of memory, or of the ledger.
@@ -135,11 +147,11 @@ impl<L: Ledger> Records<L> {
     {
         match wanted {
             Wanted::Told(told) => Ok(told),
-            Wanted::Page(ask) => self.seek(Sought::Page(ask)),
+            Wanted::Page(ask) => self.answer(Sought::Page(ask)),
             Wanted::Feature {
                 collection,
                 identifier,
-            } => self.seek(Sought::Feature {
+            } => self.answer(Sought::Feature {
                 collection,
                 identifier,
             }),
