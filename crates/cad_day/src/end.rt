@@ -27,3 +27,15 @@ pub(crate) fn last_end(days: Interval) -> End
 {
     days.to.map_or(End::AfterAll, End::On)
 }
+
+pub(crate) fn is_before(end: End, other: End) -> bool
+    ensures { result ≡ spec.is_before end other }
+{
+    end < other
+}
+
+pub(crate) fn is_same(end: End, other: End) -> bool
+    ensures { result ≡ spec.is_same end other }
+{
+    end == other
+}

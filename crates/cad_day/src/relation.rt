@@ -4,7 +4,7 @@ ghost use Rattle.std.specs.Prelude.{◌≡◌};
 ghost use Rattle.cad_day.specs.Relations as spec;
 
 use crate::Interval;
-use crate::end::{first_end, last_end};
+use crate::end::{first_end, is_before, is_same, last_end};
 
 /// The relations of the temporal functions of CQL2 (OGC 21-065r2).
 #[derive(Clone, Copy, PartialEq, Eq, Debug)]
@@ -51,20 +51,24 @@ pub fn holds(relation: Relation, a: Interval, b: Interval) -> bool
     let (a_first, a_last) = (first_end(a), last_end(a));
     let (b_first, b_last) = (first_end(b), last_end(b));
     match relation {
-        Relation::After => b_last < a_first,
-        Relation::Before => a_last < b_first,
-        Relation::Disjoint => b_last < a_first || a_last < b_first,
-        Relation::Intersects => !(b_last < a_first || a_last < b_first),
-        Relation::Equals => a_first == b_first && a_last == b_last,
-        Relation::Contains => a_first < b_first && b_last < a_last,
-        Relation::During => b_first < a_first && a_last < b_last,
-        Relation::Meets => a_last == b_first,
-        Relation::MetBy => a_first == b_last,
-        Relation::Starts => a_first == b_first && a_last < b_last,
-        Relation::StartedBy => a_first == b_first && b_last < a_last,
-        Relation::Finishes => a_last == b_last && b_first < a_first,
-        Relation::FinishedBy => a_last == b_last && a_first < b_first,
-        Relation::Overlaps => a_first < b_first && b_first < a_last && a_last < b_last,
-        Relation::OverlappedBy => b_first < a_first && a_first < b_last && b_last < a_last,
+        Relation::After => is_before(b_last, a_first),
+        Relation::Before => is_before(a_last, b_first),
+        Relation::Disjoint => is_before(b_last, a_first) || is_before(a_last, b_first),
+        Relation::Intersects => !(is_before(b_last, a_first) || is_before(a_last, b_first)),
+        Relation::Equals => is_same(a_first, b_first) && is_same(a_last, b_last),
+        Relation::Contains => is_before(a_first, b_first) && is_before(b_last, a_last),
+        Relation::During => is_before(b_first, a_first) && is_before(a_last, b_last),
+        Relation::Meets => is_same(a_last, b_first),
+        Relation::MetBy => is_same(a_first, b_last),
+        Relation::Starts => is_same(a_first, b_first) && is_before(a_last, b_last),
+        Relation::StartedBy => is_same(a_first, b_first) && is_before(b_last, a_last),
+        Relation::Finishes => is_same(a_last, b_last) && is_before(b_first, a_first),
+        Relation::FinishedBy => is_same(a_last, b_last) && is_before(a_first, b_first),
+        Relation::Overlaps => is_before(a_first, b_first)
+            && is_before(b_first, a_last)
+            && is_before(a_last, b_last),
+        Relation::OverlappedBy => is_before(b_first, a_first)
+            && is_before(a_first, b_last)
+            && is_before(b_last, a_last),
     }
 }
