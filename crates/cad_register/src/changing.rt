@@ -119,7 +119,9 @@ pub(crate) fn enact<S: Alter>(
         HasCleanDisk (state S.Store connection.old) }
 {
     let change = change_of(alloc, command, number, revision)?;
-    match cad_tables::write(connection, &change, revision) {
+    let written = cad_tables::write(connection, &change, revision);
+    drop(change);
+    match written {
         Ok(()) => Ok(()),
         Err(fault) => Err(store_fault(fault)),
     }

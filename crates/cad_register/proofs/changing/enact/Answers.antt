@@ -5,12 +5,12 @@ use Rattle.cad_register.proofs.changing.enact.Goals as goal
 
 pub returns-in-Ok-clause-enacted : goal.returns-in-Ok-clause-enacted
 returns-in-Ok-clause-enacted g c clean cs stands fine numbered next =
-    stands_then (state g.S.Store c.args.connection.now) (state g.S.Store c.write.new.conn) cs c.args.command c.args.number c.args.revision c.in_ok-change.change stands fine numbered next c.in_ok-change.ensures c.ranges.revision.fits (c.in-Ok.ensures.wrote clean)
+    stands_then (state g.S.Store c.args.connection.now) (state g.S.Store c.write-written.new.conn) cs c.args.command c.args.number c.args.revision c.in_ok-change.change stands fine numbered next c.in_ok-change.ensures c.ranges.revision.fits (c.in-Ok.ensures.wrote clean)
 
 pub returns-in-Ok-clause-crash : goal.returns-in-Ok-clause-crash
 returns-in-Ok-clause-crash g c clean cs stands leaves fine numbered next room =
-    leaves_written (state g.S.Store c.args.connection.now) (state g.S.Store c.write.new.conn) cs c.args.command c.args.number c.args.revision c.in_ok-change.change clean c.write.ensures.crash stands leaves fine numbered next room c.in_ok-change.ensures c.ranges.revision.fits
+    leaves_written (state g.S.Store c.args.connection.now) (state g.S.Store c.write-written.new.conn) cs c.args.command c.args.number c.args.revision c.in_ok-change.change clean c.write-written.ensures.crash stands leaves fine numbered next room c.in_ok-change.ensures c.ranges.revision.fits
 
-pub returns-clause-crash : goal.returns-clause-crash
-returns-clause-crash g c clean cs stands leaves fine numbered next room =
-    leaves_written (state g.S.Store c.args.connection.now) (state g.S.Store c.write.new.conn) cs c.args.command c.args.number c.args.revision c.in_ok-change.change clean c.write.ensures.crash stands leaves fine numbered next room c.in_ok-change.ensures c.ranges.revision.fits
+pub returns-in-Err-clause-crash : goal.returns-in-Err-clause-crash
+returns-in-Err-clause-crash g c clean cs stands leaves fine numbered next room =
+    leaves_written (state g.S.Store c.args.connection.now) (state g.S.Store c.write-written.new.conn) cs c.args.command c.args.number c.args.revision c.in_ok-change.change clean c.write-written.ensures.crash stands leaves fine numbered next room c.in_ok-change.ensures c.ranges.revision.fits
