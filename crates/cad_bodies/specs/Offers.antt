@@ -14,12 +14,16 @@ landing_data =
     object (member (codes "links") (array (item (link_data (codes "/") (codes "self")) (item (link_data (codes "/collections") (codes "data")) no_items)))
     (member (codes "title") (string (codes "Cadastre")) no_members))
 
--- a collection: where its features and its queryables are; its title is its name
+-- where the features of a collection are, and its queryables
+abbrev pub collection_links : Collection → Data
+collection_links c = array (item (link_data (items_path c) (codes "items")) (item (link_data (queryables_path c) (codes "queryables")) no_items))
+
+-- a collection; its title is its name
 abbrev pub collection_data : Collection → Data
 collection_data c =
     object (member (codes "id") (string (name_of c))
     (member (codes "itemType") (string (codes "feature"))
-    (member (codes "links") (array (item (link_data (items_path c) (codes "items")) (item (link_data (queryables_path c) (codes "queryables")) no_items)))
+    (member (codes "links") (collection_links c)
     (member (codes "title") (string (name_of c)) no_members))))
 
 -- the collections, in the order in which they are listed

@@ -1,5 +1,5 @@
 -- The properties that filters may name, as a JSON Schema (OGC 19-079r2, 6.2: queryables; the format interval and a path as $id: own profile), members in byte order of their names.
-use Rattle.std.specs.Prelude.{List, fold, codes, false}
+use Rattle.std.specs.Prelude.{ℕ, List, fold, codes, false}
 use Rattle.serde_json.specs.Data.{Data, boolean, string, object, Members, member, no_members, put}
 use Rattle.cad_feature.specs.declared.collection.Collection.{Collection}
 use Rattle.cad_feature.specs.declared.property.PropertyKind.{PropertyKind}
@@ -7,15 +7,23 @@ use Rattle.cad_feature.specs.declared.property.PropertyKind.TheVariants.{Text, W
 use Rattle.cad_feature.specs.Schema.{Named, schema_of}
 use Rattle.cad_bodies.specs.Paths.{queryables_path}
 
+-- a value of a type of JSON
+abbrev pub type_data : List ℕ → Data
+type_data name = object (member (codes "type") (string name) no_members)
+
+-- a value of a format
+abbrev pub format_data : List ℕ → Data
+format_data name = object (member (codes "format") (string name) no_members)
+
 -- what a value of the kind is
 abbrev pub kind_data : PropertyKind → Data
-kind_data Text = object (member (codes "type") (string (codes "string")) no_members)
-kind_data Whole = object (member (codes "type") (string (codes "integer")) no_members)
-kind_data Flag = object (member (codes "type") (string (codes "boolean")) no_members)
+kind_data Text = type_data (codes "string")
+kind_data Whole = type_data (codes "integer")
+kind_data Flag = type_data (codes "boolean")
 kind_data Day = object (member (codes "format") (string (codes "date")) (member (codes "type") (string (codes "string")) no_members))
-kind_data Span = object (member (codes "format") (string (codes "interval")) no_members)
-kind_data Spot = object (member (codes "format") (string (codes "geometry-point")) no_members)
-kind_data Area = object (member (codes "format") (string (codes "geometry-polygon")) no_members)
+kind_data Span = format_data (codes "interval")
+kind_data Spot = format_data (codes "geometry-point")
+kind_data Area = format_data (codes "geometry-polygon")
 
 -- the members, and one more for a property, in byte order of the names
 abbrev pub with_queryable : Members → Named → Members

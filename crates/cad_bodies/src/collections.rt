@@ -5,7 +5,7 @@ ghost use Rattle.serde_json.specs.Data.{array};
 ghost use Rattle.serde_json.specs.Read.{read};
 ghost use Rattle.serde_json.specs.View.{view, items_of};
 ghost use Rattle.serde_json.specs.Written.{compact_text};
-ghost use Rattle.cad_bodies.specs.Offers.{collection_data, collections_data};
+ghost use Rattle.cad_bodies.specs.Offers.{collection_data, collection_links, collections_data};
 
 use crate::links::link_json;
 use crate::paths::{items_path, queryables_path};
@@ -50,10 +50,16 @@ fn list_json(alloc: Global, collections: &[Collection]) -> Result<Json, AllocErr
 fn collection_json(alloc: Global, collection: Collection) -> Result<Json, AllocError>
     ensures { IfOk result (λ json. view json ≡ collection_data collection) }
 {
+    let links = links_json(alloc, collection)?;
+    json!(in alloc; {"id": collection.name(), "itemType": "feature", "links": links, "title": collection.name()})
+}
+
+fn links_json(alloc: Global, collection: Collection) -> Result<Json, AllocError>
+    ensures { IfOk result (λ json. view json ≡ collection_links collection) }
+{
     let items = items_path(alloc, collection)?;
     let items = link_json(alloc, items.as_str(), "items")?;
     let queryables = queryables_path(alloc, collection)?;
     let queryables = link_json(alloc, queryables.as_str(), "queryables")?;
-    json!(in alloc; {"id": collection.name(), "itemType": "feature", "links": [items, queryables],
-        "title": collection.name()})
+    json!(in alloc; [items, queryables])
 }

@@ -5,7 +5,7 @@ ghost use Rattle.serde_json.specs.Read.{read};
 ghost use Rattle.serde_json.specs.View.{view};
 ghost use Rattle.serde_json.specs.Written.{compact_text};
 ghost use Rattle.cad_feature.specs.Schema.{property_of};
-ghost use Rattle.cad_bodies.specs.Queryables.{kind_data, properties_schema, queryables_data};
+ghost use Rattle.cad_bodies.specs.Queryables.{format_data, kind_data, properties_schema, queryables_data, type_data};
 
 use crate::paths::queryables_path;
 use cad_feature::{Collection, Property, PropertyKind, schema};
@@ -44,12 +44,24 @@ fn kind_json(alloc: Global, kind: PropertyKind) -> Result<Json, AllocError>
     ensures { IfOk result (λ json. view json ≡ kind_data kind) }
 {
     match kind {
-        PropertyKind::Text => json!(in alloc; {"type": "string"}),
-        PropertyKind::Whole => json!(in alloc; {"type": "integer"}),
-        PropertyKind::Flag => json!(in alloc; {"type": "boolean"}),
+        PropertyKind::Text => type_json(alloc, "string"),
+        PropertyKind::Whole => type_json(alloc, "integer"),
+        PropertyKind::Flag => type_json(alloc, "boolean"),
         PropertyKind::Day => json!(in alloc; {"format": "date", "type": "string"}),
-        PropertyKind::Span => json!(in alloc; {"format": "interval"}),
-        PropertyKind::Spot => json!(in alloc; {"format": "geometry-point"}),
-        PropertyKind::Area => json!(in alloc; {"format": "geometry-polygon"}),
+        PropertyKind::Span => format_json(alloc, "interval"),
+        PropertyKind::Spot => format_json(alloc, "geometry-point"),
+        PropertyKind::Area => format_json(alloc, "geometry-polygon"),
     }
+}
+
+fn type_json(alloc: Global, name: &str) -> Result<Json, AllocError>
+    ensures { IfOk result (λ json. view json ≡ type_data name.now) }
+{
+    json!(in alloc; {"type": name})
+}
+
+fn format_json(alloc: Global, name: &str) -> Result<Json, AllocError>
+    ensures { IfOk result (λ json. view json ≡ format_data name.now) }
+{
+    json!(in alloc; {"format": name})
 }
