@@ -21,6 +21,8 @@ cases:
 # The whole gate: the cases held against a second reading, every proof from nothing, the must-fail edits, the tests, each program as two compilers build it, and the program on files of the office and at an address.
 test: cases
 	scripts/check_wrong_bodies
+	scripts/crate_rows --check
+	scripts/chain
 	$(RT) ci
 	scripts/check_office
 	scripts/check_serve
@@ -29,9 +31,9 @@ test: cases
 check:
 	$(RT) all check --jobs $(JOBS)
 
-# Has the prover refuse the wrong bodies that the gate leaves out, of folder wrong-bodies/.
+# Has the prover refuse the wrong bodies, those that the gate tries and those of folder wrong-bodies/: all, or SAMPLE of them, chosen by SEED.
 wrong-bodies: check
-	scripts/wrong_bodies
+	SAMPLE=$(SAMPLE) SEED=$(SEED) scripts/wrong_bodies
 
 # Refuses each growth of a run of the case programs in turn. Needs a C compiler.
 refused:

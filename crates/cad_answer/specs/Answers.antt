@@ -7,7 +7,7 @@ use Rattle.cad_shape.specs.declared.boxes.Bounds.{Bounds}
 use Rattle.cad_shape.specs.declared.shape.Shape.{Shape}
 use Rattle.cad_shape.specs.declared.shape.Shape.TheVariants.{Frame}
 use Rattle.cad_shape.specs.Tests.{shapes_meet}
-use Rattle.cad_feature.specs.declared.collection.Collection.{Collection}
+use Rattle.cad_schema.specs.declared.collection.Collection.{Collection}
 use Rattle.cad_feature.specs.Features.{Item}
 use Rattle.cql_types.specs.declared.filter.Filter.{Filter}
 use Rattle.cql_truth.specs.Sides.{yes}

@@ -2,12 +2,12 @@
 use Rattle.std.specs.Prelude.{ℕ, List, codes, Option, Some, None, option_map}
 use Rattle.cad_day.specs.declared.interval.Interval.{Interval}
 use Rattle.cad_shape.specs.declared.shape.Shape.{Shape}
-use Rattle.cad_feature.specs.declared.collection.Collection.{Collection}
-use Rattle.cad_feature.specs.declared.property.PropertyKind.{PropertyKind}
-use Rattle.cad_feature.specs.Features.{Item}
-use Rattle.cad_feature.specs.Schema.{schema_of, find}
+use Rattle.cad_schema.specs.declared.collection.Collection.{Collection}
+use Rattle.cad_schema.specs.declared.property.PropertyKind.{PropertyKind}
+use Rattle.cad_feature.specs.Features.{Item, datum_at}
+use Rattle.cad_schema.specs.Schema.{schema_of, find}
 use Rattle.cad_feature.specs.Values.{Datum, null}
-use Rattle.cql_truth.specs.Values.{datum_at, span_in, shape_in}
+use Rattle.cql_truth.specs.Values.{span_in, shape_in}
 use Rattle.cad_answer.specs.declared.places.Places.{Places}
 
 -- the place of the collection's property of that name

@@ -7,7 +7,8 @@ ghost use Rattle.cad_answer.specs.Places as spec;
 ghost use Rattle.cad_answer.specs.Places.{place_named, places_of, value_at as value_in, lifespan_of, geometry_of};
 
 use cad_day::Interval;
-use cad_feature::{Collection, Feature, Value, find_property};
+use cad_feature::{Feature, Value};
+use cad_schema::{Collection, find_property};
 use cad_shape::ShapeRef;
 
 /// The places of the lifespan and of the geometry in the schema of a collection.

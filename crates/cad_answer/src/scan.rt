@@ -11,7 +11,8 @@ use crate::answer::is_answer;
 use crate::places::Places;
 use crate::question::Question;
 use crate::rows::Page;
-use cad_feature::{Collection, Feature};
+use cad_feature::Feature;
+use cad_schema::Collection;
 use std::alloc::{AllocError, Global};
 
 /// The page of the collection's features that the question asks for. An error is want of memory.

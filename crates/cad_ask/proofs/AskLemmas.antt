@@ -6,8 +6,8 @@ use Rattle.std.specs.Result.{result_err}
 use Rattle.std.specs.List.{list_all, find}
 use Rattle.std.proofs.lemmas.Bool.{and_parts}
 use Rattle.std.proofs.lemmas.List.Folds.{find-append}
-use Rattle.cad_feature.specs.declared.collection.Collection.{Collection}
-use Rattle.cad_feature.specs.Schema.{schema_of}
+use Rattle.cad_schema.specs.declared.collection.Collection.{Collection}
+use Rattle.cad_schema.specs.Schema.{schema_of}
 use Rattle.cql_types.specs.declared.filter.Filter.{Filter}
 use Rattle.cql_filter.specs.declared.cause.Cause.{Cause}
 use Rattle.cql_filter.specs.Causes.{place_of}

@@ -9,9 +9,9 @@ use Rattle.cad_day.specs.Moments.{numbers_of as ends_of}
 use Rattle.cad_shape.specs.declared.boxes.Bounds.{Bounds}
 use Rattle.cad_shape.specs.Boxes.{IsExtent}
 use Rattle.cad_versions.specs.SameLemmas.{same_day}
-use Rattle.cad_feature.specs.declared.collection.Collection.{Collection}
-use Rattle.cad_feature.specs.Schema.{schema_of}
-use Rattle.cad_feature.specs.Lifespans.{same_interval}
+use Rattle.cad_schema.specs.declared.collection.Collection.{Collection}
+use Rattle.cad_schema.specs.Schema.{schema_of}
+use Rattle.cad_day.specs.Intervals.{same_interval}
 use Rattle.cql_types.specs.declared.filter.Filter.{Filter}
 use Rattle.cql_types.specs.Conditions.{condition_in}
 use Rattle.cql_filter.specs.Laws.{HasOneFilter}

@@ -1,7 +1,7 @@
 -- What the pairs of a query ask of a collection, and their first fault (OGC 17-069r4, 7.15: features; OGC 19-079r2, 6.4: filter; the order of faults: own profile).
 use Rattle.std.specs.Prelude.{◌≡◌, ℕ, ◌⊎◌, List, map, codes, Option, Some, None, Result, Ok, Err, IfSome}
-use Rattle.cad_feature.specs.declared.collection.Collection.{Collection}
-use Rattle.cad_feature.specs.Schema.{schema_of}
+use Rattle.cad_schema.specs.declared.collection.Collection.{Collection}
+use Rattle.cad_schema.specs.Schema.{schema_of}
 use Rattle.cql_types.specs.declared.filter.Filter.{Filter}
 use Rattle.cql_filter.specs.declared.cause.Cause.{Cause}
 use Rattle.cql_filter.specs.Causes.{place_of}

@@ -1,6 +1,6 @@
 -- What holds of every query.
 use Rattle.std.specs.Prelude.{◌≡◌, ℕ, ◌<◌, ◌^◌, List, map, option_map}
-use Rattle.cad_feature.specs.declared.collection.Collection.{Collection}
+use Rattle.cad_schema.specs.declared.collection.Collection.{Collection}
 use Rattle.cql_types.specs.Conditions.{condition_in}
 use Rattle.cad_query.specs.Pairs.{PairText, pair_text}
 use Rattle.cad_query.specs.Identifiers.{Numbers, Identifies, identifier_text, numbers_of}

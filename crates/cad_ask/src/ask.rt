@@ -10,8 +10,8 @@ ghost use Rattle.cad_ask.specs.declared.fault.AskFault.{AskFault};
 
 use crate::fault::AskFault;
 use crate::laws::{fault_or_asks, one_first_fault};
-use cad_feature::Collection;
 use cad_query::{Continuation, Pair, Selection, filter_text, read_pairs};
+use cad_schema::Collection;
 use cql_types::Filter;
 use std::alloc::Global;
 

@@ -1,7 +1,7 @@
 //! How long it takes to read the filter of a text.
 
 use anyhow::{Result, ensure};
-use cad_feature::Collection;
+use cad_schema::Collection;
 use cql_filter::read;
 use std::alloc::{AllocError, Global};
 use std::time::Instant;

@@ -2,7 +2,8 @@
 
 use crate::register::{PARCELS, ascends, register};
 use anyhow::{Result, ensure};
-use cad_feature::{Collection, flatten};
+use cad_feature::flatten;
+use cad_schema::Collection;
 use cad_versions::MOST_VERSIONS;
 use std::time::{Duration, Instant};
 

@@ -1,10 +1,9 @@
 -- What the server offers (OGC 17-069r4, 7.2: landing page, 7.13: collections), members in byte order of their names.
-use Rattle.std.specs.Prelude.{List, [], ◌∷◌, map, codes}
+use Rattle.std.specs.Prelude.{map, codes}
 use Rattle.serde_json.specs.Data.{Data, string, array, object, member, no_members, item, no_items}
 use Rattle.serde_json.specs.View.{items_of}
-use Rattle.cad_feature.specs.declared.collection.Collection.{Collection}
-use Rattle.cad_feature.specs.declared.collection.Collection.TheVariants.{Parcels, Rights, Restrictions, Units, Parties}
-use Rattle.cad_feature.specs.Collections.{name_of}
+use Rattle.cad_schema.specs.declared.collection.Collection.{Collection}
+use Rattle.cad_schema.specs.Collections.{collections, name_of}
 use Rattle.cad_bodies.specs.Links.{link_data}
 use Rattle.cad_bodies.specs.Paths.{items_path, queryables_path}
 
@@ -26,12 +25,8 @@ collection_data c =
     (member (codes "links") (collection_links c)
     (member (codes "title") (string (name_of c)) no_members))))
 
--- the collections, in the order in which they are listed
-abbrev pub all_collections : List Collection
-all_collections = Parcels ∷ Rights ∷ Restrictions ∷ Units ∷ Parties ∷ []
-
 -- all of them, and the link to the list itself
 abbrev pub collections_data : Data
 collections_data =
-    object (member (codes "collections") (array (items_of (map collection_data all_collections)))
+    object (member (codes "collections") (array (items_of (map collection_data collections)))
     (member (codes "links") (array (item (link_data (codes "/collections") (codes "self")) no_items)) no_members))

@@ -1,10 +1,11 @@
 -- The properties that filters may name, as a JSON Schema (OGC 19-079r2, 6.2: queryables; the format interval and a path as $id: own profile), members in byte order of their names.
 use Rattle.std.specs.Prelude.{ℕ, List, fold, codes, false}
 use Rattle.serde_json.specs.Data.{Data, boolean, string, object, Members, member, no_members, put}
-use Rattle.cad_feature.specs.declared.collection.Collection.{Collection}
-use Rattle.cad_feature.specs.declared.property.PropertyKind.{PropertyKind}
-use Rattle.cad_feature.specs.declared.property.PropertyKind.TheVariants.{Text, Whole, Flag, Day, Span, Spot, Area}
-use Rattle.cad_feature.specs.Schema.{Named, schema_of}
+use Rattle.cad_schema.specs.declared.collection.Collection.{Collection}
+use Rattle.cad_schema.specs.declared.property.PropertyKind.{PropertyKind}
+use Rattle.cad_schema.specs.declared.property.PropertyKind.TheVariants.{Text, Whole, Flag, Day, Span, Spot, Area}
+use Rattle.cad_schema.specs.Attributes.{Named}
+use Rattle.cad_schema.specs.Schema.{schema_of}
 use Rattle.cad_bodies.specs.Paths.{queryables_path}
 
 -- a value of a type of JSON

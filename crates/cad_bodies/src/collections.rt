@@ -9,7 +9,7 @@ ghost use Rattle.cad_bodies.specs.Offers.{collection_data, collection_links, col
 
 use crate::links::link_json;
 use crate::paths::{items_path, queryables_path};
-use cad_feature::Collection;
+use cad_schema::Collection;
 use serde_json::{Value as Json, json};
 use std::alloc::{AllocError, Global};
 

@@ -3,7 +3,7 @@
 ghost use Rattle.std.specs.Prelude.{◌≡◌, string_bytes, IfOk};
 ghost use Rattle.cad_bodies.specs.Paths as spec;
 
-use cad_feature::Collection;
+use cad_schema::Collection;
 use std::alloc::{AllocError, Global};
 
 /// `/collections/` and the collection's name.

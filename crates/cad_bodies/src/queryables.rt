@@ -4,11 +4,11 @@ ghost use Rattle.std.specs.Prelude.{◌≡◌, IfOk, Some, map, string_bytes};
 ghost use Rattle.serde_json.specs.Read.{read};
 ghost use Rattle.serde_json.specs.View.{view};
 ghost use Rattle.serde_json.specs.Written.{compact_text};
-ghost use Rattle.cad_feature.specs.Schema.{property_of};
+ghost use Rattle.cad_schema.specs.Schema.{property_of};
 ghost use Rattle.cad_bodies.specs.Queryables.{format_data, kind_data, properties_schema, queryables_data, type_data};
 
 use crate::paths::queryables_path;
-use cad_feature::{Collection, Property, PropertyKind, schema};
+use cad_schema::{Collection, Property, PropertyKind, schema};
 use serde_json::{Map, Value as Json, json};
 use std::alloc::{AllocError, Global};
 

@@ -13,7 +13,10 @@ use Rattle.cad_commands.specs.declared.operation.Operation.{Operation}
 use Rattle.cad_commands.specs.declared.operation.Operation.TheVariants.{Enter, Amend, Retire}
 use Rattle.cad_commands.specs.Members.{Has}
 use Rattle.cad_commands.specs.Values.{IsWholeOf, IsObjectOf, IsDayOf, IsWordsOf, IsFlagOf, IsShareOf, IsPointOf, IsRingOf}
-use Rattle.cad_commands.specs.Bodies.{class_name, SaysBody}
+use Rattle.cad_versions.specs.declared.body_parts.BodyParts.{BodyParts}
+use Rattle.cad_versions.specs.BodyParts.{parts_of}
+use Rattle.cad_versions.specs.BodyLemmas.{same_body}
+use Rattle.cad_commands.specs.Bodies.{class_name, SaysParts, SaysBody}
 use Rattle.cad_commands.specs.Commands.{IsOperationOf, SaysOneBody, SaysBeginning, SaysEnd, SaysCommand, Says}
 use Rattle.cad_commands.proofs.ValueLemmas.{point_said}
 use Rattle.cad_commands.proofs.OneValue.{may_have_one, has_one, one_whole, one_flag, one_object, one_words, one_day, one_share, one_ring, one_operation}
@@ -33,34 +36,23 @@ named class.Restriction = refl
 one_class : (a b : Class) → class_name a ≡ class_name b → a ≡ b
 one_class a b e = sym (named a) ∙ ap class_named e ∙ named b
 
+pub one_parts : (ms : Members) (p q : BodyParts) → SaysParts ms p → SaysParts ms q → p ≡ q
+one_parts ms p q s t =
+    let name = may_have_one IsWordsOf one_words (codes "name") ms p.name q.name s.name t.name in
+    let code = may_have_one IsWordsOf one_words (codes "code") ms p.code q.code s.code t.code in
+    let label = may_have_one IsWordsOf one_words (codes "label") ms p.label q.label s.label t.label in
+    let area = may_have_one IsWholeOf one_whole (codes "area") ms p.area q.area s.area t.area in
+    let unit = may_have_one IsObjectOf one_object (codes "unit") ms p.unit q.unit s.unit t.unit in
+    let party = may_have_one IsObjectOf one_object (codes "party") ms p.party q.party s.party t.party in
+    let share = may_have_one IsShareOf one_share (codes "share") ms p.share q.share s.share t.share in
+    let required = may_have_one IsFlagOf one_flag (codes "required") ms p.required q.required s.required t.required in
+    let spot = may_have_one IsPointOf point_said (codes "spot") ms p.spot q.spot s.spot t.spot in
+    let shape = may_have_one IsRingOf one_ring (codes "shape") ms p.shape q.shape s.shape t.shape in
+    λ i. record { name = name i; code = code i; label = label i; area = area i; unit = unit i; party = party i; share = share i; required = required i; spot = spot i; shape = shape i }
+
 one_body : (ms : Members) (class : Class) (a b : Body) → SaysBody ms class a → SaysBody ms class b → a ≡ b
-one_body ms class.Party a b s t =
-    let names : s.0 ≡ t.0 = may_have_one IsWordsOf one_words (codes "name") ms s.0 t.0 s.3 t.3 in
-    let kinds : s.1 ≡ t.1 = has_one IsWordsOf one_words (codes "code") ms s.1 t.1 s.4 t.4 in
-    cc
-one_body ms class.Unit a b s t =
-    let names : s.0 ≡ t.0 = may_have_one IsWordsOf one_words (codes "name") ms s.0 t.0 s.2 t.2 in
-    cc
-one_body ms class.Parcel a b s t =
-    let units : s.0 ≡ t.0 = has_one IsObjectOf one_object (codes "unit") ms s.0 t.0 s.6 t.6 in
-    let labels : s.1 ≡ t.1 = has_one IsWordsOf one_words (codes "label") ms s.1 t.1 s.7 t.7 in
-    let areas : s.2 ≡ t.2 = may_have_one IsWholeOf one_whole (codes "area") ms s.2 t.2 s.8 t.8 in
-    let shapes : s.3 ≡ t.3 = may_have_one IsRingOf one_ring (codes "shape") ms s.3 t.3 s.9 t.9 in
-    let spots : s.4 ≡ t.4 = may_have_one IsPointOf point_said (codes "spot") ms s.4 t.4 s.10 t.10 in
-    cc
-one_body ms class.Right a b s t =
-    let units : s.0 ≡ t.0 = has_one IsObjectOf one_object (codes "unit") ms s.0 t.0 s.5 t.5 in
-    let parties : s.1 ≡ t.1 = may_have_one IsObjectOf one_object (codes "party") ms s.1 t.1 s.6 t.6 in
-    let kinds : s.2 ≡ t.2 = has_one IsWordsOf one_words (codes "code") ms s.2 t.2 s.7 t.7 in
-    let shares : s.3 ≡ t.3 = may_have_one IsShareOf one_share (codes "share") ms s.3 t.3 s.8 t.8 in
-    cc
-one_body ms class.Restriction a b s t =
-    let units : s.0 ≡ t.0 = has_one IsObjectOf one_object (codes "unit") ms s.0 t.0 s.6 t.6 in
-    let parties : s.1 ≡ t.1 = may_have_one IsObjectOf one_object (codes "party") ms s.1 t.1 s.7 t.7 in
-    let kinds : s.2 ≡ t.2 = has_one IsWordsOf one_words (codes "code") ms s.2 t.2 s.8 t.8 in
-    let shares : s.3 ≡ t.3 = may_have_one IsShareOf one_share (codes "share") ms s.3 t.3 s.9 t.9 in
-    let flags : s.4 ≡ t.4 = may_have_one IsFlagOf one_flag (codes "required") ms s.4 t.4 s.10 t.10 in
-    cc
+unfolding SaysBody
+one_body ms class a b s t = same_body a b (s.0 ∙ sym t.0) (one_parts ms (parts_of a) (parts_of b) s.1 t.1)
 
 one_body_said : (ms : Members) (a b : Body) → SaysOneBody ms a → SaysOneBody ms b → a ≡ b
 one_body_said ms a b s t =

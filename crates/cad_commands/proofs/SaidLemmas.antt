@@ -70,13 +70,20 @@ any_area None small = tt
 any_area (Some n) small = (refl, small n refl)
 
 body_said : (b : Body) → ForSome (area_in b) (λ n. n < 2 ^ 32) → SaysBody (body_members b) (class_of b) b
-body_said (body.Party name code) small = (name, code, refl, any_words name, refl, refl)
-body_said (body.Unit name) small = (name, refl, any_words name, refl)
-body_said (body.Parcel unit label area shape spot) small =
-    (unit, label, area, shape, spot, refl, refl, refl, any_area area small, any_said IsRingOf ring_json ring_said shape, any_said IsPointOf point_json point_said spot, refl)
-body_said (body.Right unit party code share) small = (unit, party, code, share, refl, refl, any_object party, refl, any_share share, refl)
-body_said (body.Restriction unit party code share required) small =
-    (unit, party, code, share, required, refl, refl, any_object party, refl, any_share share, any_said IsFlagOf json.boolean (λ flag. refl) required, refl)
+unfolding SaysBody
+body_said (body.Party name code) small = (refl, record { area = tt; unit = tt; party = tt; share = tt; required = tt; spot = tt; name = any_words name; code = refl; label = tt; shape = tt }, refl)
+body_said (body.Unit name) small = (refl, record { area = tt; unit = tt; party = tt; share = tt; required = tt; spot = tt; name = any_words name; code = tt; label = tt; shape = tt }, refl)
+body_said (body.Parcel unit label area shape spot) small = (
+  refl,
+  record { area = any_area area small; unit = refl; party = tt; share = tt; required = tt; spot = any_said IsPointOf point_json point_said spot; name = tt; code = tt; label = refl; shape = any_said IsRingOf ring_json ring_said shape },
+  refl,
+)
+body_said (body.Right unit party code share) small = (refl, record { area = tt; unit = refl; party = any_object party; share = any_share share; required = tt; spot = tt; name = tt; code = refl; label = tt; shape = tt }, refl)
+body_said (body.Restriction unit party code share required) small = (
+  refl,
+  record { area = tt; unit = refl; party = any_object party; share = any_share share; required = any_said IsFlagOf json.boolean (λ flag. refl) required; spot = tt; name = tt; code = refl; label = tt; shape = tt },
+  refl,
+)
 
 -- beside the others stands the body alone
 one_body : (class : Class) (operation day whose inner : Data)

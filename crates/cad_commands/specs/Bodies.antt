@@ -1,16 +1,13 @@
 -- Bodies of versions as JSON objects, by class (own profile).
-use Rattle.std.specs.Prelude.{◌≡◌, ℕ, Bool, List, [], ◌∷◌, codes, Option}
+use Rattle.std.specs.Prelude.{◌≡◌, ℕ, List, [], ◌∷◌, codes}
 use Rattle.serde_json.specs.Data.{Members}
-use Rattle.cad_shape.specs.declared.point.Point.{Point}
-use Rattle.cad_shape.specs.declared.ring.Ring.{Ring}
-use Rattle.cad_versions.specs.declared.object_id.ObjectId.{ObjectId}
-use Rattle.cad_versions.specs.declared.share.Share.{Share}
-use Rattle.cad_versions.specs.declared.words.Words.{Words}
 use Rattle.cad_versions.specs.declared.body.Body.{Body}
-use Rattle.cad_versions.specs.declared.body.Body.TheVariants as a
 use Rattle.cad_versions.specs.declared.body.Class.{Class}
 use Rattle.cad_versions.specs.declared.body.Class.TheVariants as class
-use Rattle.cad_commands.specs.Members.{MayHave, Has, AreOnly}
+use Rattle.cad_versions.specs.declared.body_parts.BodyParts.{BodyParts}
+use Rattle.cad_versions.specs.Class.{class_of}
+use Rattle.cad_versions.specs.BodyParts.{parts_of}
+use Rattle.cad_commands.specs.Members.{MayHave, AreOnly}
 use Rattle.cad_commands.specs.Values.{IsWholeOf, IsObjectOf, IsWordsOf, IsFlagOf, IsShareOf, IsPointOf, IsRingOf}
 
 -- the name under which a command has the body of a class
@@ -21,37 +18,27 @@ class_name class.Parcel = codes "parcel"
 class_name class.Right = codes "right"
 class_name class.Restriction = codes "restriction"
 
--- the members of an object of each class, and what they say of it (ISO 19152:2012, attributes of the classes)
-abbrev pub SaysBody : Members → Class → Body → Type 0
-SaysBody ms class.Party body =
-    (name : Option Words) × (code : Words) × (body ≡ a.Party name code)
-    × MayHave IsWordsOf (codes "name") ms name
-    × Has IsWordsOf (codes "code") ms code
-    × AreOnly (codes "name" ∷ codes "code" ∷ []) ms
-SaysBody ms class.Unit body =
-    (name : Option Words) × (body ≡ a.Unit name)
-    × MayHave IsWordsOf (codes "name") ms name
-    × AreOnly (codes "name" ∷ []) ms
-SaysBody ms class.Parcel body =
-    (unit : ObjectId) × (label : Words) × (area : Option ℕ) × (shape : Option Ring) × (spot : Option Point) × (body ≡ a.Parcel unit label area shape spot)
-    × Has IsObjectOf (codes "unit") ms unit
-    × Has IsWordsOf (codes "label") ms label
-    × MayHave IsWholeOf (codes "area") ms area
-    × MayHave IsRingOf (codes "shape") ms shape
-    × MayHave IsPointOf (codes "spot") ms spot
-    × AreOnly (codes "unit" ∷ codes "label" ∷ codes "area" ∷ codes "shape" ∷ codes "spot" ∷ []) ms
-SaysBody ms class.Right body =
-    (unit : ObjectId) × (party : Option ObjectId) × (code : Words) × (share : Option Share) × (body ≡ a.Right unit party code share)
-    × Has IsObjectOf (codes "unit") ms unit
-    × MayHave IsObjectOf (codes "party") ms party
-    × Has IsWordsOf (codes "code") ms code
-    × MayHave IsShareOf (codes "share") ms share
-    × AreOnly (codes "unit" ∷ codes "party" ∷ codes "code" ∷ codes "share" ∷ []) ms
-SaysBody ms class.Restriction body =
-    (unit : ObjectId) × (party : Option ObjectId) × (code : Words) × (share : Option Share) × (required : Option Bool) × (body ≡ a.Restriction unit party code share required)
-    × Has IsObjectOf (codes "unit") ms unit
-    × MayHave IsObjectOf (codes "party") ms party
-    × Has IsWordsOf (codes "code") ms code
-    × MayHave IsShareOf (codes "share") ms share
-    × MayHave IsFlagOf (codes "required") ms required
-    × AreOnly (codes "unit" ∷ codes "party" ∷ codes "code" ∷ codes "share" ∷ codes "required" ∷ []) ms
+-- the members that an object of each class may have (ISO 19152:2012, attributes of the classes)
+abbrev pub members_of : Class → List (List ℕ)
+members_of class.Party = codes "name" ∷ codes "code" ∷ []
+members_of class.Unit = codes "name" ∷ []
+members_of class.Parcel = codes "unit" ∷ codes "label" ∷ codes "area" ∷ codes "shape" ∷ codes "spot" ∷ []
+members_of class.Right = codes "unit" ∷ codes "party" ∷ codes "code" ∷ codes "share" ∷ []
+members_of class.Restriction = codes "unit" ∷ codes "party" ∷ codes "code" ∷ codes "share" ∷ codes "required" ∷ []
+
+-- each member says the part of its name; where it is missing or null, that part is not there
+pub record SaysParts (ms : Members) (parts : BodyParts) : Type 0 where
+  pub area : MayHave IsWholeOf (codes "area") ms parts.area
+  pub unit : MayHave IsObjectOf (codes "unit") ms parts.unit
+  pub party : MayHave IsObjectOf (codes "party") ms parts.party
+  pub share : MayHave IsShareOf (codes "share") ms parts.share
+  pub required : MayHave IsFlagOf (codes "required") ms parts.required
+  pub spot : MayHave IsPointOf (codes "spot") ms parts.spot
+  pub name : MayHave IsWordsOf (codes "name") ms parts.name
+  pub code : MayHave IsWordsOf (codes "code") ms parts.code
+  pub label : MayHave IsWordsOf (codes "label") ms parts.label
+  pub shape : MayHave IsRingOf (codes "shape") ms parts.shape
+
+-- the object says the parts of a body of the class, and has no members but those of the class
+unfoldable pub SaysBody : Members → Class → Body → Type 0
+SaysBody ms class body = (class_of body ≡ class) × SaysParts ms (parts_of body) × AreOnly (members_of class) ms

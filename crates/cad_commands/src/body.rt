@@ -1,15 +1,15 @@
 //! Bodies of versions, as JSON objects.
 
-ghost use Rattle.std.specs.Prelude.{◌≡◌, ◌≢◌, MatchOption};
+ghost use Rattle.std.specs.Prelude.{◌≡◌, ◌≢◌, map, MatchOption};
 ghost use Rattle.serde_json.specs.View.{members_view};
 ghost use Rattle.cad_versions.specs.declared.body.Class.{Class as ClassOf};
-ghost use Rattle.cad_commands.specs.Bodies.{SaysBody, class_name};
+ghost use Rattle.cad_commands.specs.Bodies.{SaysBody, SaysParts, class_name, members_of as names_of};
 ghost use Rattle.cad_commands.specs.Commands.{SaysOneBody};
 ghost use Rattle.cad_commands.specs.Reading.{IsRead};
 
 use crate::command_error::CommandError;
 use crate::members::Members;
-use cad_versions::{Body, Class};
+use cad_versions::{Body, BodyParts, Class};
 use std::alloc::Global;
 
 /// The body of the one class whose name stands beside the object and the first day.
@@ -36,83 +36,56 @@ fn class_named(name: &str) -> Option<Class>
     }
 }
 
-fn body_of(alloc: Global, class: Class, members: Members) -> Result<Body, CommandError>
-    ensures { IsRead (SaysBody (members_view members.map.entries) class) result }
+/// The members that an object of the class may have.
+fn members_of(class: Class) -> &'static [&'static str]
+    ensures { map (λ name. name.now) result.now ≡ names_of class }
 {
     match class {
-        Class::Party => party(alloc, members),
-        Class::Unit => unit(alloc, members),
-        Class::Parcel => parcel(alloc, members),
-        Class::Right => right(alloc, members),
-        Class::Restriction => restriction(alloc, members),
+        Class::Party => &["name", "code"],
+        Class::Unit => &["name"],
+        Class::Parcel => &["unit", "label", "area", "shape", "spot"],
+        Class::Right => &["unit", "party", "code", "share"],
+        Class::Restriction => &["unit", "party", "code", "share", "required"],
     }
 }
 
-fn party(alloc: Global, members: Members) -> Result<Body, CommandError>
-    ensures { IsRead (SaysBody (members_view members.map.entries) Class.Party) result }
+/// What the members say, part by part.
+fn parts(alloc: Global, members: &Members) -> Result<BodyParts, CommandError>
+    ensures { IsRead (SaysParts (members_view members.now.map.entries)) result }
 {
-    let name = members.optional(alloc, "name")?;
-    let code = members.required(alloc, "code")?;
-    members.only(&["name", "code"])?;
-    Ok(Body::Party { name, code })
-}
-
-fn unit(alloc: Global, members: Members) -> Result<Body, CommandError>
-    ensures { IsRead (SaysBody (members_view members.map.entries) Class.Unit) result }
-{
-    let name = members.optional(alloc, "name")?;
-    members.only(&["name"])?;
-    Ok(Body::Unit { name })
-}
-
-fn parcel(alloc: Global, members: Members) -> Result<Body, CommandError>
-    ensures { IsRead (SaysBody (members_view members.map.entries) Class.Parcel) result }
-{
-    let unit = members.required(alloc, "unit")?;
-    let label = members.required(alloc, "label")?;
     let area = members.optional(alloc, "area")?;
-    let shape = members.optional(alloc, "shape")?;
-    let spot = members.optional(alloc, "spot")?;
-    members.only(&["unit", "label", "area", "shape", "spot"])?;
-    Ok(Body::Parcel {
-        unit,
-        label,
-        area,
-        shape,
-        spot,
-    })
-}
-
-fn right(alloc: Global, members: Members) -> Result<Body, CommandError>
-    ensures { IsRead (SaysBody (members_view members.map.entries) Class.Right) result }
-{
-    let unit = members.required(alloc, "unit")?;
+    let unit = members.optional(alloc, "unit")?;
     let party = members.optional(alloc, "party")?;
-    let code = members.required(alloc, "code")?;
-    let share = members.optional(alloc, "share")?;
-    members.only(&["unit", "party", "code", "share"])?;
-    Ok(Body::Right {
-        unit,
-        party,
-        code,
-        share,
-    })
-}
-
-fn restriction(alloc: Global, members: Members) -> Result<Body, CommandError>
-    ensures { IsRead (SaysBody (members_view members.map.entries) Class.Restriction) result }
-{
-    let unit = members.required(alloc, "unit")?;
-    let party = members.optional(alloc, "party")?;
-    let code = members.required(alloc, "code")?;
     let share = members.optional(alloc, "share")?;
     let required = members.optional(alloc, "required")?;
-    members.only(&["unit", "party", "code", "share", "required"])?;
-    Ok(Body::Restriction {
+    let spot = members.optional(alloc, "spot")?;
+    let name = members.optional(alloc, "name")?;
+    let code = members.optional(alloc, "code")?;
+    let label = members.optional(alloc, "label")?;
+    let shape = members.optional(alloc, "shape")?;
+    Ok(BodyParts {
+        name,
+        code,
+        label,
+        area,
         unit,
         party,
-        code,
         share,
         required,
+        spot,
+        shape,
     })
+}
+
+/// The body of the class that the members say, which have to be those of the class alone.
+#[tactic(auto, unfolding(crate::specs::Bodies::SaysBody))]
+fn body_of(alloc: Global, class: Class, members: Members) -> Result<Body, CommandError>
+    ensures { IsRead (SaysBody (members_view members.map.entries) class) result }
+{
+    let parts = parts(alloc, &members)?;
+    members.only(members_of(class))?;
+    match Body::from_parts(class, parts) {
+        Some(body) => Ok(body),
+        None => Err(CommandError::NotACommand),
+    }
 }

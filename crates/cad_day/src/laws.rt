@@ -2,6 +2,7 @@
 
 ghost use Rattle.std.specs.Prelude.{◌≡◌, ◌↔◌, ◌||◌, not, ℕ, ℤ, IsTrue, List, Ok, Some};
 ghost use Rattle.cad_day.specs.Days.{number_of};
+ghost use Rattle.cad_day.specs.Intervals.{IntervalsHaveTheirEnds};
 ghost use Rattle.cad_day.specs.DayTexts.{Names, ReadsWhatIsNamed, HasOneText, day_named, day_text};
 ghost use Rattle.cad_day.specs.Moments.{asked};
 ghost use Rattle.cad_day.specs.Relations.{holds, mirror, ShareDay};
@@ -32,6 +33,11 @@ pub fn written_days_are_read_back(day: Day)
 {
     each_day_is_named(day);
 }
+
+/// From one end to another there is an interval with these ends, or they are turned round.
+pub fn intervals_have_their_ends()
+    ensures { IntervalsHaveTheirEnds }
+{}
 
 /// Seen from the other interval a relation is its mirror: AFTER and BEFORE, CONTAINS and DURING,
 /// MEETS and METBY, STARTS and STARTEDBY, FINISHES and FINISHEDBY, OVERLAPS and OVERLAPPEDBY;

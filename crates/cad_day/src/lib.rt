@@ -12,6 +12,7 @@ mod end;
 mod fault;
 mod interval;
 pub mod laws;
+mod making;
 mod moment;
 mod relation;
 mod text;

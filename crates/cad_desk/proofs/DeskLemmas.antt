@@ -51,10 +51,10 @@ module _ {R : Type 0} (g : Ghosts R) where
           clean = f.stays.clean;
         })
         | inr r ↦ subst (λ (d : DeskFault). Steps g old (Bytes c piece) (Err d) new) (sym (e ∙ r.1)) (record {
-          stepped = (held, known, r.0, changes, λ counts commands stands. refused_for (f.cause counts commands stands) r.0);
+          stepped = (held, known, r.0, changes, λ counts commands stands. refused_for (f.cause counts commands stands) r.0, refused_for f.asking r.0);
           kept = λ counts. tt;
           unchanged = f.stays.unchanged;
-          store = λ counts same. f.stays.store counts (same_fault fault register.Store same);
+          store = λ counts same. (held, known, f.stays.store counts (same_fault fault register.Store same));
           clean = f.stays.clean;
         })
       ]

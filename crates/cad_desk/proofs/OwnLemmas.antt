@@ -1,9 +1,9 @@
 -- What goes out to a connection is its own, by recursion on the events of a run.
-use Rattle.std.proofs.Common.{◌≡◌, ℕ, Bool, true, false, cond, nat_eq, List, [], ◌∷◌, ◌++◌, Option, Some, None, Result, Ok, Err, refl, sym, ap, ap₂, ◌∙◌, subst, arith, append_assoc, append-nil, inl, inr}
+use Rattle.std.proofs.Common.{◌≡◌, ◌≢◌, ℕ, Bool, true, false, cond, nat_eq, List, [], ◌∷◌, ◌++◌, Option, Some, None, Result, Ok, Err, refl, sym, ap, ap₂, ◌∙◌, subst, arith, append_assoc, append-nil, inl, inr}
 use Rattle.std.proofs.lemmas.Bool.Decides.{nat_tests}
 use Rattle.httparse.specs.Grammar.{RequestHead}
 use Rattle.cad_versions.specs.declared.command.Command.{Command}
-use Rattle.cad_request.specs.Request.{Request, request_of}
+use Rattle.cad_head.specs.Request.{Request, request_of}
 use Rattle.cad_stream.specs.Streams.{Outcome, waits, closed, refused, rest_of, IsStream, DiffersInMoment, IsSameOutcome}
 use Rattle.cad_stream.specs.Replies.{AreReplies, last_reply}
 use Rattle.cad_stream.specs.Conversations.{Piece, HeadAt, heads_at, IsConversation}
@@ -18,7 +18,7 @@ use Rattle.cad_desk.specs.declared.fault.DeskFault.TheVariants.{UnknownConnectio
 use Rattle.cad_desk.specs.Connections.{Connections, rest_at, Changes, Keeps}
 use Rattle.cad_desk.specs.Events.{Rules, IsOpened, IsTaken, IsClosed, IsEntered, StepOf, commands_after}
 use Rattle.cad_desk.specs.Runs.{RunOf, Exchange, out_of, exchange, exchanges_of, pieces_of, outs_of}
-use Rattle.cad_desk.specs.Laws.{AreSameReplies, ConnectionsAreTheirOwn, CutsMakeNoDifference}
+use Rattle.cad_desk.specs.Laws.{IsOfAnother, AreSameReplies, ConnectionsAreTheirOwn, CutsMakeNoDifference}
 
 same_number : (d c : ℕ) → nat_eq d c ≡ true → d ≡ c
 same_number d c h = grind (arith, nat_tests)
@@ -31,21 +31,21 @@ kept_at old new c k = rw k refl
 other_stays : (old new : Connections) (d c : ℕ) (rest : Option (List ℕ)) → nat_eq d c ≡ false → Changes old new d rest → rest_at new c ≡ rest_at old c
 other_stays old new d c rest apart changes = changes c ∙ ap (λ b. cond b rest (rest_at old c)) apart
 
-module _ (rules : Rules) (commands : List Command) (old new : Connections) where
-  opened_other : (d c : ℕ) (reply : Reply) → nat_eq d c ≡ false → IsOpened rules (λ Holds. Holds commands) old d (Ok reply) new → rest_at new c ≡ rest_at old c
+module _ (rules : Rules) (InForce : (List Command → Type 0) → Type 0) (old new : Connections) where
+  opened_other : (d c : ℕ) (reply : Reply) → nat_eq d c ≡ false → IsOpened rules InForce old d (Ok reply) new → rest_at new c ≡ rest_at old c
   opened_other d c Opened apart s = other_stays old new d c _ apart s.2
   opened_other d c Closed apart s = absurd s
   opened_other d c (Sent out ends) apart s = absurd s
   opened_other d c (Entered revision) apart s = absurd s
 
-  not_opened : (d c : ℕ) (fault : DeskFault) → IsOpened rules (λ Holds. Holds commands) old d (Err fault) new → rest_at new c ≡ rest_at old c
+  not_opened : (d c : ℕ) (fault : DeskFault) → IsOpened rules InForce old d (Err fault) new → rest_at new c ≡ rest_at old c
   not_opened d c UnknownConnection s = absurd s
   not_opened d c KnownConnection s = kept_at old new c s.1
   not_opened d c TooManyConnections s = kept_at old new c s.2
   not_opened d c Memory s = kept_at old new c s.2
   not_opened d c (Register fault) s = absurd s
 
-  taken_other : (d c : ℕ) (piece : List ℕ) (answer : Result Reply DeskFault) → nat_eq d c ≡ false → IsTaken rules (λ Holds. Holds commands) old d piece answer new → rest_at new c ≡ rest_at old c
+  taken_other : (d c : ℕ) (piece : List ℕ) (answer : Result Reply DeskFault) → nat_eq d c ≡ false → IsTaken rules InForce old d piece answer new → rest_at new c ≡ rest_at old c
   taken_other d c piece (Ok Opened) apart s = absurd s
   taken_other d c piece (Ok Closed) apart s = absurd s
   taken_other d c piece (Ok (Sent out ends)) apart s = other_stays old new d c _ apart s.6
@@ -56,20 +56,20 @@ module _ (rules : Rules) (commands : List Command) (old new : Connections) where
   taken_other d c piece (Err Memory) apart s = other_stays old new d c _ apart s.1
   taken_other d c piece (Err (Register fault)) apart s = other_stays old new d c _ apart s.3
 
-  closed_other : (d c : ℕ) (reply : Reply) → nat_eq d c ≡ false → IsClosed rules (λ Holds. Holds commands) old d (Ok reply) new → rest_at new c ≡ rest_at old c
+  closed_other : (d c : ℕ) (reply : Reply) → nat_eq d c ≡ false → IsClosed rules InForce old d (Ok reply) new → rest_at new c ≡ rest_at old c
   closed_other d c Opened apart s = absurd s
   closed_other d c Closed apart s = other_stays old new d c _ apart s.1
   closed_other d c (Sent out ends) apart s = absurd s
   closed_other d c (Entered revision) apart s = absurd s
 
-  not_closed : (d c : ℕ) (fault : DeskFault) → IsClosed rules (λ Holds. Holds commands) old d (Err fault) new → rest_at new c ≡ rest_at old c
+  not_closed : (d c : ℕ) (fault : DeskFault) → IsClosed rules InForce old d (Err fault) new → rest_at new c ≡ rest_at old c
   not_closed d c UnknownConnection s = kept_at old new c s.1
   not_closed d c KnownConnection s = absurd s
   not_closed d c TooManyConnections s = absurd s
   not_closed d c Memory s = absurd s
   not_closed d c (Register fault) s = absurd s
 
-  entered_other : (c : ℕ) (command : Command) (answer : Result Reply DeskFault) → IsEntered rules (λ Holds. Holds commands) old command answer new → rest_at new c ≡ rest_at old c
+  entered_other : (c : ℕ) (command : Command) (answer : Result Reply DeskFault) → IsEntered rules InForce old command answer new → rest_at new c ≡ rest_at old c
   entered_other c command (Ok Opened) s = absurd s
   entered_other c command (Ok Closed) s = absurd s
   entered_other c command (Ok (Sent out ends)) s = absurd s
@@ -79,6 +79,22 @@ module _ (rules : Rules) (commands : List Command) (old new : Connections) where
   entered_other c command (Err TooManyConnections) s = absurd s
   entered_other c command (Err Memory) s = kept_at old new c s
   entered_other c command (Err (Register fault)) s = kept_at old new c s.0
+
+  apart_from : (d c : ℕ) → d ≢ c → nat_eq d c ≡ false
+  apart_from d c other = go (nat_eq d c) refl
+    where
+      go : (same : Bool) → nat_eq d c ≡ same → nat_eq d c ≡ false
+      go true e = absurd (other (same_number d c e))
+      go false e = e
+
+  -- an event of another connection or of the office
+  pub other_event : (c : ℕ) (event : Event) (answer : Result Reply DeskFault) → IsOfAnother c event → StepOf rules InForce old event answer new → rest_at new c ≡ rest_at old c
+  other_event c (Open d) (Ok reply) other s = opened_other d c reply (apart_from d c other) s
+  other_event c (Open d) (Err fault) other s = not_opened d c fault s
+  other_event c (Bytes d piece) answer other s = taken_other d c piece.items answer (apart_from d c other) s
+  other_event c (Close d) (Ok reply) other s = closed_other d c reply (apart_from d c other) s
+  other_event c (Close d) (Err fault) other s = not_closed d c fault s
+  other_event c (Office command) answer other s = entered_other c command answer s
 
 -- ---- a piece of this one
 
@@ -165,25 +181,25 @@ module _ (rules : Rules) (c : ℕ) (commands : List Command) (old new : Connecti
   cut_off : (d : ℕ) (piece : List ℕ) (answer : Result Reply DeskFault) → IsTaken rules (λ Holds. Holds commands) old d piece answer new → (same : Bool) → nat_eq d c ≡ same
       → Told rules (rest_at old c) (cond same [] own)
   cut_off d piece answer s true e = nothing rules (rest_at old c)
-  cut_off d piece answer s false e = stays (taken_other rules commands old new d c piece answer e s)
+  cut_off d piece answer s false e = stays (taken_other rules (λ Holds. Holds commands) old new d c piece answer e s)
 
   one : (event : Event) (answer : Result Reply DeskFault) → StepOf rules (λ Holds. Holds commands) old event answer new → Told rules (rest_at old c) (exchange c commands event answer own)
   one (Open d) (Ok reply) s = go (nat_eq d c) refl
     where
       go : (same : Bool) → nat_eq d c ≡ same → Told rules (rest_at old c) (cond same [] own)
       go true e = nothing rules (rest_at old c)
-      go false e = stays (opened_other rules commands old new d c reply e s)
-  one (Open d) (Err fault) s = stays (not_opened rules commands old new d c fault s)
+      go false e = stays (opened_other rules (λ Holds. Holds commands) old new d c reply e s)
+  one (Open d) (Err fault) s = stays (not_opened rules (λ Holds. Holds commands) old new d c fault s)
   one (Bytes d piece) (Ok reply) s = go (nat_eq d c) refl
     where
       go : (same : Bool) → nat_eq d c ≡ same → Told rules (rest_at old c) (cond same (((commands, piece.items), out_of reply) ∷ own) own)
       go true e = taken_own rules commands old new c piece.items reply own (here d e) (at_own d piece.items (Ok reply) e s) told
-      go false e = stays (taken_other rules commands old new d c piece.items (Ok reply) e s)
+      go false e = stays (taken_other rules (λ Holds. Holds commands) old new d c piece.items (Ok reply) e s)
   one (Bytes d piece) (Err UnknownConnection) s = go (nat_eq d c) refl
     where
       go : (same : Bool) → nat_eq d c ≡ same → Told rules (rest_at old c) (cond same (((commands, piece.items), []) ∷ own) own)
       go true e = dropped rules commands old new c piece.items own (at_own d piece.items (Err UnknownConnection) e s) told
-      go false e = stays (taken_other rules commands old new d c piece.items (Err UnknownConnection) e s)
+      go false e = stays (taken_other rules (λ Holds. Holds commands) old new d c piece.items (Err UnknownConnection) e s)
   one (Bytes d piece) (Err KnownConnection) s = cut_off d piece.items (Err KnownConnection) s (nat_eq d c) refl
   one (Bytes d piece) (Err TooManyConnections) s = cut_off d piece.items (Err TooManyConnections) s (nat_eq d c) refl
   one (Bytes d piece) (Err Memory) s = cut_off d piece.items (Err Memory) s (nat_eq d c) refl
@@ -192,9 +208,9 @@ module _ (rules : Rules) (c : ℕ) (commands : List Command) (old new : Connecti
     where
       go : (same : Bool) → nat_eq d c ≡ same → Told rules (rest_at old c) (cond same [] own)
       go true e = nothing rules (rest_at old c)
-      go false e = stays (closed_other rules commands old new d c reply e s)
-  one (Close d) (Err fault) s = stays (not_closed rules commands old new d c fault s)
-  one (Office command) answer s = stays (entered_other rules commands old new c command answer s)
+      go false e = stays (closed_other rules (λ Holds. Holds commands) old new d c reply e s)
+  one (Close d) (Err fault) s = stays (not_closed rules (λ Holds. Holds commands) old new d c fault s)
+  one (Office command) answer s = stays (entered_other rules (λ Holds. Holds commands) old new c command answer s)
 
 run_told : (rules : Rules) (c : ℕ) (events : List Event) (answers : List (Result Reply DeskFault)) (commands : List Command) (old : Connections)
     → RunOf rules commands old events answers → Told rules (rest_at old c) (exchanges_of c commands events answers)

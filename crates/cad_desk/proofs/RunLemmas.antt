@@ -43,7 +43,7 @@ module _ (rules : Rules) (InForce : (List Command → Type 0) → Type 0) (comma
   taken_at old new c piece (Err KnownConnection) s = s
   taken_at old new c piece (Err TooManyConnections) s = s
   taken_at old new c piece (Err Memory) s = s
-  taken_at old new c piece (Err (Register fault)) s = (s.0, s.1, s.2, s.3, settles _ s.4)
+  taken_at old new c piece (Err (Register fault)) s = (s.0, s.1, s.2, s.3, settles _ s.4, s.5)
 
   closed_at : (old new : Connections) (c : ℕ) (result : Result Reply DeskFault) → IsClosed rules InForce old c result new → IsClosed rules (λ Holds. Holds commands) old c result new
   closed_at old new c (Ok Opened) s = s

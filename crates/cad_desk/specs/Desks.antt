@@ -1,5 +1,5 @@
 -- What clauses see of a desk, and what its step does (own profile).
-use Rattle.std.specs.Prelude.{◌≡◌, List, length, Result, IfErr, OnOk, OnErr}
+use Rattle.std.specs.Prelude.{◌≡◌, ℕ, List, ◌++◌, length, Some, Result, IfErr, OnOk, OnErr}
 use Rattle.cad_versions.specs.declared.command.Command.{Command}
 use Rattle.cad_versions.specs.declared.fault.RegisterFault.TheVariants.{Store}
 use Rattle.cad_stream.specs.declared.responder.Responder.{Ghosts}
@@ -10,7 +10,7 @@ use Rattle.cad_desk.specs.declared.event.Event.TheVariants.{Open, Bytes, Close, 
 use Rattle.cad_desk.specs.declared.event.Reply.{Reply}
 use Rattle.cad_desk.specs.declared.fault.DeskFault.{DeskFault}
 use Rattle.cad_desk.specs.declared.fault.DeskFault.TheVariants.{Register}
-use Rattle.cad_desk.specs.Connections.{Connections}
+use Rattle.cad_desk.specs.Connections.{Connections, rest_at}
 use Rattle.cad_desk.specs.Events.{Rules, StepOf, commands_after}
 use Rattle.cad_desk.specs.Faults.{MayCloseDesk}
 
@@ -29,21 +29,22 @@ module _ {R : Type 0} (g : Ghosts R) where
     replies = g.replies;
     closes = g.closes;
     bad_head = g.bad_head;
+    Asks = g.asks;
     FailsToAnswer = g.fails_to_answer;
     FailsToEnter = g.fails_to_enter;
   }
 
   -- what keeps the commands refused a part of the event
-  abbrev pub IsRefused : R → Event → R → Type 0
+  abbrev pub IsRefused : Desk R → Event → R → Type 0
   IsRefused old (Open c) new = ⊥
-  IsRefused old (Bytes c piece) new = RefusesLater g old new
+  IsRefused old (Bytes c piece) new = (held : List ℕ) × (rest_at (connections_of old) c ≡ Some held) × RefusesLater g (held ++ piece.items) (responder_of old) new
   IsRefused old (Close c) new = ⊥
-  IsRefused old (Office command) new = (commands : List Command) → g.stands_for old commands → g.refuses_command old new command (length commands)
+  IsRefused old (Office command) new = (commands : List Command) → g.stands_for (responder_of old) commands → g.refuses_command (responder_of old) new command (length commands)
 
   -- an event is answered by the definition, over the commands for which the responder stands
   pub record Steps (old : Desk R) (event : Event) (result : Result Reply DeskFault) (new : Desk R) : Type 0 where
     pub stepped : StepOf rules_of (Under g (responder_of old) (responder_of new)) (connections_of old) event result (connections_of new)
     pub kept : g.counts (responder_of new) → OnOk result ((commands : List Command) → g.stands_for (responder_of old) commands → g.stands_for (responder_of new) (commands_after commands event result))
     pub unchanged : g.counts (responder_of new) → IfErr result (λ fault. MayCloseDesk fault → g.lives (responder_of new)) → OnErr result ((commands : List Command) → g.stands_for (responder_of old) commands → g.stands_for (responder_of new) commands)
-    pub store : g.counts (responder_of new) → IfErr result (λ fault. fault ≡ Register Store → IsRefused (responder_of old) event (responder_of new))
+    pub store : g.counts (responder_of new) → IfErr result (λ fault. fault ≡ Register Store → IsRefused old event (responder_of new))
     pub clean : g.counts (responder_of new) → g.counts (responder_of old)

@@ -6,9 +6,9 @@ use Rattle.cad_versions.specs.declared.fault.RegisterFault.{RegisterFault}
 use Rattle.cad_versions.specs.declared.fault.RegisterFault.TheVariants as register
 use Rattle.cad_versions.specs.Versions.{versions}
 use Rattle.cad_versions.specs.Refusals.{refusal}
-use Rattle.cad_request.specs.Request.{Request}
+use Rattle.cad_head.specs.Request.{Request}
 use Rattle.cad_stream.specs.Streams.{Outcome, rest_of, IsStream}
-use Rattle.cad_stream.specs.Replies.{AreReplies, last_reply, Fails}
+use Rattle.cad_stream.specs.Replies.{AreReplies, last_reply, ComeTo, Fails}
 use Rattle.cad_stream.specs.Conversations.{heads_at}
 use Rattle.cad_desk.specs.declared.event.Event.{Event}
 use Rattle.cad_desk.specs.declared.event.Event.TheVariants.{Open, Bytes, Close, Office}
@@ -18,11 +18,12 @@ use Rattle.cad_desk.specs.declared.fault.DeskFault.{DeskFault}
 use Rattle.cad_desk.specs.declared.fault.DeskFault.TheVariants.{UnknownConnection, KnownConnection, TooManyConnections, Memory, Register}
 use Rattle.cad_desk.specs.Connections.{Connections, rest_at, count_of, connection_room, Changes, Keeps}
 
--- what the answers of a desk follow from: which bytes are the reply to each request, which requests close their connection, the reply where no request can come, and why there is none or a command is not entered
+-- what the answers of a desk follow from: which bytes are the reply to each request, which requests close their connection, the reply where no request can come, which requests ask for what the commands say, and why there is no reply or a command is not entered
 pub record Rules : Type 1 where
   pub replies : List Command → Request → List ℕ → Type 0
   pub closes : Request → Bool
   pub bad_head : List ℕ
+  pub Asks : Request → Type 0
   pub FailsToAnswer : List Command → Request → RegisterFault → Type 0
   pub FailsToEnter : List Command → Command → RegisterFault → Type 0
 
@@ -50,6 +51,7 @@ module _ (rules : Rules) (InForce : (List Command → Type 0) → Type 0) where
   IsTaken old c piece (Err (Register fault)) new =
       (held : List ℕ) × (rest_at old c ≡ Some held) × (fault ≢ register.Memory) × Changes old new c None
       × InForce (Fails rules.closes rules.FailsToAnswer (held ++ piece) fault)
+      × ComeTo rules.closes rules.Asks (held ++ piece)
   IsTaken old c piece (Err other) new = ⊥
 
   -- an open connection closes

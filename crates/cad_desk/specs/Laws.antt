@@ -1,5 +1,5 @@
 -- What holds of every run of a desk.
-use Rattle.std.specs.Prelude.{◌≡◌, ◌⊎◌, ℕ, List, [], ◌∷◌, ◌++◌, Result, Ok}
+use Rattle.std.specs.Prelude.{◌≡◌, ◌≢◌, ◌⊎◌, ℕ, List, [], ◌∷◌, ◌++◌, Result, Ok, ⊤}
 use Rattle.cad_versions.specs.declared.command.Command.{Command}
 use Rattle.cad_stream.specs.declared.responder.Responder.{Ghosts}
 use Rattle.cad_stream.specs.Streams.{Outcome, waits}
@@ -7,14 +7,26 @@ use Rattle.cad_stream.specs.Replies.{AreReplies, last_reply}
 use Rattle.cad_stream.specs.Conversations.{HeadAt, bytes_of, commands_of, IsConversation}
 use Rattle.cad_desk.specs.declared.desk.Desk.{Desk}
 use Rattle.cad_desk.specs.declared.event.Event.{Event}
-use Rattle.cad_desk.specs.declared.event.Event.TheVariants.{Open}
+use Rattle.cad_desk.specs.declared.event.Event.TheVariants.{Open, Bytes, Close, Office}
 use Rattle.cad_desk.specs.declared.event.Reply.{Reply}
 use Rattle.cad_desk.specs.declared.event.Reply.TheVariants.{Opened}
 use Rattle.cad_desk.specs.declared.fault.DeskFault.{DeskFault}
-use Rattle.cad_desk.specs.Connections.{Connections}
+use Rattle.cad_desk.specs.Connections.{Connections, rest_at}
 use Rattle.cad_desk.specs.Events.{Rules}
-use Rattle.cad_desk.specs.Desks.{responder_of, connections_of, rules_of}
+use Rattle.cad_desk.specs.Desks.{responder_of, connections_of, rules_of, Steps}
 use Rattle.cad_desk.specs.Runs.{Exchange, RunOf, Takes, exchanges_of, pieces_of, outs_of}
+
+-- the event is of another connection, or of the office
+abbrev pub IsOfAnother : ℕ → Event → Type 0
+IsOfAnother c (Open d) = d ≢ c
+IsOfAnother c (Bytes d piece) = d ≢ c
+IsOfAnother c (Close d) = d ≢ c
+IsOfAnother c (Office command) = ⊤
+
+-- such an event leaves the connection as it is, whatever is answered and whatever the responder stands for
+abbrev pub OthersStay : {R : Type 0} → Ghosts R → Type 0
+OthersStay {R} g = (c : ℕ) (old new : Desk R) (event : Event) (answer : Result Reply DeskFault) → IsOfAnother c event → Steps g old event answer new
+    → rest_at (connections_of new) c ≡ rest_at (connections_of old) c
 
 -- a run opens connection c, and then has these exchanges with it
 abbrev pub Opens : Rules → ℕ → List Exchange → Type 0

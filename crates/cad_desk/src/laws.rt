@@ -1,12 +1,17 @@
 //! What holds of every list of events. Each contract is a law; the functions do nothing.
 
 ghost use Rattle.cad_desk.specs.Desks.{rules_of};
-ghost use Rattle.cad_desk.specs.Laws.{ConnectionsAreTheirOwn, CutsMakeNoDifference, StepsAreARun};
+ghost use Rattle.cad_desk.specs.Laws.{OthersStay, ConnectionsAreTheirOwn, CutsMakeNoDifference, StepsAreARun};
 
 use cad_stream::Responder;
 use cad_stream::laws::{
     cuts_make_no_difference as cuts_make_one_stream, pieces_have_one_conversation,
 };
+
+/// An event of another connection, or of the office, leaves a connection as it is, whatever is answered.
+pub fn others_stay<R: Responder>()
+    ensures { OthersStay R.Responder }
+{}
 
 /// From its opening on, what goes out to a connection follows from its own bytes and the commands in force at each of its
 /// requests, whatever the other connections and the land office do.

@@ -4,13 +4,12 @@ use Rattle.std.specs.List.{All, AllWithin}
 use Rattle.std.proofs.lemmas.List.{take_all, get_or_default}
 use Rattle.std.proofs.lemmas.List.Elements.{AllWithin-more}
 use Rattle.cad_versions.specs.VersionedObject.{VersionedObject}
-use Rattle.cad_feature.specs.declared.collection.Collection.{Collection}
-use Rattle.cad_feature.specs.declared.collection.Collection.TheVariants.{Parcels, Rights, Restrictions, Units, Parties}
-use Rattle.cad_feature.specs.declared.property.Property.{Property}
-use Rattle.cad_feature.specs.Attributes.{attribute_of, attributes_of, named}
+use Rattle.cad_schema.specs.declared.collection.Collection.{Collection}
+use Rattle.cad_schema.specs.declared.property.Property.{Property}
+use Rattle.cad_schema.specs.Attributes.{attribute_of, attributes_of, named}
 use Rattle.cad_feature.specs.Features.{FitSchema}
 use Rattle.cad_feature.specs.Flatten.{value_in}
-use Rattle.cad_feature.specs.Schema.{schema_of}
+use Rattle.cad_schema.specs.Schema.{schema_of}
 use Rattle.cad_feature.specs.Values.{Datum, IsOfKind}
 
 module _ (vs : List VersionedObject) (v : VersionedObject) where
@@ -33,15 +32,7 @@ module _ (vs : List VersionedObject) (v : VersionedObject) where
   fit_all [] all = tt
   fit_all (p ∷ ps) all = (all 0 p (omega arith), fit_all ps (λ k d h. all (suc k) d (omega (arith, h))))
 
--- the attributes of a collection have the names and kinds of its schema
-pub named_all : (collection : Collection) → map named (attributes_of collection) ≡ schema_of collection
-named_all Parcels = refl
-named_all Rights = refl
-named_all Restrictions = refl
-named_all Units = refl
-named_all Parties = refl
-
 pub all_fit : (collection : Collection) (vs : List VersionedObject) (v : VersionedObject) (ps : List Property) (i : ℕ) (ds : List Datum) → map attribute_of ps ≡ attributes_of collection → length ps ≤ i → AllWithin (Fits vs v) ps 0 i → ds ≡ map (says vs v) (take i ps) → FitSchema (schema_of collection) ds
 all_fit collection vs v ps i ds attributes long fit said =
     let all = fit_all vs v ps (λ k d h. fit k d (omega arith) (omega (arith, h))) in
-    rw (said, take_all i ps long, said_all vs v ps, ← named_all collection, ← attributes) all
+    rw (said, take_all i ps long, said_all vs v ps, ← attributes) all

@@ -8,6 +8,7 @@ use Rattle.std.proofs.lemmas.Option.{option_and_then_some}
 use Rattle.cad_day.specs.declared.day.Day.{Day}
 use Rattle.cad_day.specs.declared.interval.Interval.{Interval}
 use Rattle.cad_day.specs.Days.{number_of}
+use Rattle.cad_day.specs.Intervals.{interval_of, where_turned, is_turned, not_turned}
 use Rattle.cad_versions.specs.declared.object_id.ObjectId.{ObjectId}
 use Rattle.cad_versions.specs.declared.words.Words.{Words}
 use Rattle.cad_versions.specs.BodyParts.{name_in}
@@ -17,7 +18,7 @@ use Rattle.cad_versions.specs.VersionedObject.{VersionedObject, IsVersion}
 use Rattle.cad_versions.specs.Versions.{is_of, history}
 use Rattle.cad_feature.specs.Flatten.{or_null, as_text, version_on, name_on, joined_name}
 use Rattle.cad_feature.specs.Laws.{HoldsDay, WasNamed}
-use Rattle.cad_feature.specs.Lifespans.{holds_on, is_up_to, between, between_if, is_turned, not_turned}
+use Rattle.cad_feature.specs.Lifespans.{holds_on, is_up_to}
 use Rattle.cad_feature.specs.Values.{null, a_text, a_span}
 
 -- ---- lifespans
@@ -29,11 +30,11 @@ in_order v is = go v.last is.forward
     go None h = refl
     go (Some last) h = let forward = h last refl in grind (arith, ints)
 
-pub lifespan_is : (v : VersionedObject) → IsVersion v → (days : Interval) × (or_null a_span (between (Some v.first) v.last) ≡ a_span days) × (days.from ≡ Some v.first) × (days.to ≡ v.last)
-unfolding between
+pub lifespan_is : (v : VersionedObject) → IsVersion v → (days : Interval) × (or_null a_span (interval_of (Some v.first) v.last) ≡ a_span days) × (days.from ≡ Some v.first) × (days.to ≡ v.last)
+unfolding interval_of
 lifespan_is v is = go (is_turned (Some v.first) v.last) refl
   where
-    go : (b : Bool) (e : is_turned (Some v.first) v.last ≡ b) → (days : Interval) × (or_null a_span (between_if (Some v.first) v.last b e) ≡ a_span days) × (days.from ≡ Some v.first) × (days.to ≡ v.last)
+    go : (b : Bool) (e : is_turned (Some v.first) v.last ≡ b) → (days : Interval) × (or_null a_span (where_turned (Some v.first) v.last b e) ≡ a_span days) × (days.from ≡ Some v.first) × (days.to ≡ v.last)
     go true e = absurd (true≢false (sym e ∙ in_order v is))
     go false e = (record { from = Some v.first; to = v.last; in_order = not_turned (Some v.first) v.last e }, refl, refl, refl)
 

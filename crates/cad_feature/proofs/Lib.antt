@@ -1,6 +1,4 @@
-mod CollectionLemmas
 mod FeatureLemmas
 mod LawLemmas
 mod ListLemmas
-mod NameLemmas
 mod RunLemmas

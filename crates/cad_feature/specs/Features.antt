@@ -1,20 +1,25 @@
 -- Features of a collection (OGC 17-069r4, 7.15: items; own profile: identifiers).
-use Rattle.std.specs.Prelude.{ℕ, ◌≤◌, ℤ, pos, List}
+use Rattle.std.specs.Prelude.{ℕ, ◌≤◌, ℤ, pos, List, slice_index_or}
 use Rattle.std.specs.List.{All, AllZip}
 use Rattle.std.specs.List.Sorted.{IsStrictlySortedBy}
 use Rattle.std.specs.declared.cmp.Ordering.{Ordering}
 use Rattle.cad_versions.specs.declared.object_id.ObjectId.{ObjectId}
 use Rattle.cad_versions.specs.Objects.{object_number}
 use Rattle.cad_versions.specs.Identifiers.{identifier_cmp}
-use Rattle.cad_feature.specs.declared.collection.Collection.{Collection}
-use Rattle.cad_feature.specs.Schema.{Named, schema_of}
-use Rattle.cad_feature.specs.Values.{Datum, IsOfKind}
+use Rattle.cad_schema.specs.declared.collection.Collection.{Collection}
+use Rattle.cad_schema.specs.Attributes.{Named}
+use Rattle.cad_schema.specs.Schema.{schema_of}
+use Rattle.cad_feature.specs.Values.{Datum, null, IsOfKind}
 
 -- a feature as definitions see it: a version of an object, with its values in the order of the schema
 pub record Item : Type 0 where
   pub object : ObjectId
   pub number : ℕ
   pub values : List Datum
+
+-- the value of the property at that place of the schema; past the last property there is none
+abbrev pub datum_at : Item → ℕ → Datum
+datum_at x i = slice_index_or x.values i null
 
 -- the number of the object, and the number of its version
 abbrev pub identifier_of : Item → ℤ × ℤ

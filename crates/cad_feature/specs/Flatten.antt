@@ -1,6 +1,7 @@
 -- The features of a register (OGC 17-069r4, 7.15: items; ISO 19152:2012, VersionedObject).
 use Rattle.std.specs.Prelude.{ℕ, pos, ◌==◌, Bool, List, map, filter, find, Option, Some, None, option_and_then, option_map, chars}
 use Rattle.cad_day.specs.declared.day.Day.{Day}
+use Rattle.cad_day.specs.Intervals.{interval_of}
 use Rattle.cad_versions.specs.declared.body.Class.{Class}
 use Rattle.cad_versions.specs.declared.body.Class.TheVariants as class
 use Rattle.cad_versions.specs.declared.object_id.ObjectId.{ObjectId}
@@ -12,13 +13,13 @@ use Rattle.cad_versions.specs.Objects.{object_number}
 use Rattle.cad_versions.specs.Texts.{bytes_of}
 use Rattle.cad_versions.specs.VersionedObject.{VersionedObject}
 use Rattle.cad_versions.specs.Versions.{history}
-use Rattle.cad_feature.specs.declared.attribute.Attribute.{Attribute}
-use Rattle.cad_feature.specs.declared.attribute.Attribute.TheVariants as attribute
-use Rattle.cad_feature.specs.declared.collection.Collection.{Collection}
-use Rattle.cad_feature.specs.declared.collection.Collection.TheVariants.{Parcels, Rights, Restrictions, Units, Parties}
-use Rattle.cad_feature.specs.Attributes.{attributes_of}
+use Rattle.cad_schema.specs.declared.attribute.Attribute.{Attribute}
+use Rattle.cad_schema.specs.declared.attribute.Attribute.TheVariants as attribute
+use Rattle.cad_schema.specs.declared.collection.Collection.{Collection}
+use Rattle.cad_schema.specs.declared.collection.Collection.TheVariants.{Parcels, Rights, Restrictions, Units, Parties}
+use Rattle.cad_schema.specs.Attributes.{attributes_of}
 use Rattle.cad_feature.specs.Features.{Item}
-use Rattle.cad_feature.specs.Lifespans.{holds_on, between}
+use Rattle.cad_feature.specs.Lifespans.{holds_on}
 use Rattle.cad_feature.specs.Values.{Datum, null, a_text, a_whole, a_flag, a_day, a_span, a_spot, an_area}
 
 -- the class of a collection's objects
@@ -64,7 +65,7 @@ value_in vs v attribute.Object = as_whole (object_number v.object)
 value_in vs v attribute.Number = as_whole v.number
 value_in vs v attribute.Begin = a_day v.first
 value_in vs v attribute.End = or_null a_day v.last
-value_in vs v attribute.Lifespan = or_null a_span (between (Some v.first) v.last)
+value_in vs v attribute.Lifespan = or_null a_span (interval_of (Some v.first) v.last)
 value_in vs v attribute.Name = or_null as_text (name_in v.body)
 value_in vs v attribute.Type = or_null as_text (code_in v.body)
 value_in vs v attribute.Label = or_null as_text (label_in v.body)

@@ -12,18 +12,12 @@ use Rattle.cad_versions.specs.BodyParts.{name_in}
 use Rattle.cad_versions.specs.Identifiers.{identifier_of as identifier_of_version}
 use Rattle.cad_versions.specs.Texts.{bytes_of}
 use Rattle.cad_versions.specs.VersionedObject.{VersionedObject, IsVersion}
-use Rattle.cad_feature.specs.declared.attribute.Attribute.{Attribute}
-use Rattle.cad_feature.specs.declared.attribute.Attribute.TheVariants as attribute
-use Rattle.cad_feature.specs.declared.collection.Collection.{Collection}
-use Rattle.cad_feature.specs.Attributes.{attributes_of, named}
+use Rattle.cad_schema.specs.declared.attribute.Attribute.{Attribute}
+use Rattle.cad_schema.specs.declared.attribute.Attribute.TheVariants as attribute
+use Rattle.cad_schema.specs.declared.collection.Collection.{Collection}
 use Rattle.cad_feature.specs.Features.{identifier_of}
 use Rattle.cad_feature.specs.Flatten.{is_in, value_in, features_in}
-use Rattle.cad_feature.specs.Schema.{schema_of}
 use Rattle.cad_feature.specs.Values.{null, a_text, a_span}
-
--- the values stand in the order of the schema's names
-abbrev pub ValuesAreNamed : Collection → Type 0
-ValuesAreNamed collection = map named (attributes_of collection) ≡ schema_of collection
 
 -- the features of a collection are the versions of its class, by their identifiers
 abbrev pub EachVersionIsOneFeature : Collection → Type 0

@@ -1,8 +1,6 @@
-pub mod Attributes
-pub mod Collections
 pub mod Features
 pub mod Flatten
 pub mod Laws
 pub mod Lifespans
-pub mod Schema
+pub mod Limits
 pub mod Values

@@ -8,8 +8,8 @@ use Rattle.cad_shape.specs.declared.point.Point.{Point}
 use Rattle.cad_shape.specs.declared.ring.Ring.{Ring}
 use Rattle.cad_feature.specs.declared.value.Value.{Value}
 use Rattle.cad_feature.specs.declared.value.Value.TheVariants as value
-use Rattle.cad_feature.specs.declared.property.PropertyKind.{PropertyKind}
-use Rattle.cad_feature.specs.declared.property.PropertyKind.TheVariants as kind
+use Rattle.cad_schema.specs.declared.property.PropertyKind.{PropertyKind}
+use Rattle.cad_schema.specs.declared.property.PropertyKind.TheVariants as kind
 
 -- a value as definitions see it; a text is its characters, each by its code point
 pub data Datum : Type 0 where

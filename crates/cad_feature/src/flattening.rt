@@ -5,8 +5,9 @@ ghost use Rattle.cad_versions.specs.Listing.{IsListing};
 ghost use Rattle.cad_feature.specs.Features.{IsFeatureOf, AreFeaturesOf};
 ghost use Rattle.cad_feature.specs.Flatten.{class_for, is_in as is_of_class, feature_in, features_in};
 
+use crate::Feature;
 use crate::values::value;
-use crate::{Collection, Feature, schema};
+use cad_schema::{Collection, schema};
 use cad_versions::{Class, Version};
 use std::alloc::{AllocError, Global};
 

@@ -3,16 +3,16 @@
 ghost use Rattle.std.specs.Prelude.{IfOk, Some};
 ghost use Rattle.std.specs.Option.{option_copied};
 ghost use Rattle.cad_versions.specs.Listing.{IsListing};
-ghost use Rattle.cad_feature.specs.declared.property.PropertyKind.TheVariants as kind;
-ghost use Rattle.cad_feature.specs.Attributes.{named};
+ghost use Rattle.cad_schema.specs.declared.property.PropertyKind.TheVariants as kind;
+ghost use Rattle.cad_schema.specs.Attributes.{named};
 ghost use Rattle.cad_feature.specs.Flatten.{or_null, as_text, as_whole, value_in};
-ghost use Rattle.cad_feature.specs.Lifespans.{between};
+ghost use Rattle.cad_day.specs.Intervals.{interval_of};
 ghost use Rattle.cad_feature.specs.Values.{Shows, a_day, a_span, a_flag, a_spot, an_area};
 
 use crate::Value;
-use crate::attribute::Attribute;
 use crate::joining::joined_name;
 use cad_day::{Day, Interval};
+use cad_schema::Attribute;
 use cad_shape::{Point, Ring};
 use cad_versions::{Version, Words};
 use std::alloc::{AllocError, Global};
@@ -57,7 +57,7 @@ fn day(day: Option<Day>) -> Value
 }
 
 fn lifespan(first: Day, last: Option<Day>) -> Value
-    ensures { Shows kind.Span (or_null a_span (between (Some first) last)) result }
+    ensures { Shows kind.Span (or_null a_span (interval_of (Some first) last)) result }
 {
     match Interval::new(Some(first), last) {
         None => Value::Null,

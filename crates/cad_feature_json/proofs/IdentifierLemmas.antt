@@ -6,7 +6,7 @@ use Rattle.std.proofs.lemmas.Bool.Decides.{nat_tests}
 use Rattle.std.proofs.lemmas.List.Folds.{list_any-append}
 use Rattle.std.proofs.lemmas.Fmt.{decimal_by_steps, decimal_injective}
 use Rattle.cad_versions.specs.Objects.{object_number}
-use Rattle.cad_feature.specs.declared.collection.Collection.{Collection}
+use Rattle.cad_schema.specs.declared.collection.Collection.{Collection}
 use Rattle.cad_feature.specs.Features.{Item, IsFeatureOf, identifier_of}
 use Rattle.cad_feature_json.specs.Tree.{identifier_text}
 

@@ -7,9 +7,10 @@ use Rattle.std.specs.Slice.Iter.{iter_rest}
 use Rattle.std.proofs.iter.Yields.{fronts}
 use Rattle.std.proofs.lemmas.Iterator.{zips}
 use Rattle.std.proofs.lemmas.Slice.Zip.{Zip-more, either_empty_from_Zip}
-use Rattle.cad_feature.specs.declared.property.Property.{Property}
+use Rattle.cad_schema.specs.declared.property.Property.{Property}
 use Rattle.cad_feature.specs.declared.value.Value.{Value}
-use Rattle.cad_feature.specs.Schema.{Named, property_of}
+use Rattle.cad_schema.specs.Attributes.{Named}
+use Rattle.cad_schema.specs.Schema.{property_of}
 use Rattle.cad_feature.specs.Values.{Datum, datum_of}
 use Rattle.cad_feature_json.specs.Values.{named_values}
 

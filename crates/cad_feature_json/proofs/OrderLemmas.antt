@@ -10,8 +10,8 @@ use Rattle.cad_feature.specs.Values.{Datum}
 use Rattle.cad_feature.specs.Values as datum
 use Rattle.cad_feature.specs.Features.{Item}
 use Rattle.cad_shape.specs.Rings.{corners_of}
-use Rattle.cad_feature.specs.declared.collection.Collection.{Collection}
-use Rattle.cad_feature.specs.Schema.{schema_of}
+use Rattle.cad_schema.specs.declared.collection.Collection.{Collection}
+use Rattle.cad_schema.specs.Schema.{schema_of}
 use Rattle.cad_feature_json.specs.Shapes.{corner_data, closed, polygon_data}
 use Rattle.cad_feature_json.specs.Values.{value_data, with_property, is_property, named_values, value_named}
 use Rattle.cad_feature_json.specs.Tree.{feature_data, features_data}

@@ -8,9 +8,10 @@ use Rattle.serde_json.specs.Data.{Data, Members, no_members, put}
 use Rattle.serde_json.specs.Find.{get_member}
 use Rattle.serde_json.proofs.Views.{get_member-put, get_member-put_other}
 use Rattle.cad_feature.specs.Values.{Datum}
-use Rattle.cad_feature.specs.declared.collection.Collection.{Collection}
-use Rattle.cad_feature.specs.declared.collection.Collection.TheVariants.{Parcels, Rights, Restrictions, Units, Parties}
-use Rattle.cad_feature.specs.Schema.{Named, schema_of}
+use Rattle.cad_schema.specs.declared.collection.Collection.{Collection}
+use Rattle.cad_schema.specs.declared.collection.Collection.TheVariants.{Parcels, Rights, Restrictions, Units, Parties}
+use Rattle.cad_schema.specs.Attributes.{Named}
+use Rattle.cad_schema.specs.Schema.{schema_of}
 use Rattle.cad_feature.specs.Features.{FitSchema}
 use Rattle.cad_feature_json.specs.Values.{value_data, named_values, is_property, with_property, value_named}
 

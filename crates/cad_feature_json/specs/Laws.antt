@@ -1,9 +1,10 @@
 -- What the trees of features hold, in terms of the features (RFC 7946, section 3.2: properties and id; own profile).
 use Rattle.std.specs.Prelude.{◌≡◌, ℕ, List, Some, None, option_map, if◌then◌else◌, slice_get, IsTrue}
 use Rattle.serde_json.specs.Find.{get}
-use Rattle.cad_feature.specs.declared.collection.Collection.{Collection}
+use Rattle.cad_schema.specs.declared.collection.Collection.{Collection}
 use Rattle.cad_feature.specs.Features.{Item, IsFeatureOf, identifier_of}
-use Rattle.cad_feature.specs.Schema.{Named, schema_of}
+use Rattle.cad_schema.specs.Attributes.{Named}
+use Rattle.cad_schema.specs.Schema.{schema_of}
 use Rattle.cad_feature.specs.Values.{Datum}
 use Rattle.cad_feature_json.specs.Tree.{identifier_text}
 use Rattle.cad_feature_json.specs.Values.{value_data, named_values, is_property, value_named, properties_data}

@@ -5,7 +5,7 @@ use Rattle.serde_json.specs.Find.{of_integer}
 use Rattle.cad_day.specs.Days.{number_of}
 use Rattle.cad_day.specs.DayTexts.{day_text}
 use Rattle.cad_shape.specs.Rings.{corners_of}
-use Rattle.cad_feature.specs.Schema.{Named}
+use Rattle.cad_schema.specs.Attributes.{Named}
 use Rattle.cad_feature.specs.Values.{Datum, null, a_text, a_whole, a_flag, a_day, a_span, a_spot, an_area}
 use Rattle.cad_feature_json.specs.Shapes.{polygon_data, spot_data}
 

@@ -7,7 +7,8 @@ ghost use Rattle.serde_json.specs.Written.{has_float};
 ghost use Rattle.cad_feature_json.specs.Tree.{feature_data, features_data};
 
 use crate::values::{geometry_json, properties_json};
-use cad_feature::{Collection, Feature, schema};
+use cad_feature::Feature;
+use cad_schema::{Collection, schema};
 use serde_json::{Value as Json, json};
 use std::alloc::{AllocError, Global};
 

@@ -5,13 +5,14 @@ ghost use Rattle.serde_json.specs.Data.{string};
 ghost use Rattle.serde_json.specs.View.{view};
 ghost use Rattle.cad_day.specs.Days.{number_of};
 ghost use Rattle.cad_day.specs.DayTexts.{day_text};
-ghost use Rattle.cad_feature.specs.Schema.{property_of};
+ghost use Rattle.cad_schema.specs.Schema.{property_of};
 ghost use Rattle.cad_feature.specs.Values.{datum_of};
 ghost use Rattle.cad_feature_json.specs.Values.{value_data, is_property, properties_data, geometry_data};
 
 use crate::shapes::{polygon_json, spot_json};
 use cad_day::Day;
-use cad_feature::{Property, Value};
+use cad_feature::Value;
+use cad_schema::Property;
 use serde_json::{Map, Value as Json};
 use std::alloc::{AllocError, Global};
 

@@ -1,7 +1,8 @@
-//! What the definitions of heads and fronts say together.
+//! What the definitions of heads, fronts and requests say together. Nothing runs here.
 
 ghost use Rattle.cad_head.specs.Heads.{HaveOneHead, HeadsStay};
 ghost use Rattle.cad_head.specs.Front.{HeadsExcludeAll};
+ghost use Rattle.cad_head.specs.Laws.{MembersHoldNoComma, MembersMakeTheValue, OldVersionsClose};
 
 /// Bytes begin with one head at most, and with one rest after it.
 pub fn bytes_have_one_head()
@@ -16,4 +17,19 @@ pub fn heads_stay()
 /// Where a whole head is found, the bytes neither wait nor are bad.
 pub fn heads_exclude_all_else()
     ensures { HeadsExcludeAll }
+{}
+
+/// No member of a field's value holds a comma.
+pub fn members_hold_no_comma()
+    ensures { MembersHoldNoComma }
+{}
+
+/// The members of a field's value, joined by commas, are the value.
+pub fn members_make_the_value()
+    ensures { MembersMakeTheValue }
+{}
+
+/// A request of HTTP/1.0 closes its connection, whatever its fields are.
+pub fn old_versions_close()
+    ensures { OldVersionsClose }
 {}

@@ -7,18 +7,22 @@
 //! - `limits`: how long a head may be, and the bytes that it may take
 //! - `parsing`: whether a whole head is there, may still come, or cannot come
 //! - `pieces`: whether a piece that comes can change that
+//! - `closes_connection`: whether the version or the fields of a head close the connection after the reply
 //! - `laws`: what the definitions say together
 //!
 //! Of the bytes `GET / HTTP/1.1\r\nHost: x\r\n\r\nGET /a`, `front_of` answers `Complete` with a head
 //! of 27 bytes and one field; of their first 26 bytes it answers `Incomplete`, and of `GET\0` it
-//! answers `Invalid`.
+//! answers `Invalid`. `closes_connection` answers true for a head of HTTP/1.0, and for one of HTTP/1.1 with the field
+//! `Connection: keep-alive, Close`.
 #![tactic(auto)]
 
+mod fields;
 pub mod laws;
 mod limits;
 mod parsing;
 mod pieces;
 
+pub use fields::closes_connection;
 pub use limits::{FIELD_ROOM, FRONT_LEN, front_bytes};
 pub use parsing::{HeadState, front_of};
 pub use pieces::may_settle;

@@ -6,8 +6,8 @@ use Rattle.std.proofs.KnownBytes.{Appends-trans}
 use Rattle.cad_stream.specs.declared.responder.Responder.{Ghosts}
 use Rattle.cad_desk.specs.declared.desk.Desk.{Desk}
 use Rattle.cad_serve.specs.declared.serve_fault.ServeFault.{ServeFault}
-use Rattle.cad_serve.specs.Writing.{IsFront}
-use Rattle.cad_serve.specs.Serving.{Writes}
+use Rattle.cad_io.specs.Writing.{IsFront}
+use Rattle.cad_io.specs.Known.{Writes}
 use Rattle.cad_listen.specs.declared.failure.Failure.{Failure}
 use Rattle.cad_listen.specs.declared.failure.Failure.TheVariants.{Stopped, Store}
 use Rattle.cad_listen.specs.Listening.{Served, failure_of, line_of, is_store, is_stopped, has_store, has_stopped, AreTold, IsServedNext, AreServed, IsTold, Listens}

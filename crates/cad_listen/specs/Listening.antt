@@ -1,5 +1,5 @@
 -- What listening takes, asks of the desk, tells and answers (own profile).
-use Rattle.std.specs.Prelude.{◌≡◌, ◌⊎◌, ℕ, ◌+◌, ◌≤◌, Bool, true, false, List, [], ◌∷◌, ◌++◌, length, codes, decimal, Option, Some, None, Result, Ok, Err, if◌then◌else◌}
+use Rattle.std.specs.Prelude.{◌≡◌, ◌⊎◌, ℕ, ◌+◌, ◌≤◌, Bool, true, false, List, [], ◌∷◌, ◌++◌, length, Option, Some, None, Result, Ok, Err, if◌then◌else◌}
 use Rattle.std.specs.List.{list_any}
 use Rattle.cad_versions.specs.declared.fault.RegisterFault.TheVariants.{Store}
 use Rattle.cad_versions.specs.Fault.{told}
@@ -11,8 +11,9 @@ use Rattle.cad_serve.specs.declared.ending.Ending.TheVariants.{Refused}
 use Rattle.cad_serve.specs.declared.serve_fault.ServeFault.{ServeFault}
 use Rattle.cad_serve.specs.declared.serve_fault.ServeFault.TheVariants.{Read}
 use Rattle.cad_serve.specs.Faults.{serve_fault_told}
-use Rattle.cad_serve.specs.Writing.{IsFront}
+use Rattle.cad_io.specs.Writing.{IsFront}
 use Rattle.cad_serve.specs.Serving.{IsServed}
+use Rattle.cad_listen.specs.Statuses.{good, failed, no_register, of_serving, of_register, fault_line}
 use Rattle.cad_listen.specs.declared.failure.Failure.{Failure}
 use Rattle.cad_listen.specs.declared.failure.Failure.TheVariants as failure
 
@@ -26,15 +27,11 @@ failure_of (Err fault) = Some (failure.Stopped fault)
 failure_of (Ok (Refused (Register Store))) = Some failure.Store
 failure_of (Ok ending) = None
 
--- a fault by its number and name, as a line
-abbrev pub fault_line : List ℕ → ℕ × List ℕ → List ℕ
-fault_line kind fault = kind ++ codes ": " ++ decimal fault.0 ++ codes " " ++ fault.1 ++ codes "\n"
-
 -- the line that tells what went wrong
 abbrev pub line_of : Option Failure → List ℕ
 line_of None = []
-line_of (Some (failure.Stopped fault)) = fault_line (codes "serve") (serve_fault_told fault)
-line_of (Some failure.Store) = fault_line (codes "register") (told Store)
+line_of (Some (failure.Stopped fault)) = fault_line of_serving (serve_fault_told fault)
+line_of (Some failure.Store) = fault_line of_register (told Store)
 
 abbrev pub is_stopped : Option Failure → Bool
 is_stopped None = false
@@ -56,7 +53,7 @@ has_stopped served = list_any (λ one. is_stopped (failure_of one)) served
 
 -- the status of the process
 abbrev pub status_of : List Served → ℕ
-status_of served = if has_store served then 3 else (if has_stopped served then 1 else 0)
+status_of served = if has_store served then no_register else (if has_stopped served then failed else good)
 
 -- each connection is told of by its line, or by a front of that where its write failed, one after the other
 abbrev pub AreTold : List Served → List ℕ → Type 0

@@ -3,6 +3,7 @@
 //! - `listen`: takes so many connections, and answers the status of the process
 //! - `read_count`, `read_address`: how many connections and which address the arguments of a program ask for
 //! - `tell_address`: tells the address at which a program listens
+//! - `status`: the statuses of a run
 //!
 //! ```text
 //! let listener = TcpListener::bind(&rt, "127.0.0.1:0")?;
@@ -14,6 +15,7 @@
 mod arguments;
 mod failure;
 mod listening;
+pub mod status;
 mod telling;
 
 pub use arguments::{read_address, read_count};

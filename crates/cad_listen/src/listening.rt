@@ -1,24 +1,17 @@
 //! Listening for connections.
 
-ghost use Rattle.cad_serve.specs.Serving.{Writes};
+ghost use Rattle.cad_io.specs.Known.{Writes};
 ghost use Rattle.cad_listen.specs.Listening.{IsServedNext, IsTold, Listens};
 
 use crate::failure::{Failure, failure_in, line};
+use crate::status::{FAILED, GOOD, NO_REGISTER};
 use cad_desk::Desk;
-use cad_serve::{Ending, ServeFault, serve, write_whole};
+use cad_io::write_whole;
+use cad_serve::{Ending, ServeFault, serve};
 use cad_stream::Responder;
 use std::alloc::Global;
 use std::io::Write;
 use std::net::TcpListener;
-
-/// The status where nothing went wrong.
-const GOOD: u8 = 0;
-
-/// The status where serving a connection stopped before its end.
-const STOPPED: u8 = 1;
-
-/// The status where the register's database refused.
-const STORE_REFUSED: u8 = 3;
 
 /// Takes the next connection, and serves it by this number. One that cannot be taken counts as one whose read failed.
 fn serve_next<R: Responder>(
@@ -69,8 +62,8 @@ pub fn listen<W: Write, R: Responder>(
     for taken in 0..count {
         match serve_and_tell(alloc, listener, errors, desk, taken + 1) {
             None => {}
-            Some(Failure::Stopped(_)) => status = STOPPED,
-            Some(Failure::Store) => return STORE_REFUSED,
+            Some(Failure::Stopped(_)) => status = FAILED,
+            Some(Failure::Store) => return NO_REGISTER,
         }
     }
     status

@@ -9,7 +9,8 @@ use Rattle.cad_office.specs.declared.fault.OfficeFault.TheVariants.{Read, Write,
 use Rattle.cad_office.specs.declared.line.Line.{Line}
 use Rattle.cad_office.specs.declared.print.Answer.{Answer}
 use Rattle.cad_office.specs.Lines.{lines_in, lines_ended, line_begun, BuffersLine}
-use Rattle.cad_office.specs.Keeping.{AnswersLines, AreAnswered, AreWhole, IsKept, IsOfReads, IsPaced, most_reads, read_bytes, EndIn, IsPiece, Writes, ReadsAndWrites}
+use Rattle.cad_office.specs.Keeping.{AnswersLines, AreAnswered, AreWhole, IsKept, IsOfReads, IsPaced, most_reads, read_bytes, EndIn, IsPiece}
+use Rattle.cad_io.specs.Known.{Writes, ReadsAndWrites}
 use Rattle.cad_office.proofs.LineLemmas.{lines_ended-lf}
 use Rattle.cad_office.proofs.PieceLemmas.{piece_nothing, pieces_more, pieces_failed}
 

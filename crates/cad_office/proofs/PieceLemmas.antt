@@ -12,9 +12,11 @@ use Rattle.cad_office.specs.declared.fault.OfficeFault.TheVariants.{Read, Write,
 use Rattle.cad_office.specs.declared.line.Line.{Line}
 use Rattle.cad_office.specs.declared.print.Answer.{Answer}
 use Rattle.cad_office.specs.declared.print.Answer.TheVariants.{Refused}
-use Rattle.cad_office.specs.Answers.{printed, WritesCut}
+use Rattle.cad_office.specs.Answers.{printed}
+use Rattle.cad_io.specs.Writing.{WritesCut}
 use Rattle.cad_office.specs.Lines.{is_filled, lines_ended, line_begun, BuffersLine}
-use Rattle.cad_office.specs.Keeping.{all_printed, is_accepted, goes_on, AnswersLines, EndIn, IsPiece, Writes}
+use Rattle.cad_office.specs.Keeping.{all_printed, is_accepted, goes_on, AnswersLines, EndIn, IsPiece}
+use Rattle.cad_io.specs.Known.{Writes}
 use Rattle.cad_office.proofs.LineLemmas.{lines_in-begun, lines_ended-lf, line_begun-lf, lines_ended-byte, line_begun-byte, lines_ended-append}
 use Rattle.cad_office.proofs.AnswerLemmas.{all_accepted-append, first-more, answered-append, refused-append, cut-append}
 
@@ -61,10 +63,6 @@ line_cut Q a b read next answer filled cut q =
 pub piece_byte : (Q : List (List ℕ) → List Answer → Type 0) (a : Option (List ℕ)) (read : List ℕ) (next : Line) (byte : ℕ) → (byte == 10) ≡ false → BuffersLine (line_begun read ++ byte ∷ []) next → Q [] [] → Writes a a (IsPiece Q read (Ok true) next (byte ∷ []))
 piece_byte Q a read next byte other stands q =
     ([], Appends-nil a, ([], lines_ended-byte read byte other ∙ sym (append-nil _), ([], (refl, refl, q), refl), rw (line_begun-byte read byte other) stands))
-
--- the one fault of a call, handed on
-pub write_failed : (r : Result Bool OfficeFault) (x e : OfficeFault) → r ≡ Err x → x ≡ e → ◌≡◌ {A = Result (Unit {0}) OfficeFault} (Err e) (Err Write) → r ≡ Err Write
-write_failed r x e f g h = cc
 
 -- ---- one piece after another
 

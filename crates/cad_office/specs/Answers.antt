@@ -1,7 +1,6 @@
 -- What is printed for a line (own profile).
-use Rattle.std.specs.Prelude.{◌≡◌, ℕ, ◌<◌, List, [], ◌∷◌, ◌++◌, length, Option, codes, decimal}
+use Rattle.std.specs.Prelude.{ℕ, List, [], ◌∷◌, ◌++◌, codes, decimal}
 use Rattle.std.specs.Fmt.{signed_decimal}
-use Rattle.std.specs.Io.KnownBytes.{Appends}
 use Rattle.cad_day.specs.Days.{number_of}
 use Rattle.cad_day.specs.DayTexts.{day_text}
 use Rattle.cad_versions.specs.declared.fault.RegisterFault.{RegisterFault}
@@ -27,11 +26,3 @@ printed (Entered revision) = joined (codes "revision " ∷ decimal revision ∷ 
 printed (Refused why) =
     joined (codes "refused " ∷ decimal (fault_number why) ∷ codes " " ∷ fault_name why ∷ detail why ++ codes "\n" ∷ [])
 printed NotACommand = codes "refused 0 NotACommand\n"
-
--- a front of it, and not all
-abbrev pub IsCut : List ℕ → List ℕ → Type 0
-IsCut whole front = (lost : List ℕ) × (whole ≡ front ++ lost) × (0 < length lost)
-
--- so much of it is written
-abbrev pub WritesCut : Option (List ℕ) → Option (List ℕ) → List ℕ → Type 0
-WritesCut old new whole = (front : List ℕ) × Appends old new front × IsCut whole front

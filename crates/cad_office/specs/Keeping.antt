@@ -1,7 +1,6 @@
 -- What the office writes for what it reads (own profile).
-use Rattle.std.specs.Prelude.{◌≡◌, ℕ, ◌+◌, ◌*◌, ◌≤◌, Bool, true, false, IsTrue, List, [], ◌∷◌, ◌++◌, ◌⊎◌, length, map, take, Option, Result, Ok, Err}
+use Rattle.std.specs.Prelude.{◌≡◌, ℕ, ◌+◌, ◌*◌, ◌≤◌, Bool, true, false, IsTrue, List, [], ◌∷◌, ◌++◌, ◌⊎◌, length, map, take, Result, Ok, Err}
 use Rattle.std.specs.List.{list_all}
-use Rattle.std.specs.Io.KnownBytes.{Consumes, Appends}
 use Rattle.cad_versions.specs.declared.fault.RegisterFault.TheVariants.{Store, Memory}
 use Rattle.cad_versions.specs.declared.fault.RegisterFault.{RegisterFault}
 use Rattle.cad_versions.specs.declared.command.Command.{Command}
@@ -10,8 +9,9 @@ use Rattle.cad_office.specs.declared.fault.OfficeFault.TheVariants.{Read, Write,
 use Rattle.cad_office.specs.declared.line.Line.{Line}
 use Rattle.cad_office.specs.declared.print.Answer.{Answer}
 use Rattle.cad_office.specs.declared.print.Answer.TheVariants.{Entered, Refused, NotACommand}
-use Rattle.cad_office.specs.Answers.{joined, printed, IsCut}
+use Rattle.cad_office.specs.Answers.{joined, printed}
 use Rattle.cad_commands.specs.Commands.{Says}
+use Rattle.cad_io.specs.Writing.{IsCutShort}
 use Rattle.cad_office.specs.Lines.{longest_line, lines_in, lines_ended, line_begun, BuffersLine}
 
 -- the lines of the answers, one after the other
@@ -43,12 +43,12 @@ AllGoOn answers = IsTrue (list_all goes_on answers)
 abbrev pub Asks : List ℕ → Command → Type 0
 Asks line command = (length line ≤ longest_line) × Says line command
 
--- what came of the line in the ledger: what the ledger answers to the command that the line asks for, or no change
+-- what came of the line in the ledger: what the ledger answers to the command that the line asks for, or no change; a line that is too long is never told want of memory
 abbrev pub AnswersLine : {B : Type 0} → (B → Command → Result ℕ RegisterFault → B → Type 0) → List ℕ → B → Answer → B → Type 0
 AnswersLine applies line old (Entered revision) new =
     (command : Command) × Asks line command × applies old command (Ok revision) new
 AnswersLine applies line old (Refused fault) new =
-    ((command : Command) × Asks line command × applies old command (Err fault) new) ⊎ ((fault ≡ Memory) × (new ≡ old))
+    ((command : Command) × Asks line command × applies old command (Err fault) new) ⊎ ((fault ≡ Memory) × (length line ≤ longest_line) × (new ≡ old))
 AnswersLine applies line old NotACommand new = ((command : Command) → ¬ Asks line command) × (new ≡ old)
 
 -- what came of the lines in the ledger, one after the other, each with its answer
@@ -71,7 +71,7 @@ EndsRefused InLedger lines written =
 -- all answers before the last are whole and let the work go on, and the last is cut
 abbrev pub EndsCut : (List (List ℕ) → List Answer → Type 0) → List (List ℕ) → List ℕ → Type 0
 EndsCut InLedger lines written =
-    (before : List Answer) × (last : Answer) × (front : List ℕ) × (written ≡ all_printed before ++ front) × IsCut (printed last) front × AllGoOn before × InLedger (take (length before + 1) lines) (before ++ last ∷ [])
+    (before : List Answer) × (last : Answer) × (front : List ℕ) × (written ≡ all_printed before ++ front) × IsCutShort front (printed last) × AllGoOn before × InLedger (take (length before + 1) lines) (before ++ last ∷ [])
 
 -- the lines that were read whole: those that an LF ended, and at the end of the input the last one
 abbrev pub AreWhole : Type 0 → List ℕ → List (List ℕ) → Type 0
@@ -121,12 +121,3 @@ IsPiece InLedger read (Err Register) line piece written =
     (lines : List (List ℕ)) × EndIn read piece lines × EndsRefused InLedger lines written
 IsPiece InLedger read (Err Write) line piece written =
     (lines : List (List ℕ)) × EndIn read piece lines × EndsCut InLedger lines written
-
--- known bytes written are so
-abbrev pub Writes : Option (List ℕ) → Option (List ℕ) → (List ℕ → Type 0) → Type 0
-Writes old new P = (written : List ℕ) × Appends old new written × P written
-
--- known bytes read and known bytes written are so related
-abbrev pub ReadsAndWrites : Option (List ℕ) → Option (List ℕ) → Option (List ℕ) → Option (List ℕ) → (List ℕ → List ℕ → Type 0) → Type 0
-ReadsAndWrites from to old new P =
-    (read : List ℕ) × (written : List ℕ) × Consumes from to read × Appends old new written × P read written

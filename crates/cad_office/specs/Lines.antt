@@ -33,7 +33,7 @@ longest_line = 65536
 abbrev pub Buffers : List ℕ → List ℕ → LineState → Type 0
 Buffers text held Buffered = (held ≡ text) × (length text ≤ longest_line)
 Buffers text held TooLong = longest_line < length text
-Buffers text held OutOfMemory = 0 < length text
+Buffers text held (OutOfMemory count) = (count ≡ length text) × (0 < length text) × (length text ≤ longest_line)
 
 -- the same of the line as it is held
 abbrev pub BuffersLine : List ℕ → Line → Type 0

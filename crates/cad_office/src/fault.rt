@@ -1,5 +1,6 @@
 //! Why the office stops.
 
+use cad_io::WriteFailed;
 use thiserror::Error;
 
 /// Why the office stops before its input ends.
@@ -17,6 +18,17 @@ pub enum OfficeFault {
     /// The database refused a command for another cause than memory.
     #[error("the database refused a command")]
     Register,
+}
+
+impl From<WriteFailed> for OfficeFault {
+    ghost use Rattle.std.specs.Prelude.{◌≡◌};
+    ghost use Rattle.cad_office.specs.declared.fault.OfficeFault.TheVariants.{Write};
+
+    ghost from_gives = { λ _ e. e ≡ Write };
+
+    fn from(_: WriteFailed) -> OfficeFault {
+        OfficeFault::Write
+    }
 }
 
 impl OfficeFault {

@@ -1,5 +1,8 @@
 //! One line, byte by byte.
 
+ghost use Rattle.std.specs.Prelude.{◌≡◌, ◌+◌, nat_lt, if◌then◌else◌};
+ghost use Rattle.cad_office.specs.Lines.{longest_line};
+
 use std::alloc::Global;
 
 // Longer lines are no commands.
@@ -12,8 +15,19 @@ pub enum LineState {
     Buffered,
     /// It has more than 65,536 bytes.
     TooLong,
-    /// A growth was refused, and the rest of the line is skipped.
-    OutOfMemory,
+    /// A growth was refused, and the rest of the line is skipped. So many bytes were read of it, at most 65,536.
+    OutOfMemory(usize),
+}
+
+/// A line that cannot be held, with one byte more than so many.
+fn skipped(count: usize) -> LineState
+    ensures { result ≡ (if nat_lt count longest_line then LineState.OutOfMemory (count + 1) else LineState.TooLong) }
+{
+    if count < LONGEST {
+        LineState::OutOfMemory(count + 1)
+    } else {
+        LineState::TooLong
+    }
 }
 
 /// The line that is being read.
@@ -41,13 +55,17 @@ impl Line {
     pub fn add(&mut self, byte: u8)
         ensures { (text : List ℕ) → BuffersLine text self.old → BuffersLine (text ++ byte ∷ []) self.new }
     {
-        if self.state != LineState::Buffered {
-            return;
-        }
-        if self.bytes.len() == LONGEST {
-            self.state = LineState::TooLong;
-        } else if self.bytes.push(byte).is_err() {
-            self.state = LineState::OutOfMemory;
+        match self.state {
+            LineState::TooLong => {}
+            LineState::OutOfMemory(count) => self.state = skipped(count),
+            LineState::Buffered => {
+                let count = self.bytes.len();
+                if count == LONGEST {
+                    self.state = LineState::TooLong;
+                } else if self.bytes.push(byte).is_err() {
+                    self.state = LineState::OutOfMemory(count + 1);
+                }
+            }
         }
     }
 

@@ -1,11 +1,10 @@
 //! What is printed for a line.
 
-ghost use Rattle.std.specs.Prelude.{◌≡◌, ◌≤◌, length, drop, map, OnOk, OnErr, Err};
-ghost use Rattle.std.specs.Io.KnownBytes.{Appends};
-ghost use Rattle.cad_office.specs.Answers.{joined, printed, WritesCut};
+ghost use Rattle.cad_io.specs.Writing.{IsWritten};
+ghost use Rattle.cad_office.specs.Answers.{printed};
 
-use crate::fault::OfficeFault;
-use crate::write::{write_pieces, write_whole};
+use crate::write::write_pieces;
+use cad_io::{WriteFailed, write_whole};
 use cad_versions::RegisterFault;
 use itoa::Buffer;
 use std::io::Write;
@@ -22,10 +21,8 @@ pub enum Answer {
 }
 
 /// Prints the answer as one line, or a front of it where a write fails.
-pub fn print<W: Write>(writer: &mut W, answer: Answer) -> Result<(), OfficeFault>
-    ensures whole { OnOk result (Appends (W.contents writer.old) (W.contents writer.new) (printed answer)) }
-    ensures cut { OnErr result (WritesCut (W.contents writer.old) (W.contents writer.new) (printed answer)) }
-    ensures fault { OnErr result (result ≡ Err OfficeFault.Write) }
+pub fn print<W: Write>(writer: &mut W, answer: Answer) -> Result<(), WriteFailed>
+    ensures { IsWritten (W.contents writer.old) (W.contents writer.new) (printed answer) result }
 {
     match answer {
         Answer::Entered(revision) => print_revision(writer, revision),
@@ -34,10 +31,8 @@ pub fn print<W: Write>(writer: &mut W, answer: Answer) -> Result<(), OfficeFault
     }
 }
 
-fn print_revision<W: Write>(writer: &mut W, revision: u64) -> Result<(), OfficeFault>
-    ensures whole { OnOk result (Appends (W.contents writer.old) (W.contents writer.new) (printed (Answer.Entered revision))) }
-    ensures cut { OnErr result (WritesCut (W.contents writer.old) (W.contents writer.new) (printed (Answer.Entered revision))) }
-    ensures fault { OnErr result (result ≡ Err OfficeFault.Write) }
+fn print_revision<W: Write>(writer: &mut W, revision: u64) -> Result<(), WriteFailed>
+    ensures { IsWritten (W.contents writer.old) (W.contents writer.new) (printed (Answer.Entered revision)) result }
 {
     let mut number = Buffer::new();
     let pieces = [
@@ -48,10 +43,8 @@ fn print_revision<W: Write>(writer: &mut W, revision: u64) -> Result<(), OfficeF
     write_pieces(writer, &pieces)
 }
 
-fn print_refusal<W: Write>(writer: &mut W, fault: RegisterFault) -> Result<(), OfficeFault>
-    ensures whole { OnOk result (Appends (W.contents writer.old) (W.contents writer.new) (printed (Answer.Refused fault))) }
-    ensures cut { OnErr result (WritesCut (W.contents writer.old) (W.contents writer.new) (printed (Answer.Refused fault))) }
-    ensures fault { OnErr result (result ≡ Err OfficeFault.Write) }
+fn print_refusal<W: Write>(writer: &mut W, fault: RegisterFault) -> Result<(), WriteFailed>
+    ensures { IsWritten (W.contents writer.old) (W.contents writer.new) (printed (Answer.Refused fault)) result }
 {
     let mut number = Buffer::new();
     let number = number.format(fault.number()).as_bytes();

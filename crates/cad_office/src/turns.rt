@@ -3,7 +3,8 @@
 ghost use Rattle.std.specs.Prelude.{◌≡◌, ◌↔◌, ℕ, List, ◌∷◌, [], IsOk, IsTrue};
 ghost use Rattle.std.specs.Io.KnownBytes.{IsAtEnd};
 ghost use Rattle.cad_versions.specs.LedgerCalls.{Applies};
-ghost use Rattle.cad_office.specs.Keeping.{AnswersLine, AnswersLines, Asks, IsKept, IsPaced, IsPiece, ReadsAndWrites, Writes};
+ghost use Rattle.cad_office.specs.Keeping.{AnswersLine, AnswersLines, Asks, IsKept, IsPaced, IsPiece};
+ghost use Rattle.cad_io.specs.Known.{ReadsAndWrites, Writes};
 ghost use Rattle.cad_office.specs.Lines.{line_begun, BuffersLine};
 
 use crate::fault::OfficeFault;
@@ -124,7 +125,7 @@ fn answer_line<L: Ledger>(alloc: Global, line: &Line, ledger: &mut L) -> Answer
 {
     match line.state() {
         LineState::TooLong => Answer::NotACommand,
-        LineState::OutOfMemory => Answer::Refused(RegisterFault::Memory),
+        LineState::OutOfMemory(_) => Answer::Refused(RegisterFault::Memory),
         LineState::Buffered => match read_command(alloc, line.bytes()) {
             Ok(command) => apply(ledger, command),
             Err(CommandError::NotACommand) => Answer::NotACommand,

@@ -2,7 +2,7 @@
 use Rattle.std.proofs.Common.{ℕ, ℤ, List, Option}
 use Rattle.std.specs.List.{All}
 use Rattle.std.proofs.lemmas.List.Elements.{All-take, All-filter}
-use Rattle.cad_feature.specs.declared.collection.Collection.{Collection}
+use Rattle.cad_schema.specs.declared.collection.Collection.{Collection}
 use Rattle.cad_feature.specs.Features.{Item}
 use Rattle.cad_answer.specs.Answers.{Asked, answers, answer}
 use Rattle.cad_answer.specs.Places.{places_of}

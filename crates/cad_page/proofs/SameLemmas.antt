@@ -3,7 +3,7 @@ use Rattle.std.proofs.Common.{◌≡◌, ℕ, ℤ, pos, ◌-◌, Bool, cond, ◌
 use Rattle.std.specs.Prelude.{codes, option_map}
 use Rattle.std.specs.List.{filter}
 use Rattle.serde_json.specs.Data.{Data, number, unsigned, string, array, object, item, no_members, member}
-use Rattle.cad_feature.specs.declared.collection.Collection.{Collection}
+use Rattle.cad_schema.specs.declared.collection.Collection.{Collection}
 use Rattle.cad_feature.specs.Features.{Item}
 use Rattle.cad_feature_json.specs.Tree.{features_data}
 use Rattle.cql_types.specs.Conditions.{condition_in}

@@ -1,7 +1,7 @@
 -- One feature as JSON (OGC 17-069r4, 7.16: feature), members in byte order of their names.
 use Rattle.std.specs.Prelude.{ℕ, List, ◌++◌, codes}
 use Rattle.serde_json.specs.Data.{Data, null, boolean, number, string, array, object, item, no_items, put}
-use Rattle.cad_feature.specs.declared.collection.Collection.{Collection}
+use Rattle.cad_schema.specs.declared.collection.Collection.{Collection}
 use Rattle.cad_feature.specs.Features.{Item}
 use Rattle.cad_feature_json.specs.Tree.{identifier_text, feature_data}
 use Rattle.cad_bodies.specs.Links.{link_data}

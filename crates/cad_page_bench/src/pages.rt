@@ -3,8 +3,8 @@
 use crate::parcels::parcels;
 use anyhow::{Context, Result};
 use cad_ask::Ask;
-use cad_feature::Collection;
 use cad_page::body;
+use cad_schema::Collection;
 use cad_snapshot::Snapshot;
 use std::time::Instant;
 

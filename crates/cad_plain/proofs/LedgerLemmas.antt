@@ -1,5 +1,5 @@
 -- A plain ledger stands for its commands, and for one more when that is applied.
-use Rattle.std.proofs.Common.{◌≡◌, ◌≢◌, ◌+◌, List, [], ◌∷◌, ◌++◌, length, length-append, map, fold, Option, Some, None, Bool, true, false, sym, ap, ◌∙◌, zero-add}
+use Rattle.std.proofs.Common.{◌≡◌, ◌≢◌, ◌+◌, List, [], ◌∷◌, ◌++◌, length, length-append, map, Option, Some, None, Bool, true, false, sym, ap, ◌∙◌}
 use Rattle.cad_day.specs.declared.day.Day.{Day}
 use Rattle.cad_versions.specs.declared.body.Body.{Body}
 use Rattle.cad_versions.specs.declared.body.Class.{Class}
@@ -9,10 +9,11 @@ use Rattle.cad_versions.specs.declared.fault.RegisterFault.{RegisterFault}
 use Rattle.cad_versions.specs.declared.fault.RegisterFault.TheVariants.{OtherClass, DayNotAfter, UnknownReference, Full, Store}
 use Rattle.cad_versions.specs.Command.{object_named, body_added}
 use Rattle.cad_versions.specs.VersionedObject.{VersionedObject}
-use Rattle.cad_versions.specs.Versions.{after, versions}
-use Rattle.cad_versions.specs.Refusals.{class_at, open_since, refuse_if, or_else, refuses_closing, refuses_object, refuses_body, refusal, AreAccepted}
-use Rattle.cad_versions.specs.Entries.{version_in, entries_after, entries_of}
-use Rattle.cad_versions.specs.EntryLemmas.{versions_of_entries, entries_append}
+use Rattle.cad_versions.specs.Versions.{versions}
+use Rattle.cad_versions.specs.Refusals.{class_at, open_since, refuse_if, or_else, refuses_closing, refuses_object, refuses_body, refusal}
+use Rattle.cad_versions.specs.Entries.{version_in, entries_after}
+use Rattle.cad_versions.specs.EntryLemmas.{versions_of_entries}
+use Rattle.cad_versions.specs.AcceptedLemmas.{accepted_then, entries_then}
 use Rattle.cad_plain.specs.declared.ledger.PlainLedger.{PlainLedger}
 use Rattle.cad_plain.specs.Ledgers.{IsLedgerOf}
 
@@ -26,19 +27,12 @@ decided ledger cs c o stands e = ap (λ vs. refusal vs c) (sym (versions_kept le
 
 -- ---- one command more
 
-accepted_push : (vs : List VersionedObject) (cs : List Command) (c : Command) → AreAccepted vs cs → refusal (fold after vs cs) c ≡ None → AreAccepted vs (cs ++ c ∷ [])
-accepted_push vs [] c all e = (e, tt)
-accepted_push vs (d ∷ cs) c all e = (all.0, accepted_push (after vs d) cs c all.1 e)
-
-entries_push : (cs : List Command) (c : Command) → entries_of (cs ++ c ∷ []) ≡ entries_after (length cs + 1) (entries_of cs) c
-entries_push cs c = entries_append 0 [] cs (c ∷ []) ∙ ap (λ n. entries_after (n + 1) (entries_of cs) c) (zero-add (length cs))
-
 pub applied : (old new : PlainLedger) (cs : List Command) (c : Command) → IsLedgerOf old cs → refusal (map version_in old.versions) c ≡ None → new.revision ≡ old.revision + 1 → new.versions ≡ entries_after new.revision old.versions c → IsLedgerOf new (cs ++ c ∷ [])
 applied old new cs c stands may counts kept =
     let next : new.revision ≡ length cs + 1 = counts ∙ ap (λ n. n + 1) stands.counted in
     record {
-      accepted = accepted_push [] cs c stands.accepted (decided old cs c None stands may);
-      kept = kept ∙ ap (λ n. entries_after n old.versions c) next ∙ ap (λ es. entries_after (length cs + 1) es c) stands.kept ∙ sym (entries_push cs c);
+      accepted = accepted_then [] cs c stands.accepted (decided old cs c None stands may);
+      kept = kept ∙ ap (λ n. entries_after n old.versions c) next ∙ ap (λ es. entries_after (length cs + 1) es c) stands.kept ∙ sym (entries_then cs c);
       counted = next ∙ sym (length-append cs (c ∷ []));
     }
 

@@ -1,4 +1,3 @@
-pub mod SortLemmas
 pub mod PlainLemmas
 pub mod ShowLemmas
 pub mod LedgerLemmas

@@ -2,9 +2,7 @@
 use Rattle.std.proofs.Common.{◌≡◌, ℕ, suc, ◌+◌, ◌≤◌, ◌<◌, pos, Bool, true, false, cond, List, [], ◌∷◌, ◌++◌, length, map, filter, refl, sym, ap, ◌∙◌, subst, arith, get_or, drop, append_assoc, Ordering, is_gt, int_cmp, int_le, nat_cmp, IsPermutation, IsSorted}
 use Rattle.std.specs.List.{All}
 use Rattle.std.specs.List.Sorted.{IsSortedByKey}
-use Rattle.std.specs.Cmp.{IsTotalOrder}
 use Rattle.std.specs.Ordering.{ordering_then}
-use Rattle.std.proofs.lemmas.Cmp.{int_cmp_total, on_total, then_total}
 use Rattle.std.proofs.lemmas.Int.{ints}
 use Rattle.std.proofs.Math.Seq.{drop-cons}
 use Rattle.std.proofs.lemmas.List.{length-map}
@@ -15,14 +13,12 @@ use Rattle.cad_versions.specs.Entries.{Entry, entries_at, seen_at}
 use Rattle.cad_versions.specs.Sorting.{insert_sorted, sort_by}
 use Rattle.cad_versions.specs.Identifiers.{by_identifier}
 use Rattle.cad_versions.specs.Listing.{IsListing}
+use Rattle.cad_versions.specs.OrderLemmas.{versions_total}
+use Rattle.cad_versions.specs.SortLemmas.{sorted_is, sort_rises}
 use Rattle.cad_plain.specs.Plain.{AreHistories, AreApart}
-use Rattle.cad_plain.proofs.SortLemmas.{sorted_is, sort_rises}
 use Rattle.cad_plain.proofs.PlainLemmas.{seen_apart}
 
 -- ---- the order of identifiers
-
-identifiers_total : IsTotalOrder by_identifier
-identifiers_total = then_total (on_total (λ (v : VersionedObject). pos (object_number v.object)) int_cmp_total) (on_total (λ (v : VersionedObject). pos v.number) int_cmp_total)
 
 cmp_same : (m n : ℕ) → nat_cmp m n ≡ int_cmp (pos m) (pos n)
 cmp_same m n = grind (arith, ints)
@@ -40,7 +36,7 @@ sorted_by_key : (vs : List VersionedObject) → IsSortedByKey key_of key_cmp vs 
 sorted_by_key vs sorted k d p q = rw (← keys_same _ _) (sorted k d p q)
 
 pub in_order_is : (xs ys : List VersionedObject) → AreApart xs → IsPermutation xs ys → IsSortedByKey key_of key_cmp ys → ys ≡ sort_by by_identifier xs
-in_order_is xs ys apart same sorted = sorted_is by_identifier identifiers_total xs ys apart same (sorted_by_key ys sorted)
+in_order_is xs ys apart same sorted = sorted_is by_identifier versions_total xs ys apart same (sorted_by_key ys sorted)
 
 -- ---- a listing
 
@@ -60,7 +56,7 @@ pub listing : (r : ℕ) (ls : List Entry) (found : List VersionedObject) → Are
 listing r ls found all e each =
     let seen = map (seen_at r) (entries_at r ls) in
     record {
-      ascending = rw e (sort_rises by_identifier identifiers_total seen (seen_apart r ls all));
+      ascending = rw e (sort_rises by_identifier versions_total seen (seen_apart r ls all));
       few = rw e (omega (arith, all.few, length-sort_by by_identifier seen, length-map (entries_at r ls) (seen_at r), length-filter (λ (entry : Entry). int_le (pos entry.entered) (pos r)) ls));
       each = each;
     }

@@ -52,6 +52,8 @@ impl Ledger for PlainLedger {
 
     ghost list_keeps = { λ _ _. memory_keeps };
 
+    ghost were_accepted = { λ _ _ stands. stands.accepted };
+
     ghost remains_here = { λ _. refl };
 
     ghost remains_then = { λ _ _ _ first later. later ∙ first };

@@ -3,13 +3,14 @@ use Rattle.std.specs.Prelude.{◌≡◌, ◌⊎◌, ℕ, List, Option}
 use Rattle.std.specs.Io.KnownBytes.{Appends}
 use Rattle.std.specs.declared.net.socket_addr.SocketAddr.{SocketAddr}
 use Rattle.std.specs.Net.Grammar.{IsSocketText}
+use Rattle.cad_versions.specs.declared.fault.RegisterFault.{RegisterFault}
 use Rattle.cad_versions.specs.declared.fault.RegisterFault.TheVariants as register
 use Rattle.cad_versions.specs.declared.ledger.Ledger as ledger
 use Rattle.cad_stream.specs.declared.responder.Responder as responder
 use Rattle.cad_desk.specs.declared.desk.Desk.{Desk}
 use Rattle.cad_desk.specs.Desks.{responder_of}
 use Rattle.cad_serve.specs.declared.serve_fault.ServeFault.TheVariants.{Write}
-use Rattle.cad_serve.specs.Serving.{Writes}
+use Rattle.cad_io.specs.Known.{Writes}
 use Rattle.cad_server.specs.declared.server.Server.{Server}
 use Rattle.cad_server.specs.Servers.{ledger_of}
 use Rattle.cad_listen.specs.Arguments.{listening_line}
@@ -34,8 +35,20 @@ module _ (service : Service) (before after quiet told : Option (List ℕ)) where
       × Writes quiet told (Listens g service.count old status new)
   EndsListening g old other new = ⊥
 
-  -- there is no memory for a desk, and nothing is written; or its connections are served over the ledger, which is given back
+  -- the run ends for this fault, nothing is written, and the ledger is given back
+  pub record EndsUnheard {L : Type 0} (lent : L) (fault : RegisterFault) (ended : Outcome × L) : Type 0 where
+    pub cause : ended.0 ≡ outcome.Register fault
+    pub back : ended.1 ≡ lent
+    pub silent : IsSilent
+
+  -- connections are served over the ledger, which is given back
+  pub record EndsHeard {L : Type 0} (g : ledger.Ghosts L) (lent : L) (ended : Outcome × L) : Type 0 where
+    pub old : Desk (Server L)
+    pub new : Desk (Server L)
+    pub over : IsDeskOver g lent old
+    pub listening : EndsListening (answers_of g) old ended.0 new
+    pub back : ended.1 ≡ ledger_of (responder_of new)
+
+  -- there is no memory for a desk; or its connections are served
   abbrev pub ListensOver : {L : Type 0} → ledger.Ghosts L → L → Outcome × L → Type 0
-  ListensOver {L} g lent ended =
-      ((ended.0 ≡ outcome.Register register.Memory) × (ended.1 ≡ lent) × IsSilent)
-      ⊎ ((old : Desk (Server L)) × (new : Desk (Server L)) × IsDeskOver g lent old × EndsListening (answers_of g) old ended.0 new × (ended.1 ≡ ledger_of (responder_of new)))
+  ListensOver g lent ended = EndsUnheard lent register.Memory ended ⊎ EndsHeard g lent ended

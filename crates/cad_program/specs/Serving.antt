@@ -1,5 +1,5 @@
 -- Serving one connection, and how that ends a run (own profile).
-use Rattle.std.specs.Prelude.{◌≡◌, ◌⊎◌, ℕ, List, [], Option, None, Result, Ok, Err}
+use Rattle.std.specs.Prelude.{◌≡◌, ◌⊎◌, ℕ, List, Option, None, Result, Ok, Err}
 use Rattle.cad_versions.specs.declared.command.Command.{Command}
 use Rattle.cad_versions.specs.declared.fault.RegisterFault.{RegisterFault}
 use Rattle.cad_versions.specs.declared.fault.RegisterFault.TheVariants as register
@@ -13,21 +13,23 @@ use Rattle.cad_desk.specs.Desks.{responder_of, connections_of}
 use Rattle.cad_serve.specs.declared.ending.Ending.{Ending}
 use Rattle.cad_serve.specs.declared.ending.Ending.TheVariants.{PeerEnded}
 use Rattle.cad_serve.specs.declared.serve_fault.ServeFault.{ServeFault}
-use Rattle.cad_serve.specs.Serving.{IsServed, ReadsAndWrites}
+use Rattle.cad_serve.specs.Serving.{IsServed}
+use Rattle.cad_io.specs.Known.{ReadsAndWrites}
 use Rattle.cad_sample.specs.Filling.{Enters, IsFilled}
 use Rattle.cad_sample.specs.Sample.{sample_commands}
 use Rattle.cad_server.specs.declared.server.Server.{Server}
-use Rattle.cad_server.specs.Replies.{IsReply, bad_head_reply, FailsToAnswer}
-use Rattle.cad_server.specs.Servers.{ledger_of, IsServerOf}
-use Rattle.cad_server.specs.Refusing.{ReadingIsRefused}
+use Rattle.cad_server.specs.Replies.{IsReply, bad_head_reply, Asks, FailsToAnswer}
+use Rattle.cad_server.specs.Servers.{ledger_of, IsServerOf, RefusesToAnswer}
 use Rattle.cad_program.specs.declared.outcome.Outcome.{Outcome}
 use Rattle.cad_program.specs.declared.outcome.Outcome.TheVariants as outcome
 use Rattle.cad_program.specs.Outcomes.{outcome_of}
 
 -- connection 1 of the desk is served; the run ends as that did, and where the peer ended nothing is left unread
-abbrev pub EndsServing : {P : Type 0} → responder.Ghosts P → Option (List ℕ) → Option (List ℕ) → Option (List ℕ) → Option (List ℕ) → Type 0 → Desk P → Outcome → Desk P → Type 0
-EndsServing g from to before after AtEnd old ended new =
-    (served : Result Ending ServeFault) × (ended ≡ outcome_of served) × (served ≡ Ok PeerEnded → AtEnd) × ReadsAndWrites from to before after (IsServed g 1 old served new)
+pub record EndsServing {P : Type 0} (g : responder.Ghosts P) (from to before after : Option (List ℕ)) (AtEnd : Type 0) (old : Desk P) (ended : Outcome) (new : Desk P) : Type 0 where
+  pub served : Result Ending ServeFault
+  pub ends : ended ≡ outcome_of served
+  pub all : served ≡ Ok PeerEnded → AtEnd
+  pub kept : ReadsAndWrites from to before after (IsServed g 1 old served new)
 
 module _ {L : Type 0} (g : ledger.Ghosts L) where
   -- the rules by which a server over the ledger answers
@@ -39,9 +41,10 @@ module _ {L : Type 0} (g : ledger.Ghosts L) where
     replies = IsReply;
     closes = ends_after;
     bad_head = bad_head_reply;
+    asks = Asks;
     fails_to_answer = FailsToAnswer g.fails_to_list;
     fails_to_enter = g.fails_to_apply;
-    refuses_answer = λ old new _. ReadingIsRefused g (ledger_of old) (ledger_of new);
+    refuses_answer = RefusesToAnswer g;
     refuses_command = λ old new. g.refuses_command (ledger_of old) (ledger_of new);
     remains = λ old new. g.remains (ledger_of old) (ledger_of new);
   }
@@ -57,17 +60,31 @@ module _ {L : Type 0} (g : ledger.Ghosts L) (from to before after : Option (List
   abbrev pub IsUntouched : Type 0
   IsUntouched = (to ≡ from) × (after ≡ before)
 
-  -- there is no memory for a desk, and nothing is read or written; or a connection is served over the ledger, which is given back
+  -- the run ends for this fault, nothing is read or written, and the ledger is given back
+  pub record EndsUnasked (lent : L) (fault : RegisterFault) (ended : Outcome × L) : Type 0 where
+    pub cause : ended.0 ≡ outcome.Register fault
+    pub back : ended.1 ≡ lent
+    pub untouched : IsUntouched
+
+  -- a connection is served over the ledger, which is given back
+  pub record EndsAsked (lent : L) (ended : Outcome × L) : Type 0 where
+    pub old : Desk (Server L)
+    pub new : Desk (Server L)
+    pub over : IsDeskOver g lent old
+    pub serving : EndsServing (answers_of g) from to before after AtEnd old ended.0 new
+    pub back : ended.1 ≡ ledger_of (responder_of new)
+
+  -- there is no memory for a desk; or a connection is served
   abbrev pub AnswersOver : L → Outcome × L → Type 0
-  AnswersOver lent ended =
-      ((ended.0 ≡ outcome.Register register.Memory) × (ended.1 ≡ lent) × IsUntouched)
-      ⊎ ((old : Desk (Server L)) × (new : Desk (Server L)) × IsDeskOver g lent old × EndsServing (answers_of g) from to before after AtEnd old ended.0 new × (ended.1 ≡ ledger_of (responder_of new)))
+  AnswersOver lent ended = EndsUnasked lent register.Memory ended ⊎ EndsAsked lent ended
 
   -- the sample is entered into the ledger; where that is refused nothing is read or written, else a connection is served over it
   abbrev pub AnswersSampleIn : L → L → Result ℕ RegisterFault → Outcome × L → Type 0
   AnswersSampleIn lent filled (Ok revision) ended = IsFilled g lent (Ok revision) filled × AnswersOver filled ended
-  AnswersSampleIn lent filled (Err fault) ended = (ended.0 ≡ outcome.Register fault) × (ended.1 ≡ filled) × IsUntouched
+  AnswersSampleIn lent filled (Err fault) ended = EndsUnasked filled fault ended
 
-  abbrev pub AnswersSample : L → Outcome × L → Type 0
-  AnswersSample lent ended =
-      (filled : L) × (entered : Result ℕ RegisterFault) × Enters (Applies g) sample_commands lent entered filled × AnswersSampleIn lent filled entered ended
+  pub record AnswersSample (lent : L) (ended : Outcome × L) : Type 0 where
+    pub filled : L
+    pub entered : Result ℕ RegisterFault
+    pub enters : Enters (Applies g) sample_commands lent entered filled
+    pub answers : AnswersSampleIn lent filled entered ended

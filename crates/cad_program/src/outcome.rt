@@ -1,6 +1,7 @@
 //! How a run ended: its status, and the line that tells it.
 
 use cad_desk::DeskFault;
+use cad_listen::status;
 use cad_office::OfficeFault;
 use cad_serve::{Ending, ServeFault};
 use cad_versions::RegisterFault;
@@ -63,12 +64,13 @@ impl Outcome {
         ensures { result ≡ status_of self }
     {
         match self {
-            Outcome::Good => 0,
-            Outcome::Refused | Outcome::Serve(_) | Outcome::Office(_) | Outcome::Desk(_) => 1,
-            Outcome::Listened(status) => status,
-            Outcome::Usage => 2,
-            Outcome::Register(_) => 3,
-            Outcome::Address => 4,
+            Outcome::Good => status::GOOD,
+            Outcome::Refused | Outcome::Serve(_) | Outcome::Office(_) | Outcome::Desk(_) =>
+                status::FAILED,
+            Outcome::Listened(told) => told,
+            Outcome::Usage => status::WRONG_ARGUMENTS,
+            Outcome::Register(_) => status::NO_REGISTER,
+            Outcome::Address => status::NO_ADDRESS,
         }
     }
 

@@ -3,7 +3,7 @@
 use cad_bodies::{
     collection_body, collections_body, filter_fault_body, landing_body, queryables_body,
 };
-use cad_feature::Collection;
+use cad_schema::Collection;
 use std::alloc::{AllocError, Global};
 
 /// The body at a path.

@@ -1,8 +1,7 @@
 -- Each version came with a command.
-use Rattle.std.proofs.Common.{◌≡◌, ℕ, ◌+◌, ◌≤◌, ◌<◌, Bool, true, false, cond, List, [], ◌∷◌, length, map, filter, fold, take, refl, ap, ◌∙◌, arith, is_gt, Ordering, length-append}
+use Rattle.std.proofs.Common.{◌≡◌, ℕ, ◌+◌, ◌≤◌, ◌<◌, Bool, true, false, cond, List, [], ◌∷◌, length, map, filter, fold, take, refl, ap, ◌∙◌, arith, length-append}
 use Rattle.std.proofs.lemmas.List.{length-map}
 use Rattle.std.proofs.lemmas.Bool.Decides.{nat_tests}
-use Rattle.cad_versions.specs.Sorting.{sort_by, insert_sorted}
 use Rattle.cad_versions.specs.declared.object_id.ObjectId.{ObjectId}
 use Rattle.cad_versions.specs.declared.command.Command.{Command}
 use Rattle.cad_versions.specs.declared.command.Command.TheVariants.{Enter, Amend, Retire}
@@ -12,6 +11,7 @@ use Rattle.cad_versions.specs.Versions.{is_of, history, closed_if_open, begun, n
 use Rattle.cad_versions.specs.Refusals.{is_full}
 use Rattle.cad_versions.specs.AsOf.{as_of}
 use Rattle.cad_versions.specs.Identifiers.{by_identifier}
+use Rattle.cad_versions.specs.SortLemmas.{length-sort_by}
 
 one_more : (vs : List VersionedObject) (c : Command) → length (after vs c) ≤ length vs + 1
 one_more vs (Enter object first body) = omega (arith, length-append vs (begun object 1 first body ∷ []))
@@ -28,14 +28,6 @@ versions_few cs = omega (arith, few_from [] cs)
 
 pub not_full : (cs : List Command) (revision : ℕ) → revision ≡ length cs → revision < 2147483647 → is_full (versions cs) ≡ false
 not_full cs revision e h = let few : length (versions cs) < 2147483647 = omega (arith, versions_few cs) in grind (arith, nat_tests)
-
-length-insert_sorted : {A : Type 0} (cmp : A → A → Ordering) (x : A) (xs : List A) → length (insert_sorted cmp x xs) ≡ length xs + 1
-length-insert_sorted cmp x [] = refl
-length-insert_sorted cmp x (y ∷ ys) = elim (is_gt (cmp x y)) as (λ b. length (cond b (y ∷ insert_sorted cmp x ys) (x ∷ (y ∷ ys))) ≡ length (y ∷ ys) + 1) [ true ↦ omega (arith, length-insert_sorted cmp x ys) | false ↦ omega arith ]
-
-pub length-sort_by : {A : Type 0} (cmp : A → A → Ordering) (xs : List A) → length (sort_by cmp xs) ≡ length xs
-length-sort_by cmp [] = refl
-length-sort_by cmp (x ∷ xs) = omega (arith, length-insert_sorted cmp x (sort_by cmp xs), length-sort_by cmp xs)
 
 take_all : {A : Type 0} (xs : List A) → take (length xs) xs ≡ xs
 take_all [] = refl

@@ -1,11 +1,12 @@
 -- One question after another leaves what each leaves.
-use Rattle.std.proofs.Common.{◌≡◌, ℕ, Vec, IfOk, None, Result, Ok, Err, OnOk, IfErr, IsErrAnd, refl, sym, subst, ◌∙◌, List}
-use Rattle.sqlite.specs.State.{State, IsUnchanged}
+use Rattle.std.proofs.Common.{◌≡◌, ℕ, Vec, IfOk, None, Result, Ok, Err, OnOk, IfErr, IsErrAnd, refl, sym, subst, ◌∙◌, List, arith}
+use Rattle.std.proofs.Math.Nat.{le_refl, le_trans}
+use Rattle.sqlite.specs.State.{State, IsUnchanged, HasCleanDisk, Survives}
 use Rattle.cad_tables.specs.Asking.{OnlyReads}
 use Rattle.cad_versions.specs.declared.command.Command.{Command}
 use Rattle.cad_versions.specs.declared.fault.RegisterFault.{RegisterFault}
 use Rattle.cad_versions.specs.declared.fault.RegisterFault.TheVariants as fault
-use Rattle.cad_register.specs.Leaving.{IsAsBefore, IsOfTheRegister, IsAnswered, AsksOnly}
+use Rattle.cad_register.specs.Leaving.{IsLater, IsAsBefore, IsOfTheRegister, IsAnswered, AsksOnly}
 use Rattle.cad_register.specs.Stands.{StandsFor, IsStoreFault, IsReadingFault}
 use Rattle.cad_register.specs.Damage.{IsCauseIn, AreShown, AreSound, AreSeenAt, ReadsRows}
 use Rattle.cad_versions.specs.VersionedObject.{VersionedObject}
@@ -13,6 +14,18 @@ use Rattle.std.specs.Global.{Global}
 use Rattle.sqlite_value.specs.Order.{Row}
 use Rattle.cad_register.proofs.StandLemmas.{stands_kept}
 use Rattle.cad_register.proofs.SurvivingLemmas.{leaves_no_more}
+
+pub later_here : (s : State) → IsLater s s
+later_here s = record { clean = λ clean. clean; limit = refl; faults = le_refl s.faults }
+
+pub later_then : (a b c : State) → IsLater a b → IsLater b c → IsLater a c
+later_then a b c p q = record { clean = λ clean. p.clean (q.clean clean); limit = q.limit ∙ p.limit; faults = le_trans p.faults q.faults }
+
+still_clean : (old new : State) (P : _) → Survives old new P → HasCleanDisk new → HasCleanDisk old
+still_clean old new P survives clean = omega (arith, survives.clean)
+
+pub later_by : (old new : State) (P : _) → Survives old new P → IsLater old new
+later_by old new P survives = record { clean = still_clean old new P survives; limit = survives.limit; faults = survives.counts }
 
 pub as_before : (old new : State) → IsUnchanged old new → IsAsBefore old new
 as_before old new same = record { now = same.0.now_is; committed = same.0.committed_is; liveness = same.0.is_open ∙ sym same.0.was_open; mode = same.0.mode }
@@ -33,7 +46,7 @@ pub asks_nothing : {X : Type 0} (s : State) (r : Result X RegisterFault) → Ask
 asks_nothing s r = record {
   same = λ clean answered. record { now = refl; committed = refl; liveness = refl; mode = refl };
   kept = λ clean still settled. (refl, refl);
-  clean = λ clean. clean;
+  later = later_here s;
   left = λ clean trees h. h;
 }
 
@@ -42,7 +55,7 @@ pub asks_answered : {X Y F : Type 0} (old new : State) (x : X) (r : Result Y Reg
 asks_answered old new x r reads = record {
   same = λ clean answered. as_before old new (reads.same clean);
   kept = reads.kept;
-  clean = reads.clean;
+  later = later_by old new _ reads.survives;
   left = λ clean. leaves_no_more old new clean reads.survives;
 }
 
@@ -56,13 +69,13 @@ pub asks_refused : {X Y F : Type 0} (old new : State) (e : F) (cause : RegisterF
 asks_refused old new e cause is reads = record {
   same = λ clean answered. absurd (not_answered cause is answered);
   kept = reads.kept;
-  clean = reads.clean;
+  later = later_by old new _ reads.survives;
   left = λ clean. leaves_no_more old new clean reads.survives;
 }
 
 -- the same outcome, told to the caller
 pub asks_as : {X Y : Type 0} (old new : State) (r : Result X RegisterFault) (s : Result Y RegisterFault) → (IsAnswered s → IsAnswered r) → AsksOnly old new r → AsksOnly old new s
-asks_as old new r s same asks = record { same = λ clean answered. asks.same clean (same answered); kept = asks.kept; clean = asks.clean; left = asks.left }
+asks_as old new r s same asks = record { same = λ clean answered. asks.same clean (same answered); kept = asks.kept; later = asks.later; left = asks.left }
 
 pub asks_on : {X Y : Type 0} (old new : State) (e : RegisterFault) (s : Result Y RegisterFault) → IsErrAnd s (λ x. x ≡ e) → AsksOnly {X = X} old new (Err e) → AsksOnly old new s
 asks_on old new e (Ok y) is asks = absurd is
@@ -70,13 +83,13 @@ asks_on old new e (Err x) is asks = asks_as old new (Err e) (Err x) (subst IsOfT
 
 pub asks_then : {X Y : Type 0} (a b c : State) (x : X) (r : Result Y RegisterFault) → AsksOnly {X = X} a b (Ok x) → AsksOnly b c r → AsksOnly a c r
 asks_then a b c x r first second = record {
-  same = λ clean answered. before_then a b c (first.same (second.clean clean) tt) (second.same clean answered);
+  same = λ clean answered. before_then a b c (first.same (second.later.clean clean) tt) (second.same clean answered);
   kept = λ clean still settled.
-      let same = first.same (second.clean clean) tt in
+      let same = first.same (second.later.clean clean) tt in
       let later = second.kept clean still (same.committed ∙ settled ∙ sym same.now) in
       (later.0 ∙ same.now, later.1 ∙ same.committed);
-  clean = λ clean. first.clean (second.clean clean);
-  left = λ clean trees h. first.left (second.clean clean) trees (second.left clean trees h);
+  later = later_then a b c first.later second.later;
+  left = λ clean trees h. first.left (second.later.clean clean) trees (second.left clean trees h);
 }
 
 -- what the database refuses is not told as no register

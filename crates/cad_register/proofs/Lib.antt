@@ -1,5 +1,5 @@
 pub mod ReadLemmas
-pub mod FieldLemmas
+pub mod PartLemmas
 pub mod KeptLemmas
 pub mod DamageLemmas
 pub mod ListedLemmas

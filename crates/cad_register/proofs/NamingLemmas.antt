@@ -64,7 +64,7 @@ module _ {S : Type 0} (g : Ghosts S) where
   pub named_then : {X Y : Type 0} (old mid new : Held S) (P : Statement → Type 0) (x : X) (r : Result Y RegisterFault) → AsksOnly {X = X} (state g old) (state g mid) (Ok x) → AsksOnly (state g mid) (state g new) r
       → (why : RegisterFault) → NamesShown g mid new P why → NamesShown g old new P why
   named_then old mid new P x r first second (fault.Damaged named number) h =
-      (h.0, h.1, h.2, λ clean. let shown = h.3 clean in (shown.0, before_then (state g old) (state g mid) (state g shown.0) (first.same (second.clean clean) tt) shown.1, shown.2), h.4)
+      (h.0, h.1, h.2, λ clean. let shown = h.3 clean in (shown.0, before_then (state g old) (state g mid) (state g shown.0) (first.same (second.later.clean clean) tt) shown.1, shown.2), h.4)
   named_then old mid new P x r first second why h = tt
 
   -- the same cause, told to the caller

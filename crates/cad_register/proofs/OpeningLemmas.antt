@@ -15,7 +15,7 @@ use Rattle.cad_register.specs.declared.register.Register.{Register}
 use Rattle.cad_register.specs.Stands.{StandsFor}
 use Rattle.cad_register.proofs.StandLemmas.{stands_same}
 use Rattle.cad_register.proofs.SurvivingLemmas.{stands_opened}
-use Rattle.cad_register.proofs.LeavingLemmas.{as_before, before_then}
+use Rattle.cad_register.proofs.LeavingLemmas.{later_then, as_before, before_then}
 
 register_stands : is_standing register_schema ≡ true
 unfolding same_name
@@ -44,7 +44,7 @@ module _ {S : Type 0} (g : Ghosts S) (lent : Held S) where
     recovered = λ clean cs opened low. absurd (stands_free (state g lent) cs (stands_opened (state g lent) cs opened) (it.free clean));
     same = λ clean. tt;
     kept = λ clean. tt;
-    clean = it.clean;
+    later = it.later;
     crash = it.crash;
   }
 
@@ -55,7 +55,7 @@ module _ {S : Type 0} (g : Ghosts S) (lent : Held S) where
 
     pub opened_later : (result : Outcome S) → Opened g mid result → OpenedOrCreated g lent result
     opened_later (Ok register) it =
-        let early = it.leaves.clean in
+        let early = it.leaves.later.clean in
         record {
           made = λ clean none. absurd (true≢false (sym (standing (early clean)).0 ∙ ap is_standing none ∙ nothing_stands));
           found = λ clean. let stood = standing (early clean) in inr (stood.0, mid, stood.1, it.found clean);
@@ -66,11 +66,11 @@ module _ {S : Type 0} (g : Ghosts S) (lent : Held S) where
           recovered = λ clean cs opened low. it.stands clean cs (stands_same (state g lent) (state g mid) cs (standing (early clean)).1.same (stands_opened (state g lent) cs opened)) low;
           same = λ clean. tt;
           kept = λ clean. tt;
-          clean = λ clean. created.clean (early clean);
+          later = later_then (state g lent) (state g mid) _ created.later it.leaves.later;
           crash = λ clean trees h. created.crash (early clean) trees (it.leaves.left clean trees h);
         }
     opened_later (Err refused) it =
-        let early = it.leaves.clean in
+        let early = it.leaves.later.clean in
         record {
           made = λ clean. tt;
           found = λ clean. tt;
@@ -84,6 +84,6 @@ module _ {S : Type 0} (g : Ghosts S) (lent : Held S) where
               let same = (standing (early clean)).1.same in
               let later = it.leaves.kept clean still (same.0.committed_is ∙ settled ∙ sym same.0.now_is) in
               (later.0 ∙ same.0.now_is, later.1 ∙ same.0.committed_is);
-          clean = λ clean. created.clean (early clean);
+          later = later_then (state g lent) (state g mid) _ created.later it.leaves.later;
           crash = λ clean trees h. created.crash (early clean) trees (it.leaves.left clean trees h);
         }

@@ -1,8 +1,7 @@
 -- The versions of an object rise by their numbers, so no two rows have one key.
 use Rattle.std.proofs.Common.{◌≡◌, ℕ, ◌<◌, pos, Bool, true, false, cond, List, [], ◌∷◌, map, filter, refl, sym, ap, ◌∙◌, subst, arith, is_eq, Ordering, Less, int_cmp, int_eq}
-use Rattle.std.specs.List.{AllByRecursion, IsDistinct}
+use Rattle.std.specs.List.{IsDistinct}
 use Rattle.std.specs.Ordering.{eq_by_cmp}
-use Rattle.std.proofs.lemmas.Int.{ints}
 use Rattle.sqlite_trees.specs.Tree.{IsAscending}
 use Rattle.sqlite_keyed.specs.Lists.{sort_by, insert_sorted}
 use Rattle.sqlite_keyed.proofs.ListLemmas.{filter-map, all-filter}
@@ -17,19 +16,16 @@ use Rattle.cad_versions.specs.Entries.{Entry, version_in, entries_of, entries_at
 use Rattle.cad_versions.specs.Identifiers.{by_identifier}
 use Rattle.cad_versions.specs.AsOf.{entry_order}
 use Rattle.cad_versions.specs.EntryLemmas.{versions_of_entries}
+use Rattle.cad_versions.specs.ListLemmas.{all_unmapped}
 use Rattle.cad_versions.specs.HistoryLemmas.{HasHistories}
-use Rattle.cad_versions.specs.OrderLemmas.{NumbersRise, numbers_rise, identifiers_apart}
+use Rattle.cad_versions.specs.OrderLemmas.{NumbersRise, numbers_rise, cmp_less, identifiers_apart}
 use Rattle.cad_register.specs.Outlines.{outline}
 use Rattle.cad_register.proofs.RowLemmas.{IsLineOf, AreLinesOf, object_same, number_same, order_same, lines_filtered, lines_ascend, outlines_same}
 
 module _ {A B : Type 0} (R : B → B → Type 0) (f : A → B) where
-  all_unmapped : (P : B → Type 0) (xs : List A) → AllByRecursion P (map f xs) → AllByRecursion (λ x. P (f x)) xs
-  all_unmapped P [] h = tt
-  all_unmapped P (x ∷ xs) h = (h.0, all_unmapped P xs h.1)
-
   ascending_unmap : (xs : List A) → IsAscending R (map f xs) → IsAscending (λ a b. R (f a) (f b)) xs
   ascending_unmap [] h = tt
-  ascending_unmap (x ∷ xs) h = (all_unmapped (R (f x)) xs h.0, ascending_unmap xs h.1)
+  ascending_unmap (x ∷ xs) h = (all_unmapped (R (f x)) f xs h.0, ascending_unmap xs h.1)
 
 ascending-filter : {A : Type 0} (R : A → A → Type 0) (p : A → Bool) (xs : List A) → IsAscending R xs → IsAscending R (filter p xs)
 ascending-filter R p [] h = tt
@@ -51,9 +47,6 @@ distinct_untied : (vs : List VersionedObject) → IsDistinct (eq_by_cmp by_ident
 unfolding IsDistinct
 distinct_untied [] h = tt
 distinct_untied (v ∷ vs) h = (h.0, distinct_untied vs h.1)
-
-cmp_less : (m n : ℕ) → m < n → int_cmp (pos m) (pos n) ≡ Less
-cmp_less m n h = grind (arith, ints)
 
 -- ---- the rows of a revision
 

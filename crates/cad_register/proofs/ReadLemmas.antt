@@ -9,8 +9,9 @@ use Rattle.cad_versions.specs.Texts.{bytes_of}
 use Rattle.cad_versions.specs.ShapeBytes.{IsShapeOf}
 use Rattle.cad_register.specs.declared.columns.ReadFault.{ReadFault}
 use Rattle.cad_register.specs.declared.columns.ReadFault.TheVariants.{Damaged, Memory}
-use Rattle.cad_register.specs.Fields.{HasShape}
+use Rattle.cad_register.specs.Parts.{HasShape}
 use Rattle.cad_register.specs.Reading.{Reads}
+use Rattle.cad_register.proofs.PartLemmas.{blob_same}
 
 -- where no part fits, no whole does
 pub refused : {X Y : Type 0} {P : X → Type 0} {Q : Y → Type 0} (e : ReadFault) → (((x : X) → ¬ P x) → (y : Y) → ¬ Q y) → Reads {X = X} (Err e) P → Reads {X = Y} (Err e) Q
@@ -20,9 +21,6 @@ refused Memory whole part = tt
 pub no_words : (bytes : List ℕ) (v : Value) → Text bytes ≡ v → ((words : Words) → ¬ (bytes ≡ bytes_of words)) → (o : Option Words) → ¬ (v ≡ or_null Text (option_map bytes_of o))
 no_words bytes v is none None e = absurd cc
 no_words bytes v is none (Some words) e = none words cc
-
-blob_same : (m n : List ℕ) → Blob m ≡ Blob n → m ≡ n
-blob_same m n e = cc
 
 pub no_shape : (bytes : List ℕ) (v : Value) → Blob bytes ≡ v → ((ring : Ring) → ¬ IsShapeOf bytes ring) → (o : Option Ring) → ¬ HasShape v o
 no_shape bytes v is none None e = absurd cc

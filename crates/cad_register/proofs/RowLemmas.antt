@@ -12,7 +12,7 @@ use Rattle.cad_versions.specs.Sorting.{insert_sorted as insert_in_order, sort_by
 use Rattle.cad_versions.specs.AsOf.{entry_order, entries_listed}
 use Rattle.cad_register.specs.Kept.{IsRowOf, AreRowsOf}
 use Rattle.cad_register.specs.Outlines.{outline}
-use Rattle.cad_register.proofs.FieldLemmas.{count_cell}
+use Rattle.cad_register.proofs.PartLemmas.{count_cell}
 
 abbrev pub IsLineOf : VersionRow → Entry → Type 0
 IsLineOf line e = IsRowOf (cells_of line) e

@@ -18,11 +18,12 @@ use Rattle.cad_versions.specs.AsOf.{entry_order, entries_listed}
 use Rattle.cad_versions.specs.Refusals.{AreAccepted}
 use Rattle.cad_versions.specs.ClosingLemmas.{entries_few}
 use Rattle.cad_versions.specs.HistoryLemmas.{histories}
+use Rattle.cad_versions.specs.SortLemmas.{all_inserted, all_sorted, length-sort_by}
 use Rattle.cad_register.specs.Damage.{identifier_in, comes_before, comes_after, AreSound, IsFirstDamaged, IsCauseIn}
 use Rattle.cad_register.specs.Kept.{AreRowsOf}
 use Rattle.cad_register.specs.Stands.{StandsFor, IsStoreFault}
 use Rattle.cad_register.proofs.ListedLemmas.{row_identifier}
-use Rattle.cad_register.proofs.CountLemmas.{length-sort_by, length-filter}
+use Rattle.cad_register.proofs.CountLemmas.{length-filter}
 use Rattle.cad_register.proofs.OrderLemmas.{entries_untied}
 use Rattle.cad_register.proofs.RowLemmas.{rows_listed}
 
@@ -45,14 +46,6 @@ less_else Greater g e = absurd cc
 follows : (a b c : ℤ × ℤ) → comes_before a b ≡ true → comes_before b c ≡ true → comes_before a c ≡ true
 follows a b c p q = grind (arith, ints)
 
-all_inserted : (P : Entry → Type 0) (e : Entry) (es : List Entry) → P e → AllByRecursion P es → AllByRecursion P (insert_sorted entry_order e es)
-all_inserted P e [] p all = (p, tt)
-all_inserted P e (f ∷ es) p all = elim (is_gt (entry_order e f)) as (λ t. AllByRecursion P (cond t (f ∷ insert_sorted entry_order e es) (e ∷ (f ∷ es)))) [ true ↦ (all.0, all_inserted P e es p all.1) | false ↦ (p, all) ]
-
-all_sorted : (P : Entry → Type 0) (es : List Entry) → AllByRecursion P es → AllByRecursion P (sort_by entry_order es)
-all_sorted P [] all = tt
-all_sorted P (e ∷ es) all = all_inserted P e (sort_by entry_order es) all.0 (all_sorted P es all.1)
-
 all_after : (e f : Entry) (es : List Entry) → Before e f → AllByRecursion (Before f) es → AllByRecursion (Before e) es
 all_after e f [] h all = tt
 all_after e f (g ∷ es) h all = (follows (identifier_of e.version) (identifier_of f.version) (identifier_of g.version) h all.0, all_after e f es h all.1)
@@ -62,12 +55,12 @@ inserted_ascends e [] apart up = (tt, tt)
 inserted_ascends e (f ∷ es) apart up = go (is_gt (entry_order e f)) refl (inserted_ascends e es apart.1 up.1)
   where
     go : (t : Bool) → is_gt (entry_order e f) ≡ t → IsAscending Before (insert_sorted entry_order e es) → IsAscending Before (cond t (f ∷ insert_sorted entry_order e es) (e ∷ (f ∷ es)))
-    go true is more = (all_inserted (Before f) e es (turned (identifier_of e.version) (identifier_of f.version) is) up.0, more)
+    go true is more = (all_inserted entry_order (Before f) e es (turned (identifier_of e.version) (identifier_of f.version) is) up.0, more)
     go false is more = let first = less_else (entry_order e f) is apart.0 in ((first, all_after e f es first up.0), up)
 
 sorted_ascends : (es : List Entry) → IsAscending Apart es → IsAscending Before (sort_by entry_order es)
 sorted_ascends [] apart = tt
-sorted_ascends (e ∷ es) apart = inserted_ascends e (sort_by entry_order es) (all_sorted (Apart e) es apart.0) (sorted_ascends es apart.1)
+sorted_ascends (e ∷ es) apart = inserted_ascends e (sort_by entry_order es) (all_sorted entry_order (Apart e) es apart.0) (sorted_ascends es apart.1)
 
 -- ---- rows that stand for such entries
 

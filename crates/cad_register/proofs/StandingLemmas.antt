@@ -26,7 +26,7 @@ use Rattle.cad_register.specs.declared.standing.ObjectState.{ObjectState}
 use Rattle.cad_register.specs.Naming.{IsBroken, IsFaultIn, fault_of_row}
 use Rattle.cad_register.specs.Stands.{StandsFor, IsStoreFault}
 use Rattle.cad_register.specs.Outlines.{outline, class_of_version, class_of_first, if_open, opened_last, IsStanding}
-use Rattle.cad_register.proofs.FieldLemmas.{day_cell}
+use Rattle.cad_register.proofs.PartLemmas.{day_cell}
 
 -- the version of a row
 pub record At (vs : List VersionedObject) (i : ℕ) (row : Row) : Type 0 where

@@ -17,7 +17,8 @@ use Rattle.cad_register.specs.Kept.{HoldsEntries}
 use Rattle.cad_register.specs.Changing.{IsChangeOf, line_written}
 use Rattle.cad_register.specs.Stands.{StandsFor, IsNumbered}
 use Rattle.cad_register.specs.Surviving.{database_of, IsDiskOf, IsOpenedOn, LeavesNoMore, Leaves, LeavesEither, LeavesOrMakes}
-use Rattle.cad_register.proofs.WriteLemmas.{accepted_then, holds_then, no_entries}
+use Rattle.cad_versions.specs.AcceptedLemmas.{accepted_then}
+use Rattle.cad_register.proofs.WriteLemmas.{holds_then, no_entries}
 
 disk_of : (db : Database) (cs : List Command) → AreAccepted [] cs → HoldsEntries (length cs) (entries_of cs) db × IsDatabase db → IsDiskOf cs db.trees
 disk_of db cs fine h = record {

@@ -1,5 +1,5 @@
 -- What is written for a command is what the command makes.
-use Rattle.std.proofs.Common.{◌≡◌, ℕ, ◌+◌, ◌^◌, ℤ, pos, ◌-ℤ◌, ◌≤ℤ◌, Bool, true, false, true≢false, cond, ◌&&◌, List, [], ◌∷◌, ◌++◌, length, map, filter, find, fold, Option, Some, None, is_none, refl, sym, ap, ap₂, ◌∙◌, subst, arith, int_eq, option_map, length-append, zero-add, not, nat_le, ◌<◌}
+use Rattle.std.proofs.Common.{◌≡◌, ℕ, ◌+◌, ◌^◌, ℤ, pos, ◌-ℤ◌, ◌≤ℤ◌, Bool, true, false, true≢false, cond, ◌&&◌, List, [], ◌∷◌, ◌++◌, length, map, filter, find, Option, Some, None, is_none, refl, sym, ap, ap₂, ◌∙◌, subst, arith, int_eq, option_map, length-append, not, nat_le, ◌<◌}
 use Rattle.std.specs.List.{AllByRecursion}
 use Rattle.sqlite_value.specs.declared.value.Value.TheVariants.{Int}
 use Rattle.sqlite_typed.specs.Columns.{or_null}
@@ -23,14 +23,15 @@ use Rattle.cad_versions.specs.Objects.{object_number}
 use Rattle.cad_versions.specs.Command.{object_named}
 use Rattle.cad_versions.specs.VersionedObject.{VersionedObject}
 use Rattle.cad_versions.specs.DayBefore.{day_before, number_of-day_before}
-use Rattle.cad_versions.specs.Versions.{is_of, is_open_of, history, closed_on, begun, next_number, after, versions}
+use Rattle.cad_versions.specs.Versions.{is_of, is_open_of, history, closed_on, begun, next_number, versions}
 use Rattle.cad_versions.specs.declared.fault.RegisterFault.{RegisterFault}
 use Rattle.cad_versions.specs.declared.fault.RegisterFault.TheVariants as fault
 use Rattle.cad_versions.specs.Refusals.{is_full, are_entered, refuse_if, refusal, AreAccepted}
 use Rattle.cad_versions.specs.Histories.{EndsBefore, IsHistory}
 use Rattle.cad_versions.specs.Entries.{Entry, version_in, entered_at, close_entry, entries_after, entries_of, ClosesInTime}
 use Rattle.cad_versions.specs.HistoryLemmas.{HasHistories, histories, amends, retires, find-filter, closed_is_not_open, le_fails, neither}
-use Rattle.cad_versions.specs.EntryLemmas.{versions_of_entries, entries_append}
+use Rattle.cad_versions.specs.EntryLemmas.{versions_of_entries}
+use Rattle.cad_versions.specs.AcceptedLemmas.{accepted_then, entries_then}
 use Rattle.cad_register.specs.declared.writing.NewEntry.{NewEntry}
 use Rattle.cad_register.specs.Kept.{HoldsEntries}
 use Rattle.cad_register.specs.Changing.{IsNew, IsChangeOf, line_written}
@@ -66,7 +67,7 @@ closing_same object day revision c is last small l e timely h = go (is_open_line
       last = ap Int last;
       entered = h.entered;
       closed = (refl, λ k k_is. subst (λ n. n < 2 ^ 32) (some_same revision k k_is) small);
-      fields = record { name = h.fields.name; code = h.fields.code; label = h.fields.label; area = h.fields.area; unit = h.fields.unit; party = h.fields.party; share = h.fields.share; required = h.fields.required; spot = h.fields.spot; shape = h.fields.shape };
+      parts = record { name = h.parts.name; code = h.parts.code; label = h.parts.label; area = h.parts.area; unit = h.parts.unit; party = h.parts.party; share = h.parts.share; required = h.parts.required; spot = h.parts.spot; shape = h.parts.shape };
       version = record { positive = h.version.positive; small = h.version.small; forward = λ d d_is. subst (λ n. number_of e.version.first ≤ℤ number_of n) (day_same day d d_is) (late refl) };
     }
       where
@@ -127,9 +128,6 @@ names_one object v c cs lines rows is h f =
 new_line : (v : VersionedObject) (revision : ℕ) (n : NewEntry) → IsNew v revision n → IsLineOf (line_written n) (entered_at revision v)
 new_line v revision n h = h.2
 
-entries_then : (cs : List Command) (c : Command) → entries_of (cs ++ c ∷ []) ≡ entries_after (length cs + 1) (entries_of cs) c
-entries_then cs c = entries_append 0 [] cs (c ∷ []) ∙ ap (λ m. entries_after (m + 1) (entries_of cs) c) (zero-add (length cs))
-
 before_is : (cs : List Command) (object : ObjectId) (first : Day) (body : Body) → refusal (versions cs) (Amend object first body) ≡ None → number_of first -ℤ pos 1 ≡ number_of (day_before first)
 before_is cs object first body e = let a = amends object first body (versions cs) e in sym (number_of-day_before a.standing.first first (le_fails (number_of first) (number_of a.standing.first) a.timely))
 
@@ -168,10 +166,6 @@ module _ (cs : List Command) (all : AreAccepted [] cs) where
 -- tables without lines are those of no commands
 pub no_entries : (db : Database) → Holds 0 [] db → HoldsEntries 0 [] db
 no_entries db h = record { lines = []; holds = h; rows = tt }
-
-pub accepted_then : (vs : List VersionedObject) (cs : List Command) (c : Command) → AreAccepted vs cs → refusal (fold after vs cs) c ≡ None → AreAccepted vs (cs ++ c ∷ [])
-accepted_then vs [] c all fine = (fine, tt)
-accepted_then vs (d ∷ cs) c all fine = (all.0, accepted_then (after vs d) cs c all.1 fine)
 
 -- a change that is written is that of the new command
 pub holds_then : (old : State) (db : Database) (cs : List Command) (c : Command) (number revision : ℕ) (ch : Change NewEntry) → StandsFor old cs → refusal (versions cs) c ≡ None → IsNumbered cs c number → revision ≡ length cs + 1

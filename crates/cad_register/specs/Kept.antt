@@ -13,7 +13,8 @@ use Rattle.cad_versions.specs.Class.{class_of, class_number}
 use Rattle.cad_versions.specs.VersionedObject.{IsVersion}
 use Rattle.cad_versions.specs.Entries.{Entry}
 use Rattle.cad_register.specs.declared.kept.StoredVersion.{StoredVersion}
-use Rattle.cad_register.specs.Fields.{HasFields, fields_of}
+use Rattle.cad_versions.specs.BodyParts.{parts_of}
+use Rattle.cad_register.specs.Parts.{HasParts}
 
 -- the row stands for the entry: it has it in its nineteen columns, and the entry is one that a register may hold
 pub record IsRowOf (row : Row) (e : Entry) : Type 0 where
@@ -24,7 +25,7 @@ pub record IsRowOf (row : Row) (e : Entry) : Type 0 where
   pub last : column row 4 ≡ or_null Int (option_map number_of e.version.last)
   pub entered : (column row 5 ≡ Int (pos e.entered)) × (e.entered < 2 ^ 32)
   pub closed : (column row 6 ≡ or_null (λ n. Int (pos n)) e.closed) × ForSome e.closed (λ n. n < 2 ^ 32)
-  pub fields : HasFields row (fields_of e.version.body)
+  pub parts : HasParts row (parts_of e.version.body)
   pub version : IsVersion e.version
 
 abbrev pub entry_of : StoredVersion → Entry

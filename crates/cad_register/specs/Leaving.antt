@@ -1,10 +1,16 @@
 -- What a call leaves that asks the database alone (SQLite, SELECT and Transaction).
-use Rattle.std.specs.Prelude.{◌≡◌, Result, Ok, Err, IsTrue}
+use Rattle.std.specs.Prelude.{◌≡◌, ◌≤◌, Result, Ok, Err, IsTrue}
 use Rattle.sqlite.specs.State.{State, HasCleanDisk}
 use Rattle.cad_tables.specs.Steps.{KeepsAll}
 use Rattle.cad_versions.specs.declared.fault.RegisterFault.{RegisterFault}
 use Rattle.cad_versions.specs.declared.fault.RegisterFault.TheVariants as fault
 use Rattle.cad_register.specs.Surviving.{LeavesNoMore}
+
+-- a later moment of the same connection: its disk is clean only where it was, its limit of steps is the same, and no fault of the disk is forgotten
+pub record IsLater (old new : State) : Type 0 where
+  pub clean : HasCleanDisk new → HasCleanDisk old
+  pub limit : new.step_limit ≡ old.step_limit
+  pub faults : old.faults ≤ new.faults
 
 -- the connection shows what it showed
 pub record IsAsBefore (old new : State) : Type 0 where
@@ -28,5 +34,5 @@ IsAnswered (Err cause) = IsOfTheRegister cause
 pub record AsksOnly {X : Type 0} (old new : State) (result : Result X RegisterFault) : Type 0 where
   pub same : HasCleanDisk new → IsAnswered result → IsAsBefore old new
   pub kept : HasCleanDisk new → IsTrue new.is_open → old.committed ≡ old.now → KeepsAll old new
-  pub clean : HasCleanDisk new → HasCleanDisk old
+  pub later : IsLater old new
   pub left : HasCleanDisk new → LeavesNoMore old new

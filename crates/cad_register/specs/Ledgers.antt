@@ -3,8 +3,9 @@ use Rattle.std.specs.Prelude.{◌≡◌, ◌≤◌, ℕ, pos, List, [], ◌∷�
 use Rattle.sqlite_value.specs.declared.value.Value.TheVariants.{Int}
 use Rattle.sqlite_trees.specs.declared.store.Store.{Ghosts}
 use Rattle.sqlite.specs.declared.error.Error.{Error}
-use Rattle.sqlite.specs.State.{FailsToQuery}
+use Rattle.sqlite.specs.State.{FailsToQuery, HasCleanDisk}
 use Rattle.cad_tables.specs.Texts.{listing_text}
+use Rattle.cad_versions.specs.declared.ledger.Ledger as ledger
 use Rattle.cad_versions.specs.Keeping.{IsOfKeeping}
 use Rattle.cad_versions.specs.declared.command.Command.{Command}
 use Rattle.cad_versions.specs.declared.fault.RegisterFault.{RegisterFault}
@@ -13,7 +14,7 @@ use Rattle.cad_versions.specs.Versions.{versions}
 use Rattle.cad_versions.specs.Refusals.{refusal}
 use Rattle.cad_register.specs.declared.register.Register.{Register}
 use Rattle.cad_register.specs.Refusing.{IsNotForMemory, RefusesToApply}
-use Rattle.cad_register.specs.Registers.{connection_of, state_of}
+use Rattle.cad_register.specs.Registers.{connection_of, state_of, IsRegisterOf, Remains}
 use Rattle.cad_register.specs.Stands.{IsStoreFault}
 
 -- the connection is open
@@ -33,6 +34,19 @@ RefusesCommand g old new command revision = RefusesToApply g (connection_of old)
 abbrev pub RefusesListing : {S : Type 0} → Ghosts S → Register S → Register S → ℕ → Type 0
 RefusesListing g old new revision =
     (e : Error) × IsNotForMemory e × FailsToQuery listing_text (Int (pos revision) ∷ []) (state_of g old) (state_of g new) e
+
+-- the register as a ledger of its commands
+abbrev pub register_as_ledger : {S : Type 0} → Ghosts S → ledger.Ghosts (Register S)
+register_as_ledger g = record {
+  stands_for = IsRegisterOf g;
+  counts = λ register. HasCleanDisk (state_of g register);
+  lives = IsOpen g;
+  fails_to_apply = IsCut;
+  fails_to_list = λ _ _. IsStoreFault;
+  refuses_command = RefusesCommand g;
+  refuses_listing = RefusesListing g;
+  remains = Remains g;
+}
 
 pub store_keeps : (why : RegisterFault) → IsStoreFault why → IsOfKeeping why
 store_keeps fault.Store h = tt

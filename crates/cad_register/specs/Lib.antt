@@ -1,6 +1,6 @@
 pub mod Rows
 pub mod Reading
-pub mod Fields
+pub mod Parts
 pub mod Kept
 pub mod Damage
 pub mod Stands

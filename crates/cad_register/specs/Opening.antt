@@ -13,10 +13,10 @@ use Rattle.cad_versions.specs.declared.command.Command.{Command}
 use Rattle.cad_versions.specs.declared.fault.RegisterFault.{RegisterFault}
 use Rattle.cad_versions.specs.declared.fault.RegisterFault.TheVariants.{NotARegister}
 use Rattle.cad_register.specs.declared.register.Register.{Register}
-use Rattle.cad_register.specs.Leaving.{IsAsBefore, AsksOnly}
+use Rattle.cad_register.specs.Leaving.{IsLater, IsAsBefore, AsksOnly}
 use Rattle.cad_register.specs.Refusing.{register_fault_of}
 use Rattle.cad_register.specs.Registers.{connection_of, revision_of, IsRegisterOf}
-use Rattle.cad_register.specs.Stands.{StandsFor, KeepsWhileOpen, IsStoreFault}
+use Rattle.cad_register.specs.Stands.{StandsFor, IsStoreFault}
 use Rattle.cad_register.specs.Surviving.{IsOpenedOn, Leaves, LeavesOrMakes}
 
 -- a register over the connection that was lent, or the cause and the connection
@@ -47,8 +47,8 @@ module _ {S : Type 0} (g : Ghosts S) (lent : Held S) (result : Outcome S) where
     pub taken : IsClean → IfErr result (λ refused. refused.0 ≡ NotARegister → (is_standing lent.schema ≡ true) × IsSettled g lent refused.1)
     pub cause : IfErr result (λ refused. refused.0 ≢ NotARegister → IsStoreFault refused.0)
     pub store : IsClean → IfErr result (λ refused. refused.0 ≢ NotARegister → (e : Error) × (refused.0 ≡ register_fault_of (fault_of e)) × RefusesTables g lent refused.1 e)
-    pub unchanged : IsClean → IfErr result (λ refused. KeepsWhileOpen (state g lent) (state g refused.1))
-    pub clean : IsClean → HasCleanDisk (state g lent)
+    pub unchanged : IsClean → IfErr result (λ refused. IsTrue (state g refused.1).is_open → KeepsAll (state g lent) (state g refused.1))
+    pub later : IsLater (state g lent) (state g (connection_in result))
     pub crash : IsClean → LeavesOrMakes (state g lent) (state g (connection_in result))
 
   -- the register has the revision that the database tells; it is no register exactly where the database says that a table, a column or the row of `state` is missing, or the row tells another format or no revision; the database stays as it was lent
@@ -78,5 +78,5 @@ module _ {S : Type 0} (g : Ghosts S) (lent : Held S) (result : Outcome S) where
     pub recovered : IsClean → (commands : List Command) → IsOpenedOn commands (state g lent) → length commands ≤ most_revision → IsFoundAs g commands result
     pub same : IsClean → IfErr result (λ refused. refused.0 ≡ NotARegister → IsAsBefore (state g lent) (state g refused.1))
     pub kept : IsClean → IfErr result (λ refused. IsTrue (state g refused.1).is_open → (state g lent).committed ≡ (state g lent).now → KeepsAll (state g lent) (state g refused.1))
-    pub clean : IsClean → HasCleanDisk (state g lent)
+    pub later : IsLater (state g lent) (state g (connection_in result))
     pub crash : IsClean → LeavesOrMakes (state g lent) (state g (connection_in result))

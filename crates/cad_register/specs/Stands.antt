@@ -1,10 +1,9 @@
 -- The tables of a register.
-use Rattle.std.specs.Prelude.{◌≡◌, ℕ, List, length, [], IsTrue, Result, MatchResult, ◌⊎◌, ◌≤◌, ◌+◌, ◌++◌, ◌∷◌, Option, Some, None}
+use Rattle.std.specs.Prelude.{◌≡◌, ℕ, List, length, [], IsTrue, Result, MatchResult, ◌⊎◌, ◌+◌, ◌++◌, ◌∷◌, Option, Some, None}
 use Rattle.cad_versions.specs.declared.fault.RegisterFault.{RegisterFault}
 use Rattle.cad_versions.specs.declared.fault.RegisterFault.TheVariants as fault
 use Rattle.sqlite.specs.Effect.{IsDatabase}
 use Rattle.sqlite.specs.State.{State}
-use Rattle.cad_tables.specs.Steps.{KeepsAll}
 use Rattle.cad_versions.specs.declared.command.Command.{Command}
 use Rattle.cad_versions.specs.declared.command.Command.TheVariants.{Amend}
 use Rattle.cad_versions.specs.Versions.{history, versions}
@@ -19,12 +18,6 @@ pub record StandsFor (s : State) (commands : List Command) : Type 0 where
   pub sound : IsDatabase s.now
   pub settled : s.committed ≡ s.now
   pub live : IsTrue s.is_open
-
--- what is seen and what is committed stay as long as the connection is open, and so does the limit of steps; no fault of the disk is forgotten (SQLite, Transaction)
-pub record KeepsWhileOpen (old new : State) : Type 0 where
-  pub kept : IsTrue new.is_open → KeepsAll old new
-  pub limit : new.step_limit ≡ old.step_limit
-  pub faults : old.faults ≤ new.faults
 
 -- a call on the tables of a register tells something, or why not; in both cases the tables stand for the same commands, as long as the connection is open
 abbrev pub Tells : {X : Type 0} → State → State → Result X RegisterFault → (List Command → X → Type 0) → (List Command → RegisterFault → Type 0) → Type 0

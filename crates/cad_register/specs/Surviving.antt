@@ -31,10 +31,6 @@ pub record IsOpenedOn (commands : List Command) (s : State) : Type 0 where
 abbrev pub LeavesNoMore : State → State → Type 0
 LeavesNoMore old new = (trees : Trees) → new.may_leave trees → old.may_leave trees
 
--- the same, where the tables stood for some commands
-abbrev pub KeepsDisk : State → State → Type 0
-KeepsDisk old new = (commands : List Command) → StandsFor old commands → LeavesNoMore old new
-
 -- a crash leaves the register of the commands
 abbrev pub Leaves : State → List Command → Type 0
 Leaves s commands = (trees : Trees) → s.may_leave trees → IsDiskOf commands trees

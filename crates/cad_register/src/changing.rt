@@ -6,6 +6,7 @@ ghost use Rattle.sqlite.specs.Held.{state};
 ghost use Rattle.cad_tables.specs.Steps.{KeepsAll};
 ghost use Rattle.cad_versions.specs.Versions.{begun};
 ghost use Rattle.cad_register.specs.Changing.{IsNew, IsChangeOf};
+ghost use Rattle.cad_register.specs.Leaving.{IsLater};
 ghost use Rattle.cad_register.specs.Stands.{Enacts, IsStoreFault};
 ghost use Rattle.cad_register.specs.Surviving.{EnactsOrNot};
 ghost use Rattle.cad_register.specs.Refusing.{RefusesChange};
@@ -115,8 +116,7 @@ pub(crate) fn enact<S: Alter>(
         RefusesChange S.Store connection.old connection.new command revision }
     ensures crash { HasCleanDisk (state S.Store connection.new) →
         EnactsOrNot (state S.Store connection.old) (state S.Store connection.new) command number revision }
-    ensures clean { HasCleanDisk (state S.Store connection.new) →
-        HasCleanDisk (state S.Store connection.old) }
+    ensures later { IsLater (state S.Store connection.old) (state S.Store connection.new) }
 {
     let change = change_of(alloc, command, number, revision)?;
     let written = cad_tables::write(connection, &change, revision);

@@ -5,14 +5,15 @@ ghost use Rattle.cad_day.specs.Days.{number_of};
 ghost use Rattle.cad_versions.specs.Class.{class_of};
 ghost use Rattle.cad_versions.specs.VersionedObject.{IsVersion};
 ghost use Rattle.cad_versions.specs.Entries.{seen_at};
-ghost use Rattle.cad_register.specs.Fields.{HasFields, fields_of};
+ghost use Rattle.cad_versions.specs.BodyParts.{parts_of};
+ghost use Rattle.cad_register.specs.Parts.{HasParts};
 ghost use Rattle.cad_register.specs.Reading.{Reads};
 ghost use Rattle.cad_register.specs.Kept.{IsRowOf, entry_of};
 
 use crate::columns::{
     ReadFault, class_at, count_at, day_at, last_day_at, object_at, optional_count_at,
 };
-use crate::fields::Fields;
+use crate::parts::parts_at;
 use cad_day::Day;
 use cad_versions::{Body, Class, MOST_NUMBER, ObjectId, Version};
 use sqlite::Row;
@@ -20,9 +21,9 @@ use std::alloc::Global;
 
 /// The body of this class in the columns of the row.
 fn body_at(alloc: Global, row: &Row, class: Class) -> Result<Body, ReadFault>
-    ensures { Reads result (λ body. (class_of body ≡ class) × HasFields row.now (fields_of body)) }
+    ensures { Reads result (λ body. (class_of body ≡ class) × HasParts row.now (parts_of body)) }
 {
-    match Fields::read(alloc, row)?.into_body(class) {
+    match Body::from_parts(class, parts_at(alloc, row)?) {
         Some(body) => Ok(body),
         None => Err(ReadFault::Damaged),
     }

@@ -1,9 +1,6 @@
 //! A land register as a ledger.
 
-ghost use Rattle.sqlite.specs.State.{HasCleanDisk};
-ghost use Rattle.cad_register.specs.Registers.{state_of, IsRegisterOf, Remains};
-ghost use Rattle.cad_register.specs.Stands.{IsStoreFault};
-ghost use Rattle.cad_register.specs.Ledgers.{IsOpen, IsCut, RefusesCommand, RefusesListing, cut_keeps, store_keeps};
+ghost use Rattle.cad_register.specs.Ledgers.{register_as_ledger, cut_keeps, store_keeps};
 ghost use Rattle.cad_register.specs.SettledLemmas.{remains_here, remains_then};
 
 use crate::register::Register;
@@ -11,25 +8,27 @@ use cad_versions::{Command, Ledger, RegisterFault, Version};
 use sqlite::Alter;
 
 impl<S: Alter> Ledger for Register<S> {
-    ghost stands_for = { IsRegisterOf S.Store };
+    ghost stands_for = { (register_as_ledger S.Store).stands_for };
 
-    ghost counts = { λ register. HasCleanDisk (state_of S.Store register) };
+    ghost counts = { (register_as_ledger S.Store).counts };
 
-    ghost lives = { IsOpen S.Store };
+    ghost lives = { (register_as_ledger S.Store).lives };
 
-    ghost fails_to_apply = { IsCut };
+    ghost fails_to_apply = { (register_as_ledger S.Store).fails_to_apply };
 
-    ghost fails_to_list = { λ _ _. IsStoreFault };
+    ghost fails_to_list = { (register_as_ledger S.Store).fails_to_list };
 
-    ghost refuses_command = { RefusesCommand S.Store };
+    ghost refuses_command = { (register_as_ledger S.Store).refuses_command };
 
-    ghost refuses_listing = { RefusesListing S.Store };
+    ghost refuses_listing = { (register_as_ledger S.Store).refuses_listing };
 
-    ghost remains = { Remains S.Store };
+    ghost remains = { (register_as_ledger S.Store).remains };
 
     ghost apply_keeps = { cut_keeps };
 
     ghost list_keeps = { λ _ _. store_keeps };
+
+    ghost were_accepted = { λ _ _ of. of.stands.accepted };
 
     ghost remains_here = { remains_here _ };
 

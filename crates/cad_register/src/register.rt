@@ -40,7 +40,7 @@ impl<S: Alter> Register<S> {
     ghost use Rattle.cad_versions.specs.AsOf.{as_of as register_as_of};
     ghost use Rattle.cad_versions.specs.Listing.{IsListing};
     ghost use Rattle.cad_register.specs.Damage.{ReadsRows};
-    ghost use Rattle.cad_register.specs.Leaving.{IsAnswered, IsOfTheRegister};
+    ghost use Rattle.cad_register.specs.Leaving.{IsAnswered, IsLater, IsOfTheRegister};
     ghost use Rattle.cad_register.specs.Opening.{Created, Opened, OpenedOrCreated};
     ghost use Rattle.cad_register.specs.Stands.{IsStoreFault, IsReadingFault};
     ghost use Rattle.cad_register.specs.Naming.{NamesShown};
@@ -159,8 +159,8 @@ impl<S: Alter> Register<S> {
         ensures crash { HasCleanDisk (state_of S.Store self.new) → (commands : List CommandOf) →
             IsRegisterOf S.Store self.old commands →
             Leaves (state_of S.Store self.new) commands }
-        ensures clean { HasCleanDisk (state_of S.Store self.new) →
-            HasCleanDisk (state_of S.Store self.old) }
+        // Whatever is answered, the limit of steps is the same, and no fault of the disk is forgotten.
+        ensures later { IsLater (state_of S.Store self.old) (state_of S.Store self.new) }
     {
         if u64::from(self.revision) < revision {
             return Err(RegisterFault::UnknownRevision);
@@ -200,8 +200,8 @@ impl<S: Alter> Register<S> {
         ensures durable { HasCleanDisk (state_of S.Store self.new) →
             OnOk result ((commands : List CommandOf) → IsRegisterOf S.Store self.old commands →
             Leaves (state_of S.Store self.new) (commands ++ command ∷ [])) }
-        ensures clean { HasCleanDisk (state_of S.Store self.new) →
-            HasCleanDisk (state_of S.Store self.old) }
+        // Whatever is answered, the limit of steps is the same, and no fault of the disk is forgotten.
+        ensures later { IsLater (state_of S.Store self.old) (state_of S.Store self.new) }
     {
         let count = decide(self.alloc, &mut self.connection, self.revision, &command)?;
         if self.revision >= MOST_REVISION {

@@ -8,92 +8,27 @@ use Rattle.std.proofs.Math.Seq.{take-append_seam, drop-append-add}
 use Rattle.std.proofs.lemmas.List.{append_assoc}
 use Rattle.std.proofs.lemmas.Slice.Eq.{bytes_eq-Decides}
 use Rattle.matchit.specs.Seek.{has_slash}
-use Rattle.cad_feature.specs.declared.collection.Collection.{Collection}
-use Rattle.cad_feature.specs.declared.collection.Collection.TheVariants.{Parcels, Rights, Restrictions, Units, Parties}
-use Rattle.cad_feature.specs.Collections.{name_of}
+use Rattle.cad_schema.specs.declared.collection.Collection.{Collection}
+use Rattle.cad_schema.specs.Collections.{name_of, collection_named}
+use Rattle.cad_schema.specs.NameLemmas.{names_are_read_back, what_is_read_has_the_name}
 use Rattle.cad_resource.specs.declared.route.Route.{Route}
 use Rattle.cad_resource.specs.Asking.{asked_in}
 use Rattle.cad_resource.specs.Heads.{is_target}
 use Rattle.cad_resource.specs.Parts.{identifier_part, found_by}
-use Rattle.cad_resource.specs.Places.{Place, landing, collections, collection, queryables, items, item, place_of, collection_named, known, resource_of, path_of, named}
+use Rattle.cad_resource.specs.Places.{Place, landing, collections, collection, queryables, items, item, place_of, known, resource_of, path_of, named}
 use Rattle.cad_resource.specs.RouteRows.{route_of}
 use Rattle.cad_resource.specs.Laws.{IsPlace, KnownPathsAreReadBack, ResourcesHaveOnePath}
 use Rattle.cad_resource.proofs.PathLemmas.{no_slash_parts, no_slash_of, paths_are_read_back, places_have_one_path}
-
--- ---- collections by their names
-
-pub collection_read : (c : Collection) → collection_named (name_of c) ≡ Some c
-collection_read Parcels = refl
-collection_read Rights = refl
-collection_read Restrictions = refl
-collection_read Units = refl
-collection_read Parties = refl
-
-other_text : (a b : List ℕ) → a ≢ b → bytes_eq a b ≡ false
-other_text a b other = by_same (bytes_eq a b) (bytes_eq-Decides a b).0
-  where
-    by_same : (t : Bool) → (t ≡ true → a ≡ b) → t ≡ false
-    by_same true same = absurd (other (same refl))
-    by_same false same = refl
-
--- a name of no collection
-pub collection_unknown : (name : List ℕ) → ((c : Collection) → ¬ (name_of c ≡ name)) → collection_named name ≡ None
-collection_unknown name none =
-    rw (
-      other_text name (name_of Parcels) (λ e. none Parcels (sym e)),
-      other_text name (name_of Rights) (λ e. none Rights (sym e)),
-      other_text name (name_of Restrictions) (λ e. none Restrictions (sym e)),
-      other_text name (name_of Units) (λ e. none Units (sym e)),
-      other_text name (name_of Parties) (λ e. none Parties (sym e)),
-    ) refl
-
--- the collection that is read by its name
-pub collection_found : (name : List ℕ) (o : Option Collection) → MatchOption o ((c : Collection) → ¬ (name_of c ≡ name)) (λ c. name_of c ≡ name)
-    → o ≡ collection_named name
-collection_found name None none = sym (collection_unknown name none)
-collection_found name (Some c) same = sym (subst (λ (n : List ℕ). collection_named n ≡ Some c) same (collection_read c))
-
--- a name has the collection that is found by it
-pub collection_is : (name : List ℕ) (c : Collection) → collection_named name ≡ Some c → name ≡ name_of c
-collection_is name c e =
-    by_parcels (bytes_eq name (name_of Parcels)) (bytes_eq-Decides name (name_of Parcels)).0 e
-  where
-    same_collection : (a : Collection) → Some a ≡ Some c → name ≡ name_of a → name ≡ name_of c
-    same_collection a told same = let is : a ≡ c = cc in same ∙ ap name_of is
-
-    by_parties : (t : Bool) → (t ≡ true → name ≡ name_of Parties) → cond t (Some Parties) None ≡ Some c → name ≡ name_of c
-    by_parties true same e = same_collection Parties e (same refl)
-    by_parties false same e = absurd (let told : None ≡ Some c = e in cc)
-
-    by_units : (t : Bool) → (t ≡ true → name ≡ name_of Units)
-        → cond t (Some Units) (cond (bytes_eq name (name_of Parties)) (Some Parties) None) ≡ Some c → name ≡ name_of c
-    by_units true same e = same_collection Units e (same refl)
-    by_units false same e = by_parties (bytes_eq name (name_of Parties)) (bytes_eq-Decides name (name_of Parties)).0 e
-
-    by_restrictions : (t : Bool) → (t ≡ true → name ≡ name_of Restrictions)
-        → cond t (Some Restrictions) (cond (bytes_eq name (name_of Units)) (Some Units) (cond (bytes_eq name (name_of Parties)) (Some Parties) None)) ≡ Some c → name ≡ name_of c
-    by_restrictions true same e = same_collection Restrictions e (same refl)
-    by_restrictions false same e = by_units (bytes_eq name (name_of Units)) (bytes_eq-Decides name (name_of Units)).0 e
-
-    by_rights : (t : Bool) → (t ≡ true → name ≡ name_of Rights)
-        → cond t (Some Rights) (cond (bytes_eq name (name_of Restrictions)) (Some Restrictions) (cond (bytes_eq name (name_of Units)) (Some Units) (cond (bytes_eq name (name_of Parties)) (Some Parties) None))) ≡ Some c → name ≡ name_of c
-    by_rights true same e = same_collection Rights e (same refl)
-    by_rights false same e = by_restrictions (bytes_eq name (name_of Restrictions)) (bytes_eq-Decides name (name_of Restrictions)).0 e
-
-    by_parcels : (t : Bool) → (t ≡ true → name ≡ name_of Parcels)
-        → cond t (Some Parcels) (cond (bytes_eq name (name_of Rights)) (Some Rights) (cond (bytes_eq name (name_of Restrictions)) (Some Restrictions) (cond (bytes_eq name (name_of Units)) (Some Units) (cond (bytes_eq name (name_of Parties)) (Some Parties) None)))) ≡ Some c → name ≡ name_of c
-    by_parcels true same e = same_collection Parcels e (same refl)
-    by_parcels false same e = by_rights (bytes_eq name (name_of Rights)) (bytes_eq-Decides name (name_of Rights)).0 e
 
 -- ---- laws of resources
 
 known_named : (place : Place Collection) → known (named place) ≡ Some place
 known_named landing = refl
 known_named collections = refl
-known_named (collection c) = ap (option_map collection) (collection_read c)
-known_named (queryables c) = ap (option_map queryables) (collection_read c)
-known_named (items c) = ap (option_map items) (collection_read c)
-known_named (item c id) = ap (option_map (λ (found : Collection). item found id)) (collection_read c)
+known_named (collection c) = ap (option_map collection) (names_are_read_back c)
+known_named (queryables c) = ap (option_map queryables) (names_are_read_back c)
+known_named (items c) = ap (option_map items) (names_are_read_back c)
+known_named (item c id) = ap (option_map (λ (found : Collection). item found id)) (names_are_read_back c)
 
 pub known_paths_are_read_back : KnownPathsAreReadBack
 known_paths_are_read_back place is = ap (option_and_then known) (paths_are_read_back (named place) is) ∙ known_named place
@@ -105,7 +40,7 @@ known_by make of same name place None found e = absurd (let told : None ≡ Some
 known_by make of same name place (Some c) found e =
     let told : Some (of c) ≡ Some place = e in
     let is : of c ≡ place = cc in
-    ap make (collection_is name c found) ∙ same c ∙ ap named is
+    ap make (what_is_read_has_the_name name c found) ∙ same c ∙ ap named is
 
 known_is : (place : Place (List ℕ)) (found : Place Collection) → known place ≡ Some found → place ≡ named found
 known_is landing found e = let told : Some landing ≡ Some found = e in let is : landing ≡ found = cc in ap named is

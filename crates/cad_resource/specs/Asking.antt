@@ -2,8 +2,8 @@
 use Rattle.std.specs.Prelude.{ℕ, List, codes, not, Bool, false, ◌||◌, ◌==◌, Option, Some, None, Result, Ok, Err, if◌then◌else◌}
 use Rattle.std.specs.List.{before_first, after_first}
 use Rattle.std.specs.Str.{bytes_eq}
-use Rattle.cad_feature.specs.declared.collection.Collection.{Collection}
-use Rattle.cad_request.specs.Request.{Request, closes_connection}
+use Rattle.cad_schema.specs.declared.collection.Collection.{Collection}
+use Rattle.cad_head.specs.Request.{Request, closes_connection}
 use Rattle.cad_resource.specs.declared.asked.Asked.{Asked}
 use Rattle.cad_resource.specs.declared.check.Check.{Check}
 use Rattle.cad_resource.specs.declared.check.Check.TheVariants.{Host, Body, Target, NoResource, Method, NoCollection}

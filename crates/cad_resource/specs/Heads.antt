@@ -2,7 +2,7 @@
 use Rattle.std.specs.Prelude.{ℕ, List, codes, Bool, not, get_or, ◌&&◌, ◌||◌, ◌==◌, nat_le, count_by}
 use Rattle.std.specs.List.{list_any, list_all}
 use Rattle.std.specs.Str.{bytes_eq, str_eq_ignore_ascii_case}
-use Rattle.cad_request.specs.Request.{FieldText, Request}
+use Rattle.cad_head.specs.Request.{FieldText, Request}
 
 -- the field has this name, in any ASCII case (RFC 9110, section 5.1: field names)
 abbrev pub is_named : List ℕ → FieldText → Bool

@@ -1,7 +1,7 @@
 -- What the definitions of requests and paths say together.
 use Rattle.std.specs.Prelude.{◌≡◌, ◌≢◌, ◌<◌, ℕ, true, false, List, codes, All, length, Some, None, Ok, Err, ⊤}
-use Rattle.cad_feature.specs.declared.collection.Collection.{Collection}
-use Rattle.cad_request.specs.Request.{Request, path, query}
+use Rattle.cad_schema.specs.declared.collection.Collection.{Collection}
+use Rattle.cad_head.specs.Request.{Request, path, query}
 use Rattle.cad_resource.specs.declared.check.Check.TheVariants.{Host, Body, Target, NoResource, Method, NoCollection}
 use Rattle.cad_resource.specs.Heads.{lacks_host, has_body, is_target}
 use Rattle.cad_resource.specs.Places.{Place, landing, collections, collection, queryables, items, item, place_of, resource_of, path_of, named}

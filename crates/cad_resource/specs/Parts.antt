@@ -1,10 +1,11 @@
 -- Parts of a path by their number, and what a path names by them.
 use Rattle.std.specs.Prelude.{ℕ, List, ◌==◌, Option, Some, option_map}
 use Rattle.std.specs.List.{before_first, after_first}
-use Rattle.cad_feature.specs.declared.collection.Collection.{Collection}
+use Rattle.cad_schema.specs.declared.collection.Collection.{Collection}
 use Rattle.cad_resource.specs.declared.route.Route.{Route}
 use Rattle.cad_resource.specs.declared.route.Route.TheVariants as route
-use Rattle.cad_resource.specs.Places.{Place, landing, collections, collection, queryables, items, item, collection_named}
+use Rattle.cad_resource.specs.Places.{Place, landing, collections, collection, queryables, items, item}
+use Rattle.cad_schema.specs.Collections.{collection_named}
 
 -- what follows the first slash
 abbrev pub below : List ℕ → List ℕ

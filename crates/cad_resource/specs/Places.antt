@@ -3,9 +3,8 @@ use Rattle.std.specs.Prelude.{ℕ, List, [], ◌∷◌, ◌++◌, codes, ◌==�
 use Rattle.std.specs.List.{slice_split}
 use Rattle.std.specs.Option.{option_and_then}
 use Rattle.std.specs.Str.{bytes_eq}
-use Rattle.cad_feature.specs.declared.collection.Collection.{Collection}
-use Rattle.cad_feature.specs.declared.collection.Collection.TheVariants.{Parcels, Rights, Restrictions, Units, Parties}
-use Rattle.cad_feature.specs.Collections.{name_of}
+use Rattle.cad_schema.specs.declared.collection.Collection.{Collection}
+use Rattle.cad_schema.specs.Collections.{collection_named, name_of}
 
 -- what a path names, with the collection as the path has it or as it is known
 pub data Place (C : Type 0) : Type 0 where
@@ -61,15 +60,6 @@ place_at ((b ∷ s) ∷ rest) = None
 -- what a path names, whether or not the collection is known
 abbrev pub place_of : List ℕ → Option (Place (List ℕ))
 place_of path = place_at (segments path)
-
--- the collection of this name, if there is one
-abbrev pub collection_named : List ℕ → Option Collection
-collection_named name =
-    if bytes_eq name (name_of Parcels) then Some Parcels
-    else (if bytes_eq name (name_of Rights) then Some Rights
-    else (if bytes_eq name (name_of Restrictions) then Some Restrictions
-    else (if bytes_eq name (name_of Units) then Some Units
-    else (if bytes_eq name (name_of Parties) then Some Parties else None))))
 
 -- the same place with its collection known, if it is
 abbrev pub known : Place (List ℕ) → Option (Place Collection)

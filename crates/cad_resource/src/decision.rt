@@ -2,7 +2,7 @@
 
 ghost use Rattle.std.specs.Prelude.{◌≡◌, Some, option_map};
 ghost use Rattle.httparse.specs.Spans.{IsRequestWithin};
-ghost use Rattle.cad_request.specs.Request.{request_at};
+ghost use Rattle.cad_head.specs.Request.{request_at};
 ghost use Rattle.cad_resource.specs.Asking as spec;
 ghost use Rattle.cad_resource.specs.Asking.{asked_text, asked_in, ends_by_check, ends_after};
 ghost use Rattle.cad_resource.specs.Places.{place_of, resource_of};
@@ -16,7 +16,7 @@ use crate::resource::resource_at;
 use crate::route::Route;
 use crate::router::Routes;
 use crate::target::target_text;
-use cad_request::closes_connection;
+use cad_head::closes_connection;
 use httparse::spans::{HeaderSpan, RequestSpans};
 
 /// What a request asks for or fails, and what comes of its connection.

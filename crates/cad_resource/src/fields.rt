@@ -3,7 +3,7 @@
 ghost use Rattle.std.specs.Prelude.{◌≡◌, length, map, codes, count_by, All};
 ghost use Rattle.std.specs.List.{list_any};
 ghost use Rattle.httparse.specs.Spans.{IsHeaderWithin, IsRequestWithin, header_bytes};
-ghost use Rattle.cad_request.specs.Request.{request_at};
+ghost use Rattle.cad_head.specs.Request.{request_at};
 ghost use Rattle.cad_resource.specs.Heads as spec;
 ghost use Rattle.cad_resource.specs.Heads.{is_named as is_named_field, announces_body as announces_body_field};
 

@@ -4,11 +4,11 @@ ghost use Rattle.std.specs.Prelude.{◌≡◌, option_map};
 ghost use Rattle.cad_resource.specs.Asking.{place_held};
 ghost use Rattle.cad_resource.specs.Parts as spec;
 ghost use Rattle.cad_resource.specs.Parts.{found_by};
-ghost use Rattle.cad_resource.specs.Places.{collection_named};
+ghost use Rattle.cad_schema.specs.Collections.{collection_named};
 
 use crate::parts::{identifier_part, name_part};
 use crate::route::Route;
-use cad_feature::Collection;
+use cad_schema::Collection;
 
 /// What a path names.
 #[derive(Clone, Copy, Debug)]

@@ -17,29 +17,29 @@ use Rattle.cad_desk.specs.Desks.{responder_of, connections_of}
 use Rattle.cad_serve.specs.Serving.{bytes_read, GoesOn}
 use Rattle.cad_serve.specs.Laws.{ServedIsAStream}
 
-same_self : (c : ℕ) → nat_eq c c ≡ true
+pub same_self : (c : ℕ) → nat_eq c c ≡ true
 same_self c = grind (arith, nat_tests)
 
 -- pieces with the same commands in force
 abbrev pub pieces_at : List Command → List (Vec ℕ) → List Piece
 pieces_at commands pieces = map (λ (piece : Vec ℕ). (commands, piece.items)) pieces
 
-bytes_of-at : (commands : List Command) (pieces : List (Vec ℕ)) → bytes_of (pieces_at commands pieces) ≡ bytes_read pieces
+pub bytes_of-at : (commands : List Command) (pieces : List (Vec ℕ)) → bytes_of (pieces_at commands pieces) ≡ bytes_read pieces
 bytes_of-at commands [] = refl
 bytes_of-at commands (piece ∷ pieces) = ap (λ (l : List ℕ). piece.items ++ l) (bytes_of-at commands pieces)
 
-heads_of-at : (commands : List Command) (heads : List RequestHead) → heads_of (heads_at commands heads) ≡ heads
+pub heads_of-at : (commands : List Command) (heads : List RequestHead) → heads_of (heads_at commands heads) ≡ heads
 heads_of-at commands [] = refl
 heads_of-at commands (head ∷ heads) = ap (λ (l : List RequestHead). head ∷ l) (heads_of-at commands heads)
 
 -- a connection that goes on waits
-goes_on_waits : (last : Outcome) → false ≡ is_none (rest_of last) → (rest : List ℕ) × (last ≡ waits rest)
+pub goes_on_waits : (last : Outcome) → false ≡ is_none (rest_of last) → (rest : List ℕ) × (last ≡ waits rest)
 goes_on_waits (waits rest) h = (rest, refl)
 goes_on_waits closed h = absurd cc
 goes_on_waits refused h = absurd cc
 
 module _ {R : Type 0} (g : Ghosts R) (c : ℕ) (commands : List Command) where
-  counted : (pieces : List (Vec ℕ)) (old new : Desk R) (out : List ℕ) → GoesOn g c old pieces out new → g.counts (responder_of new) → g.counts (responder_of old)
+  pub counted : (pieces : List (Vec ℕ)) (old new : Desk R) (out : List ℕ) → GoesOn g c old pieces out new → g.counts (responder_of new) → g.counts (responder_of old)
   counted [] old new out x counts = subst (λ (d : Desk R). g.counts (responder_of d)) x.1 counts
   counted (piece ∷ pieces) old new out x counts = x.3.1.clean (counted pieces x.2 new x.1 x.5 counts)
 

@@ -1,3 +1,4 @@
-pub mod WriteLemmas
 pub mod ServeLemmas
 pub mod LawLemmas
+pub mod OtherLemmas
+pub mod WrittenLemmas

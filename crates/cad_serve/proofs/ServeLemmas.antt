@@ -18,7 +18,8 @@ use Rattle.cad_serve.specs.declared.ending.Ending.{Ending}
 use Rattle.cad_serve.specs.declared.ending.Ending.TheVariants.{PeerEnded, WeEnded, Refused}
 use Rattle.cad_serve.specs.declared.serve_fault.ServeFault.{ServeFault}
 use Rattle.cad_serve.specs.declared.serve_fault.ServeFault.TheVariants.{Read, Write, TurnsSpent}
-use Rattle.cad_serve.specs.Serving.{IsPiece, IsOpen, IsRefusedSo, Closes, Sends, GoesOn, IsUnderWay, IsNotTaken, IsSent, IsWhole, IsTaken, IsTurn, IsRefused, EndsSo, IsServed, IsPaced, Writes, ReadsAndWrites}
+use Rattle.cad_serve.specs.Serving.{IsPiece, IsOpen, IsRefusedSo, Closes, Sends, GoesOn, IsUnderWay, IsNotTaken, IsSent, IsWhole, IsTaken, IsTurn, IsRefused, EndsSo, IsServed, IsPaced}
+use Rattle.cad_io.specs.Known.{Writes, ReadsAndWrites}
 
 -- what is open is not unknown
 open_or_none : {A : Type 0} (o : Option A) → IsSome o → ¬ (o ≡ None)

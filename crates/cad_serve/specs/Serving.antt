@@ -2,7 +2,6 @@
 use Rattle.std.specs.Prelude.{◌≡◌, ◌⊎◌, ℕ, ◌*◌, ◌<◌, ◌≤◌, Bool, true, false, List, [], ◌∷◌, ◌++◌, length, Option, Some, None, IsSome, Result, Ok, Err}
 use Rattle.std.specs.Global.{Vec}
 use Rattle.std.specs.List.{flat_map}
-use Rattle.std.specs.Io.KnownBytes.{Consumes, Appends}
 use Rattle.cad_stream.specs.declared.responder.Responder.{Ghosts}
 use Rattle.cad_desk.specs.declared.desk.Desk.{Desk}
 use Rattle.cad_desk.specs.declared.event.Event.TheVariants.{Open, Bytes, Close}
@@ -15,7 +14,8 @@ use Rattle.cad_serve.specs.declared.ending.Ending.{Ending}
 use Rattle.cad_serve.specs.declared.ending.Ending.TheVariants.{PeerEnded, WeEnded, Refused}
 use Rattle.cad_serve.specs.declared.serve_fault.ServeFault.{ServeFault}
 use Rattle.cad_serve.specs.declared.serve_fault.ServeFault.TheVariants.{Read, Write, TurnsSpent}
-use Rattle.cad_serve.specs.Writing.{IsFront, IsCutShort, fixed_head}
+use Rattle.cad_io.specs.Writing.{IsFront, IsCutShort}
+use Rattle.cad_serve.specs.Writing.{fixed_head}
 
 -- the most bytes of a read, and the most reads (own profile)
 abbrev pub piece_len : ℕ
@@ -165,12 +165,3 @@ module _ {R : Type 0} (g : Ghosts R) (c : ℕ) where
   -- and no more was read than so many pieces hold
   abbrev pub IsServed : Desk R → Result Ending ServeFault → Desk R → List ℕ → List ℕ → Type 0
   IsServed old result new read written = EndsSo old result new read written × IsPaced read
-
--- the bytes that a writer took are so
-abbrev pub Writes : Option (List ℕ) → Option (List ℕ) → (List ℕ → Type 0) → Type 0
-Writes old new Is = (written : List ℕ) × Appends old new written × Is written
-
--- the bytes that a reader gave and those that a writer took are in this relation
-abbrev pub ReadsAndWrites : Option (List ℕ) → Option (List ℕ) → Option (List ℕ) → Option (List ℕ) → (List ℕ → List ℕ → Type 0) → Type 0
-ReadsAndWrites from to old new Are =
-    (read : List ℕ) × (written : List ℕ) × Consumes from to read × Appends old new written × Are read written

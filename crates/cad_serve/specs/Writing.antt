@@ -1,25 +1,7 @@
--- What a writer takes, and the heads that are sent without memory (RFC 9112, section 4: status line).
-use Rattle.std.specs.Prelude.{◌≡◌, ℕ, ◌<◌, List, [], ◌∷◌, ◌++◌, take, length, codes, Option, Result, Ok, Err}
-use Rattle.std.specs.Io.KnownBytes.{Appends}
+-- The heads that are sent without memory (RFC 9112, section 4: status line).
+use Rattle.std.specs.Prelude.{ℕ, List, [], ◌∷◌, ◌++◌, codes}
 use Rattle.cad_desk.specs.declared.fault.DeskFault.{DeskFault}
 use Rattle.cad_desk.specs.declared.fault.DeskFault.TheVariants.{UnknownConnection, KnownConnection, TooManyConnections, Memory, Register}
-use Rattle.cad_serve.specs.declared.serve_fault.ServeFault.{ServeFault}
-use Rattle.cad_serve.specs.declared.serve_fault.ServeFault.TheVariants.{Read, Write, TurnsSpent}
-
--- the first list is a front of the second, maybe all of it
-abbrev pub IsFront : List ℕ → List ℕ → Type 0
-IsFront front whole = (n : ℕ) × (front ≡ take n whole)
-
--- the first list is the second, cut short
-abbrev pub IsCutShort : List ℕ → List ℕ → Type 0
-IsCutShort front whole = (n : ℕ) × (n < length whole) × (front ≡ take n whole)
-
--- what a writer took of these bytes: all, or where it failed a part of them
-abbrev pub IsWritten : Option (List ℕ) → Option (List ℕ) → List ℕ → Result (Unit {0}) ServeFault → Type 0
-IsWritten old new bytes (Ok done) = Appends old new bytes
-IsWritten old new bytes (Err Write) = (front : List ℕ) × Appends old new front × IsCutShort front bytes
-IsWritten old new bytes (Err Read) = ⊥
-IsWritten old new bytes (Err TurnsSpent) = ⊥
 
 -- a line and its end
 abbrev pub line : List ℕ → List ℕ

@@ -3,8 +3,7 @@
 //! - `serve`: reads the connection's bytes in pieces, has the desk take each, and writes its replies
 //! - `Ending`: how serving ended
 //! - `ServeFault`: why it stopped before its end
-//! - `write_whole`: writes bytes over short writes
-//! - `laws`: what was written are the replies to the requests that were read
+//! - `laws`: what was written are the replies to the requests that were read, and no other connection is touched
 //!
 //! ```text
 //! let mut reader = Cursor::new(b"GET / HTTP/1.1\r\nHost: x\r\n\r\n".as_slice());
@@ -22,4 +21,3 @@ mod writing;
 pub use ending::Ending;
 pub use serve_fault::ServeFault;
 pub use serving::serve;
-pub use writing::write_whole;

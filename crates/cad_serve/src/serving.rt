@@ -2,12 +2,14 @@
 
 ghost use Rattle.std.specs.Prelude.{◌≡◌, Some, Ok, false};
 ghost use Rattle.std.specs.Io.KnownBytes.{IsAtEnd};
-ghost use Rattle.cad_serve.specs.Serving.{Closes, IsOpen, IsPiece, IsRefusedSo, IsSent, IsServed, IsTaken, IsTurn, ReadsAndWrites, Writes};
+ghost use Rattle.cad_serve.specs.Serving.{Closes, IsOpen, IsPiece, IsRefusedSo, IsSent, IsServed, IsTaken, IsTurn};
+ghost use Rattle.cad_io.specs.Known.{ReadsAndWrites, Writes};
 
 use crate::ending::Ending;
 use crate::serve_fault::ServeFault;
-use crate::writing::{write_fixed_head, write_whole};
+use crate::writing::write_fixed_head;
 use cad_desk::{Desk, DeskFault, Event, Reply};
+use cad_io::write_whole;
 use cad_stream::Responder;
 use std::alloc::Global;
 use std::io::{Read, Write};

@@ -1,10 +1,11 @@
-//! Writing replies, over short writes.
+//! The heads that are sent without memory.
 
-ghost use Rattle.std.specs.Prelude.{◌≡◌, ◌≤◌, drop, length};
-ghost use Rattle.cad_serve.specs.Writing.{fixed_head as fixed_head_of, IsWritten};
+ghost use Rattle.std.specs.Prelude.{◌≡◌};
+ghost use Rattle.cad_io.specs.Writing.{IsWritten};
+ghost use Rattle.cad_serve.specs.Writing.{fixed_head as fixed_head_of};
 
-use crate::serve_fault::ServeFault;
 use cad_desk::DeskFault;
+use cad_io::{WriteFailed, write_whole};
 use std::io::Write;
 
 /// The head that tells that a growth was refused.
@@ -14,27 +15,6 @@ const NO_MEMORY_HEAD: &str =
 /// The head that tells that the register refused.
 const REGISTER_HEAD: &str =
     "HTTP/1.1 500 Internal Server Error\r\nContent-Length: 0\r\nConnection: close\r\n\r\n";
-
-fn after(bytes: &[u8], count: usize) -> &[u8]
-    requires { count ≤ length bytes.now }
-    ensures { result.now ≡ drop count bytes.now }
-{
-    &bytes[count..]
-}
-
-/// Writes all the bytes. At a write that fails or takes nothing it stops: then a front of them was written.
-pub fn write_whole<W: Write>(writer: &mut W, bytes: &[u8]) -> Result<(), ServeFault>
-    ensures { IsWritten (W.contents writer.old) (W.contents writer.new) bytes.now result }
-{
-    let mut done = 0;
-    while done < bytes.len() {
-        match writer.write(after(bytes, done)) {
-            Ok(0) | Err(_) => return Err(ServeFault::Write),
-            Ok(count) => done += count,
-        }
-    }
-    Ok(())
-}
 
 /// The head that tells the fault. Nothing is told of a connection that the desk does not open.
 fn fixed_head(fault: DeskFault) -> &'static str
@@ -49,7 +29,10 @@ fn fixed_head(fault: DeskFault) -> &'static str
 }
 
 /// Writes the head that tells the fault. No memory is needed for it.
-pub(crate) fn write_fixed_head<W: Write>(writer: &mut W, fault: DeskFault) -> Result<(), ServeFault>
+pub(crate) fn write_fixed_head<W: Write>(
+    writer: &mut W,
+    fault: DeskFault,
+) -> Result<(), WriteFailed>
     ensures { IsWritten (W.contents writer.old) (W.contents writer.new) (fixed_head_of fault) result }
 {
     write_whole(writer, fixed_head(fault).as_bytes())

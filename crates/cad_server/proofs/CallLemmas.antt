@@ -9,7 +9,7 @@ use Rattle.cad_versions.specs.declared.fault.RegisterFault.{RegisterFault}
 use Rattle.cad_versions.specs.declared.fault.RegisterFault.TheVariants.{Store, Memory}
 use Rattle.cad_versions.specs.declared.ledger.Ledger.{Ghosts}
 use Rattle.cad_snapshot.specs.Snapshots.{RevisionFeatures}
-use Rattle.cad_request.specs.Request.{Request}
+use Rattle.cad_head.specs.Request.{Request}
 use Rattle.cad_resource.specs.Asking.{asked, ends_after}
 use Rattle.cad_reply.specs.Replies.{reply_text}
 use Rattle.cad_stream.specs.declared.answer.Answer.{Answer}
@@ -21,9 +21,8 @@ use Rattle.cad_server.specs.declared.records.Records.{Records}
 use Rattle.cad_server.specs.declared.server.Server.{Server}
 use Rattle.cad_server.specs.declared.sought.Sought.{Sought}
 use Rattle.cad_server.specs.Contents.{content_told, content_in, content_wanted}
-use Rattle.cad_server.specs.Replies.{reply_of, IsReply, FailsToAnswer}
-use Rattle.cad_server.specs.Refusing.{ReadingIsRefused}
-use Rattle.cad_server.specs.Servers.{AreKept, ledger_in, ledger_of, AreRecordsOf, IsServerOf, Recalls, Finds, Tells}
+use Rattle.cad_server.specs.Replies.{reply_of, IsReply, Asks, FailsToAnswer}
+use Rattle.cad_server.specs.Servers.{AreKept, ledger_in, ledger_of, AreRecordsOf, IsServerOf, RefusesToAnswer, Recalls, Finds, Tells}
 use Rattle.cad_server.proofs.KeptLemmas.{kept_promoted, kept_found}
 
 module _ {L : Type 0} (g : Ghosts L) where
@@ -123,7 +122,7 @@ module _ {L : Type 0} (g : Ghosts L) where
     told = λ counts. tt;
     cause = λ counts commands records. f.cause counts commands (moved old mid r.same r.kept commands records);
     reads = record {
-      store = λ counts s. subst (λ (l : L). (revision : ℕ) × g.refuses_listing l (ledger_in new) revision) r.same (f.reads.store counts s);
+      store = λ counts s. subst (λ (l : L). g.refuses_listing l (ledger_in new) revision) r.same (f.reads.store counts s);
       still = λ counts. tt;
       kept = λ counts. tt;
       unchanged = λ counts lives commands records. f.reads.unchanged counts lives commands (moved old mid r.same r.kept commands records);
@@ -136,7 +135,7 @@ module _ {L : Type 0} (g : Ghosts L) where
   -- what the trait says of an answer
   abbrev IsAnswered : Server L → Request → Result Answer RegisterFault → Server L → Type 0
   IsAnswered old request result new =
-      Answered (IsServerOf g) (λ (s : Server L). g.counts (ledger_of s)) (λ (s : Server L). g.lives (ledger_of s)) IsReply ends_after (FailsToAnswer g.fails_to_list) (λ (o n : Server L) (r : Request). ReadingIsRefused g (ledger_of o) (ledger_of n)) (λ (o n : Server L). g.remains (ledger_of o) (ledger_of n)) old request result new
+      Answered (IsServerOf g) (λ (s : Server L). g.counts (ledger_of s)) (λ (s : Server L). g.lives (ledger_of s)) IsReply ends_after Asks (FailsToAnswer g.fails_to_list) (RefusesToAnswer g) (λ (o n : Server L). g.remains (ledger_of o) (ledger_of n)) old request result new
 
   pub answered_err : (old new : Server L) (request : Request) (wanted : Wanted) (fault : RegisterFault) (given : Result Answer RegisterFault) → given ≡ Err fault → IsWanted (asked request) wanted
       → Tells g wanted old.records (Err fault) new.records → IsAnswered old request given new
@@ -147,7 +146,11 @@ module _ {L : Type 0} (g : Ghosts L) where
       | inl m ↦ inl m
       | inr f ↦ inr (wanted, is, f)
     ];
-    store = λ counts s. t.reads.store counts s;
+    asking = elim t.asking [
+      | inl m ↦ inl m
+      | inr sought ↦ inr (wanted, is, sought)
+    ];
+    store = λ counts s. (wanted, is, t.reads.store counts s);
     still = λ counts. tt;
     kept = λ counts. tt;
     unchanged = t.reads.unchanged;
@@ -162,6 +165,7 @@ module _ {L : Type 0} (g : Ghosts L) where
         (wanted, is, bytes ∙ ap (λ (b : Bool). reply_text told.status b (string_bytes told.body)) ends ∙ ap (reply_of request) (t.told counts commands stands));
     ends = ends;
     cause = λ counts. tt;
+    asking = tt;
     store = λ counts. tt;
     still = t.reads.still;
     kept = t.reads.kept;

@@ -11,23 +11,15 @@ use Rattle.cad_versions.specs.declared.fault.RegisterFault.{RegisterFault}
 use Rattle.cad_versions.specs.declared.ledger.Ledger.{Ghosts}
 use Rattle.cad_versions.specs.Ledgers.{Applied}
 use Rattle.cad_versions.specs.Laws.{RevisionsStay}
-use Rattle.cad_feature.specs.declared.collection.Collection.TheVariants.{Parcels, Rights, Restrictions, Units, Parties}
-use Rattle.cad_feature.specs.Features.{Item}
-use Rattle.cad_snapshot.specs.Snapshots.{RevisionFeatures, IsSnapshotOf}
+use Rattle.cad_feature.specs.Flatten.{features_in}
+use Rattle.cad_snapshot.specs.Snapshots.{RevisionFeatures, IsSnapshotOf, is_told}
 use Rattle.cad_server.specs.Contents.{snapshot_of, snapshot_at}
 use Rattle.cad_server.specs.declared.records.Records.{Records}
 use Rattle.cad_server.specs.Servers.{IsKept, AreKept, ledger_in, AreRecordsOf}
 
--- a snapshot by its parts
-abbrev parts_of : ℕ × List Item × List Item → List Item × List Item × List Item → RevisionFeatures
-parts_of p q = record { revision = p.0; parcels = p.1; rights = p.2; restrictions = q.0; units = q.1; parties = q.2 }
-
 -- the snapshot of these versions is one value
 pub built : (revision : ℕ) (versions : List VersionedObject) (s : RevisionFeatures) → IsSnapshotOf revision versions s → s ≡ snapshot_of revision versions
-built revision versions s is =
-    ap₂ parts_of
-    (ap₂ (λ (r : ℕ) (q : List Item × List Item). (r, q.0, q.1)) is.of_revision (ap₂ (λ (x y : List Item). (x, y)) (is.features Parcels) (is.features Rights)))
-    (ap₂ (λ (x : List Item) (q : List Item × List Item). (x, q.0, q.1)) (is.features Restrictions) (ap₂ (λ (x y : List Item). (x, y)) (is.features Units) (is.features Parties)))
+built revision versions s is = is_told s revision (features_in versions) is.of_revision is.features
 
 -- one command more changes nothing of what is kept
 pub kept_later : RevisionsStay → (commands : List Command) (command : Command) (entries : List (ℕ × RevisionFeatures)) → AreKept commands entries → AreKept (commands ++ command ∷ []) entries

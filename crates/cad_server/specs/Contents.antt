@@ -6,12 +6,11 @@ use Rattle.cad_versions.specs.declared.command.Command.{Command}
 use Rattle.cad_versions.specs.VersionedObject.{VersionedObject}
 use Rattle.cad_versions.specs.AsOf.{as_of}
 use Rattle.cad_versions.specs.Objects.{object_number}
-use Rattle.cad_feature.specs.declared.collection.Collection.{Collection}
-use Rattle.cad_feature.specs.declared.collection.Collection.TheVariants.{Parcels, Rights, Restrictions, Units, Parties}
+use Rattle.cad_schema.specs.declared.collection.Collection.{Collection}
 use Rattle.cad_feature.specs.Features.{Item}
 use Rattle.cad_feature.specs.Flatten.{features_in}
 use Rattle.cad_query.specs.Identifiers.{Numbers, numbers_of}
-use Rattle.cad_snapshot.specs.Snapshots.{RevisionFeatures, features_at}
+use Rattle.cad_snapshot.specs.Snapshots.{RevisionFeatures, features_at, told_by}
 use Rattle.cad_bodies.specs.Faults.{word_data}
 use Rattle.cad_page.specs.Bodies.{page_data}
 use Rattle.cad_page.specs.Features.{linked_feature_data}
@@ -36,14 +35,7 @@ refusal status word = (status, compact_text (word_data word))
 
 -- the features of each collection among these versions, which are those of the revision
 abbrev pub snapshot_of : ℕ → List VersionedObject → RevisionFeatures
-snapshot_of revision versions = record {
-  revision = revision;
-  parcels = features_in versions Parcels;
-  rights = features_in versions Rights;
-  restrictions = features_in versions Restrictions;
-  units = features_in versions Units;
-  parties = features_in versions Parties;
-}
+snapshot_of revision versions = told_by revision (features_in versions)
 
 -- the features of each collection after the first commands
 abbrev pub snapshot_at : ℕ → List Command → RevisionFeatures

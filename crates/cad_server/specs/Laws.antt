@@ -1,7 +1,7 @@
 -- What holds of all replies.
 use Rattle.std.specs.Prelude.{◌≡◌, ℕ, List}
 use Rattle.cad_versions.specs.declared.command.Command.{Command}
-use Rattle.cad_request.specs.Request.{Request}
+use Rattle.cad_head.specs.Request.{Request}
 use Rattle.cad_server.specs.Replies.{IsReply}
 
 -- a request has one reply

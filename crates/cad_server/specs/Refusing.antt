@@ -1,17 +1,12 @@
--- What keeps a ledger refuses, and what it fails for (own profile).
+-- What a server fails for (own profile).
 use Rattle.std.specs.Prelude.{ℕ, List}
 use Rattle.cad_versions.specs.declared.command.Command.{Command}
 use Rattle.cad_versions.specs.declared.fault.RegisterFault.{RegisterFault}
-use Rattle.cad_versions.specs.declared.ledger.Ledger.{Ghosts}
 use Rattle.cad_versions.specs.Keeping.{IsOfKeeping}
-use Rattle.cad_request.specs.Request.{Request}
+use Rattle.cad_head.specs.Request.{Request}
 use Rattle.cad_wanted.specs.declared.request.Wanted.{Wanted}
 use Rattle.cad_wanted.specs.declared.request.Wanted.TheVariants as wants
 use Rattle.cad_server.specs.Replies.{FailsToTell, FailsToAnswer}
-
--- what keeps the ledger refuses to list some revision
-abbrev pub ReadingIsRefused : {L : Type 0} → Ghosts L → L → L → Type 0
-ReadingIsRefused g old new = (revision : ℕ) × g.refuses_listing old new revision
 
 -- a request fails to be answered for a fault of what keeps the ledger
 module _ {FailsToList : ℕ → List Command → RegisterFault → Type 0} (keeps : (revision : ℕ) (commands : List Command) (fault : RegisterFault) → FailsToList revision commands fault → IsOfKeeping fault) where

@@ -1,8 +1,8 @@
 -- The reply to a request over the commands in force (OGC 17-069r4, section 7; RFC 9110, section 15).
-use Rattle.std.specs.Prelude.{◌≡◌, ◌≤◌, ◌⊎◌, ℕ, true, List, length, codes}
+use Rattle.std.specs.Prelude.{◌≡◌, ◌≤◌, ℕ, true, List, length, codes, ⊤}
 use Rattle.cad_versions.specs.declared.command.Command.{Command}
 use Rattle.cad_versions.specs.declared.fault.RegisterFault.{RegisterFault}
-use Rattle.cad_request.specs.Request.{Request}
+use Rattle.cad_head.specs.Request.{Request}
 use Rattle.cad_resource.specs.Asking.{asked, ends_after}
 use Rattle.cad_resource.specs.declared.check.Check.TheVariants.{BadHead}
 use Rattle.cad_resource.specs.Checks.{status_of, word_of}
@@ -26,6 +26,18 @@ IsReply commands request bytes =
 -- the reply to bytes that no request can begin with
 abbrev pub bad_head_reply : List ℕ
 bad_head_reply = reply_text (status_of BadHead) true (refusal (status_of BadHead) (word_of BadHead)).1
+
+-- ---- requests that the ledger has a part in
+
+-- a page or a feature is wanted, so a revision is listed
+abbrev pub IsSought : Wanted → Type 0
+IsSought (wants.Told told) = ⊥
+IsSought (wants.Page ask) = ⊤
+IsSought (wants.Feature collection identifier) = ⊤
+
+-- the request passes all checks but those of its revision and its identifier, and is for items or for a feature
+abbrev pub Asks : Request → Type 0
+Asks request = (wanted : Wanted) × IsWanted (asked request) wanted × IsSought wanted
 
 -- ---- why there is none
 

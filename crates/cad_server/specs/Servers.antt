@@ -6,13 +6,18 @@ use Rattle.cad_versions.specs.declared.fault.RegisterFault.TheVariants.{Store, M
 use Rattle.cad_versions.specs.Keeping.{MayClose}
 use Rattle.cad_versions.specs.declared.ledger.Ledger.{Ghosts}
 use Rattle.cad_snapshot.specs.Snapshots.{RevisionFeatures}
+use Rattle.cad_head.specs.Request.{Request}
+use Rattle.cad_resource.specs.Asking.{asked}
+use Rattle.cad_wanted.specs.Wants.{IsWanted}
 use Rattle.cad_wanted.specs.declared.request.Wanted.{Wanted}
+use Rattle.cad_wanted.specs.declared.request.Wanted.TheVariants as wants
 use Rattle.cad_wanted.specs.declared.told.Told.{Told}
 use Rattle.cad_server.specs.declared.records.Records.{Records}
 use Rattle.cad_server.specs.declared.server.Server.{Server}
 use Rattle.cad_server.specs.declared.sought.Sought.{Sought}
-use Rattle.cad_server.specs.Contents.{content_told, content_in, content_of, content_wanted, snapshot_at}
-use Rattle.cad_server.specs.Replies.{FailsToFind, FailsToTell}
+use Rattle.cad_server.specs.declared.sought.Sought.TheVariants as sought
+use Rattle.cad_server.specs.Contents.{content_told, content_in, content_of, content_wanted, revision_sought, snapshot_at}
+use Rattle.cad_server.specs.Replies.{IsSought, FailsToFind, FailsToTell}
 
 -- what is kept under a revision are its features, and the revision was made
 abbrev pub IsKept : List Command → ℕ × RevisionFeatures → Type 0
@@ -39,9 +44,25 @@ module _ {L : Type 0} (g : Ghosts L) where
   abbrev pub IsServerOf : Server L → List Command → Type 0
   IsServerOf server commands = AreRecordsOf server.records commands
 
-  -- reading what is kept changes nothing, and where something is read the ledger remains what it was
-  pub record Reads {T : Type 0} (old : Records L) (result : Result T RegisterFault) (new : Records L) : Type 0 where
-    pub store : g.counts (ledger_in new) → IfErr result (λ fault. fault ≡ Store → (revision : ℕ) × g.refuses_listing (ledger_in old) (ledger_in new) revision)
+  -- what keeps the ledger refuses to list the revision at which this is sought
+  abbrev pub RefusesToFind : Sought → Records L → Records L → Type 0
+  RefusesToFind sought old new =
+      (revision : ℕ) × g.refuses_listing (ledger_in old) (ledger_in new) revision
+      × ((commands : List Command) → AreRecordsOf old commands → revision ≡ revision_sought sought (length commands))
+
+  -- the same of what is wanted; nothing is listed for what is told without the ledger
+  abbrev pub RefusesToTell : Wanted → Records L → Records L → Type 0
+  RefusesToTell (wants.Told told) old new = ⊥
+  RefusesToTell (wants.Page ask) old new = RefusesToFind (sought.Page ask) old new
+  RefusesToTell (wants.Feature collection identifier) old new = RefusesToFind (sought.Feature collection identifier) old new
+
+  -- the same of what a request asks for
+  abbrev pub RefusesToAnswer : Server L → Server L → Request → Type 0
+  RefusesToAnswer old new request = (wanted : Wanted) × IsWanted (asked request) wanted × RefusesToTell wanted old.records new.records
+
+  -- reading what is kept changes nothing, and where something is read the ledger remains what it was; the store refuses that alone
+  pub record Reads {T : Type 0} (Refused : Type 0) (old : Records L) (result : Result T RegisterFault) (new : Records L) : Type 0 where
+    pub store : g.counts (ledger_in new) → IfErr result (λ fault. fault ≡ Store → Refused)
     pub still : g.counts (ledger_in new) → OnOk result (g.remains (ledger_in old) (ledger_in new))
     pub kept : g.counts (ledger_in new) → OnOk result ((commands : List Command) → AreRecordsOf old commands → AreRecordsOf new commands)
     pub unchanged : g.counts (ledger_in new) → IfErr result (λ fault. MayClose fault → g.lives (ledger_in new)) → OnErr result ((commands : List Command) → AreRecordsOf old commands → AreRecordsOf new commands)
@@ -57,16 +78,17 @@ module _ {L : Type 0} (g : Ghosts L) where
   pub record Finds (revision : ℕ) (sought : Sought) (old : Records L) (result : Result Told RegisterFault) (new : Records L) : Type 0 where
     pub told : g.counts (ledger_in new) → IfOk result (λ told. (commands : List Command) → AreRecordsOf old commands → revision ≤ length commands → content_told told ≡ content_in sought (snapshot_at revision commands))
     pub cause : g.counts (ledger_in new) → IfErr result (λ fault. (commands : List Command) → AreRecordsOf old commands → revision ≤ length commands → (fault ≡ Memory) ⊎ g.fails_to_list revision commands fault)
-    pub reads : Reads old result new
+    pub reads : Reads (g.refuses_listing (ledger_in old) (ledger_in new) revision) old result new
 
   -- what is sought is told, at the revision that is asked for or the newest
   pub record Seeks (sought : Sought) (old : Records L) (result : Result Told RegisterFault) (new : Records L) : Type 0 where
     pub told : g.counts (ledger_in new) → IfOk result (λ told. (commands : List Command) → AreRecordsOf old commands → content_told told ≡ content_of sought commands)
     pub cause : g.counts (ledger_in new) → IfErr result (λ fault. (commands : List Command) → AreRecordsOf old commands → (fault ≡ Memory) ⊎ FailsToFind g.fails_to_list commands sought fault)
-    pub reads : Reads old result new
+    pub reads : Reads (RefusesToFind sought old new) old result new
 
   -- what is wanted is told
   pub record Tells (wanted : Wanted) (old : Records L) (result : Result Told RegisterFault) (new : Records L) : Type 0 where
     pub told : g.counts (ledger_in new) → IfOk result (λ told. (commands : List Command) → AreRecordsOf old commands → content_told told ≡ content_wanted wanted commands)
     pub cause : g.counts (ledger_in new) → IfErr result (λ fault. (commands : List Command) → AreRecordsOf old commands → (fault ≡ Memory) ⊎ FailsToTell g.fails_to_list commands wanted fault)
-    pub reads : Reads old result new
+    pub asking : IfErr result (λ fault. (fault ≡ Memory) ⊎ IsSought wanted)
+    pub reads : Reads (RefusesToTell wanted old new) old result new

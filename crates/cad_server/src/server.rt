@@ -66,9 +66,9 @@ impl<L: Ledger> Server<L> {
 
 impl<L: Ledger> Responder for Server<L> {
     ghost use Rattle.cad_resource.specs.Asking.{ends_after};
-    ghost use Rattle.cad_server.specs.Replies.{IsReply, bad_head_reply, FailsToAnswer};
-    ghost use Rattle.cad_server.specs.Servers.{ledger_of, IsServerOf};
-    ghost use Rattle.cad_server.specs.Refusing.{ReadingIsRefused, failing_keeps};
+    ghost use Rattle.cad_server.specs.Replies.{IsReply, bad_head_reply, Asks, FailsToAnswer};
+    ghost use Rattle.cad_server.specs.Servers.{ledger_of, IsServerOf, RefusesToAnswer};
+    ghost use Rattle.cad_server.specs.Refusing.{failing_keeps};
 
     ghost stands_for = { IsServerOf L.Ledger };
 
@@ -82,11 +82,13 @@ impl<L: Ledger> Responder for Server<L> {
 
     ghost bad_head = { bad_head_reply };
 
+    ghost asks = { Asks };
+
     ghost fails_to_answer = { FailsToAnswer L.Ledger.fails_to_list };
 
     ghost fails_to_enter = { L.Ledger.fails_to_apply };
 
-    ghost refuses_answer = { λ old new _. ReadingIsRefused L.Ledger (ledger_of old) (ledger_of new) };
+    ghost refuses_answer = { RefusesToAnswer L.Ledger };
 
     ghost refuses_command = { λ old new. L.Ledger.refuses_command (ledger_of old) (ledger_of new) };
 

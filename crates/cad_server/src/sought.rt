@@ -7,10 +7,11 @@ ghost use Rattle.cad_server.specs.Contents.{content_told, feature_with, feature_
 
 use cad_ask::Ask;
 use cad_bodies::word_body;
-use cad_feature::{Collection, Feature};
+use cad_feature::Feature;
 use cad_page::{body, feature_body};
 use cad_query::Identifier;
 use cad_reply::Status;
+use cad_schema::Collection;
 use cad_snapshot::Snapshot;
 use cad_snapshot::laws::identifiers_are_unique;
 use cad_wanted::Told;

@@ -1,8 +1,8 @@
 -- The features of a register at one revision (OGC 17-069r4, 7.15: items; revisions: own profile).
-use Rattle.std.specs.Prelude.{◌≡◌, ℕ, List}
+use Rattle.std.specs.Prelude.{◌≡◌, ℕ, List, refl}
 use Rattle.cad_versions.specs.VersionedObject.{VersionedObject}
-use Rattle.cad_feature.specs.declared.collection.Collection.{Collection}
-use Rattle.cad_feature.specs.declared.collection.Collection.TheVariants.{Parcels, Rights, Restrictions, Units, Parties}
+use Rattle.cad_schema.specs.declared.collection.Collection.{Collection}
+use Rattle.cad_schema.specs.declared.collection.Collection.TheVariants.{Parcels, Rights, Restrictions, Units, Parties}
 use Rattle.cad_feature.specs.Features.{Item}
 use Rattle.cad_feature.specs.Flatten.{features_in}
 
@@ -21,6 +21,35 @@ features_at s Rights = s.rights
 features_at s Restrictions = s.restrictions
 features_at s Units = s.units
 features_at s Parties = s.parties
+
+-- the same, of the features that are told for each collection
+abbrev pub told_by : ℕ → (Collection → List Item) → RevisionFeatures
+told_by revision told = record {
+  revision = revision;
+  parcels = told Parcels;
+  rights = told Rights;
+  restrictions = told Restrictions;
+  units = told Units;
+  parties = told Parties;
+}
+
+pub told_at : (revision : ℕ) (told : Collection → List Item) (c : Collection) → features_at (told_by revision told) c ≡ told c
+told_at revision told Parcels = refl
+told_at revision told Rights = refl
+told_at revision told Restrictions = refl
+told_at revision told Units = refl
+told_at revision told Parties = refl
+
+-- what has these features for each collection is one value
+pub is_told : (s : RevisionFeatures) (revision : ℕ) (told : Collection → List Item) → s.revision ≡ revision → ((c : Collection) → features_at s c ≡ told c) → s ≡ told_by revision told
+is_told s revision told e same = λ i. record {
+  revision = e i;
+  parcels = same Parcels i;
+  rights = same Rights i;
+  restrictions = same Restrictions i;
+  units = same Units i;
+  parties = same Parties i;
+}
 
 -- it holds the features of these versions, which are those at the revision
 pub record IsSnapshotOf (revision : ℕ) (versions : List VersionedObject) (s : RevisionFeatures) : Type 0 where

@@ -8,7 +8,8 @@ ghost use Rattle.cad_feature.specs.Features.{AreFeaturesOf, by_identifier};
 ghost use Rattle.cad_feature.specs.Flatten.{features_in};
 ghost use Rattle.cad_snapshot.specs.Identifiers.{identifier, compared, IsTheOne};
 
-use cad_feature::{Collection, Feature, flatten};
+use cad_feature::{Feature, flatten};
+use cad_schema::Collection;
 use cad_versions::{ObjectId, Version};
 use std::alloc::{AllocError, Global};
 use std::cmp::Ordering;

@@ -3,7 +3,8 @@
 ghost use Rattle.std.specs.Prelude.{◌≡◌};
 
 use crate::layer::Layer;
-use cad_feature::{Collection, Feature};
+use cad_feature::Feature;
+use cad_schema::Collection;
 use cad_versions::{ObjectId, Version};
 use std::alloc::{AllocError, Global};
 use std::marker::Model;
@@ -22,7 +23,7 @@ pub struct Snapshot {
 }
 
 impl Model for Snapshot {
-    ghost use Rattle.cad_feature.specs.declared.collection.Collection.TheVariants.{Parcels, Rights, Restrictions, Units, Parties};
+    ghost use Rattle.cad_schema.specs.declared.collection.Collection.TheVariants.{Parcels, Rights, Restrictions, Units, Parties};
     ghost use Rattle.cad_feature.specs.Features.{AreFeaturesOf};
     ghost use Rattle.cad_snapshot.specs.Snapshots.{RevisionFeatures};
 

@@ -5,7 +5,7 @@ use Rattle.std.proofs.lemmas.List.{map-append}
 use Rattle.httparse.specs.Grammar.{RequestHead}
 use Rattle.cad_versions.specs.declared.command.Command.{Command}
 use Rattle.cad_head.specs.Heads.{Fits, IsHopeless, IsIncomplete, HaveOneHead, HeadsStay}
-use Rattle.cad_request.specs.Request.{Request}
+use Rattle.cad_head.specs.Request.{Request}
 use Rattle.cad_stream.specs.Streams.{Outcome, waits, closed, refused, Reaches, IsStream, DiffersInMoment, IsSameOutcome}
 use Rattle.cad_stream.specs.Conversations.{Piece, HeadAt, bytes_of, heads_of, commands_of, heads_at, IsConversation}
 use Rattle.cad_stream.specs.Laws.{BytesAreOneStream, PiecesAreOneStream, CutsMakeNoDifference, PiecesHaveOneConversation}

@@ -10,14 +10,14 @@ use Rattle.cad_head.specs.Front.{front_bytes, IsHeadAt}
 use Rattle.cad_versions.specs.declared.command.Command.{Command}
 use Rattle.cad_versions.specs.declared.fault.RegisterFault.{RegisterFault}
 use Rattle.cad_versions.specs.declared.fault.RegisterFault.TheVariants.{Memory}
-use Rattle.cad_request.specs.Request.{Request, request_at, request_of}
+use Rattle.cad_head.specs.Request.{Request, request_at, request_of}
 use Rattle.cad_stream.specs.declared.answer.Answer.{Answer}
 use Rattle.cad_stream.specs.declared.connection.Fed.{Fed}
 use Rattle.cad_stream.specs.declared.replies.Next.{Next}
 use Rattle.cad_stream.specs.declared.replies.Next.TheVariants as next
 use Rattle.cad_stream.specs.declared.responder.Responder.{Ghosts}
 use Rattle.cad_stream.specs.Streams.{waits, closed, refused, Passes}
-use Rattle.cad_stream.specs.Replies.{AreReplies, Fails}
+use Rattle.cad_stream.specs.Replies.{AreReplies, ComeTo, Fails}
 use Rattle.cad_stream.specs.Conversations.{HeadAt, heads_at}
 use Rattle.cad_stream.specs.ReplyLemmas.{replies_join, replies_go_on}
 use Rattle.cad_stream.specs.Answering.{Answered}
@@ -41,13 +41,13 @@ module _ {R : Type 0} (g : Ghosts R) where
 
   -- the answer to the request that spans show is that to the head
   pub answered_head : (bytes : List ℕ) (old new : R) (request : Request) (head : RequestHead) (rest : List ℕ) (answer : Answer) → request ≡ request_of head → Fits bytes head rest
-      → Answered g.stands_for g.counts g.lives g.replies g.closes g.fails_to_answer g.refuses_answer g.remains old request (Ok answer) new
+      → Answered g.stands_for g.counts g.lives g.replies g.closes g.asks g.fails_to_answer g.refuses_answer g.remains old request (Ok answer) new
       → (answer.ends ≡ g.closes (request_of head)) × Under g old new (λ commands. g.replies commands (request_of head) answer.bytes.items)
   answered_head bytes old new request head rest answer same fits a =
       (a.ends ∙ ap g.closes same, λ counts commands stands. subst (λ (r : Request). g.replies commands r answer.bytes.items) same (a.replied counts commands stands))
 
   pub failed_head : RemainsHere → (bytes : List ℕ) (old new : R) (request : Request) (head : RequestHead) (rest : List ℕ) (fault : RegisterFault) → request ≡ request_of head → Fits bytes head rest
-      → Answered g.stands_for g.counts g.lives g.replies g.closes g.fails_to_answer g.refuses_answer g.remains old request (Err fault) new
+      → Answered g.stands_for g.counts g.lives g.replies g.closes g.asks g.fails_to_answer g.refuses_answer g.remains old request (Err fault) new
       → IsNext g bytes old (Err fault) new
   failed_head here bytes old new request head rest fault same fits a = record {
     next = tt;
@@ -55,10 +55,14 @@ module _ {R : Type 0} (g : Ghosts R) where
       | inl m ↦ inl m
       | inr f ↦ inr ([], head, rest, (bytes, refl, fits), subst (λ (r : Request). g.fails_to_answer commands r fault) same f)
     ];
+    asking = elim a.asking [
+      | inl m ↦ inl m
+      | inr asks ↦ inr ([], head, rest, (bytes, refl, fits), subst g.asks same asks)
+    ];
     stays = record {
       kept = λ _. tt;
       unchanged = a.unchanged;
-      store = λ counts e. (old, here old, request, a.store counts e);
+      store = λ counts e. (old, here old, ([], head, rest, (bytes, refl, fits), subst (g.refuses_answer old new) same (a.store counts e)));
       still = λ counts. tt;
       clean = a.clean;
     };
@@ -94,6 +98,16 @@ module _ {R : Type 0} (g : Ghosts R) where
         | inr f ↦ inr (h.heads ++ f.0, f.1, f.2, (f.3.0, passes_join g.closes h.heads f.0 bytes (drop used bytes) f.3.0 h.passed f.3.1, f.3.2), f.4)
       ]
 
+  -- what holds of a request to which the rest comes holds of one to which the bytes come
+  comes_later : (Holds : Request → Type 0) (bytes : List ℕ) (old now : R) (used : ℕ) (out : List ℕ) → HasReplied bytes old used out now
+      → ComeTo g.closes Holds (drop used bytes) → ComeTo g.closes Holds bytes
+  comes_later Holds bytes old now used out h f = (h.heads ++ f.0, f.1, f.2, (f.3.0, passes_join g.closes h.heads f.0 bytes (drop used bytes) f.3.0 h.passed f.3.1, f.3.2), f.4)
+
+  asks_later : (bytes : List ℕ) (old now : R) (used : ℕ) (out : List ℕ) (fault : RegisterFault) → HasReplied bytes old used out now
+      → (fault ≡ Memory) ⊎ ComeTo g.closes g.asks (drop used bytes) → (fault ≡ Memory) ⊎ ComeTo g.closes g.asks bytes
+  asks_later bytes old now used out fault h (inl m) = inl m
+  asks_later bytes old now used out fault h (inr asks) = inr (comes_later g.asks bytes old now used out h asks)
+
   -- what is answered is no more than what was read, and the call that failed left the commands
   pub fails_here : RemainsThen → (bytes : List ℕ) (old now new : R) (used : ℕ) (out : List ℕ) (fault : RegisterFault) → HasReplied bytes old used out now
       → IsNext g (drop used bytes) now (Err fault) new → RepliesTo g bytes old (Err fault) new
@@ -101,10 +115,11 @@ module _ {R : Type 0} (g : Ghosts R) where
     replied = tt;
     within = tt;
     cause = fails_later bytes old now new used out fault h n;
+    asking = asks_later bytes old now used out fault h n.asking;
     stays = record {
       kept = λ counts. tt;
       unchanged = λ counts lives commands stands. n.stays.unchanged counts lives commands (h.stands (n.stays.clean counts) commands stands);
-      store = λ counts e. let refused = n.stays.store counts e in (refused.0, then old now refused.0 (h.still (n.stays.clean counts)) refused.1, refused.2, refused.3);
+      store = λ counts e. let refused = n.stays.store counts e in (refused.0, then old now refused.0 (h.still (n.stays.clean counts)) refused.1, comes_later (g.refuses_answer refused.0 new) bytes old now used out h refused.2);
       still = λ counts. tt;
       clean = λ counts. h.clean (n.stays.clean counts);
     };
@@ -112,7 +127,7 @@ module _ {R : Type 0} (g : Ghosts R) where
 
   -- a call that went well stays with the commands too
   stays_well : {T : Type 0} → RemainsThen → (bytes : List ℕ) (old now new : R) (used : ℕ) (out : List ℕ) (next : Next) (result : T) → HasReplied bytes old used out now
-      → Stays g now (Ok next) new → Stays g old (Ok result) new
+      → Stays g (drop used bytes) now (Ok next) new → Stays g bytes old (Ok result) new
   stays_well then bytes old now new used out next result h s = record {
     kept = λ counts commands stands. s.kept counts commands (h.stands (s.clean counts) commands stands);
     unchanged = λ counts lives. tt;
@@ -131,6 +146,7 @@ module _ {R : Type 0} (g : Ghosts R) where
     );
     within = λ count e. let same : used ≡ count = cc in subst (λ (m : ℕ). m ≤ length bytes) same within;
     cause = tt;
+    asking = tt;
     stays = stays_well then bytes old now new used out.items next.Waiting (record { bytes = out; used = Some used }) h n.stays;
   }
 
@@ -161,6 +177,7 @@ module _ {R : Type 0} (g : Ghosts R) where
     );
     within = λ count e. absurd cc;
     cause = tt;
+    asking = tt;
     stays = stays_well then bytes old now new used out (next.Answered answer len) (record { bytes = whole; used = None }) h n.stays;
   }
 
@@ -181,6 +198,7 @@ module _ {R : Type 0} (g : Ghosts R) where
     );
     within = λ count e. absurd cc;
     cause = tt;
+    asking = tt;
     stays = stays_well then bytes old now new used out (next.Hopeless reply) (record { bytes = whole; used = None }) h n.stays;
   }
 
@@ -214,6 +232,7 @@ module _ {R : Type 0} (g : Ghosts R) where
   holds_more here held piece old fed none left waiting = record {
     replied = (waits (held ++ piece), ([], (refl, waiting), λ counts commands stands. none), left);
     cause = tt;
+    asking = tt;
     stays = record {
       kept = λ counts commands stands. stands;
       unchanged = λ counts lives. tt;
@@ -222,3 +241,21 @@ module _ {R : Type 0} (g : Ghosts R) where
       clean = λ counts. counts;
     };
   }
+
+  -- a piece after which a request fails
+  pub fails_fed : (held piece bytes : List ℕ) (old new : R) (fault : RegisterFault) → bytes ≡ held ++ piece
+      → RepliesTo g bytes old (Err fault) new → Feeds g held piece old (Err fault) new
+  fails_fed held piece bytes old new fault same r =
+      let s = subst (λ (b : List ℕ). RepliesTo g b old (Err fault) new) same r in
+      record {
+        replied = tt;
+        cause = s.cause;
+        asking = s.asking;
+        stays = record {
+          kept = λ counts. tt;
+          unchanged = s.stays.unchanged;
+          store = s.stays.store;
+          still = λ counts. tt;
+          clean = s.stays.clean;
+        };
+      }

@@ -3,7 +3,7 @@ use Rattle.std.specs.Prelude.{◌≡◌, ℕ, List, [], ◌∷◌, ◌++◌, map
 use Rattle.std.specs.List.{flat_map}
 use Rattle.httparse.specs.Grammar.{RequestHead}
 use Rattle.cad_versions.specs.declared.command.Command.{Command}
-use Rattle.cad_request.specs.Request.{Request}
+use Rattle.cad_head.specs.Request.{Request}
 use Rattle.cad_stream.specs.Streams.{Outcome, waits, closed, refused, IsStream}
 
 -- a piece of a connection's bytes, and the commands in force when it comes

@@ -6,7 +6,7 @@ use Rattle.cad_versions.specs.declared.command.Command.{Command}
 use Rattle.cad_versions.specs.declared.fault.RegisterFault.{RegisterFault}
 use Rattle.cad_versions.specs.declared.fault.RegisterFault.TheVariants.{Store, Memory}
 use Rattle.cad_versions.specs.Keeping.{MayClose}
-use Rattle.cad_request.specs.Request.{Request, request_of}
+use Rattle.cad_head.specs.Request.{request_of}
 use Rattle.cad_stream.specs.declared.connection.Connection.{Connection}
 use Rattle.cad_stream.specs.declared.connection.Fed.{Fed}
 use Rattle.cad_stream.specs.declared.replies.Next.{Next}
@@ -14,7 +14,7 @@ use Rattle.cad_stream.specs.declared.replies.Next.TheVariants.{Waiting, Hopeless
 use Rattle.cad_stream.specs.declared.replies.Replies.{Replies}
 use Rattle.cad_stream.specs.declared.responder.Responder.{Ghosts}
 use Rattle.cad_stream.specs.Streams.{Outcome, rest_of, IsStream}
-use Rattle.cad_stream.specs.Replies.{AreReplies, last_reply, Fails}
+use Rattle.cad_stream.specs.Replies.{AreReplies, last_reply, ComeTo, Fails}
 use Rattle.cad_stream.specs.Conversations.{heads_at}
 
 -- the bytes that no request took yet
@@ -30,15 +30,15 @@ module _ {R : Type 0} (g : Ghosts R) where
   abbrev pub Under : R → R → (List Command → Type 0) → Type 0
   Under old new Holds = g.counts new → (commands : List Command) → g.stands_for old commands → Holds commands
 
-  -- what keeps the commands refuses to tell what a request asks for, once those before it were answered
-  abbrev pub RefusesLater : R → R → Type 0
-  RefusesLater old new = (before : R) × g.remains old before × (request : Request) × g.refuses_answer before new request
+  -- what keeps the commands refuses to tell what a request asks for to which the bytes come, once those before it were answered
+  abbrev pub RefusesLater : List ℕ → R → R → Type 0
+  RefusesLater bytes old new = (before : R) × g.remains old before × ComeTo g.closes (g.refuses_answer before new) bytes
 
-  -- a call stays with the commands, and what is answered counts if what is answered later does
-  pub record Stays {T : Type 0} (old : R) (result : Result T RegisterFault) (new : R) : Type 0 where
+  -- a call for the requests of these bytes stays with the commands, and what is answered counts if what is answered later does
+  pub record Stays {T : Type 0} (bytes : List ℕ) (old : R) (result : Result T RegisterFault) (new : R) : Type 0 where
     pub kept : g.counts new → OnOk result ((commands : List Command) → g.stands_for old commands → g.stands_for new commands)
     pub unchanged : g.counts new → IfErr result (λ fault. MayClose fault → g.lives new) → OnErr result ((commands : List Command) → g.stands_for old commands → g.stands_for new commands)
-    pub store : g.counts new → IfErr result (λ fault. fault ≡ Store → RefusesLater old new)
+    pub store : g.counts new → IfErr result (λ fault. fault ≡ Store → RefusesLater bytes old new)
     pub still : g.counts new → OnOk result (g.remains old new)
     pub clean : g.counts new → g.counts old
 
@@ -52,14 +52,16 @@ module _ {R : Type 0} (g : Ghosts R) where
   pub record Feeds (held piece : List ℕ) (old : R) (result : Result Fed RegisterFault) (new : R) : Type 0 where
     pub replied : IfOk result (λ fed. (last : Outcome) × IsReplied old new (held ++ piece) fed.bytes.items last × (bytes_left fed.connection ≡ rest_of last))
     pub cause : IfErr result (λ fault. Under old new (λ commands. (fault ≡ Memory) ⊎ Fails g.closes g.fails_to_answer (held ++ piece) fault commands))
-    pub stays : Stays old result new
+    pub asking : IfErr result (λ fault. (fault ≡ Memory) ⊎ ComeTo g.closes g.asks (held ++ piece))
+    pub stays : Stays (held ++ piece) old result new
 
   -- all requests that the bytes come to
   pub record RepliesTo (bytes : List ℕ) (old : R) (result : Result Replies RegisterFault) (new : R) : Type 0 where
     pub replied : IfOk result (λ replies. (last : Outcome) × IsReplied old new bytes replies.bytes.items last × (option_map (λ used. drop used bytes) replies.used ≡ rest_of last))
     pub within : IfOk result (λ replies. (used : ℕ) → replies.used ≡ Some used → used ≤ length bytes)
     pub cause : IfErr result (λ fault. Under old new (λ commands. (fault ≡ Memory) ⊎ Fails g.closes g.fails_to_answer bytes fault commands))
-    pub stays : Stays old result new
+    pub asking : IfErr result (λ fault. (fault ≡ Memory) ⊎ ComeTo g.closes g.asks bytes)
+    pub stays : Stays bytes old result new
 
   -- what the bytes begin with
   abbrev pub IsNextOf : List ℕ → R → Next → R → Type 0
@@ -74,4 +76,5 @@ module _ {R : Type 0} (g : Ghosts R) where
   pub record IsNext (bytes : List ℕ) (old : R) (result : Result Next RegisterFault) (new : R) : Type 0 where
     pub next : IfOk result (λ next. IsNextOf bytes old next new)
     pub cause : IfErr result (λ fault. Under old new (λ commands. (fault ≡ Memory) ⊎ Fails g.closes g.fails_to_answer bytes fault commands))
-    pub stays : Stays old result new
+    pub asking : IfErr result (λ fault. (fault ≡ Memory) ⊎ ComeTo g.closes g.asks bytes)
+    pub stays : Stays bytes old result new

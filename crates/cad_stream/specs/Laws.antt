@@ -1,7 +1,7 @@
 -- What holds of the requests of every connection.
 use Rattle.std.specs.Prelude.{◌≡◌, ℕ, List, [], Bool}
 use Rattle.httparse.specs.Grammar.{RequestHead}
-use Rattle.cad_request.specs.Request.{Request}
+use Rattle.cad_head.specs.Request.{Request}
 use Rattle.cad_stream.specs.Streams.{Outcome, waits, IsStream, IsSameOutcome}
 use Rattle.cad_stream.specs.Conversations.{Piece, HeadAt, bytes_of, heads_of, commands_of, IsConversation}
 

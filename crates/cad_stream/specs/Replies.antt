@@ -3,7 +3,7 @@ use Rattle.std.specs.Prelude.{◌≡◌, ℕ, List, [], ◌∷◌, ◌++◌, Boo
 use Rattle.httparse.specs.Grammar.{RequestHead}
 use Rattle.cad_versions.specs.declared.command.Command.{Command}
 use Rattle.cad_versions.specs.declared.fault.RegisterFault.{RegisterFault}
-use Rattle.cad_request.specs.Request.{Request, request_of}
+use Rattle.cad_head.specs.Request.{Request, request_of}
 use Rattle.cad_stream.specs.Streams.{Outcome, waits, closed, refused, Reaches}
 use Rattle.cad_stream.specs.Conversations.{HeadAt}
 
@@ -21,8 +21,12 @@ last_reply bad_head (waits rest) = []
 last_reply bad_head closed = []
 last_reply bad_head refused = bad_head
 
+-- after requests that leave the connection open the bytes come to one of which this holds
+abbrev pub ComeTo : (Request → Bool) → (Request → Type 0) → List ℕ → Type 0
+ComeTo closes Holds bytes =
+    (heads : List RequestHead) × (head : RequestHead) × (rest : List ℕ)
+    × Reaches closes heads head bytes rest × Holds (request_of head)
+
 -- the bytes come to a request that fails to be answered
 abbrev pub Fails : (Request → Bool) → (List Command → Request → RegisterFault → Type 0) → List ℕ → RegisterFault → List Command → Type 0
-Fails closes FailsToAnswer bytes fault commands =
-    (heads : List RequestHead) × (head : RequestHead) × (rest : List ℕ)
-    × Reaches closes heads head bytes rest × FailsToAnswer commands (request_of head) fault
+Fails closes FailsToAnswer bytes fault commands = ComeTo closes (λ request. FailsToAnswer commands request fault) bytes

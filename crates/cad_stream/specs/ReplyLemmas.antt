@@ -3,7 +3,7 @@ use Rattle.std.proofs.Common.{ℕ, List, [], ◌∷◌, ◌++◌, sym, ap, subst
 use Rattle.std.proofs.lemmas.List.{map-append}
 use Rattle.httparse.specs.Grammar.{RequestHead}
 use Rattle.cad_versions.specs.declared.command.Command.{Command}
-use Rattle.cad_request.specs.Request.{Request}
+use Rattle.cad_head.specs.Request.{Request}
 use Rattle.cad_stream.specs.Replies.{AreReplies}
 use Rattle.cad_stream.specs.Conversations.{HeadAt, heads_at}
 

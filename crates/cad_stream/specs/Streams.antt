@@ -2,7 +2,7 @@
 use Rattle.std.specs.Prelude.{◌≡◌, ℕ, List, [], ◌∷◌, ◌++◌, Bool, true, false, Option, Some, None, ◌⊎◌}
 use Rattle.httparse.specs.Grammar.{RequestHead}
 use Rattle.cad_head.specs.Heads.{Fits, IsHopeless, IsIncomplete}
-use Rattle.cad_request.specs.Request.{Request, request_of}
+use Rattle.cad_head.specs.Request.{Request, request_of}
 
 -- what comes of a connection: a rest of its bytes waits, or a request closed it, or it is refused since no request can come (RFC 9112, section 9.6: tear-down)
 pub data Outcome : Type 0 where

@@ -13,7 +13,7 @@ pub trait Responder {
     ghost use Rattle.cad_versions.specs.declared.fault.RegisterFault.{RegisterFault as Fault};
     ghost use Rattle.cad_versions.specs.Keeping.{IsOfKeeping};
     ghost use Rattle.cad_versions.specs.Ledgers.{Applied};
-    ghost use Rattle.cad_request.specs.Request.{Request, request_at};
+    ghost use Rattle.cad_head.specs.Request.{Request, request_at};
     ghost use Rattle.cad_stream.specs.Answering.{Answered};
 
     // It stands for these commands.
@@ -33,6 +33,9 @@ pub trait Responder {
 
     // The reply to bytes that no request can begin with.
     ghost bad_head: { List ℕ };
+
+    // The reply to the request tells what the commands say, so that what keeps them is asked.
+    ghost asks: { Request → Type 0 };
 
     // Why a request has no reply.
     ghost fails_to_answer: { List CommandOf → Request → Fault → Type 0 };
@@ -58,7 +61,7 @@ pub trait Responder {
         spans: &RequestSpans,
     ) -> Result<Answer, RegisterFault>
         requires { IsRequestWithin bytes.now headers.now spans.now }
-        ensures { Answered stands_for counts lives replies closes fails_to_answer refuses_answer remains
+        ensures { Answered stands_for counts lives replies closes asks fails_to_answer refuses_answer remains
             self.old (request_at bytes.now headers.now spans.now) result self.new };
 
     /// The reply to bytes that no request can begin with.

@@ -11,6 +11,7 @@ pub mod LineLemmas
 pub mod StepLemmas
 pub mod TransactionLemmas
 pub mod RefusalLemmas
+pub mod TakingLemmas
 pub mod OpeningLemmas
 pub mod NameLemmas
 pub mod StandingLemmas

@@ -4,6 +4,7 @@ pub mod Texts
 pub mod Faults
 pub mod Holding
 pub mod Refusals
+pub mod Transactions
 pub mod Changes
 pub mod Laws
 pub mod Steps

@@ -1,14 +1,15 @@
 //! Making the tables of an empty register.
 
 ghost use Rattle.std.specs.Prelude.{◌≡◌, [], ℕ, true, false, IsTrue, Ok, IfErr, IfOk, OnOk, OnErr};
-ghost use Rattle.sqlite.specs.State.{HasCleanDisk, Survives, KeepsCommit, IsNotRun, IsUnchanged};
+ghost use Rattle.sqlite.specs.State.{HasCleanDisk, Survives, IsNotRun, IsUnchanged};
 ghost use Rattle.sqlite.specs.Listing.{understood};
 ghost use Rattle.sqlite.specs.Held.{state};
 ghost use Rattle.sqlite.specs.declared.error.Error.{Error};
 ghost use Rattle.cad_tables.specs.Asking.{OnlyReads};
 ghost use Rattle.cad_tables.specs.Faults.{fault_of, is_name_taken as is_taken};
 ghost use Rattle.cad_tables.specs.Opening.{Finds, RefusesNames, RefusesTables};
-ghost use Rattle.cad_tables.specs.Refusals.{creating, RanAll, OneIsRefused, RefusesTransaction};
+ghost use Rattle.cad_tables.specs.Refusals.{creating, RefusesTransaction};
+ghost use Rattle.cad_tables.specs.Transactions.{TakesStep};
 ghost use Rattle.cad_tables.specs.Tables.{is_standing as stands};
 ghost use Rattle.cad_tables.specs.Texts.{state_text, version_text};
 ghost use Rattle.cad_tables.specs.Steps.{MakesTables, KeepsAll, Creates, CreatesTo};
@@ -78,18 +79,9 @@ fn is_standing<S: Alter>(conn: &mut Connection<S>) -> Result<bool, Error>
 }
 
 /// Makes both tables and the row of `state`.
-#[tactic(auto, using(sqlite::proofs::InsideLemmas::inside_keeps, sqlite::proofs::InsideLemmas::keeps_then))]
 fn make_tables<S: Alter>(tx: &mut Transaction<'_, S>) -> Result<(), Error>
     ensures same_reference { tx.new.conn.ghost_name ≡ tx.old.conn.ghost_name }
-    ensures makes { HasCleanDisk (state S.Store tx.new.conn.now) → IsTrue (state S.Store tx.old.conn.now).in_transaction
-        → OnOk result (MakesTables (state S.Store tx.old.conn.now) (state S.Store tx.new.conn.now)) }
-    ensures ran { HasCleanDisk (state S.Store tx.new.conn.now) → IsTrue (state S.Store tx.old.conn.now).in_transaction
-        → OnOk result (RanAll S.Store creating tx.old.conn.now tx.new.conn.now) }
-    ensures refused { HasCleanDisk (state S.Store tx.new.conn.now) → IsTrue (state S.Store tx.old.conn.now).in_transaction
-        → IfErr result (λ e. OneIsRefused S.Store creating e tx.old.conn.now tx.new.conn.now) }
-    ensures kept { HasCleanDisk (state S.Store tx.new.conn.now) → IsTrue (state S.Store tx.old.conn.now).in_transaction
-        → KeepsCommit (state S.Store tx.old.conn.now) (state S.Store tx.new.conn.now) }
-    ensures survives { Survives (state S.Store tx.old.conn.now) (state S.Store tx.new.conn.now) (λ _. ⊥) }
+    ensures step { TakesStep S.Store MakesTables creating tx.old.conn.now tx.new.conn.now result }
 {
     tx.execute(state_table(), &[])?;
     tx.execute(version_table(), &[])?;

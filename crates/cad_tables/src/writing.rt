@@ -1,12 +1,13 @@
 //! One command's change, in one transaction.
 
 ghost use Rattle.std.specs.Prelude.{◌≡◌, [], ◌∷◌, false, IsTrue, OnOk, OnErr, IfErr};
-ghost use Rattle.sqlite.specs.State.{HasCleanDisk, Survives, KeepsCommit};
+ghost use Rattle.sqlite.specs.State.{HasCleanDisk, Survives};
 ghost use Rattle.sqlite.specs.Held.{state};
 ghost use Rattle.sqlite.specs.declared.error.Error.{Error};
 ghost use Rattle.cad_tables.specs.Faults.{fault_of};
 ghost use Rattle.cad_tables.specs.Refusals.{entering, closing as the_closing, counting, statements_of, all_statements_of};
-ghost use Rattle.cad_tables.specs.Refusals.{RanAll, OneIsRefused, RefusesTransaction};
+ghost use Rattle.cad_tables.specs.Refusals.{RefusesTransaction};
+ghost use Rattle.cad_tables.specs.Transactions.{TakesStep};
 ghost use Rattle.cad_tables.specs.Steps.{Adds, Counts, Closes, Changes, Commands, Commits, CommitsTo, KeepsAll};
 
 use crate::cells::{Stored, closing_cells, one_cell};
@@ -15,18 +16,9 @@ use crate::faults::TableFault;
 use sqlite::{Alter, Connection, Error, ErrorCode, Transaction};
 
 /// Adds a row to `version`.
-#[tactic(auto, using(sqlite::proofs::InsideLemmas::inside_keeps))]
 fn add_line<S: Alter, L: Stored>(tx: &mut Transaction<'_, S>, line: &L) -> Result<(), Error>
     ensures same_reference { tx.new.conn.ghost_name ≡ tx.old.conn.ghost_name }
-    ensures adds { HasCleanDisk (state S.Store tx.new.conn.now) → IsTrue (state S.Store tx.old.conn.now).in_transaction
-        → OnOk result (Adds (L.line line.now) (state S.Store tx.old.conn.now) (state S.Store tx.new.conn.now)) }
-    ensures ran { HasCleanDisk (state S.Store tx.new.conn.now) → IsTrue (state S.Store tx.old.conn.now).in_transaction
-        → OnOk result (RanAll S.Store (entering (L.line line.now) ∷ []) tx.old.conn.now tx.new.conn.now) }
-    ensures refused { HasCleanDisk (state S.Store tx.new.conn.now) → IsTrue (state S.Store tx.old.conn.now).in_transaction
-        → IfErr result (λ e. OneIsRefused S.Store (entering (L.line line.now) ∷ []) e tx.old.conn.now tx.new.conn.now) }
-    ensures kept { HasCleanDisk (state S.Store tx.new.conn.now) → IsTrue (state S.Store tx.old.conn.now).in_transaction
-        → KeepsCommit (state S.Store tx.old.conn.now) (state S.Store tx.new.conn.now) }
-    ensures survives { Survives (state S.Store tx.old.conn.now) (state S.Store tx.new.conn.now) (λ _. ⊥) }
+    ensures step { TakesStep S.Store (Adds (L.line line.now)) (entering (L.line line.now) ∷ []) tx.old.conn.now tx.new.conn.now result }
 {
     tx.execute(
         "INSERT INTO version VALUES (?1, ?2, ?3, ?4, ?5, ?6, ?7, ?8, ?9, ?10, \
@@ -37,18 +29,9 @@ fn add_line<S: Alter, L: Stored>(tx: &mut Transaction<'_, S>, line: &L) -> Resul
 }
 
 /// Sets the revision in `state`.
-#[tactic(auto, using(sqlite::proofs::InsideLemmas::inside_keeps))]
 fn set_revision<S: Alter>(tx: &mut Transaction<'_, S>, revision: u32) -> Result<(), Error>
     ensures same_reference { tx.new.conn.ghost_name ≡ tx.old.conn.ghost_name }
-    ensures counts { HasCleanDisk (state S.Store tx.new.conn.now) → IsTrue (state S.Store tx.old.conn.now).in_transaction
-        → OnOk result (Counts revision (state S.Store tx.old.conn.now) (state S.Store tx.new.conn.now)) }
-    ensures ran { HasCleanDisk (state S.Store tx.new.conn.now) → IsTrue (state S.Store tx.old.conn.now).in_transaction
-        → OnOk result (RanAll S.Store (counting revision ∷ []) tx.old.conn.now tx.new.conn.now) }
-    ensures refused { HasCleanDisk (state S.Store tx.new.conn.now) → IsTrue (state S.Store tx.old.conn.now).in_transaction
-        → IfErr result (λ e. OneIsRefused S.Store (counting revision ∷ []) e tx.old.conn.now tx.new.conn.now) }
-    ensures kept { HasCleanDisk (state S.Store tx.new.conn.now) → IsTrue (state S.Store tx.old.conn.now).in_transaction
-        → KeepsCommit (state S.Store tx.old.conn.now) (state S.Store tx.new.conn.now) }
-    ensures survives { Survives (state S.Store tx.old.conn.now) (state S.Store tx.new.conn.now) (λ _. ⊥) }
+    ensures step { TakesStep S.Store (Counts revision) (counting revision ∷ []) tx.old.conn.now tx.new.conn.now result }
 {
     tx.execute(
         "UPDATE state SET revision = ?1 WHERE one = 1",
@@ -58,22 +41,13 @@ fn set_revision<S: Alter>(tx: &mut Transaction<'_, S>, revision: u32) -> Result<
 }
 
 /// Closes the open row of an object.
-#[tactic(auto, using(sqlite::proofs::InsideLemmas::inside_keeps))]
 fn close_line<S: Alter>(
     tx: &mut Transaction<'_, S>,
     closing: Closing,
     revision: u32,
 ) -> Result<(), Error>
     ensures same_reference { tx.new.conn.ghost_name ≡ tx.old.conn.ghost_name }
-    ensures closes { HasCleanDisk (state S.Store tx.new.conn.now) → IsTrue (state S.Store tx.old.conn.now).in_transaction
-        → OnOk result (Closes closing revision (state S.Store tx.old.conn.now) (state S.Store tx.new.conn.now)) }
-    ensures ran { HasCleanDisk (state S.Store tx.new.conn.now) → IsTrue (state S.Store tx.old.conn.now).in_transaction
-        → OnOk result (RanAll S.Store (the_closing closing revision ∷ []) tx.old.conn.now tx.new.conn.now) }
-    ensures refused { HasCleanDisk (state S.Store tx.new.conn.now) → IsTrue (state S.Store tx.old.conn.now).in_transaction
-        → IfErr result (λ e. OneIsRefused S.Store (the_closing closing revision ∷ []) e tx.old.conn.now tx.new.conn.now) }
-    ensures kept { HasCleanDisk (state S.Store tx.new.conn.now) → IsTrue (state S.Store tx.old.conn.now).in_transaction
-        → KeepsCommit (state S.Store tx.old.conn.now) (state S.Store tx.new.conn.now) }
-    ensures survives { Survives (state S.Store tx.old.conn.now) (state S.Store tx.new.conn.now) (λ _. ⊥) }
+    ensures step { TakesStep S.Store (Closes closing revision) (the_closing closing revision ∷ []) tx.old.conn.now tx.new.conn.now result }
 {
     tx.execute(
         "UPDATE version SET last = ?2, closed = ?3 WHERE object = ?1 AND last IS NULL",
@@ -83,22 +57,13 @@ fn close_line<S: Alter>(
 }
 
 /// Writes a change of the rows of `version`.
-#[tactic(auto, using(sqlite::proofs::InsideLemmas::keeps_then))]
 fn change_lines<S: Alter, L: Stored>(
     tx: &mut Transaction<'_, S>,
     change: &Change<L>,
     revision: u32,
 ) -> Result<(), Error>
     ensures same_reference { tx.new.conn.ghost_name ≡ tx.old.conn.ghost_name }
-    ensures changes { HasCleanDisk (state S.Store tx.new.conn.now) → IsTrue (state S.Store tx.old.conn.now).in_transaction
-        → OnOk result (Changes L.line change.now revision (state S.Store tx.old.conn.now) (state S.Store tx.new.conn.now)) }
-    ensures ran { HasCleanDisk (state S.Store tx.new.conn.now) → IsTrue (state S.Store tx.old.conn.now).in_transaction
-        → OnOk result (RanAll S.Store (statements_of L.line change.now revision) tx.old.conn.now tx.new.conn.now) }
-    ensures refused { HasCleanDisk (state S.Store tx.new.conn.now) → IsTrue (state S.Store tx.old.conn.now).in_transaction
-        → IfErr result (λ e. OneIsRefused S.Store (statements_of L.line change.now revision) e tx.old.conn.now tx.new.conn.now) }
-    ensures kept { HasCleanDisk (state S.Store tx.new.conn.now) → IsTrue (state S.Store tx.old.conn.now).in_transaction
-        → KeepsCommit (state S.Store tx.old.conn.now) (state S.Store tx.new.conn.now) }
-    ensures survives { Survives (state S.Store tx.old.conn.now) (state S.Store tx.new.conn.now) (λ _. ⊥) }
+    ensures step { TakesStep S.Store (Changes L.line change.now revision) (statements_of L.line change.now revision) tx.old.conn.now tx.new.conn.now result }
 {
     match change {
         Change::Enter(line) => add_line(tx, line),
@@ -111,22 +76,13 @@ fn change_lines<S: Alter, L: Stored>(
 }
 
 /// Writes a change and the revision that it makes.
-#[tactic(auto, using(sqlite::proofs::InsideLemmas::keeps_then))]
 fn change_all<S: Alter, L: Stored>(
     tx: &mut Transaction<'_, S>,
     change: &Change<L>,
     revision: u32,
 ) -> Result<(), Error>
     ensures same_reference { tx.new.conn.ghost_name ≡ tx.old.conn.ghost_name }
-    ensures changes { HasCleanDisk (state S.Store tx.new.conn.now) → IsTrue (state S.Store tx.old.conn.now).in_transaction
-        → OnOk result (Commands L.line change.now revision (state S.Store tx.old.conn.now) (state S.Store tx.new.conn.now)) }
-    ensures ran { HasCleanDisk (state S.Store tx.new.conn.now) → IsTrue (state S.Store tx.old.conn.now).in_transaction
-        → OnOk result (RanAll S.Store (all_statements_of L.line change.now revision) tx.old.conn.now tx.new.conn.now) }
-    ensures refused { HasCleanDisk (state S.Store tx.new.conn.now) → IsTrue (state S.Store tx.old.conn.now).in_transaction
-        → IfErr result (λ e. OneIsRefused S.Store (all_statements_of L.line change.now revision) e tx.old.conn.now tx.new.conn.now) }
-    ensures kept { HasCleanDisk (state S.Store tx.new.conn.now) → IsTrue (state S.Store tx.old.conn.now).in_transaction
-        → KeepsCommit (state S.Store tx.old.conn.now) (state S.Store tx.new.conn.now) }
-    ensures survives { Survives (state S.Store tx.old.conn.now) (state S.Store tx.new.conn.now) (λ _. ⊥) }
+    ensures step { TakesStep S.Store (Commands L.line change.now revision) (all_statements_of L.line change.now revision) tx.old.conn.now tx.new.conn.now result }
 {
     change_lines(tx, change, revision)?;
     set_revision(tx, revision)

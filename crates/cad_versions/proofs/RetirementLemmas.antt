@@ -1,5 +1,5 @@
 -- An object's last version ends where a command retires the object, and nowhere else.
-use Rattle.std.proofs.Common.{◌≡◌, ℕ, ◌+◌, pos, Bool, true, false, cond, ◌&&◌, List, [], ◌∷◌, ◌++◌, map, find, fold, Option, Some, None, refl, sym, ap, ap₂, ◌∙◌, subst, int_eq, is_none, append-nil}
+use Rattle.std.proofs.Common.{◌≡◌, ℕ, ◌+◌, pos, Bool, true, false, cond, ◌&&◌, List, [], ◌∷◌, ◌++◌, map, find, fold, Option, Some, None, refl, sym, ap, ap₂, ◌∙◌, subst, int_eq, is_none}
 use Rattle.cad_day.specs.declared.day.Day.{Day}
 use Rattle.cad_versions.specs.declared.object_id.ObjectId.{ObjectId}
 use Rattle.cad_versions.specs.declared.command.Command.{Command}

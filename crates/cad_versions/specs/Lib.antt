@@ -21,9 +21,12 @@ pub mod Laws
 pub mod ShapeBytes
 pub mod BodyParts
 pub mod ListLemmas
+pub mod SortLemmas
 pub mod HistoryLemmas
 pub mod ClosingLemmas
 pub mod EntryLemmas
 pub mod OrderLemmas
 pub mod ShapeLemmas
 pub mod SameLemmas
+pub mod BodyLemmas
+pub mod AcceptedLemmas

@@ -1,14 +1,16 @@
--- No two versions of a register have one identifier.
-use Rattle.std.proofs.Common.{◌≡◌, ℕ, ◌+◌, ◌≤◌, ◌<◌, pos, Bool, true, false, cond, List, [], ◌∷◌, refl, arith, true≢false, is_eq, Ordering, Less, Equal, Greater, int_cmp, int_eq}
+-- The order of identifiers; no two versions of a register have one identifier.
+use Rattle.std.proofs.Common.{◌≡◌, ℕ, ◌+◌, ◌≤◌, ◌<◌, ℤ, pos, Bool, true, false, cond, List, [], ◌∷◌, refl, arith, true≢false, is_eq, Ordering, Less, Equal, Greater, int_cmp, int_eq}
 use Rattle.std.specs.List.{AllByRecursion, IsDistinct}
+use Rattle.std.specs.Cmp.{IsTotalOrder}
 use Rattle.std.specs.Ordering.{eq_by_cmp, ordering_then}
+use Rattle.std.proofs.lemmas.Cmp.{int_cmp_total, on_total, then_total}
 use Rattle.std.proofs.lemmas.Int.{ints}
 use Rattle.cad_versions.specs.declared.object_id.ObjectId.{ObjectId}
 use Rattle.cad_versions.specs.Objects.{object_number}
 use Rattle.cad_versions.specs.VersionedObject.{VersionedObject}
 use Rattle.cad_versions.specs.Versions.{is_of, history}
 use Rattle.cad_versions.specs.Histories.{IsHistory}
-use Rattle.cad_versions.specs.Identifiers.{by_identifier}
+use Rattle.cad_versions.specs.Identifiers.{identifier_of, identifier_cmp, by_identifier}
 use Rattle.cad_versions.specs.ListLemmas.{all_weaker, all_kept}
 use Rattle.cad_versions.specs.HistoryLemmas.{HasHistories}
 
@@ -46,6 +48,12 @@ rises_later v vs up object = go (is_of object v) (up object)
 
 -- ---- identifiers
 
+pub identifiers_total : IsTotalOrder identifier_cmp
+identifiers_total = then_total (on_total (λ (i : ℤ × ℤ). i.0) int_cmp_total) (on_total (λ (i : ℤ × ℤ). i.1) int_cmp_total)
+
+pub versions_total : IsTotalOrder by_identifier
+versions_total = on_total identifier_of identifiers_total
+
 unequal : (o p : Ordering) → is_eq o ≡ false → is_eq (ordering_then o p) ≡ false
 unequal Less p h = refl
 unequal Equal p h = absurd (true≢false h)
@@ -56,7 +64,7 @@ less_then Less = refl
 less_then Equal = refl
 less_then Greater = refl
 
-cmp_less : (m n : ℕ) → m < n → int_cmp (pos m) (pos n) ≡ Less
+pub cmp_less : (m n : ℕ) → m < n → int_cmp (pos m) (pos n) ≡ Less
 cmp_less m n h = grind (arith, ints)
 
 cmp_unequal : (m n : ℕ) → int_eq (pos n) (pos m) ≡ false → is_eq (int_cmp (pos m) (pos n)) ≡ false

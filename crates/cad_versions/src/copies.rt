@@ -1,14 +1,17 @@
 //! Copies of what versions say.
 
 ghost use Rattle.std.specs.Prelude.{◌≡◌, IfOk};
+ghost use Rattle.std.specs.Option.{option_copied};
+ghost use Rattle.cad_versions.specs.BodyParts.{lent};
 
 use crate::body::Body;
+use crate::body_parts::{BodyParts, LentParts};
 use crate::words::Words;
 use cad_shape::Ring;
 use std::alloc::{AllocError, Global};
 
-fn copy_words(alloc: Global, words: &Option<Words>) -> Result<Option<Words>, AllocError>
-    ensures { IfOk result (λ copy. copy ≡ words.now) }
+fn copy_words(alloc: Global, words: Option<&Words>) -> Result<Option<Words>, AllocError>
+    ensures { IfOk result (λ copy. copy ≡ option_copied words.entry) }
 {
     match words {
         None => Ok(None),
@@ -19,8 +22,8 @@ fn copy_words(alloc: Global, words: &Option<Words>) -> Result<Option<Words>, All
     }
 }
 
-fn copy_shape(alloc: Global, shape: &Option<Ring>) -> Result<Option<Ring>, AllocError>
-    ensures { IfOk result (λ copy. copy ≡ shape.now) }
+fn copy_shape(alloc: Global, shape: Option<&Ring>) -> Result<Option<Ring>, AllocError>
+    ensures { IfOk result (λ copy. copy ≡ option_copied shape.entry) }
 {
     match shape {
         None => Ok(None),
@@ -31,68 +34,36 @@ fn copy_shape(alloc: Global, shape: &Option<Ring>) -> Result<Option<Ring>, Alloc
     }
 }
 
+fn copy_parts(alloc: Global, parts: LentParts<'_>) -> Result<BodyParts, AllocError>
+    ensures { IfOk result (λ copy. copy ≡ lent parts.entry) }
+{
+    let name = copy_words(alloc, parts.name)?;
+    let code = copy_words(alloc, parts.code)?;
+    let label = copy_words(alloc, parts.label)?;
+    let shape = copy_shape(alloc, parts.shape)?;
+    Ok(BodyParts {
+        name,
+        code,
+        label,
+        area: parts.area,
+        unit: parts.unit,
+        party: parts.party,
+        share: parts.share,
+        required: parts.required,
+        spot: parts.spot,
+        shape,
+    })
+}
+
 impl Body {
     /// The same body once more.
     pub fn copy(&self, alloc: Global) -> Result<Body, AllocError>
         ensures { IfOk result (λ copy. copy ≡ self.now) }
     {
-        match self {
-            Body::Party { name, code } => {
-                let name = copy_words(alloc, name)?;
-                let code = code.copy(alloc)?;
-                Ok(Body::Party { name, code })
-            }
-            Body::Unit { name } => {
-                let name = copy_words(alloc, name)?;
-                Ok(Body::Unit { name })
-            }
-            Body::Parcel {
-                unit,
-                label,
-                area,
-                shape,
-                spot,
-            } => {
-                let label = label.copy(alloc)?;
-                let shape = copy_shape(alloc, shape)?;
-                Ok(Body::Parcel {
-                    unit: *unit,
-                    label,
-                    area: *area,
-                    shape,
-                    spot: *spot,
-                })
-            }
-            Body::Right {
-                unit,
-                party,
-                code,
-                share,
-            } => {
-                let code = code.copy(alloc)?;
-                Ok(Body::Right {
-                    unit: *unit,
-                    party: *party,
-                    code,
-                    share: *share,
-                })
-            }
-            Body::Restriction {
-                unit,
-                party,
-                code,
-                share,
-                required,
-            } => {
-                let code = code.copy(alloc)?;
-                Ok(Body::Restriction {
-                    unit: *unit,
-                    party: *party,
-                    code,
-                    share: *share,
-                    required: *required,
-                })
-            }
+        let parts = copy_parts(alloc, self.parts())?;
+        match Body::from_parts(self.class(), parts) {
+            Some(copy) => Ok(copy),
+            None => unreachable!(),
         }
     }
 }

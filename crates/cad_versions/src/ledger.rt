@@ -6,11 +6,12 @@ use crate::version::Version;
 
 /// A ledger of commands that were accepted one after the other.
 pub trait Ledger {
-    ghost use Rattle.std.specs.Prelude.{◌≡◌, ℕ, List, length};
+    ghost use Rattle.std.specs.Prelude.{◌≡◌, ℕ, List, [], length};
     ghost use Rattle.cad_versions.specs.declared.command.Command.{Command as CommandOf};
     ghost use Rattle.cad_versions.specs.declared.fault.RegisterFault.{RegisterFault as Fault};
     ghost use Rattle.cad_versions.specs.Keeping.{IsOfKeeping};
     ghost use Rattle.cad_versions.specs.Ledgers.{Applied, Listed};
+    ghost use Rattle.cad_versions.specs.Refusals.{AreAccepted};
 
     // It stands for these commands.
     ghost stands_for: { Self → List CommandOf → Type 0 };
@@ -56,6 +57,10 @@ pub trait Ledger {
 
     ghost list_keeps: { (revision : ℕ) (commands : List CommandOf) (fault : Fault) →
         fails_to_list revision commands fault → IsOfKeeping fault };
+
+    // The commands that it stands for were accepted one after the other.
+    ghost were_accepted: { (ledger : Self) (commands : List CommandOf) →
+        stands_for ledger commands → AreAccepted [] commands };
 
     // It remains what it was where nothing was listed, and over one listing after the other.
     ghost remains_here: { (ledger : Self) → remains ledger ledger };

@@ -2,6 +2,7 @@
 //!
 //! - `ObjectId`, `Words`, `Share`: values that cannot hold what the register must not.
 //! - `Body`, `Class`, `Version`: one version of a party, a basic administrative unit, a parcel, a right or a restriction.
+//! - `BodyParts`, `LentParts`: what a body says, part by part, whatever its class.
 //! - `Command`, `RegisterFault`: what the land office asks for, and why it is refused.
 //! - `MOST_NUMBER`, `MOST_VERSIONS`: how large numbers may be, and how many versions there may be.
 //! - `Ledger`: what commands are entered into, and what tells the versions at a revision.
@@ -33,6 +34,7 @@ mod version;
 mod words;
 
 pub use body::{Body, Class};
+pub use body_parts::{BodyParts, LentParts};
 pub use command::Command;
 pub use fault::RegisterFault;
 pub use ledger::Ledger;

@@ -6,14 +6,14 @@ use Rattle.std.specs.List.{AllByRecursion, list_any}
 use Rattle.std.proofs.lemmas.Bool.Decides.{nat_tests}
 use Rattle.std.proofs.lemmas.List.Elements.{All-from_recursion}
 use Rattle.cad_versions.specs.ListLemmas.{all_weaker}
-use Rattle.cad_feature.specs.declared.collection.Collection.{Collection}
-use Rattle.cad_feature.specs.declared.collection.Collection.TheVariants.{Parcels, Rights, Restrictions, Units, Parties}
-use Rattle.cad_feature.specs.Collections.{name_of}
-use Rattle.cad_feature.specs.Schema.{schema_of}
+use Rattle.cad_schema.specs.declared.collection.Collection.{Collection}
+use Rattle.cad_schema.specs.declared.collection.Collection.TheVariants.{Parcels, Rights, Restrictions, Units, Parties}
+use Rattle.cad_schema.specs.Collections.{name_of}
+use Rattle.cad_schema.specs.Schema.{schema_of}
 use Rattle.cql_types.specs.declared.filter.Filter.{Filter}
 use Rattle.cql_filter.specs.Filters.{IsAccepted}
 use Rattle.cad_bodies.specs.Paths.{items_path}
-use Rattle.cad_request.specs.Request.{Request, path, query}
+use Rattle.cad_head.specs.Request.{Request, path, query}
 use Rattle.cad_query.specs.Laws.{IsPath}
 use Rattle.cad_query.specs.Numerals.{limit_of, number_in}
 use Rattle.cad_query.specs.Pairs.{PairText, pairs_of, given}

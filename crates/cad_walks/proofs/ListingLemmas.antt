@@ -1,5 +1,5 @@
 -- The features of a listing ascend, and have identifiers.
-use Rattle.std.proofs.Common.{◌≡◌, ℕ, List, [], ◌∷◌, map, filter, Less}
+use Rattle.std.proofs.Common.{◌≡◌, ℕ, List, [], ◌∷◌, map, filter, Less, sym, subst}
 use Rattle.std.specs.List.{All, AllByRecursion}
 use Rattle.std.specs.List.Sorted.{IsStrictlySortedBy}
 use Rattle.std.proofs.lemmas.List.Elements.{All-from_recursion, All-filter, recursion_from_All}
@@ -7,12 +7,11 @@ use Rattle.std.proofs.lemmas.List.Kept.{IsStrictlySortedBy-filter}
 use Rattle.cad_versions.specs.VersionedObject.{VersionedObject, IsVersion}
 use Rattle.cad_versions.specs.Listing.{IsListing}
 use Rattle.cad_versions.specs.Identifiers.{by_identifier as by_version}
-use Rattle.cad_feature.specs.declared.collection.Collection.{Collection}
-use Rattle.cad_feature.specs.declared.collection.Collection.TheVariants.{Parcels, Rights, Restrictions, Units, Parties}
+use Rattle.cad_schema.specs.declared.collection.Collection.{Collection}
 use Rattle.cad_feature.specs.Features.{Item, by_identifier}
 use Rattle.cad_feature.specs.Flatten.{is_in, feature_in, features_in}
 use Rattle.cad_query.specs.Identifiers.{IsVersionNumber}
-use Rattle.cad_snapshot.specs.Snapshots.{features_at}
+use Rattle.cad_snapshot.specs.Snapshots.{features_at, told_at}
 use Rattle.cad_server.specs.Contents.{snapshot_of}
 
 -- ---- from versions to features
@@ -40,15 +39,8 @@ in_numbered vs c is =
 
 -- ---- of a snapshot
 
-of_snapshot : (P : List Item → Type 0) (revision : ℕ) (vs : List VersionedObject) → ((c : Collection) → P (features_in vs c)) → (c : Collection) → P (features_at (snapshot_of revision vs) c)
-of_snapshot P revision vs h Parcels = h Parcels
-of_snapshot P revision vs h Rights = h Rights
-of_snapshot P revision vs h Restrictions = h Restrictions
-of_snapshot P revision vs h Units = h Units
-of_snapshot P revision vs h Parties = h Parties
-
 pub ascend : (revision : ℕ) (vs : List VersionedObject) (c : Collection) → IsListing vs → IsStrictlySortedBy by_identifier (features_at (snapshot_of revision vs) c)
-ascend revision vs c is = of_snapshot (IsStrictlySortedBy by_identifier) revision vs (λ d. in_ascend vs d is) c
+ascend revision vs c is = subst (IsStrictlySortedBy by_identifier) (sym (told_at revision (features_in vs) c)) (in_ascend vs c is)
 
 pub have_numbers : (revision : ℕ) (vs : List VersionedObject) (c : Collection) → IsListing vs → All (λ (x : Item). IsVersionNumber x.number) (features_at (snapshot_of revision vs) c)
-have_numbers revision vs c is = of_snapshot (All (λ (x : Item). IsVersionNumber x.number)) revision vs (λ d. in_numbered vs d is) c
+have_numbers revision vs c is = subst (All (λ (x : Item). IsVersionNumber x.number)) (sym (told_at revision (features_in vs) c)) (in_numbered vs c is)

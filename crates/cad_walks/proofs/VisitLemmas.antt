@@ -9,7 +9,7 @@ use Rattle.cad_versions.specs.declared.command.Command.{Command}
 use Rattle.cad_versions.specs.VersionedObject.{VersionedObject}
 use Rattle.cad_versions.specs.Refusals.{refusal, AreAccepted}
 use Rattle.cad_versions.specs.Versions.{after}
-use Rattle.cad_request.specs.Request.{Request, request_of}
+use Rattle.cad_head.specs.Request.{Request, request_of}
 use Rattle.cad_stream.specs.Streams.{Outcome, waits, closed, refused}
 use Rattle.cad_stream.specs.Replies.{AreReplies, last_reply}
 use Rattle.cad_stream.specs.Conversations.{Piece, HeadAt, heads_at, commands_of, IsConversation}

@@ -8,10 +8,10 @@ use Rattle.std.proofs.lemmas.Slice.Zip.{AllZip-long}
 use Rattle.std.proofs.lemmas.List.Kept.{IsStrictlySortedBy-filter}
 use Rattle.cad_versions.specs.AsOf.{as_of}
 use Rattle.cad_versions.specs.Laws.{RevisionsStay}
-use Rattle.cad_feature.specs.declared.collection.Collection.{Collection}
+use Rattle.cad_schema.specs.declared.collection.Collection.{Collection}
 use Rattle.cad_feature.specs.Features.{Item, identifier_of, by_identifier}
 use Rattle.cad_bodies.specs.Paths.{items_path}
-use Rattle.cad_request.specs.Request.{Request, path, query}
+use Rattle.cad_head.specs.Request.{Request, path, query}
 use Rattle.cad_query.specs.Identifiers.{Numbers, numbers_of as named_numbers, IsVersionNumber, Identifies, identifier_text}
 use Rattle.cad_query.specs.Laws.{IsPairOfTexts, PairsAreTexts, NextIsReadBack, AsksToGoOn, path_of, asked_pairs}
 use Rattle.cad_query.specs.Links.{continued}

@@ -2,7 +2,7 @@
 use Rattle.std.specs.Prelude.{◌≡◌, ◌⊎◌, ℕ, List, [], ◌∷◌, ◌++◌, length, Contains, Some, None, Result, Ok}
 use Rattle.std.specs.List.{AllZip, flat_map}
 use Rattle.cad_versions.specs.declared.command.Command.{Command}
-use Rattle.cad_request.specs.Request.{request_of}
+use Rattle.cad_head.specs.Request.{request_of}
 use Rattle.cad_stream.specs.Streams.{Outcome, waits}
 use Rattle.cad_stream.specs.Replies.{last_reply}
 use Rattle.cad_stream.specs.Conversations.{HeadAt, IsConversation}

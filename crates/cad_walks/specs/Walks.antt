@@ -5,7 +5,7 @@ use Rattle.std.specs.List.Sorted.{IsStrictlySortedBy}
 use Rattle.serde_json.specs.Written.{compact_text}
 use Rattle.cad_versions.specs.declared.command.Command.{Command}
 use Rattle.cad_feature.specs.Features.{Item, by_identifier}
-use Rattle.cad_request.specs.Request.{Request, path, query}
+use Rattle.cad_head.specs.Request.{Request, path, query}
 use Rattle.cad_query.specs.Pairs.{pairs_of}
 use Rattle.cad_bodies.specs.Paths.{items_path}
 use Rattle.cad_ask.specs.declared.ask.Ask.{Ask}

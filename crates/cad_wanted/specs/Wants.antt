@@ -2,7 +2,7 @@
 use Rattle.std.specs.Prelude.{◌≡◌, ◌≢◌, ℕ, List, [], ◌∷◌, codes, string_bytes, Bool, true, false, Result, Ok, Err, MatchOption}
 use Rattle.std.specs.Bool.{MatchBool}
 use Rattle.serde_json.specs.Written.{compact_text}
-use Rattle.cad_feature.specs.declared.collection.Collection.{Collection}
+use Rattle.cad_schema.specs.declared.collection.Collection.{Collection}
 use Rattle.cad_query.specs.declared.identifier.Identifier.{Identifier}
 use Rattle.cad_query.specs.Identifiers.{identifier_named, numbers_of, Numbers}
 use Rattle.cad_query.specs.Pairs.{PairText, pairs_of}

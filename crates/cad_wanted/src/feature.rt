@@ -7,9 +7,9 @@ ghost use Rattle.cad_wanted.specs.Wants.{IsFeatureWanted, IsIdentified};
 use crate::plain::{has_pairs, unknown};
 use crate::request::Wanted;
 use crate::told::refusal;
-use cad_feature::Collection;
 use cad_query::Identifier;
 use cad_reply::Status;
+use cad_schema::Collection;
 use std::alloc::{AllocError, Global};
 
 /// The feature that the text identifies, unless the query has a parameter.

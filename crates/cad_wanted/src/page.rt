@@ -9,8 +9,8 @@ ghost use Rattle.cad_wanted.specs.Wants.{fault_text, IsTold, IsPageWanted};
 use crate::request::Wanted;
 use crate::told::Told;
 use cad_ask::{Ask, AskFault, fault_body};
-use cad_feature::Collection;
 use cad_reply::Status;
+use cad_schema::Collection;
 use std::alloc::{AllocError, Global};
 
 /// The page that the query asks for, or the refusal of its first fault.

@@ -11,9 +11,9 @@ use crate::plain::plain;
 use crate::told::{Told, refusal};
 use cad_ask::Ask;
 use cad_bodies::{collection_body, collections_body, landing_body, queryables_body};
-use cad_feature::Collection;
 use cad_query::Identifier;
 use cad_resource::{Asked, Check, Resource};
+use cad_schema::Collection;
 use std::alloc::{AllocError, Global};
 
 /// What a request wants of the register.

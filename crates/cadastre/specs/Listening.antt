@@ -10,16 +10,28 @@ use Rattle.cad_program.specs.declared.command.Service.{Service}
 use Rattle.cad_program.specs.declared.outcome.Outcome.{Outcome}
 use Rattle.cad_program.specs.declared.outcome.Outcome.TheVariants as outcome
 use Rattle.cad_program.specs.Listening.{IsSilent, ListensOver}
-use Rattle.cadastre.specs.Asking.{register_as_ledger}
+use Rattle.cad_register.specs.Ledgers.{register_as_ledger}
 
 -- what standard output and standard error hold before and after
 module _ (service : Service) (before after quiet told : Option (List ℕ)) where
-  -- no register was found, and nothing is written; or connections are served over the one that was, and the database's connection is given back
+  -- no register is had: the run ends for this cause, nothing is written, and the database's connection is given back
+  pub record EndsSilent {S : Type 0} (refused : RegisterFault × Held S) (ended : Outcome × Held S) : Type 0 where
+    pub cause : ended.0 ≡ outcome.Register refused.0
+    pub back : ended.1 ≡ refused.1
+    pub silent : IsSilent service before after quiet told
+
+  -- connections are served over the register, and the database's connection is given back
+  pub record ListensOverRegister {S : Type 0} (g : store.Ghosts S) (register : Register S) (ended : Outcome × Held S) : Type 0 where
+    pub left : Register S
+    pub listens : ListensOver service before after quiet told (register_as_ledger g) register (ended.0, left)
+    pub back : ended.1 ≡ connection_of left
+
   abbrev pub ServesFound : {S : Type 0} → store.Ghosts S → Result (Register S) (RegisterFault × Held S) → Outcome × Held S → Type 0
-  ServesFound g (Err refused) ended = (ended.0 ≡ outcome.Register refused.0) × (ended.1 ≡ refused.1) × IsSilent service before after quiet told
-  ServesFound {S} g (Ok register) ended =
-      (left : Register S) × ListensOver service before after quiet told (register_as_ledger g) register (ended.0, left) × (ended.1 ≡ connection_of left)
+  ServesFound g (Err refused) ended = EndsSilent refused ended
+  ServesFound g (Ok register) ended = ListensOverRegister g register ended
 
   -- listening over a database: its register is found before the address is looked at, and none is made
-  abbrev pub RunsServe : {S : Type 0} → store.Ghosts S → Held S → Outcome × Held S → Type 0
-  RunsServe {S} g lent ended = (found : Result (Register S) (RegisterFault × Held S)) × Opened g lent found × ServesFound g found ended
+  pub record RunsServe {S : Type 0} (g : store.Ghosts S) (lent : Held S) (ended : Outcome × Held S) : Type 0 where
+    pub found : Result (Register S) (RegisterFault × Held S)
+    pub opened : Opened g lent found
+    pub serves : ServesFound g found ended

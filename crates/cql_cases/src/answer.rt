@@ -3,7 +3,8 @@
 ghost use Rattle.cad_versions.specs.Listing.{IsListing};
 
 use cad_day::{DatetimeFault, Interval, Relation, asked, holds};
-use cad_feature::{Collection, Feature, Value, flatten};
+use cad_feature::{Feature, Value, flatten};
+use cad_schema::Collection;
 use cad_versions::Version;
 use cql_filter::{FilterFault, read};
 use cql_truth::{Truth, truth};

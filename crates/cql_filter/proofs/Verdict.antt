@@ -1,7 +1,7 @@
 -- A text is a filter or has one first fault.
 use Rattle.std.proofs.Common.{◌≡◌, ◌⊎◌, inl, inr, refl, ap, subst, ℕ, ◌+◌, List, [], ◌∷◌, length}
 use Rattle.std.specs.Prelude.{Result, Ok, Err, IsOk}
-use Rattle.cad_feature.specs.Schema.{Named}
+use Rattle.cad_schema.specs.Attributes.{Named}
 use Rattle.cql_lexer.specs.Laws as lexer
 use Rattle.cql_lexer.specs.Laws.{AscendWithin}
 use Rattle.cql_lexer.specs.Lexed as lexed

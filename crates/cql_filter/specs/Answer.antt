@@ -1,6 +1,6 @@
 -- What reading a text answers.
 use Rattle.std.specs.Prelude.{◌≡◌, ℕ, ◌⊎◌, List, Result, Ok, Err}
-use Rattle.cad_feature.specs.Schema.{Named}
+use Rattle.cad_schema.specs.Attributes.{Named}
 use Rattle.cql_types.specs.declared.filter.Filter.{Filter}
 use Rattle.cql_filter.specs.Filters.{IsAccepted, IsFilterOf, IsFirstFault}
 use Rattle.cql_filter.specs.declared.cause.FilterFault.{FilterFault}

@@ -1,6 +1,6 @@
 -- Which texts are filters, and what is wrong first in the others (OGC 21-065r2, requirements classes Basic CQL2 and CQL2 Text; the order of faults: own profile).
 use Rattle.std.specs.Prelude.{ℕ, List, length}
-use Rattle.cad_feature.specs.Schema.{Named}
+use Rattle.cad_schema.specs.Attributes.{Named}
 use Rattle.cql_lexer.specs.Lexed as lexer
 use Rattle.cql_lexer.specs.Lexed.{IsSpelt}
 use Rattle.cql_lexer.specs.Mark.{Mark}

@@ -1,7 +1,7 @@
 //! The three readings of a text, one after the other.
 
 ghost use Rattle.std.specs.Prelude.{◌≡◌, Err, IsOk};
-ghost use Rattle.cad_feature.specs.Schema.{schema_of};
+ghost use Rattle.cad_schema.specs.Schema.{schema_of};
 ghost use Rattle.cql_filter.specs.Answer.{Answers, OrMemory};
 ghost use Rattle.cql_filter.specs.Filters.{IsAccepted, IsFirstFault};
 ghost use Rattle.cql_filter.specs.declared.cause.Cause.{Cause};
@@ -9,7 +9,7 @@ ghost use Rattle.cql_filter.specs.declared.cause.FilterFault.TheVariants.{Refuse
 
 use crate::cause::FilterFault;
 use crate::laws::{fault_or_filter, one_first_fault};
-use cad_feature::Collection;
+use cad_schema::Collection;
 use cql_lexer::laws::places_in_order;
 use cql_lexer::tokens;
 use cql_parser::parse;

@@ -37,7 +37,7 @@ end_at : (test : List ℕ → Bool) (u v : List ℕ) → test v ≡ true → som
 end_at test [] v h = end_here test v h
 end_at test (c ∷ u) v h = or_second (test (c ∷ u ++ v)) (some_end test (u ++ v)) (end_at test u v h)
 
-matches_from : (p : List Piece) (text : List ℕ) → is_like p text ≡ true → Matches p text
+pub matches_from : (p : List Piece) (text : List ℕ) → is_like p text ≡ true → Matches p text
 matches_from [] [] h = refl
 matches_from [] (c ∷ text) h = cc
 matches_from (any ∷ p) text h = let r = end_from (is_like p) text h in (r.0, r.1, r.2, matches_from p r.1 r.3)
@@ -47,7 +47,7 @@ matches_from (exactly d ∷ p) [] h = cc
 matches_from (exactly d ∷ p) (c ∷ text) h =
     (text, ap (λ (x : ℕ). x ∷ text) (same_char c d (both_first (c == d) (is_like p text) h)), matches_from p text (both_second (c == d) (is_like p text) h))
 
-matches_to : (p : List Piece) (text : List ℕ) → Matches p text → is_like p text ≡ true
+pub matches_to : (p : List Piece) (text : List ℕ) → Matches p text → is_like p text ≡ true
 matches_to [] text m = rw m refl
 matches_to (any ∷ p) text m = rw m.2 (end_at (is_like p) m.0 m.1 (matches_to p m.1 m.3))
 matches_to (one ∷ p) text m = rw m.2 (matches_to p m.1 m.3)

@@ -2,4 +2,6 @@ pub mod Likeness
 pub mod Patterns
 pub mod Parts
 pub mod Order
+pub mod Fronts
 pub mod Laws
+pub mod CodePoints

@@ -3,14 +3,18 @@
 //! - [`like`]: whether a text is like a pattern. `C%1` is like `C\%_`, and `CC1` is not.
 //! - [`fold`]: a text with its case folded: `Straße` and `STRASSE` both become `strasse`.
 //! - [`compare`]: the order of texts, by code points.
+//! - [`like_range`]: the range of the texts that begin with a pattern's front
+//! - [`end_of_front`]: the least text above all that begin with a front
 //! - [`laws`]: what holds of patterns, folding and the order, beyond what each call says.
 #![tactic(auto)]
 
 mod folding;
+mod front;
 pub mod laws;
 mod order;
 mod pattern;
 
 pub use folding::fold;
+pub use front::{LikeRange, end_of_front, like_range};
 pub use order::compare;
 pub use pattern::like;

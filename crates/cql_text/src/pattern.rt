@@ -7,7 +7,7 @@ ghost use Rattle.cql_text.specs.Parts.{piece_of};
 
 // One part of a pattern: any number of characters, one, or exactly that one.
 #[derive(Clone, Copy)]
-enum Part {
+pub(crate) enum Part {
     Any,
     One,
     Exactly(char),
@@ -81,7 +81,7 @@ fn is_over(pattern: &str, text: &str) -> bool
 }
 
 // The pattern after a part that takes any number.
-fn after_any(pattern: &str) -> Option<&str>
+pub(crate) fn after_any(pattern: &str) -> Option<&str>
     ensures { MatchOption result (BeginsPlain (pieces (chars pattern.now))) (λ after. pieces (chars pattern.now) ≡ any ∷ pieces (chars after.now)) }
 {
     match first_part(pattern) {
@@ -126,7 +126,7 @@ fn first_char(text: &str) -> Option<(char, &str)>
 }
 
 // The first part of a pattern, and the pattern after it.
-fn first_part(pattern: &str) -> Option<(Part, &str)>
+pub(crate) fn first_part(pattern: &str) -> Option<(Part, &str)>
     ensures { MatchOption result (pieces (chars pattern.now) ≡ []) (λ r. pieces (chars pattern.now) ≡ piece_of r.0 ∷ pieces (chars r.1.now)) }
 {
     let (first, after) = first_char(pattern)?;

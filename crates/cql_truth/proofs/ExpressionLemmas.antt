@@ -1,7 +1,7 @@
 -- The value of a term follows from its expression.
 use Rattle.std.proofs.Common.{◌≡◌, ℕ, ℤ, Bool, List, [], ◌∷◌, map, Option, Some, refl, sym, ap, ap₂, subst, ◌∙◌}
 use Rattle.std.specs.Prelude.{is_none, chars}
-use Rattle.cad_feature.specs.Features.{Item}
+use Rattle.cad_feature.specs.Features.{Item, datum_at}
 use Rattle.cql_types.specs.Conditions as c
 use Rattle.cql_types.specs.Conditions.{NumericExpression, NumericSteps, CharacterExpression, ScalarExpression, numeric, numeric_step, operation_step, character, character_step, scalar}
 use Rattle.cql_types.specs.declared.filter.Operation.{Operation}
@@ -16,7 +16,7 @@ use Rattle.cql_types.specs.declared.filter.AnyTerm.{AnyTerm}
 use Rattle.cql_types.specs.declared.filter.AnyTerm.TheVariants as any
 use Rattle.cql_truth.specs.Arithmetic.{made, part_step, stepped, whole_in, whole_step, whole_value}
 use Rattle.cql_truth.specs.Sides.{is_null}
-use Rattle.cql_truth.specs.Values.{datum_at, day_value, flag_value, folded_content, shape_value, span_value, text_in, text_step, text_value}
+use Rattle.cql_truth.specs.Values.{day_value, flag_value, folded_content, shape_value, span_value, text_in, text_step, text_value}
 
 -- ---- the values of expressions
 

@@ -1,6 +1,6 @@
 mod Exclusion
-mod IntervalLemmas
 mod PartLemmas
 mod FoldingLemmas
 mod ExpressionLemmas
 mod ConditionLemmas
+mod ConstantLemmas

@@ -2,13 +2,13 @@
 use Rattle.std.specs.Prelude.{◌^◌, ℤ, zero, suc, pos, negsuc, ◌+ℤ◌, ◌-ℤ◌, ◌*ℤ◌, nat_lt, Bool, if◌then◌else◌, List, [], ◌∷◌, Option, Some, None}
 use Rattle.std.specs.Int.RustNames.{int_div, int_rem}
 use Rattle.cad_feature.specs.Values.{Datum, a_whole}
-use Rattle.cad_feature.specs.Features.{Item}
+use Rattle.cad_feature.specs.Features.{Item, datum_at}
 use Rattle.cql_types.specs.declared.filter.Operation.{Operation}
 use Rattle.cql_types.specs.declared.filter.Operation.TheVariants.{Plus, Minus, Times, Div, Modulo}
 use Rattle.cql_types.specs.declared.filter.WholeTerm.{WholeTerm}
 use Rattle.cql_types.specs.declared.filter.WholeTerm.TheOpen.{WholeTerm-F, Step-F}
 use Rattle.cql_types.specs.declared.filter.WholeTerm.TheFolds.{fold-WholeTerm}
-use Rattle.cql_truth.specs.Values.{both, datum_at}
+use Rattle.cql_truth.specs.Values.{both}
 
 -- within 64 bits, from -2^63 to 2^63 - 1
 abbrev pub is_within : ℤ → Bool

@@ -19,7 +19,6 @@ use Rattle.cql_types.specs.declared.filter.AnyTerm.{AnyTerm}
 use Rattle.cql_types.specs.declared.filter.Filter.{Filter}
 use Rattle.cql_types.specs.declared.filter.Filter.TheVariants as filter
 use Rattle.cql_truth.specs.Arithmetic.{whole_value}
-use Rattle.cql_truth.specs.Intervals.{interval_of}
 use Rattle.cql_truth.specs.Sides.{sides, yes, no}
 use Rattle.cql_truth.specs.Values.{day_value, flag_value, shape_value, span_value, text_value}
 
@@ -89,11 +88,3 @@ IsNullDecides = (a : AnyTerm) (x : Item) → no (filter.IsNull a) x ≡ not (yes
 -- two filters of one condition are true of the same features, and false of the same
 abbrev pub FiltersOfOneConditionAgree : Type 0
 FiltersOfOneConditionAgree = (f g : Filter) (x : Item) → condition_in f ≡ condition_in g → sides x f ≡ sides x g
-
--- from one end to another there is an interval with these ends, or they are turned round
-abbrev pub IsIntervalOf : Option Day → Option Day → Option Interval → Type 0
-IsIntervalOf from to None = IsTurned from to
-IsIntervalOf from to (Some days) = (days.from ≡ from) × (days.to ≡ to)
-
-abbrev pub IntervalsHaveTheirEnds : Type 0
-IntervalsHaveTheirEnds = (from to : Option Day) → IsIntervalOf from to (interval_of from to)

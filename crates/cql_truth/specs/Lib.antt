@@ -1,4 +1,3 @@
-pub mod Intervals
 pub mod Values
 pub mod Arithmetic
 pub mod Sides
@@ -8,3 +7,4 @@ pub mod Terms
 pub mod Nodes
 pub mod Laws
 pub mod Folding
+pub mod Constants

@@ -2,7 +2,7 @@
 use Rattle.std.specs.Prelude.{◌≡◌, ℕ, ℤ, List, map, Option, Some, Box, Vec, String, chars, string_bytes}
 use Rattle.std.proofs.Common.{◌∙◌, ap, sym}
 use Rattle.std.specs.declared.alloc.Global.{Global}
-use Rattle.cad_feature.specs.Features.{Item}
+use Rattle.cad_feature.specs.Features.{Item, datum_at}
 use Rattle.cql_types.specs.declared.filter.Step.{Step, fold-Step, fold_out-Step}
 use Rattle.cql_types.specs.declared.filter.WholeTerm.{WholeTerm}
 use Rattle.cql_types.specs.declared.filter.WholeTerm.TheVariants as whole
@@ -13,7 +13,7 @@ use Rattle.cql_types.specs.declared.filter.TextTerm.TheVariants as text
 use Rattle.cql_types.specs.declared.filter.TextTerm.TheOpen.{TextTerm-F}
 use Rattle.cql_types.specs.declared.filter.TextTerm.TheFolds.{fold-roll-TextTerm}
 use Rattle.cql_truth.specs.Arithmetic.{made, part_step, stepped, whole_in, whole_step, whole_value}
-use Rattle.cql_truth.specs.Values.{datum_at, folded_content, text_in, text_step, text_value}
+use Rattle.cql_truth.specs.Values.{folded_content, text_in, text_step, text_value}
 
 -- ---- whole numbers
 

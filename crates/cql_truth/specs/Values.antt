@@ -1,13 +1,13 @@
 -- The value of a property and of a constant on a feature, or none (OGC 21-065r2, requirements class Basic CQL2: property references and literals).
-use Rattle.std.specs.Prelude.{ℕ, Bool, List, Option, Some, None, chars, string_bytes, slice_index_or, option_map}
+use Rattle.std.specs.Prelude.{ℕ, Bool, List, Option, Some, None, chars, string_bytes, option_map}
 use Rattle.std.specs.Option.{option_and_then}
 use Rattle.caseless.specs.Caseless.{default_case_fold}
 use Rattle.cad_day.specs.declared.day.Day.{Day}
 use Rattle.cad_day.specs.declared.interval.Interval.{Interval}
 use Rattle.cad_shape.specs.declared.shape.Shape.{Shape}
 use Rattle.cad_shape.specs.declared.shape.Shape.TheVariants as shape
-use Rattle.cad_feature.specs.Values.{Datum, null, a_text, a_flag, a_day, a_span, a_spot, an_area}
-use Rattle.cad_feature.specs.Features.{Item}
+use Rattle.cad_feature.specs.Values.{Datum, a_text, a_flag, a_day, a_span, a_spot, an_area}
+use Rattle.cad_feature.specs.Features.{Item, datum_at}
 use Rattle.cql_types.specs.declared.filter.TextTerm.{TextTerm}
 use Rattle.cql_types.specs.declared.filter.TextTerm.TheOpen.{TextTerm-F}
 use Rattle.cql_types.specs.declared.filter.TextTerm.TheFolds.{fold-TextTerm}
@@ -21,11 +21,7 @@ use Rattle.cql_types.specs.declared.filter.SpanTerm.{SpanTerm}
 use Rattle.cql_types.specs.declared.filter.SpanTerm.TheVariants as span
 use Rattle.cql_types.specs.declared.filter.ShapeTerm.{ShapeTerm}
 use Rattle.cql_types.specs.declared.filter.ShapeTerm.TheVariants as place
-use Rattle.cql_truth.specs.Intervals.{interval_of, day_interval}
-
--- the value of the property at that place of the schema; past the last property there is none
-abbrev pub datum_at : Item → ℕ → Datum
-datum_at x i = slice_index_or x.values i null
+use Rattle.cad_day.specs.Intervals.{interval_of, day_interval}
 
 -- nothing where either has nothing
 abbrev pub both : {A B C : Type 0} → (A → B → Option C) → Option A → Option B → Option C

@@ -2,7 +2,7 @@
 
 ghost use Rattle.cql_truth.specs.Laws.{YesExcludesNo, NotExchanges, NotTwiceIsNone, AndNeedsAll, OrNeedsSome};
 ghost use Rattle.cql_truth.specs.Laws.{BetweenIsTwoComparisons, InIsSomeEqual, NullDecidesNothing, IsNullDecides};
-ghost use Rattle.cql_truth.specs.Laws.{FiltersOfOneConditionAgree, IntervalsHaveTheirEnds};
+ghost use Rattle.cql_truth.specs.Laws.{FiltersOfOneConditionAgree};
 
 /// No filter is both true and false of a feature.
 pub fn yes_excludes_no()
@@ -52,9 +52,4 @@ pub fn is_null_decides()
 /// Filters of one condition are true of the same features and false of the same, wherever they lie in memory.
 pub fn filters_of_one_condition_agree()
     ensures { FiltersOfOneConditionAgree }
-{}
-
-/// The interval from one end to another has these ends, and there is none only where they are turned round.
-pub fn intervals_have_their_ends()
-    ensures { IntervalsHaveTheirEnds }
 {}

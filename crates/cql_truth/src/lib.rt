@@ -4,10 +4,12 @@
 //! `NOT area > 390` it says Yes where the area is 380, No where it is 400, and Unknown where there is none.
 //!
 //! - [`truth`], [`Truth`]: what a filter says of a feature
+//! - [`constant_whole`], [`constant_text`]: the value of a term without a property
 //! - [`laws`]: what holds of filters and of values, beyond what the call says
 #![tactic(auto)]
 
 mod comparison;
+mod constant;
 mod decide;
 mod flag;
 pub mod laws;
@@ -18,5 +20,6 @@ mod time;
 mod verdict;
 mod whole;
 
+pub use constant::{constant_text, constant_whole};
 pub use decide::truth;
 pub use verdict::Truth;

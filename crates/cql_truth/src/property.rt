@@ -1,8 +1,8 @@
 //! Values of properties.
 
 ghost use Rattle.std.specs.Prelude.{◌≡◌, MatchOption};
+ghost use Rattle.cad_feature.specs.Features.{datum_at};
 ghost use Rattle.cad_feature.specs.Values.{datum_of, null};
-ghost use Rattle.cql_truth.specs.Values.{datum_at};
 
 use cad_feature::{Feature, Value};
 

@@ -2,12 +2,13 @@
 
 ghost use Rattle.std.specs.Prelude.{◌≡◌, false, IfOk, IsOk};
 ghost use Rattle.std.specs.List.{list_any};
+ghost use Rattle.cad_feature.specs.Features.{datum_at};
 ghost use Rattle.cad_feature.specs.Values.{datum_of};
 ghost use Rattle.cql_truth.specs.Contents.{content};
 ghost use Rattle.cql_truth.specs.Folding.{folds_text};
 ghost use Rattle.cql_truth.specs.Said.{said};
 ghost use Rattle.cql_truth.specs.Sides.{among, compared, is_like, texts};
-ghost use Rattle.cql_truth.specs.Values.{datum_at, folded_content, text_in as text_in_of, text_value};
+ghost use Rattle.cql_truth.specs.Values.{folded_content, text_in as text_in_of, text_value};
 ghost use Rattle.cql_lexer.specs.declared.token.Comparison.TheVariants.{Equal};
 
 use crate::comparison::stands;

@@ -3,7 +3,7 @@
 ghost use Rattle.std.specs.Prelude.{◌≡◌};
 ghost use Rattle.cad_day.specs.Relations.{holds as holds_of};
 ghost use Rattle.cad_feature.specs.Values.{datum_of};
-ghost use Rattle.cql_truth.specs.Intervals.{interval_of};
+ghost use Rattle.cad_day.specs.Intervals.{interval_of};
 ghost use Rattle.cql_truth.specs.Said.{said};
 ghost use Rattle.cql_truth.specs.Sides.{among, compared, days};
 ghost use Rattle.cql_truth.specs.Values.{day_in as day_in_of, day_value, end_value, span_in as span_in_of, span_value};

@@ -2,7 +2,8 @@
 
 use crate::sample::Sample;
 use anyhow::Result;
-use cad_feature::{Collection, Feature};
+use cad_feature::Feature;
+use cad_schema::Collection;
 use cql_lexer::tokens;
 use cql_parser::parse;
 use cql_text::{compare, fold, like};

@@ -3,7 +3,8 @@
 use crate::answer::filter_of;
 use crate::sample::{Head, ParcelValues, parcel};
 use anyhow::{Context, Result};
-use cad_feature::{Collection, Feature};
+use cad_feature::Feature;
+use cad_schema::Collection;
 use cql_text::like;
 use cql_truth::{Truth, truth};
 use std::alloc::{AllocError, Global};

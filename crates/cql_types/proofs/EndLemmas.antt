@@ -3,15 +3,17 @@ use Rattle.std.proofs.Common.{◌≡◌, refl, ap, sym, subst, ◌∙◌, ℕ, f
 use Rattle.std.specs.Option.{is_some}
 use Rattle.std.proofs.lemmas.Slice.Eq.{bytes_eq-Decides}
 use Rattle.cad_day.specs.DayTexts.{day_named}
-use Rattle.cad_feature.specs.declared.property.PropertyKind.{PropertyKind}
-use Rattle.cad_feature.specs.declared.property.PropertyKind.TheVariants as property
-use Rattle.cad_feature.specs.Schema.{Named, find}
+use Rattle.cad_schema.specs.declared.property.PropertyKind.{PropertyKind}
+use Rattle.cad_schema.specs.declared.property.PropertyKind.TheVariants as property
+use Rattle.cad_schema.specs.Attributes.{Named}
+use Rattle.cad_schema.specs.Schema.{find}
 use Rattle.cql_tree.specs.Syntax.{Syntax, none, part, leaf, name_leaf, node, place_of, interval_op}
 use Rattle.cql_types.specs.declared.fault.TypeFault.{TypeFault}
 use Rattle.cql_types.specs.declared.fault.TypeFault.TheVariants.{Memory, At}
 use Rattle.cql_types.specs.declared.filter.EndTerm.{EndTerm}
 use Rattle.cql_types.specs.Kinds.{Kind, whole, text, flag, span, spot, area, Has, leaf_has, no_more, one_more, is_end, is_open, kind_of_name, wrong_kind, unsound}
-use Rattle.cql_types.specs.Literals.{day_at, is_turned, are_turned}
+use Rattle.cad_day.specs.Intervals.{are_turned as is_turned}
+use Rattle.cql_types.specs.Literals.{day_at, are_turned}
 use Rattle.cql_types.specs.Means.{IsEnd, open_text, day_text, day_name}
 use Rattle.cql_types.specs.Contract.{ForFault, IsFirst, node_first, unsound_first, inside_first, here_first, later_first}
 use Rattle.cql_types.specs.Reading.{IsEndRead, end_day, property_end}

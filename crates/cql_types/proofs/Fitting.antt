@@ -1,9 +1,9 @@
 -- What a tree means has the kind of the tree.
 use Rattle.std.proofs.Common.{if◌then◌else◌, ◌≡◌, refl, ap, sym, subst, ◌∙◌, ℕ, ℤ, Bool, true, List, [], ◌∷◌, Option, None, Ok}
 use Rattle.std.specs.Option.{is_some}
-use Rattle.cad_feature.specs.declared.property.PropertyKind.{PropertyKind}
-use Rattle.cad_feature.specs.declared.property.PropertyKind.TheVariants as property
-use Rattle.cad_feature.specs.Schema.{Named}
+use Rattle.cad_schema.specs.declared.property.PropertyKind.{PropertyKind}
+use Rattle.cad_schema.specs.declared.property.PropertyKind.TheVariants as property
+use Rattle.cad_schema.specs.Attributes.{Named}
 use Rattle.cad_shape.specs.declared.point.Point.{Point}
 use Rattle.cad_shape.specs.Rings.{ring_is}
 use Rattle.cql_tree.specs.Syntax.{Syntax, Parts, Leaf, Op, part, node, place_of}

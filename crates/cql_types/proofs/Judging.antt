@@ -1,6 +1,6 @@
 -- From what the parts are to what the node is.
 use Rattle.std.proofs.Common.{◌≡◌, refl, ap, sym, subst, ◌∙◌, ℕ, ◌≤◌, List, [], ◌∷◌, ◌++◌, length, get_or, ◌<◌, ◌+◌, drop, drop-cons, add-one, drop_of_length-le, append-nil, append_assoc, map, Result, Ok, Err}
-use Rattle.cad_feature.specs.Schema.{Named}
+use Rattle.cad_schema.specs.Attributes.{Named}
 use Rattle.cql_tree.specs.Syntax.{Syntax, Parts, none, part, parts_of, node, Op, keyed, place_in}
 use Rattle.cql_types.specs.declared.fault.Fault.{Fault}
 use Rattle.cql_types.specs.declared.fault.TypeFault.{TypeFault}

@@ -1,7 +1,7 @@
 -- The numbers of a literal, and what they are those of.
 use Rattle.std.proofs.Common.{◌≡◌, refl, ap, ap₂, sym, subst, ◌∙◌, ℕ, ℤ, List, [], ◌∷◌, ◌++◌, ◌<◌, ◌+◌, length, get_or, drop, drop-cons, add-one, arith, Option, Some, None, Result, Ok, Err}
 use Rattle.std.specs.Prelude.{string_bytes}
-use Rattle.cad_feature.specs.Schema.{Named}
+use Rattle.cad_schema.specs.Attributes.{Named}
 use Rattle.cad_shape.specs.declared.point.Point.{Point}
 use Rattle.cad_shape.specs.Coordinates.{IsCoordinate}
 use Rattle.cad_shape.specs.Outlines.{IsRing}

@@ -7,8 +7,8 @@ use Rattle.cad_day.specs.declared.day.Day.{Day}
 use Rattle.cad_day.specs.declared.relation.Relation.{Relation}
 use Rattle.cad_day.specs.DayNumbers.{IsDayNumber}
 use Rattle.cad_day.specs.Days.{number_of}
-use Rattle.cad_feature.specs.declared.property.PropertyKind.{PropertyKind}
-use Rattle.cad_feature.specs.Schema.{Named}
+use Rattle.cad_schema.specs.declared.property.PropertyKind.{PropertyKind}
+use Rattle.cad_schema.specs.Attributes.{Named}
 use Rattle.cad_shape.specs.Boxes.{IsExtent}
 use Rattle.cad_shape.specs.Rings.{same_ring}
 use Rattle.cad_shape.specs.declared.boxes.Bounds.{Bounds}

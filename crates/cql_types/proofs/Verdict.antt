@@ -4,7 +4,7 @@ use Rattle.std.specs.Option.{is_some}
 use Rattle.std.proofs.Math.Logic.{∥∥₁_elim}
 use Rattle.std.proofs.Math.Bridge.{le_prop}
 use Rattle.std.proofs.Math.Nat.{ℕ_set}
-use Rattle.cad_feature.specs.Schema.{Named}
+use Rattle.cad_schema.specs.Attributes.{Named}
 use Rattle.cql_tree.specs.Order.{InOrder, IsOrdered}
 use Rattle.cql_tree.specs.Syntax.{Syntax, place_of}
 use Rattle.cql_types.specs.declared.fault.Misuse.{Misuse}

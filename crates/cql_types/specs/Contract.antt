@@ -1,7 +1,7 @@
 -- What the private functions of the walk answer.
 use Rattle.std.specs.Prelude.{◌≡◌, ◌⊎◌, ℕ, List, [], ◌∷◌, Some, None, Result, Err, MatchResult, Vec, ⊤, map}
 use Rattle.std.specs.declared.alloc.Global.{Global}
-use Rattle.cad_feature.specs.Schema.{Named}
+use Rattle.cad_schema.specs.Attributes.{Named}
 use Rattle.cql_lexer.specs.declared.token.Comparison.{Comparison}
 use Rattle.cql_tree.specs.Syntax.{Syntax, Parts, none, part, leaf, node, place_of, Leaf, Op, keyed, compare_op}
 use Rattle.cql_types.specs.declared.fault.Misuse.{Misuse}

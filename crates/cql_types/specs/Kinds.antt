@@ -2,9 +2,10 @@
 use Rattle.std.specs.Prelude.{◌≡◌, ℕ, ℤ, Bool, true, false, List, [], ◌∷◌, codes, Option, Some, None, Result, Ok, Err, if◌then◌else◌, ◌≤◌}
 use Rattle.std.specs.Str.{bytes_eq}
 use Rattle.cad_day.specs.DayTexts.{day_named}
-use Rattle.cad_feature.specs.declared.property.PropertyKind.{PropertyKind}
-use Rattle.cad_feature.specs.declared.property.PropertyKind.TheVariants as property
-use Rattle.cad_feature.specs.Schema.{Named, find}
+use Rattle.cad_schema.specs.declared.property.PropertyKind.{PropertyKind}
+use Rattle.cad_schema.specs.declared.property.PropertyKind.TheVariants as property
+use Rattle.cad_schema.specs.Attributes.{Named}
+use Rattle.cad_schema.specs.Schema.{find}
 use Rattle.cql_lexer.specs.declared.token.Comparison.{Comparison}
 use Rattle.cql_lexer.specs.declared.token.Comparison.TheVariants as by
 use Rattle.cql_lexer.specs.declared.token.SpatialRelation.{SpatialRelation}

@@ -1,6 +1,6 @@
 -- What holds of every tree and its faults.
 use Rattle.std.specs.Prelude.{◌≡◌, ◌⊎◌, List}
-use Rattle.cad_feature.specs.Schema.{Named}
+use Rattle.cad_schema.specs.Attributes.{Named}
 use Rattle.cql_tree.specs.Order.{IsOrdered}
 use Rattle.cql_tree.specs.Syntax.{Syntax}
 use Rattle.cql_types.specs.Conditions.{condition_in}

@@ -1,6 +1,7 @@
 -- What the numbers and the texts of a literal are those of (OGC 21-065r2, requirements classes Basic Spatial Functions: spatial literals, and Temporal Functions: INTERVAL; the limits: own profile).
-use Rattle.std.specs.Prelude.{◌≡◌, ℕ, ℤ, int_lt, ◌<ℤ◌, Bool, false, List, [], ◌∷◌, ◌++◌, Option, Some, None, Ok}
+use Rattle.std.specs.Prelude.{◌≡◌, ℕ, ℤ, ◌<ℤ◌, Bool, false, List, [], ◌∷◌, ◌++◌, Option, Some, None, Ok}
 use Rattle.cad_day.specs.DayTexts.{day_named}
+use Rattle.cad_day.specs.Intervals.{are_turned as is_turned}
 use Rattle.cad_shape.specs.declared.point.Point.{Point}
 use Rattle.cad_shape.specs.Coordinates.{IsCoordinate}
 use Rattle.cad_shape.specs.Outlines.{IsRing}
@@ -59,11 +60,6 @@ pub record IsPolygon (ps : Parts) : Type 0 where
 abbrev pub day_at : Syntax → Option ℤ
 day_at (leaf p (bound_leaf content)) = day_named content
 day_at _ = None
-
-abbrev pub is_turned : Option ℤ → Option ℤ → Bool
-is_turned None to = false
-is_turned (Some first) None = false
-is_turned (Some first) (Some last) = int_lt last first
 
 -- two literal days, the last before the first
 abbrev pub are_turned : Parts → Bool

@@ -2,9 +2,9 @@
 use Rattle.std.specs.Prelude.{◌≡◌, ◌<ℤ◌, ℕ, ℤ, false, List, [], ◌∷◌, Option, Some, None, Result, Ok, Err, MatchResult, Vec, map, string_bytes}
 use Rattle.std.specs.declared.alloc.Global.{Global}
 use Rattle.cad_day.specs.Days.{number_of}
-use Rattle.cad_feature.specs.declared.property.PropertyKind.{PropertyKind}
-use Rattle.cad_feature.specs.declared.property.PropertyKind.TheVariants as property
-use Rattle.cad_feature.specs.Schema.{Named}
+use Rattle.cad_schema.specs.declared.property.PropertyKind.{PropertyKind}
+use Rattle.cad_schema.specs.declared.property.PropertyKind.TheVariants as property
+use Rattle.cad_schema.specs.Attributes.{Named}
 use Rattle.cad_shape.specs.Coordinates.{IsCoordinate}
 use Rattle.cql_tree.specs.declared.tree.Number.{Number}
 use Rattle.cql_tree.specs.declared.tree.Corner.{Corner}

@@ -1,7 +1,7 @@
 //! The walk over a tree.
 
 ghost use Rattle.std.specs.Prelude.{◌≡◌, Err, IfErr, IfOk, IsOk, OnOk, map};
-ghost use Rattle.cad_feature.specs.Schema.{schema_of};
+ghost use Rattle.cad_schema.specs.Schema.{schema_of};
 ghost use Rattle.cql_tree.specs.Syntax.{leaf, node, part, parts_of, none, day_leaf, or_op, and_op, not_op, compare_op, like_op, between_op, in_op, is_null_op, sum_op, product_op, casei_op, date_op, spatial_op, temporal_op};
 ghost use Rattle.cql_tree.specs.Views.{syntax_of, syntaxes_of, terms_of, factors_of, additions_of, multiplications_of};
 ghost use Rattle.cql_types.specs.Contract.{ForFault, OrMemory, Judges, JudgesList, JudgesPair, JudgesParts, JudgesSteps};
@@ -18,7 +18,7 @@ use crate::judged::{Judged, JudgedStep};
 use crate::laws::{fault_or_condition, one_least_fault};
 use crate::{combine, leaf, literal};
 use cad_day::Relation;
-use cad_feature::Collection;
+use cad_schema::Collection;
 use cql_lexer::{Comparison, SpatialRelation};
 use cql_tree::{Addition, Factor, Multiplication, Term, Tree};
 use std::alloc::Global;

@@ -1,7 +1,7 @@
 //! What holds of kinds and faults, beyond what the call says.
 
 ghost use Rattle.std.specs.Prelude.{◌≡◌, ℕ, List};
-ghost use Rattle.cad_feature.specs.Schema.{Named};
+ghost use Rattle.cad_schema.specs.Attributes.{Named};
 ghost use Rattle.cql_tree.specs.Syntax.{Syntax};
 ghost use Rattle.cql_types.specs.Kinds.{Kind, Has, IsWrong};
 ghost use Rattle.cql_tree.specs.Order.{InOrder};

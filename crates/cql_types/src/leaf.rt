@@ -1,7 +1,7 @@
 //! Leaves.
 
 ghost use Rattle.std.specs.Prelude.{◌≡◌, string_bytes};
-ghost use Rattle.cad_feature.specs.Schema.{schema_of};
+ghost use Rattle.cad_schema.specs.Schema.{schema_of};
 ghost use Rattle.cql_tree.specs.Syntax.{leaf, name_leaf, text_leaf, truth_leaf, day_leaf};
 ghost use Rattle.cql_tree.specs.Views.{number_of};
 ghost use Rattle.cql_types.specs.Means as means;
@@ -13,7 +13,7 @@ use crate::filter::{DayTerm, FlagTerm, ShapeTerm, SpanTerm, TextTerm, WholeTerm}
 use crate::judged::{Judged, Node};
 use crate::number::whole_number;
 use cad_day::Day;
-use cad_feature::{Collection, PropertyKind, find_property};
+use cad_schema::{Collection, PropertyKind, find_property};
 use cql_tree::Number;
 
 /// The part at the place is misused.

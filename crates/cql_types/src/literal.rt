@@ -2,14 +2,15 @@
 
 ghost use Rattle.std.specs.Prelude.{◌≡◌, ◌↔◌, IsTrue, List, [], ◌∷◌, Some, IfOk, MatchOption, option_map, slice_get};
 ghost use Rattle.cad_day.specs.Days.{number_of};
-ghost use Rattle.cad_feature.specs.Schema.{schema_of};
+ghost use Rattle.cad_schema.specs.Schema.{schema_of};
 ghost use Rattle.cad_shape.specs.Coordinates.{IsCoordinate};
 ghost use Rattle.cad_shape.specs.Outlines.{IsRing};
 ghost use Rattle.cad_shape.specs.Rings.{corners_of};
 ghost use Rattle.cad_shape.specs.declared.point.Point.{Point};
 ghost use Rattle.cql_tree.specs.Syntax.{leaf, node, part, parts_of, none, place_of, name_leaf, bound_leaf, interval_op, point_op, bbox_op, polygon_op};
 ghost use Rattle.cql_tree.specs.Views.{bound_of, numbers_of, rings_of};
-ghost use Rattle.cql_types.specs.Literals.{coordinates_of, closed, is_turned};
+ghost use Rattle.cql_types.specs.Literals.{coordinates_of, closed};
+ghost use Rattle.cad_day.specs.Intervals.{are_turned as is_turned};
 ghost use Rattle.cql_types.specs.Contract.{Judges};
 ghost use Rattle.cql_types.specs.Reading.{ReadsEnd, ReadsNumber, ReadsPosition, ReadsLine, ReadsLines, positions_of, property_end, end_day, IsFrame};
 
@@ -20,7 +21,7 @@ use crate::judged::{Judged, Node};
 use crate::leaf::at;
 use crate::number::whole_number;
 use cad_day::Day;
-use cad_feature::{Collection, PropertyKind, find_property};
+use cad_schema::{Collection, PropertyKind, find_property};
 use cad_shape::{Bounds, Point, Ring, Shape};
 use cql_tree::{Bound, Corner, Number};
 use std::alloc::{AllocError, Global};

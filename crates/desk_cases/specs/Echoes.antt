@@ -6,7 +6,7 @@ use Rattle.cad_versions.specs.declared.fault.RegisterFault.{RegisterFault}
 use Rattle.cad_versions.specs.declared.fault.RegisterFault.TheVariants.{NotARegister}
 use Rattle.cad_versions.specs.Keeping.{IsOfKeeping}
 use Rattle.cad_plain.specs.Ledgers.{IsLedgerOf}
-use Rattle.cad_request.specs.Request.{Request}
+use Rattle.cad_head.specs.Request.{Request}
 use Rattle.desk_cases.specs.declared.echo.Echo.{Echo}
 
 -- its ledger stands for the commands

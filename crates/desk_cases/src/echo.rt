@@ -3,8 +3,8 @@
 ghost use Rattle.std.specs.Prelude.{◌≡◌, IfOk};
 ghost use Rattle.desk_cases.specs.Echoes.{echo as echo_of};
 
+use cad_head::closes_connection;
 use cad_plain::PlainLedger;
-use cad_request::closes_connection;
 use cad_stream::{Answer, Responder};
 use cad_versions::{Command, Ledger, RegisterFault};
 use httparse::spans::{HeaderSpan, RequestSpans};
@@ -56,7 +56,7 @@ impl Responder for Echo {
     ghost use Rattle.std.proofs.Common.{◌≡◌, refl, ◌∙◌};
     ghost use Rattle.cad_versions.specs.declared.fault.RegisterFault.TheVariants.{NotARegister};
     ghost use Rattle.cad_plain.specs.Ledgers.{IsMemory, memory_keeps};
-    ghost use Rattle.cad_request.specs.Request.{closes_connection as closes_connection_of};
+    ghost use Rattle.cad_head.specs.Request.{closes_connection as closes_connection_of};
     ghost use Rattle.desk_cases.specs.Echoes.{StandsFor, IsReply, lost_keeps};
 
     ghost stands_for = { StandsFor };
@@ -70,6 +70,8 @@ impl Responder for Echo {
     ghost closes = { closes_connection_of };
 
     ghost bad_head = { codes "no request\n" };
+
+    ghost asks = { λ _. Unit {0} };
 
     ghost fails_to_answer = { λ _ _ fault. fault ≡ NotARegister };
 

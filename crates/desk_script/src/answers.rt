@@ -1,8 +1,8 @@
 //! What is printed for a line.
 
+use crate::bytes::json_of;
 use crate::lines::Line;
 use crate::served::answer_served;
-use cad_case_bytes::json_of;
 use cad_desk::{Desk, DeskFault, Reply};
 use cad_stream::Responder;
 use std::alloc::{AllocError, Global};

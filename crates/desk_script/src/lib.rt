@@ -16,11 +16,14 @@
 //!   `empty-write K C JSON`, where the Kth write takes nothing.
 //!
 //! Any of them is answered by `N NAME` where the desk refuses, with the register's fault behind it where that refused.
-//! The bytes are written as `cad_case_bytes` has it. The line `open 1` asks for `Line::Event(Event::Open(1))`, and
+//! The bytes are written as JSON: each character of a string, U+0000 to U+00FF, stands for the byte of its number; a list
+//! of such strings and of pairs `[N, STRING]` stands for all of them, the STRING of a pair N times. So
+//! `["GET /", [3, "a"], "\n"]` is the nine bytes of `GET /aaa\n`. The line `open 1` asks for `Line::Event(Event::Open(1))`, and
 //! `open one` for nothing.
 #![tactic(auto)]
 
 mod answers;
+mod bytes;
 mod lines;
 mod served;
 

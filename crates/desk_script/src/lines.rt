@@ -1,6 +1,6 @@
 //! The event of a line.
 
-use cad_case_bytes::bytes_of;
+use crate::bytes::bytes_of;
 use cad_commands::{CommandError, read_command};
 use cad_desk::Event;
 use std::alloc::{AllocError, Global};

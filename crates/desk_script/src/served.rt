@@ -1,8 +1,8 @@
 //! What is printed for a connection that is served.
 
 use crate::answers::{Memory, refusal};
+use crate::bytes::json_of;
 use crate::lines::{Failure, Served};
-use cad_case_bytes::json_of;
 use cad_desk::Desk;
 use cad_serve::{Ending, ServeFault, serve};
 use cad_stream::Responder;

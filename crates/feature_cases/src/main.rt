@@ -13,10 +13,11 @@
 ghost use Rattle.cad_versions.specs.Listing.{IsListing};
 
 use anyhow::{Result, bail, ensure};
-use cad_feature::{Collection, flatten};
+use cad_feature::flatten;
 use cad_feature_json::feature_json;
 use cad_office::office;
 use cad_plain::PlainLedger;
+use cad_schema::Collection;
 use cad_versions::{Ledger, Version};
 
 fn main(rt: HostRuntime) -> Result<()> {

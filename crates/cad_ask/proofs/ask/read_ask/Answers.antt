@@ -2,7 +2,7 @@ use Rattle.std.proofs.Common.{◌≡◌, inr, map, Some, None, rules, sym, subst
 use Rattle.std.specs.Prelude.{IfSome}
 use Rattle.std.specs.Option.{option_copied}
 use Rattle.std.specs.Result.{result_err}
-use Rattle.cad_feature.specs.Schema.{schema_of}
+use Rattle.cad_schema.specs.Schema.{schema_of}
 use Rattle.cql_filter.specs.Filters.{IsAccepted}
 use Rattle.cad_query.specs.Pairs.{pair_text, pairs_of}
 use Rattle.cad_ask.specs.Faults.{selection_fault, continuation_fault}

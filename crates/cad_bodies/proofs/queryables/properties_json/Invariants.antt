@@ -2,7 +2,7 @@ use Rattle.std.proofs.Common.{◌≡◌, map, take}
 use Rattle.std.specs.List.{fold}
 use Rattle.serde_json.specs.Data.{no_members}
 use Rattle.serde_json.specs.View.{members_view}
-use Rattle.cad_feature.specs.Schema.{property_of}
+use Rattle.cad_schema.specs.Schema.{property_of}
 use Rattle.cad_bodies.specs.Queryables.{with_queryable}
 use Rattle.cad_bodies.proofs.queryables.properties_json.Given as goal
 

@@ -1,4 +1,4 @@
-use Rattle.cad_feature.specs.Schema.{schema_of}
+use Rattle.cad_schema.specs.Schema.{schema_of}
 use Rattle.cad_feature_json.proofs.PropertyLemmas.{schema_apart, get_member-at}
 use Rattle.cad_feature_json.proofs.laws.every_property_is_written.Goals as goal
 

@@ -1,4 +1,4 @@
-use Rattle.cad_feature.specs.Schema.{schema_of}
+use Rattle.cad_schema.specs.Schema.{schema_of}
 use Rattle.cad_feature_json.proofs.PropertyLemmas.{schema_apart, get_member-properties}
 use Rattle.cad_feature_json.proofs.laws.properties_hold_the_values.Goals as goal
 

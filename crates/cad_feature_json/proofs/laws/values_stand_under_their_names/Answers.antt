@@ -1,4 +1,4 @@
-use Rattle.cad_feature.specs.Schema.{schema_of}
+use Rattle.cad_schema.specs.Schema.{schema_of}
 use Rattle.cad_feature_json.proofs.PropertyLemmas.{schema_apart, value_named-at}
 use Rattle.cad_feature_json.proofs.laws.values_stand_under_their_names.Goals as goal
 

@@ -1,5 +1,5 @@
 use Rattle.std.proofs.Common.{◌≡◌, map, codes}
-use Rattle.cad_feature.specs.Schema.{property_of}
+use Rattle.cad_schema.specs.Schema.{property_of}
 use Rattle.cad_feature.specs.Values.{datum_of}
 use Rattle.cad_feature_json.specs.Values.{named_values, value_named}
 use Rattle.cad_feature_json.proofs.NamedLemmas.{left_of}

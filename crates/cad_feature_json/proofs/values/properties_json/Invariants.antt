@@ -2,7 +2,7 @@ use Rattle.std.proofs.Common.{◌≡◌, map}
 use Rattle.std.specs.List.{fold, filter}
 use Rattle.serde_json.specs.Data.{no_members}
 use Rattle.serde_json.specs.View.{members_view}
-use Rattle.cad_feature.specs.Schema.{property_of}
+use Rattle.cad_schema.specs.Schema.{property_of}
 use Rattle.cad_feature.specs.Values.{datum_of}
 use Rattle.cad_feature_json.specs.Values.{with_property, is_property, named_values}
 use Rattle.cad_feature_json.proofs.NamedLemmas.{left_of}

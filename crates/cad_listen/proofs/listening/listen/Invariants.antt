@@ -1,4 +1,4 @@
-use Rattle.cad_serve.specs.Serving.{Writes}
+use Rattle.cad_io.specs.Known.{Writes}
 use Rattle.cad_listen.proofs.ListenLemmas.{HasListened}
 use Rattle.cad_listen.proofs.listening.listen.Given as goal
 

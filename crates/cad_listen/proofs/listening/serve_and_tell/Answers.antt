@@ -1,4 +1,4 @@
-use Rattle.cad_serve.specs.WritingLemmas.{written_front}
+use Rattle.cad_io.specs.WritingLemmas.{written_front}
 use Rattle.cad_listen.specs.Listening.{line_of}
 use Rattle.cad_listen.proofs.listening.serve_and_tell.Goals as goal
 

@@ -1,6 +1,7 @@
 use Rattle.std.proofs.Common.{[], Ok}
 use Rattle.cad_versions.specs.LedgerCalls.{Applies}
-use Rattle.cad_office.specs.Keeping.{IsOfReads, IsPiece, AnswersLines, ReadsAndWrites}
+use Rattle.cad_office.specs.Keeping.{IsOfReads, IsPiece, AnswersLines}
+use Rattle.cad_io.specs.Known.{ReadsAndWrites}
 use Rattle.cad_office.proofs.turns.office.Given as goal
 
 abbrev pub invariant-loop-turn : goal.invariant-loop-turn

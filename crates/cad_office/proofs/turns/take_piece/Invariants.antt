@@ -1,6 +1,7 @@
 use Rattle.std.proofs.Common.{ℕ, List, take, Ok}
 use Rattle.cad_versions.specs.LedgerCalls.{Applies}
-use Rattle.cad_office.specs.Keeping.{IsPiece, AnswersLines, Writes}
+use Rattle.cad_office.specs.Keeping.{IsPiece, AnswersLines}
+use Rattle.cad_io.specs.Known.{Writes}
 use Rattle.cad_office.specs.Lines.{line_begun, BuffersLine}
 use Rattle.cad_office.proofs.turns.take_piece.Given as goal
 

@@ -14,7 +14,7 @@ returns-in_err-is_entered-clause-asked g c clean cs stands =
 pub returns-in_err-known-clause-asked : goal.returns-in_err-known-clause-asked
 returns-in_err-known-clause-asked g c clean cs stands =
     let p = err_from_is_err_and c.from_residual-in_err-known.result c.from_residual-in_err-known.ensures.1 in
-    let early = c.in_err-known.ensures.leaves.clean clean in
+    let early = c.in_err-known.ensures.leaves.later.clean clean in
     let mid = c.in_ok-is_entered.ensures.told early cs stands in
     let same = c.in_ok-is_entered.ensures.asked early cs stands in
     let old = c.args.connection.now in

@@ -14,7 +14,7 @@ returns-in_err-are_entered-clause-asked g c clean cs stands =
 pub returns-in_err-is_full-clause-asked : goal.returns-in_err-is_full-clause-asked
 returns-in_err-is_full-clause-asked g c clean cs stands =
     let p = err_from_is_err_and c.from_residual-in_err-is_full.result c.from_residual-in_err-is_full.ensures.1 in
-    let early = c.in_err-is_full.ensures.leaves.clean clean in
+    let early = c.in_err-is_full.ensures.leaves.later.clean clean in
     let mid = c.in_ok-are_entered.ensures.told early cs stands in
     let same = c.in_ok-are_entered.ensures.asked early cs stands in
     let old = c.args.connection.now in

@@ -1,5 +1,5 @@
 use Rattle.cad_serve.specs.Writing.{fixed_head}
-use Rattle.cad_serve.specs.WritingLemmas.{written_front}
+use Rattle.cad_io.specs.WritingLemmas.{written_front}
 use Rattle.cad_serve.proofs.serving.refuse.Goals as goal
 
 pub returns-clause-head : goal.returns-clause-head

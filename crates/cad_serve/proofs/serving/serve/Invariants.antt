@@ -1,5 +1,6 @@
 use Rattle.std.specs.Prelude.{◌≤◌}
-use Rattle.cad_serve.specs.Serving.{IsOpen, ReadsAndWrites}
+use Rattle.cad_serve.specs.Serving.{IsOpen}
+use Rattle.cad_io.specs.Known.{ReadsAndWrites}
 use Rattle.cad_serve.proofs.ServeLemmas.{HasTurned}
 use Rattle.cad_serve.proofs.serving.serve.Given as goal
 

@@ -17,7 +17,7 @@ returns-in_err-make_tables-clause-refused g c clean =
     let up : (state g.S.Store last).faults ≤ (state g.S.Store ended).faults = search rules in
     let e = c.in_err-make_tables.field-0.0 in
     told _ c.from_residual.result e c.from_residual.ensures.1
-    (statement_refused g.S.Store c.args.conn.now c.transaction-tx.result.conn.now last ended begun e creating (c.in_err-make_tables.ensures.refused early (rw begun)) up)
+    (statement_refused g.S.Store c.args.conn.now c.transaction-tx.result.conn.now last ended begun e creating (c.in_err-make_tables.ensures.step.refused early (rw begun)) up)
 
 pub returns-in_err-commit-clause-refused : goal.returns-in_err-commit-clause-refused
 returns-in_err-commit-clause-refused g c clean =
@@ -28,7 +28,7 @@ returns-in_err-commit-clause-refused g c clean =
     let early : HasCleanDisk (state g.S.Store last) = search rules in
     let fails : FailsToCommit (state g.S.Store last) (state g.S.Store ended) e = search rules in
     told _ c.from_residual-in_err-commit.result e c.from_residual-in_err-commit.ensures.1
-    (commit_refused g.S.Store c.args.conn.now c.transaction-tx.result.conn.now last ended begun e creating (c.in_ok-make_tables.ensures.ran early (rw begun)) fails)
+    (commit_refused g.S.Store c.args.conn.now c.transaction-tx.result.conn.now last ended begun e creating (c.in_ok-make_tables.ensures.step.ran early (rw begun)) fails)
 
 pub returns-in_err-commit-clause-crash : goal.returns-in_err-commit-clause-crash
 returns-in_err-commit-clause-crash g c =
@@ -36,7 +36,7 @@ returns-in_err-commit-clause-crash g c =
     let same : c.commit.new.self.0 ≡ c.conn-2-1.given.0 = search rules in
     subst (λ h. Survives (state g.S.Store c.args.conn.now) (state g.S.Store h) (CreatesTo (state g.S.Store c.args.conn.now))) same
     (crashes_creating g.S.Store c.args.conn.now c.transaction-tx.result.conn.now c.make_tables.new.tx.conn.now c.commit.new.self.0 begun
-    (λ clean. c.in_ok-make_tables.ensures.makes clean (rw begun)) c.make_tables.ensures.survives c.commit.ensures.survives)
+    (λ clean. c.in_ok-make_tables.ensures.step.does clean (rw begun)) c.make_tables.ensures.step.survives c.commit.ensures.survives)
 
 pub returns-clause-crash : goal.returns-clause-crash
 returns-clause-crash g c =
@@ -44,4 +44,4 @@ returns-clause-crash g c =
     let same : c.commit.new.self.0 ≡ c.conn-2-1.given.0 = search rules in
     subst (λ h. Survives (state g.S.Store c.args.conn.now) (state g.S.Store h) (CreatesTo (state g.S.Store c.args.conn.now))) same
     (crashes_creating g.S.Store c.args.conn.now c.transaction-tx.result.conn.now c.make_tables.new.tx.conn.now c.commit.new.self.0 begun
-    (λ clean. c.in_ok-make_tables.ensures.makes clean (rw begun)) c.make_tables.ensures.survives c.commit.ensures.survives)
+    (λ clean. c.in_ok-make_tables.ensures.step.does clean (rw begun)) c.make_tables.ensures.step.survives c.commit.ensures.survives)

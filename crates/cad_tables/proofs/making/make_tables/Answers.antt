@@ -1,81 +1,94 @@
-use Rattle.std.proofs.Common.{arith, inl, inr, refl, sym, ◌∙◌}
+use Rattle.std.proofs.Common.{ℕ, refl, sym, ◌∙◌, ◌∷◌, [], Ok, Err}
 use Rattle.sqlite.specs.Held.{state}
-use Rattle.sqlite.specs.State.{HasCleanDisk}
-use Rattle.cad_tables.specs.Refusals.{Ran, making_state, making_version, beginning}
-use Rattle.cad_tables.proofs.Statements.{makes_state, makes_version, begins, begins_sound}
+use Rattle.sqlite.specs.State.{State, ExecutesInside}
+use Rattle.cad_tables.specs.Refusals.{making_state, making_version, beginning}
+use Rattle.cad_tables.specs.Steps.{MakesTables}
 use Rattle.cad_tables.specs.Tables.{state_table, version_made}
-use Rattle.cad_tables.specs.Texts.{state_text, version_text}
+use Rattle.cad_tables.specs.Texts.{state_text, version_text, begin_text}
+use Rattle.cad_tables.proofs.Statements.{makes_state, makes_version, begins, begins_sound}
 use Rattle.cad_tables.proofs.NameLemmas.{state_makes, version_makes}
 use Rattle.cad_tables.proofs.StandingLemmas.{free_by, free_inside, others_stay}
 use Rattle.cad_tables.proofs.StepLemmas.{inside_then}
-use Rattle.cad_tables.proofs.RefusalLemmas.{told, refused_here}
+use Rattle.cad_tables.proofs.TakingLemmas.{one_done, one_refused, step_then, step_refused, then_refused}
 use Rattle.cad_tables.proofs.making.make_tables.Goals as goal
 
-pub returns-in_err-execute-clause-refused : goal.returns-in_err-execute-clause-refused
-returns-in_err-execute-clause-refused g c clean inside =
-    told _ c.from_residual.result c.in_err-execute.field-0.0 c.from_residual.ensures.1
-    (inl (refused_here g.S.Store making_state c.args.tx.now.conn.now c.execute.new.self.conn.now _ (rw c.state_table.ensures at (c.in_err-execute.ensures.runs clean inside))))
+-- the statement was run, and changed so many rows
+abbrev RanState : ℕ → State → State → Type 0
+RanState count a b = ExecutesInside 0 state_text [] a b (Ok count)
 
-pub returns-in_err-execute-2-clause-refused : goal.returns-in_err-execute-2-clause-refused
-returns-in_err-execute-2-clause-refused g c clean inside =
+abbrev RanVersion : ℕ → State → State → Type 0
+RanVersion count a b = ExecutesInside 0 version_text [] a b (Ok count)
+
+abbrev RanBegin : ℕ → State → State → Type 0
+RanBegin count a b = ExecutesInside 0 begin_text [] a b (Ok count)
+
+-- the last two of them
+abbrev RanLast : State → ℕ → ℕ → State → State → Type 0
+RanLast mid two three a b = RanVersion two a mid × RanBegin three mid b
+
+pub returns-in_err-execute-clause-step : goal.returns-in_err-execute-clause-step
+returns-in_err-execute-clause-step g c =
     let old = c.args.tx.now.conn.now in
     let first = c.execute.new.self.conn.now in
-    let last = c.execute-2.new.self.conn.now in
-    let clean_first : HasCleanDisk (state g.S.Store first) = omega (arith, c.execute-2.ensures.survives.clean) in
-    let one = rw c.state_table.ensures at (c.in_ok-execute.ensures.runs clean_first inside) in
-    let ran_first : Ran g.S.Store making_state old first = record { count = c.in_ok-execute.field-0; runs = one; limit = c.execute.ensures.survives.limit; faults = c.execute.ensures.survives.counts } in
+    let e = c.in_err-execute.field-0.0 in
+    step_refused g.S.Store (λ _ _. Unit {0}) MakesTables (making_state ∷ []) (making_version ∷ beginning ∷ []) old first e c.from_residual.result c.from_residual.ensures.1
+    (one_refused g.S.Store (λ _ _. Unit {0}) making_state old first c.execute.ensures.survives e (Err e) refl (λ clean inside. rw c.state_table.ensures at (c.in_err-execute.ensures.runs clean inside)))
+
+pub returns-in_err-execute-2-clause-step : goal.returns-in_err-execute-2-clause-step
+returns-in_err-execute-2-clause-step g c =
+    let old = c.args.tx.now.conn.now in
+    let first = c.execute.new.self.conn.now in
+    let second = c.execute-2.new.self.conn.now in
     let e = c.in_err-execute-2.field-0.0 in
-    told _ c.from_residual-in_err-execute-2.result e c.from_residual-in_err-execute-2.ensures.1
-    (inr (first, ran_first, inl (refused_here g.S.Store making_version first last e (rw c.version_table.ensures at (c.in_err-execute-2.ensures.runs clean one.1.mode)))))
+    let one = c.in_ok-execute.field-0 in
+    then_refused g.S.Store (RanState one) MakesTables (making_state ∷ []) (making_version ∷ beginning ∷ []) old first (λ _ _. Unit {0}) second e c.from_residual-in_err-execute-2.result c.from_residual-in_err-execute-2.ensures.1
+    (one_done g.S.Store (RanState one) making_state old first c.execute.ensures.survives one (λ clean inside. rw c.state_table.ensures at (c.in_ok-execute.ensures.runs clean inside)) (λ ran. ran))
+    (step_refused g.S.Store (λ _ _. Unit {0}) (λ _ _. Unit {0}) (making_version ∷ []) (beginning ∷ []) first second e (Err e) refl
+    (one_refused g.S.Store (λ _ _. Unit {0}) making_version first second c.execute-2.ensures.survives e (Err e) refl (λ clean inside. rw c.version_table.ensures at (c.in_err-execute-2.ensures.runs clean inside))))
+    (λ ran. ran.1.mode)
 
-pub returns-in_err-execute-3-clause-refused : goal.returns-in_err-execute-3-clause-refused
-returns-in_err-execute-3-clause-refused g c clean inside =
+pub returns-in_err-execute-3-clause-step : goal.returns-in_err-execute-3-clause-step
+returns-in_err-execute-3-clause-step g c =
     let old = c.args.tx.now.conn.now in
     let first = c.execute.new.self.conn.now in
     let second = c.execute-2.new.self.conn.now in
     let last = c.execute-3.new.self.conn.now in
-    let clean_second : HasCleanDisk (state g.S.Store second) = omega (arith, c.execute-3.ensures.survives.clean) in
-    let clean_first : HasCleanDisk (state g.S.Store first) = omega (arith, c.execute-2.ensures.survives.clean) in
-    let one = rw c.state_table.ensures at (c.in_ok-execute.ensures.runs clean_first inside) in
-    let two = rw c.version_table.ensures at (c.in_ok-execute-2.ensures.runs clean_second one.1.mode) in
-    let ran_first : Ran g.S.Store making_state old first = record { count = c.in_ok-execute.field-0; runs = one; limit = c.execute.ensures.survives.limit; faults = c.execute.ensures.survives.counts } in
-    let ran_second : Ran g.S.Store making_version first second = record { count = c.in_ok-execute-2.field-0; runs = two; limit = c.execute-2.ensures.survives.limit; faults = c.execute-2.ensures.survives.counts } in
     let e = c.in_err-execute-3.field-0.0 in
-    told _ c.from_residual-in_err-execute-3.result e c.from_residual-in_err-execute-3.ensures.1
-    (inr (first, ran_first, inr (second, ran_second, inl (refused_here g.S.Store beginning second last e (c.in_err-execute-3.ensures.runs clean two.1.mode)))))
+    let one = c.in_ok-execute.field-0 in
+    let two = c.in_ok-execute-2.field-0 in
+    then_refused g.S.Store (RanState one) MakesTables (making_state ∷ []) (making_version ∷ beginning ∷ []) old first (λ _ _. Unit {0}) last e c.from_residual-in_err-execute-3.result c.from_residual-in_err-execute-3.ensures.1
+    (one_done g.S.Store (RanState one) making_state old first c.execute.ensures.survives one (λ clean inside. rw c.state_table.ensures at (c.in_ok-execute.ensures.runs clean inside)) (λ ran. ran))
+    (then_refused g.S.Store (RanVersion two) (λ _ _. Unit {0}) (making_version ∷ []) (beginning ∷ []) first second (λ _ _. Unit {0}) last e (Err e) refl
+    (one_done g.S.Store (RanVersion two) making_version first second c.execute-2.ensures.survives two (λ clean inside. rw c.version_table.ensures at (c.in_ok-execute-2.ensures.runs clean inside)) (λ ran. ran))
+    (one_refused g.S.Store (λ _ _. Unit {0}) beginning second last c.execute-3.ensures.survives e (Err e) refl (λ clean inside. c.in_err-execute-3.ensures.runs clean inside))
+    (λ ran. ran.1.mode))
+    (λ ran. ran.1.mode)
 
-pub returns-clause-makes : goal.returns-clause-makes
-returns-clause-makes g c clean inside =
-    let old = state g.S.Store c.args.tx.now.conn.now in
-    let first = state g.S.Store c.execute.new.self.conn.now in
-    let second = state g.S.Store c.execute-2.new.self.conn.now in
-    let last = state g.S.Store c.execute-3.new.self.conn.now in
-    let clean_second : HasCleanDisk second = omega (arith, c.execute-3.ensures.survives.clean) in
-    let clean_first : HasCleanDisk first = omega (arith, c.execute-2.ensures.survives.clean) in
-    let one = rw c.state_table.ensures at (c.in_ok-execute.ensures.runs clean_first inside) in
-    let two = rw c.version_table.ensures at (c.in_ok-execute-2.ensures.runs clean_second one.1.mode) in
-    let three = c.in_ok-execute-3.ensures.runs clean two.1.mode in
-    record {
-      free = free_by old.now.schema (free_inside state_text state_table state_makes old first _ one.0)
-          (sym (others_stay old first _ one.0) ∙ free_inside version_text (version_made 0) version_makes first second _ two.0);
-      holds = λ none.
-          let started = makes_state old first _ none one.0 in
-          let ready = makes_version first second _ started.0 started.1 two.0 in
-          (begins second last _ ready.0 ready.1 ready.2 three.0, begins_sound second last _ ready.0 three.0);
-      inside = inside_then old second last (inside_then old first second one.1 two.1) three.1;
-    }
-
-pub returns-clause-ran : goal.returns-clause-ran
-returns-clause-ran g c clean inside =
+pub returns-clause-step : goal.returns-clause-step
+returns-clause-step g c =
     let old = c.args.tx.now.conn.now in
     let first = c.execute.new.self.conn.now in
     let second = c.execute-2.new.self.conn.now in
     let last = c.execute-3.new.self.conn.now in
-    let clean_second : HasCleanDisk (state g.S.Store second) = omega (arith, c.execute-3.ensures.survives.clean) in
-    let clean_first : HasCleanDisk (state g.S.Store first) = omega (arith, c.execute-2.ensures.survives.clean) in
-    let one = rw c.state_table.ensures at (c.in_ok-execute.ensures.runs clean_first inside) in
-    let two = rw c.version_table.ensures at (c.in_ok-execute-2.ensures.runs clean_second one.1.mode) in
-    let ran_first : Ran g.S.Store making_state old first = record { count = c.in_ok-execute.field-0; runs = one; limit = c.execute.ensures.survives.limit; faults = c.execute.ensures.survives.counts } in
-    let ran_second : Ran g.S.Store making_version first second = record { count = c.in_ok-execute-2.field-0; runs = two; limit = c.execute-2.ensures.survives.limit; faults = c.execute-2.ensures.survives.counts } in
-    let ran_last : Ran g.S.Store beginning second last = record { count = c.in_ok-execute-3.field-0; runs = c.in_ok-execute-3.ensures.runs clean two.1.mode; limit = c.execute-3.ensures.survives.limit; faults = c.execute-3.ensures.survives.counts } in
-    (first, ran_first, (second, ran_second, (last, ran_last, refl)))
+    let a = state g.S.Store old in
+    let b = state g.S.Store first in
+    let m = state g.S.Store second in
+    let d = state g.S.Store last in
+    let one = c.in_ok-execute.field-0 in
+    let two = c.in_ok-execute-2.field-0 in
+    let three = c.in_ok-execute-3.field-0 in
+    step_then g.S.Store (RanState one) MakesTables (making_state ∷ []) (making_version ∷ beginning ∷ []) old first (RanLast m two three) last (Ok tt)
+    (one_done g.S.Store (RanState one) making_state old first c.execute.ensures.survives one (λ clean inside. rw c.state_table.ensures at (c.in_ok-execute.ensures.runs clean inside)) (λ ran. ran))
+    (step_then g.S.Store (RanVersion two) (RanLast m two three) (making_version ∷ []) (beginning ∷ []) first second (RanBegin three) last (Ok tt)
+    (one_done g.S.Store (RanVersion two) making_version first second c.execute-2.ensures.survives two (λ clean inside. rw c.version_table.ensures at (c.in_ok-execute-2.ensures.runs clean inside)) (λ ran. ran))
+    (one_done g.S.Store (RanBegin three) beginning second last c.execute-3.ensures.survives three (λ clean inside. c.in_ok-execute-3.ensures.runs clean inside) (λ ran. ran))
+    (λ ran. ran.1.mode) (λ made begun. (made, begun)))
+    (λ ran. ran.1.mode)
+    (λ started more. record {
+      free = free_by a.now.schema (free_inside state_text state_table state_makes a b _ started.0) (sym (others_stay a b _ started.0) ∙ free_inside version_text (version_made 0) version_makes b m _ more.0.0);
+      holds = λ none.
+          let standing = makes_state a b _ none started.0 in
+          let ready = makes_version b m _ standing.0 standing.1 more.0.0 in
+          (begins m d _ ready.0 ready.1 ready.2 more.1.0, begins_sound m d _ ready.0 more.1.0);
+      inside = inside_then a m d (inside_then a b m started.1 more.0.1) more.1.1;
+    })

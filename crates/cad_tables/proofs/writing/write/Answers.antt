@@ -19,7 +19,7 @@ returns-clause-wrote g c clean =
     let begun = c.transaction-tx.ensures.begun in
     let same : c.commit.new.self.0 ≡ c.conn-2-1.given.0 = search rules in
     let late : HasCleanDisk (state g.S.Store c.commit.new.self.0) = search rules in
-    let made = c.in_ok-change_all.ensures.changes (omega (arith, c.commit.ensures.survives.clean)) (rw begun) in
+    let made = c.in_ok-change_all.ensures.step.does (omega (arith, c.commit.ensures.survives.clean)) (rw begun) in
     subst (λ h. Commits g.L.Stored.line c.args.change.now c.args.revision (state g.S.Store c.args.conn.now) (state g.S.Store h)) same
     (commits g.S.Store g.L.Stored.line c.args.conn.now c.transaction-tx.result.conn.now c.change_all.new.tx.conn.now c.commit.new.self.0 c.args.change.now c.args.revision begun made (c.in_ok-commit.ensures.ok late).1)
 
@@ -29,7 +29,7 @@ returns-clause-crash g c =
     let same : c.commit.new.self.0 ≡ c.conn-2-1.given.0 = search rules in
     subst (λ h. Survives (state g.S.Store c.args.conn.now) (state g.S.Store h) (CommitsTo g.L.Stored.line c.args.change.now c.args.revision (state g.S.Store c.args.conn.now))) same
     (crashes g.S.Store g.L.Stored.line c.args.conn.now c.transaction-tx.result.conn.now c.change_all.new.tx.conn.now c.commit.new.self.0 c.args.change.now c.args.revision begun
-    (λ clean. c.in_ok-change_all.ensures.changes clean (rw begun)) c.change_all.ensures.survives c.commit.ensures.survives)
+    (λ clean. c.in_ok-change_all.ensures.step.does clean (rw begun)) c.change_all.ensures.step.survives c.commit.ensures.survives)
 
 pub returns-in_err-commit-clause-crash : goal.returns-in_err-commit-clause-crash
 returns-in_err-commit-clause-crash g c =
@@ -37,7 +37,7 @@ returns-in_err-commit-clause-crash g c =
     let same : c.commit.new.self.0 ≡ c.conn-2-1.given.0 = search rules in
     subst (λ h. Survives (state g.S.Store c.args.conn.now) (state g.S.Store h) (CommitsTo g.L.Stored.line c.args.change.now c.args.revision (state g.S.Store c.args.conn.now))) same
     (crashes g.S.Store g.L.Stored.line c.args.conn.now c.transaction-tx.result.conn.now c.change_all.new.tx.conn.now c.commit.new.self.0 c.args.change.now c.args.revision begun
-    (λ clean. c.in_ok-change_all.ensures.changes clean (rw begun)) c.change_all.ensures.survives c.commit.ensures.survives)
+    (λ clean. c.in_ok-change_all.ensures.step.does clean (rw begun)) c.change_all.ensures.step.survives c.commit.ensures.survives)
 
 pub returns-in_err-change_all-clause-refused : goal.returns-in_err-change_all-clause-refused
 returns-in_err-change_all-clause-refused g c clean =
@@ -46,7 +46,7 @@ returns-in_err-change_all-clause-refused g c clean =
     let up : (state g.S.Store c.change_all.new.tx.conn.now).faults ≤ (state g.S.Store c.conn-1.given.0).faults = search rules in
     let statements = all_statements_of g.L.Stored.line c.args.change.now c.args.revision in
     told _ c.from_residual.result (fault_of c.in_err-change_all.field-0.0) c.from_residual.ensures.1
-    (c.in_err-change_all.field-0.0, refl, statement_refused g.S.Store c.args.conn.now c.transaction-tx.result.conn.now c.change_all.new.tx.conn.now c.conn-1.given.0 begun _ statements (c.in_err-change_all.ensures.refused early (rw begun)) up)
+    (c.in_err-change_all.field-0.0, refl, statement_refused g.S.Store c.args.conn.now c.transaction-tx.result.conn.now c.change_all.new.tx.conn.now c.conn-1.given.0 begun _ statements (c.in_err-change_all.ensures.step.refused early (rw begun)) up)
 
 pub returns-in_err-commit-clause-refused : goal.returns-in_err-commit-clause-refused
 returns-in_err-commit-clause-refused g c clean =
@@ -55,7 +55,7 @@ returns-in_err-commit-clause-refused g c clean =
     let fails : FailsToCommit (state g.S.Store c.change_all.new.tx.conn.now) (state g.S.Store c.conn-2-1.given.0) c.in_err-commit.field-0.0 = search rules in
     let statements = all_statements_of g.L.Stored.line c.args.change.now c.args.revision in
     told _ c.from_residual-in_err-commit.result (fault_of c.in_err-commit.field-0.0) c.from_residual-in_err-commit.ensures.1
-    (c.in_err-commit.field-0.0, refl, commit_refused g.S.Store c.args.conn.now c.transaction-tx.result.conn.now c.change_all.new.tx.conn.now c.conn-2-1.given.0 begun _ statements (c.in_ok-change_all.ensures.ran early (rw begun)) fails)
+    (c.in_err-commit.field-0.0, refl, commit_refused g.S.Store c.args.conn.now c.transaction-tx.result.conn.now c.change_all.new.tx.conn.now c.conn-2-1.given.0 begun _ statements (c.in_ok-change_all.ensures.step.ran early (rw begun)) fails)
 
 pub returns-then-not-is_autocommit-clause-refused : goal.returns-then-not-is_autocommit-clause-refused
 returns-then-not-is_autocommit-clause-refused g c clean =

@@ -1,11 +1,11 @@
-use Rattle.std.proofs.Common.{◌≡◌, ◌≢◌, ℕ, ◌<◌, ◌^◌, ◌∷◌, ◌++◌, List, Option, Some, None, sym, ap, ap₂, ◌∙◌, subst, length}
+use Rattle.std.proofs.Common.{◌≡◌, ℕ, ◌<◌, ◌^◌, ◌∷◌, ◌++◌, List, Option, Some, None, sym, ap, ap₂, ◌∙◌, subst, length}
 use Rattle.std.specs.Int.{to_be_bytes, w16}
 use Rattle.std.specs.Option.{MatchOption}
 use Rattle.cad_shape.specs.declared.point.Point.{Point}
 use Rattle.cad_shape.specs.declared.ring.Ring.{Ring}
 use Rattle.cad_shape.specs.Outlines.{IsRing}
 use Rattle.cad_shape.specs.Rings.{corners_of, ring_is}
-use Rattle.cad_versions.specs.ShapeBytes.{corners_bytes, shape_bytes, IsShapeOf}
+use Rattle.cad_versions.specs.ShapeBytes.{corners_bytes, IsShapeOf}
 use Rattle.cad_versions.specs.ShapeLemmas.{shape_parts, corners_same}
 use Rattle.cad_versions.proofs.shape_bytes.read_shape.Goals as goal
 

@@ -1,4 +1,4 @@
-use Rattle.cad_feature.specs.Schema.{schema_of}
+use Rattle.cad_schema.specs.Schema.{schema_of}
 use Rattle.cql_filter.proofs.Verdict.{accepted, refused}
 use Rattle.cql_filter.proofs.reading.read.Goals as goal
 

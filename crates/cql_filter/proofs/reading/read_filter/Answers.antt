@@ -1,6 +1,6 @@
 use Rattle.std.proofs.Common.{length}
 use Rattle.std.proofs.lemmas.Result.{err_from_is_err_and}
-use Rattle.cad_feature.specs.Schema.{schema_of}
+use Rattle.cad_schema.specs.Schema.{schema_of}
 use Rattle.cql_lexer.specs.Mark.{marks}
 use Rattle.cql_tree.specs.Views.{syntax_of}
 use Rattle.cql_filter.specs.Filters.{IsRead}

@@ -1,6 +1,6 @@
 use Rattle.std.proofs.Common.{◌∙◌, ap, arith, [], ◌∷◌, ◌++◌}
 use Rattle.std.proofs.lemmas.Result.{err_from_is_err_and}
-use Rattle.cad_feature.specs.Schema.{schema_of}
+use Rattle.cad_schema.specs.Schema.{schema_of}
 use Rattle.cql_tree.specs.Syntax.{none, part, parts_of, or_op, and_op, not_op, compare_op, like_op, between_op, in_op, is_null_op, sum_op, product_op, casei_op, spatial_op, temporal_op}
 use Rattle.cql_tree.specs.Views.{syntax_of, syntaxes_of, term_of, terms_of, factor_of, factors_of, additions_of, multiplications_of}
 use Rattle.cql_types.proofs.Judging.{node_judged, list_judged, steps_judged, last_part, and_part, boxed, fault_here, fault_later, fault_inside, first_fault, next_fault, completes_more, completes_all, first_more, fault_among, signs_from, by_more, by_all}

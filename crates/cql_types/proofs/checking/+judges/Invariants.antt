@@ -1,5 +1,5 @@
 use Rattle.std.proofs.Common.{◌≡◌, ◌+◌, ◌*◌, ◌++◌, List, drop, map}
-use Rattle.cad_feature.specs.Schema.{schema_of}
+use Rattle.cad_schema.specs.Schema.{schema_of}
 use Rattle.cql_tree.specs.Syntax.{none, part, parts_of}
 use Rattle.cql_tree.specs.Views.{syntax_of, syntaxes_of, terms_of, factors_of, additions_of, multiplications_of}
 use Rattle.cql_types.specs.declared.fault.Fault.{Fault}

@@ -1,5 +1,5 @@
 use Rattle.std.proofs.lemmas.Result.{err_from_is_err_and}
-use Rattle.cad_feature.specs.Schema.{schema_of}
+use Rattle.cad_schema.specs.Schema.{schema_of}
 use Rattle.cql_tree.specs.Views.{syntax_of}
 use Rattle.cql_types.proofs.Verdict.{whole_faults, whole_wrong, whole_answer, match_ok, match_err, match_condition, match_fault}
 use Rattle.cql_types.proofs.checking.check_tree.Goals as goal

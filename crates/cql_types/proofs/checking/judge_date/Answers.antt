@@ -1,5 +1,5 @@
 use Rattle.std.proofs.lemmas.Result.{err_from_is_err_and}
-use Rattle.cad_feature.specs.Schema.{schema_of}
+use Rattle.cad_schema.specs.Schema.{schema_of}
 use Rattle.cql_tree.specs.Syntax.{none, leaf, day_leaf, date_op}
 use Rattle.cql_types.proofs.Judging.{node_judged, last_part, fault_here}
 use Rattle.cql_types.proofs.checking.judge_date.Goals as goal

@@ -1,6 +1,6 @@
 use Rattle.std.proofs.Common.{refl, sym, ◌∙◌}
 use Rattle.std.proofs.lemmas.Result.{err_from_is_err_and}
-use Rattle.cad_feature.specs.Schema.{schema_of}
+use Rattle.cad_schema.specs.Schema.{schema_of}
 use Rattle.cql_tree.specs.Views.{bound_of}
 use Rattle.cql_types.specs.Means.{interval, literal_means}
 use Rattle.cql_types.proofs.EndLemmas.{first_no_end, last_no_end, ends_turned, first_end_wrong, last_end_wrong, turned_by_ends}

@@ -1,5 +1,5 @@
 use Rattle.std.proofs.Common.{◌∙◌, sym, ap}
-use Rattle.cad_feature.specs.Schema.{schema_of}
+use Rattle.cad_schema.specs.Schema.{schema_of}
 use Rattle.cql_types.specs.Kinds.{kind_of_name}
 use Rattle.cql_types.specs.Contract.{leaf_first}
 use Rattle.cql_types.proofs.EndLemmas.{name_read}

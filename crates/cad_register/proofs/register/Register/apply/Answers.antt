@@ -16,7 +16,7 @@ returns-in_err-count-clause-refused g c clean =
 
 pub returns-clause-accepted : goal.returns-clause-accepted
 returns-clause-accepted g c clean cs register =
-    let told = c.in_ok-count.ensures.told (c.in_ok-enact.ensures.clean clean) cs register.stands in
+    let told = c.in_ok-count.ensures.told (c.in_ok-enact.ensures.later.clean clean) cs register.stands in
     let decided = told.0 register.counted in
     let next : c.args.self.now.revision + 1 ≡ length cs + 1 = ap (λ n. n + 1) register.counted in
     let fits = numbered cs c.args.command c.in_ok-count.count c.next_number.result decided.0 decided.1 c.next_number.ensures.next in (
@@ -31,7 +31,7 @@ returns-clause-accepted g c clean cs register =
 pub returns-in_err-enact-clause-store : goal.returns-in_err-enact-clause-store
 returns-in_err-enact-clause-store g c clean e cs register =
     let p = err_from_is_err_and c.from_residual-in_err-enact.result c.from_residual-in_err-enact.ensures.1 in
-    let early = c.in_err-enact.ensures.clean clean in
+    let early = c.in_err-enact.ensures.later.clean clean in
     let same = c.in_ok-count.ensures.asked early cs register.stands in
     let is : c.in_err-enact.field-0.0 ≡ fault.Store = let known = p.0 in let given = p.1 in cc in
     let next : c.args.self.now.revision + 1 ≡ length cs + 1 = ap (λ n. n + 1) register.counted in
@@ -47,7 +47,7 @@ pub returns-in_err-enact-clause-crash : goal.returns-in_err-enact-clause-crash
 returns-in_err-enact-clause-crash g c clean cs register =
     let old = state g.S.Store c.args.self.now.connection in
     let mid = state g.S.Store c.decide.new.connection in
-    let early = c.in_err-enact.ensures.clean clean in
+    let early = c.in_err-enact.ensures.later.clean clean in
     let told = c.in_ok-count.ensures.told early cs register.stands in
     let decided = told.0 register.counted in
     let next : c.args.self.now.revision + 1 ≡ length cs + 1 = ap (λ n. n + 1) register.counted in
@@ -60,7 +60,7 @@ pub returns-clause-crash : goal.returns-clause-crash
 returns-clause-crash g c clean cs register =
     let old = state g.S.Store c.args.self.now.connection in
     let mid = state g.S.Store c.decide.new.connection in
-    let early = c.in_ok-enact.ensures.clean clean in
+    let early = c.in_ok-enact.ensures.later.clean clean in
     let told = c.in_ok-count.ensures.told early cs register.stands in
     let decided = told.0 register.counted in
     let next : c.args.self.now.revision + 1 ≡ length cs + 1 = ap (λ n. n + 1) register.counted in
@@ -71,7 +71,7 @@ returns-clause-crash g c clean cs register =
 
 pub returns-clause-durable : goal.returns-clause-durable
 returns-clause-durable g c clean cs register =
-    let told = c.in_ok-count.ensures.told (c.in_ok-enact.ensures.clean clean) cs register.stands in
+    let told = c.in_ok-count.ensures.told (c.in_ok-enact.ensures.later.clean clean) cs register.stands in
     let decided = told.0 register.counted in
     let next : c.args.self.now.revision + 1 ≡ length cs + 1 = ap (λ n. n + 1) register.counted in
     let fits = numbered cs c.args.command c.in_ok-count.count c.next_number.result decided.0 decided.1 c.next_number.ensures.next in

@@ -1,9 +1,9 @@
-use Rattle.std.proofs.Common.{ap, Ok, refl, arith}
+use Rattle.std.proofs.Common.{ap, Ok, refl}
 use Rattle.sqlite.specs.State.{HasCleanDisk}
 use Rattle.sqlite.specs.Held.{state}
 use Rattle.cad_register.proofs.SurvivingLemmas.{leaves_made}
 use Rattle.cad_register.proofs.WriteLemmas.{no_entries}
-use Rattle.cad_register.proofs.LeavingLemmas.{not_as_none}
+use Rattle.cad_register.proofs.LeavingLemmas.{later_by, not_as_none}
 use Rattle.cad_register.proofs.register.Register.create.Goals as goal
 
 pub returns-in-Ok-Made : goal.returns-in-Ok-Made
@@ -23,7 +23,7 @@ returns-in-Ok-Made g c =
       cause = tt;
       store = λ clean. tt;
       unchanged = λ clean. tt;
-      clean = λ clean. omega (arith, c.create.ensures.crash.clean);
+      later = later_by old new _ c.create.ensures.crash;
       crash = λ clean. leaves_made old new clean c.create.ensures.crash;
     }
 
@@ -39,8 +39,8 @@ returns-in-Ok-AlreadyExists g c =
       taken = λ clean is. ((standing clean).0, record { same = (standing clean).1; limit = survives.limit; faults = survives.counts });
       cause = λ other. absurd (other refl);
       store = λ clean other. absurd (other refl);
-      unchanged = λ clean. record { kept = λ still. ((standing clean).1.0.now_is, (standing clean).1.0.committed_is); limit = survives.limit; faults = survives.counts };
-      clean = λ clean. omega (arith, survives.clean);
+      unchanged = λ clean still. ((standing clean).1.0.now_is, (standing clean).1.0.committed_is);
+      later = later_by old new _ survives;
       crash = λ clean. leaves_made old new clean survives;
     }
 
@@ -55,7 +55,7 @@ returns-in-Err g c =
       taken = λ clean is. absurd (not_as_none c.store_fault.result c.store_fault.ensures.cause is);
       cause = λ other. c.store_fault.ensures.cause;
       store = λ clean other. let told = c.in-Err.ensures.refused clean in (told.0, rw told.1 at c.store_fault.ensures.told, told.2);
-      unchanged = λ clean. record { kept = λ still. c.in-Err.ensures.neither clean still; limit = survives.limit; faults = survives.counts };
-      clean = λ clean. omega (arith, survives.clean);
+      unchanged = λ clean still. c.in-Err.ensures.neither clean still;
+      later = later_by old new _ survives;
       crash = λ clean. leaves_made old new clean survives;
     }

@@ -1,6 +1,6 @@
 use Rattle.std.proofs.Common.{Err, ap, subst, ◌∙◌}
 use Rattle.std.proofs.lemmas.Result.{err_from_is_err_and}
-use Rattle.cad_request.specs.Request.{request_at}
+use Rattle.cad_head.specs.Request.{request_at}
 use Rattle.cad_reply.specs.Replies.{reply_text}
 use Rattle.cad_wanted.specs.Wants.{IsWanted}
 use Rattle.cad_server.proofs.CallLemmas.{answered_err, answered_ok}

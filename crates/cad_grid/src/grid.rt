@@ -1,0 +1,92 @@
+//! A grid of shapes.
+
+ghost use Rattle.std.specs.Prelude.{◌≡◌};
+
+use crate::entering::{cells_at, enter_shape};
+use crate::entry::Entry;
+use crate::finding::{count_found, list_found};
+use crate::passing::{count_passing, list_passing};
+use cad_cells::Cells;
+use cad_feature::Feature;
+use cad_shape::Bounds;
+use std::alloc::{AllocError, Global};
+use std::marker::Model;
+
+/// The shapes of one property by the cells that their bounds touch. Contracts see the cells of each position.
+#[derive(Drop)]
+pub struct Grid {
+    cells: Vec<Option<Cells>>,
+    wide: Vec<u32>,
+    entries: Vec<Entry>,
+}
+
+impl Model for Grid {
+    ghost use Rattle.std.specs.Prelude.{List, Option, map, option_map};
+    ghost use Rattle.cad_cells.specs.Blocks.{Block};
+    ghost use Rattle.cad_cells.specs.Counted.{block_at};
+    ghost use Rattle.cad_grid.specs.Entries.{IsGrid};
+
+    ghost Value = { List (Option Block) };
+
+    ghost view = { λ g. map (option_map block_at) g.cells.items };
+
+    ghost invariant = { λ g. IsGrid g.cells.items g.wide.items g.entries.items };
+}
+
+impl Grid {
+    ghost use Rattle.std.specs.Prelude.{◌≡◌, ◌≤◌, IfOk, length};
+    ghost use Rattle.cad_cells.specs.Blocks.{block_of};
+    ghost use Rattle.cad_grid.specs.Grids.{blocks_at, near_positions};
+
+    /// The grid of the features' property at that place. An error is want of memory.
+    pub fn build(alloc: Global, features: &[Feature], place: usize) -> Result<Grid, AllocError>
+        requires { length features.now ≤ 4294967295 }
+        ensures { IfOk result (λ grid. grid ≡ blocks_at place features.now) }
+    {
+        let mut all = Vec::new(alloc);
+        let mut wide = Vec::new(alloc);
+        let mut entries = Vec::new(alloc);
+        for (position, feature) in features.iter().enumerate() {
+            let cells = cells_at(feature, place);
+            all.push(cells)?;
+            enter_shape(&mut wide, &mut entries, cells, position as u32)?;
+        }
+        entries.sort_unstable();
+        Ok(Grid {
+            cells: all,
+            wide,
+            entries,
+        })
+    }
+
+    // Whether the asked cells are many beside all shapes, so that a look at each shape is cheaper than a walk.
+    fn are_many(&self, asked: Cells) -> bool {
+        asked.is_wide() && asked.count() > self.cells.len() as u64 / 64
+    }
+
+    /// How many positions are near the box. No memory is taken.
+    pub fn count(&self, bounds: Bounds) -> u64
+        ensures { result ≡ length (near_positions self.now (block_of bounds)) }
+    {
+        let asked = Cells::of(bounds);
+        if self.are_many(asked) {
+            count_passing(&self.cells, asked)
+        } else {
+            count_found(&self.cells, &self.wide, &self.entries, asked)
+        }
+    }
+
+    /// The positions near the box, as they ascend. An error is want of memory.
+    pub fn near(&self, alloc: Global, bounds: Bounds) -> Result<Vec<u32>, AllocError>
+        ensures { IfOk result (λ found. found.items ≡ near_positions self.now (block_of bounds)) }
+    {
+        let asked = Cells::of(bounds);
+        if self.are_many(asked) {
+            let found = list_passing(alloc, &self.cells, asked)?;
+            return Ok(found);
+        }
+        let mut found = list_found(alloc, &self.cells, &self.wide, &self.entries, asked)?;
+        found.sort_unstable();
+        Ok(found)
+    }
+}

@@ -1,0 +1,100 @@
+//! The indexes of a collection's features.
+
+ghost use Rattle.std.specs.Prelude.{◌≡◌, ◌≤◌, IfOk, length, get_or};
+ghost use Rattle.std.specs.List.{All};
+ghost use Rattle.std.specs.Option.{option_copied};
+ghost use Rattle.cad_feature.specs.Features.{AreFeaturesOf};
+ghost use Rattle.cad_feature.specs.Values.{IsOfKind};
+ghost use Rattle.cad_ordered.specs.Ranged.{value_at};
+ghost use Rattle.cad_index.specs.Indexed.{index_of, indexes_of, index_at, ordered_in, grid_in};
+
+use crate::Index;
+use cad_feature::Feature;
+use cad_grid::Grid;
+use cad_ordered::Ordered;
+use cad_schema::{Collection, PropertyKind, schema};
+use std::alloc::{AllocError, Global};
+
+/// The indexes of a collection's features, one for each property in the order of the schema.
+#[derive(Drop)]
+pub struct Indexes {
+    count: usize,
+    properties: Vec<Index>,
+}
+
+// The index of the property at that place, which has that kind.
+fn index(
+    alloc: Global,
+    features: &[Feature],
+    place: usize,
+    kind: PropertyKind,
+) -> Result<Index, AllocError>
+    requires small { length features.now ≤ 4294967295 }
+    requires alike { All (λ x. IsOfKind kind (value_at place x)) features.now }
+    ensures { IfOk result (λ index. index ≡ index_of kind place features.now) }
+{
+    match kind {
+        PropertyKind::Spot | PropertyKind::Area => {
+            let grid = Grid::build(alloc, features, place)?;
+            Ok(Index::Grid(grid))
+        }
+        _ => {
+            let ordered = Ordered::build(alloc, features, place, kind)?;
+            match ordered {
+                None => Ok(Index::Unindexed),
+                Some(ordered) => Ok(Index::Ordered(ordered)),
+            }
+        }
+    }
+}
+
+impl Indexes {
+    /// The indexes of these features of the collection. An error is want of memory.
+    pub fn build(
+        alloc: Global,
+        features: &[Feature],
+        collection: Collection,
+    ) -> Result<Indexes, AllocError>
+        requires small { length features.now ≤ 4294967295 }
+        requires listed { AreFeaturesOf collection features.now }
+        ensures properties { IfOk result (λ indexes. indexes.properties.items ≡ indexes_of collection features.now) }
+        ensures counted { IfOk result (λ indexes. indexes.count ≡ length features.now) }
+    {
+        let mut properties = Vec::new(alloc);
+        for (place, property) in schema(collection).iter().enumerate() {
+            let index = index(alloc, features, place, property.kind)?;
+            properties.push(index)?;
+        }
+        Ok(Indexes {
+            count: features.len(),
+            properties,
+        })
+    }
+
+    /// How many features there are.
+    pub fn count(&self) -> usize
+        ensures { result ≡ self.now.count }
+    {
+        self.count
+    }
+
+    /// The ordered index of the property at that place, if it has one.
+    pub fn ordered(&self, place: usize) -> Option<&Ordered>
+        ensures { option_copied result ≡ ordered_in (index_at self.now.properties.items place) }
+    {
+        match self.properties.get(place) {
+            Some(Index::Ordered(ordered)) => Some(ordered),
+            _ => None,
+        }
+    }
+
+    /// The grid of the property at that place, if it has one.
+    pub fn grid(&self, place: usize) -> Option<&Grid>
+        ensures { option_copied result ≡ grid_in (index_at self.now.properties.items place) }
+    {
+        match self.properties.get(place) {
+            Some(Index::Grid(grid)) => Some(grid),
+            _ => None,
+        }
+    }
+}

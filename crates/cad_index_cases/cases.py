@@ -1,0 +1,179 @@
+#!/usr/bin/env python3
+"""Writes `stdin` and `stdout` of this folder: questions asked of indexes, and what must be answered.
+
+The answers come from a look at every value, and not from an index: a cell is a square of 65,536 mm with its left and its
+lower edge, and a box touches it where the two share a point; texts are ordered by code point, as Python orders them.
+"""
+from pathlib import Path
+from random import Random
+
+SIDE = 65_536
+EDGE = 100_000_000_000
+PLANE = (-EDGE, -EDGE, EDGE, EDGE)
+
+
+def reaches(low, high, number):
+    """Whether some whole number from low to high lies in the column or row."""
+    return number * SIDE <= high and low < (number + 1) * SIDE
+
+
+def numbers(low, high):
+    """The columns or rows that are reached, and none where they are more than 65."""
+    found = []
+    number = low // SIDE - 1
+    while number * SIDE <= high and len(found) <= 65:
+        if reaches(low, high, number):
+            found.append(number)
+        number += 1
+    return found
+
+
+def is_near(shape, asked):
+    if shape is None:
+        return False
+    columns = numbers(shape[0], shape[2])
+    rows = numbers(shape[1], shape[3])
+    if len(columns) * len(rows) > 64:
+        return True
+    return any(
+        reaches(asked[0], asked[2], column) and reaches(asked[1], asked[3], row)
+        for column in columns
+        for row in rows
+    )
+
+
+def listed(positions):
+    return "".join(f" {position}" for position in positions)
+
+
+def shape_word(shape):
+    return "-" if shape is None else ",".join(str(n) for n in shape)
+
+
+def spot_word(shape):
+    return "-" if shape is None else f"{shape[0]},{shape[1]}"
+
+
+def near_case(shapes, asked, spots=False):
+    word = spot_word if spots else shape_word
+    name = "reference_point" if spots else "geometry"
+    near = [p for p, shape in enumerate(shapes) if is_near(shape, asked)]
+    words = " ".join(word(shape) for shape in shapes)
+    return f"{name} {words} ? {shape_word(asked)}", f"near{listed(near)} count {len(near)}"
+
+
+def lies_in(value, low, high):
+    if value is None:
+        return False
+    if low != "free" and (value < low[1] or (low[0] == "without" and value == low[1])):
+        return False
+    return high == "free" or value < high[1] or (high[0] == "with" and value == high[1])
+
+
+def edge_word(edge):
+    return edge if edge == "free" else f"{edge[0]}:{edge[1]}"
+
+
+def range_case(name, values, low, high):
+    found = [p for p, value in enumerate(values) if lies_in(value, low, high)]
+    words = " ".join("-" if value is None else str(value) for value in values)
+    text = listed(found)
+    return (
+        f"{name} {words} ? {edge_word(low)} {edge_word(high)}",
+        f"range{text} walked{text} held{text} count {len(found)}",
+    )
+
+
+def box_at(random, x, y, widest):
+    return (x, y, x + random.randint(1, widest), y + random.randint(1, widest))
+
+
+def named_boxes():
+    low, high = (0, 0, 65_535, 65_535), (0, 0, 65_536, 65_536)
+    for point in [(65_536, 0), (0, 0), (65_535, 65_535), (65_536, 65_536), (-1, 0), (0, -1), (131_071, 65_536)]:
+        yield near_case([low, high], (*point, *point))
+    middle = (-1, -1, 1, 1)
+    for point in [(-65_536, -65_536), (65_535, 65_535), (65_536, 0), (-65_537, 0), (0, -65_537), (-1, 65_535), (0, 65_536)]:
+        yield near_case([middle], (*point, *point))
+    far = (10_000_000, 10_000_000, 10_000_001, 10_000_001)
+    sides = [(8, 8), (1, 64), (64, 1), (4, 16), (13, 5), (5, 13), (1, 65), (65, 1), (9, 8), (8, 9)]
+    for columns, rows in sides:
+        for corner in [(0, 0), (-SIDE, -3 * SIDE)]:
+            shape = (*corner, corner[0] + columns * SIDE - 1, corner[1] + rows * SIDE - 1)
+            yield near_case([None, shape, low], far)
+            yield near_case([None, shape, low], shape)
+    # one more millimetre is one more column
+    yield near_case([(0, 0, 8 * SIDE - 1, 8 * SIDE - 1), (0, 0, 8 * SIDE, 8 * SIDE - 1)], far)
+    some = [None, low, middle, (EDGE - 1, EDGE - 1, EDGE, EDGE), None, (-EDGE, -EDGE, 1 - EDGE, 1 - EDGE), (-EDGE, 0, EDGE, 1)]
+    for asked in [PLANE, (EDGE, EDGE, EDGE, EDGE), (-EDGE, -EDGE, -EDGE, -EDGE), (0, 0, EDGE, EDGE), (-EDGE, -EDGE, -1, -1)]:
+        yield near_case(some, asked)
+    yield near_case([None, None], PLANE)
+    # a shape in many of the asked cells is given once
+    yield near_case([(-SIDE, -SIDE, SIDE, SIDE), (-3 * SIDE, 0, 3 * SIDE, 1)], (-2 * SIDE, -2 * SIDE, 2 * SIDE, 2 * SIDE))
+
+
+def drawn_boxes(random):
+    for size in [1, 2, 5, 9, 20, 40]:
+        for _ in range(8):
+            shapes = [
+                None if random.random() < 0.1 else box_at(random, random.randint(-400_000, 400_000), random.randint(-400_000, 400_000), random.choice([10, 70_000, 300_000, 900_000]))
+                for _ in range(size)
+            ]
+            yield near_case(shapes, box_at(random, random.randint(-500_000, 500_000), random.randint(-500_000, 500_000), random.choice([5, 65_536, 400_000, 1_500_000])))
+    for size in [1, 4, 12, 30]:
+        for _ in range(5):
+            spots = []
+            for _ in range(size):
+                x, y = random.randint(-200_000, 200_000), random.choice([-65_537, -65_536, -1, 0, 65_535, 65_536, 131_072])
+                spots.append(None if random.random() < 0.2 else (x, y, x, y))
+            yield near_case(spots, box_at(random, random.randint(-200_000, 200_000), random.randint(-200_000, 200_000), 90_000), spots=True)
+
+
+LABELS = ["a", "A", "b", "Ab", "aB", "ab", "z", "Z", "0", "9", "é", "ß", "\ud7ff", "\ue000", "\uffff", "\U00010000", "\U0010ffff", "a\u0301", "a\uffff", "a\U00010000"]
+DAYS = ["0000-01-01", "1969-12-31", "1970-01-01", "2000-02-29", "2001-01-01", "2001-12-31", "2010-06-15", "9999-12-31"]
+
+
+def edges(random, values):
+    return random.choice(["free", ("with", random.choice(values)), ("without", random.choice(values))])
+
+
+def ranges(random):
+    areas = [0, 1, 2, 3, 100, 380, 390, 400, 4_294_967_295]
+    later = [day for day in DAYS if day >= "2000-01-01"]
+    for name, values, nulls in [("area", areas, 0.2), ("label", LABELS, 0), ("begin", DAYS, 0), ("end", later, 0.3)]:
+        whole = [*values, None] if nulls else values
+        for low in ["free", ("with", values[2]), ("without", values[2])]:
+            for high in ["free", ("with", values[4]), ("without", values[4]), ("with", values[2]), ("without", values[2]), ("with", values[1])]:
+                yield range_case(name, whole, low, high)
+        for size in [1, 3, 10, 70, 200]:
+            for _ in range(6):
+                drawn = [None if random.random() < nulls else random.choice(values) for _ in range(size)]
+                yield range_case(name, drawn, edges(random, values), edges(random, values))
+    yield range_case("area", [None, None], "free", "free")
+    # beyond what a parcel's area may be
+    yield range_case("area", [5, None, 7], ("with", -(2**63)), ("without", 2**63 - 1))
+    yield range_case("object", list(range(1, 151)), ("with", 3), ("with", 3))
+    yield range_case("object", list(range(1, 151)), ("without", 3), ("with", 120))
+
+
+UNREAD = [
+    "lifespan 1 ? free free",
+    "area 1 2 ? free",
+    "area 1 2 ? with:x free",
+    "area 1 2 ? with:99999999999999999999 free",
+    "end - ? with:2001-02-29 free",
+    "geometry 0,0,1,1 ? 1,1,0,0",
+    "nothing 1 ? free free",
+    "area 1 2",
+]
+
+
+def main():
+    random = Random(65_536)
+    cases = [*named_boxes(), *drawn_boxes(random), *ranges(random), *((line, "unread") for line in UNREAD)]
+    here = Path(__file__).parent
+    (here / "stdin").write_text("".join(f"{asked}\n" for asked, _ in cases), encoding="utf-8")
+    (here / "stdout").write_text("".join(f"{answer}\n" for _, answer in cases), encoding="utf-8")
+
+
+main()

@@ -1,0 +1,46 @@
+//! Cases of indexes, one a line of the input, and an answer for each:
+//!
+//! - `PROPERTY VALUE VALUE .. ? X,Y,X,Y`, of a property with a grid: the positions near the box, and their number
+//! - `PROPERTY VALUE VALUE .. ? LOW HIGH`, of a property with an order: the positions in the range as they are listed, as
+//!   they are walked and as they are tested by their ranks, and their number
+//!
+//! The values are those of parcels at the positions 0, 1 and so on, `-` where one has none: `X,Y,X,Y` is a rectangle by
+//! its least and greatest corner, `X,Y` a point, `2001-01-01` a day; a label has no blank. An end is `free`, `with:VALUE`
+//! or `without:VALUE`. A line that is not of this form is answered by `unread`; one without text, or that begins with `#`,
+//! is passed over.
+//!
+//! With the argument `bench` nothing is read, and what the indexes of 100,000 parcels take is printed; with a number so many
+//! parcels are built, and their indexes that many times, so that what two runs hold can be compared.
+#![tactic(auto)]
+
+mod bench;
+mod cases;
+mod parcels;
+mod values;
+
+use anyhow::Result;
+use std::env;
+
+fn answer_lines(rt: &HostRuntime) -> Result<()> {
+    for line in rt.lines(rt.alloc()) {
+        let line = line?;
+        if line.is_empty() || line.as_str().starts_with('#') {
+            continue;
+        }
+        let answer = cases::answer(rt.alloc(), line.as_str())?;
+        println!(rt; "{answer}")?;
+    }
+    Ok(())
+}
+
+fn main(rt: HostRuntime) -> Result<()> {
+    let mut args = env::args(&rt)?;
+    let _program = args.next();
+    match args.next() {
+        Some(word) => match word.as_str() {
+            "bench" => bench::tell_times(&rt),
+            times => bench::hold(&rt, times.parse().unwrap_or(1)),
+        },
+        None => answer_lines(&rt),
+    }
+}

@@ -1,0 +1,61 @@
+//! Values that lines write.
+
+use cad_day::Day;
+use cad_feature::{Edge, Scalar};
+use cad_schema::PropertyKind;
+use cad_shape::{Bounds, Point, Ring};
+use std::alloc::{AllocError, Global};
+
+/// A point, `X,Y`.
+pub fn point(word: &str) -> Option<Point> {
+    let (x, y) = word.split_once(',')?;
+    Point::new(x.parse().ok()?, y.parse().ok()?)
+}
+
+/// A box, `X,Y,X,Y` by its least and greatest corner.
+pub fn bounds(word: &str) -> Option<Bounds> {
+    let (x_min, rest) = word.split_once(',')?;
+    let (y_min, rest) = rest.split_once(',')?;
+    let (x_max, y_max) = rest.split_once(',')?;
+    Bounds::new(
+        x_min.parse().ok()?,
+        y_min.parse().ok()?,
+        x_max.parse().ok()?,
+        y_max.parse().ok()?,
+    )
+}
+
+/// The rectangle of a box that is not flat.
+pub fn rectangle(alloc: Global, word: &str) -> Result<Option<Ring>, AllocError> {
+    match bounds(word) {
+        None => Ok(None),
+        Some(bounds) => {
+            let corners = Vec::from_array(alloc, bounds.corners())?;
+            Ok(Ring::new(corners).ok())
+        }
+    }
+}
+
+fn scalar(alloc: Global, kind: PropertyKind, word: &str) -> Result<Option<Scalar>, AllocError> {
+    match kind {
+        PropertyKind::Text => {
+            let text = String::from_str(alloc, word)?;
+            Ok(Some(Scalar::Text(text)))
+        }
+        PropertyKind::Whole => Ok(word.parse().ok().map(Scalar::Whole)),
+        PropertyKind::Day => Ok(Day::read(word).map(Scalar::Day)),
+        _ => Ok(None),
+    }
+}
+
+/// An end of a range: `free`, `with:VALUE` or `without:VALUE`.
+pub fn edge(alloc: Global, kind: PropertyKind, word: &str) -> Result<Option<Edge>, AllocError> {
+    if word == "free" {
+        return Ok(Some(Edge::Free));
+    }
+    match word.split_once(':') {
+        Some(("with", value)) => Ok(scalar(alloc, kind, value)?.map(Edge::With)),
+        Some(("without", value)) => Ok(scalar(alloc, kind, value)?.map(Edge::Without)),
+        _ => Ok(None),
+    }
+}

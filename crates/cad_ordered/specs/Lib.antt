@@ -1,0 +1,5 @@
+pub mod Edges
+pub mod Ranged
+pub mod Columns
+pub mod Indexed
+pub mod TextKeys

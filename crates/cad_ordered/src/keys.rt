@@ -1,0 +1,129 @@
+//! Keys in their order.
+
+ghost use Rattle.std.specs.Prelude.{◌≡◌, ◌↔◌, ◌<◌, ◌≤◌, length, get_or, IsTrue, Some};
+ghost use Rattle.cad_feature.specs.Values.{null};
+ghost use Rattle.cad_range.specs.Ranges.{compared};
+ghost use Rattle.cad_feature.specs.Limits.{scalar_datum};
+ghost use Rattle.cad_ordered.specs.Edges.{IsEdgeOf, scalar_kind};
+ghost use Rattle.cad_ordered.specs.Columns.{data_of, kind_of, is_before, IsAscending, IsSplit, IsLowRank, IsHighRank};
+
+use cad_day::Day;
+use cad_feature::{Edge, Scalar};
+use cad_schema::PropertyKind;
+use cql_text::compare;
+use std::cmp::Ordering;
+
+#[derive(Drop)]
+pub(crate) enum Keys {
+    Texts(Vec<String>),
+    Wholes(Vec<i64>),
+    Days(Vec<Day>),
+}
+
+// Whether an answer says before: below, or also where the two are equal.
+fn says_before(answer: Ordering, upto: bool) -> bool
+    ensures { result ≡ is_before upto (Some answer) }
+{
+    match answer {
+        Ordering::Less => true,
+        Ordering::Equal => upto,
+        Ordering::Greater => false,
+    }
+}
+
+fn kind_of_scalar(scalar: &Scalar) -> PropertyKind
+    ensures { result ≡ scalar_kind scalar.now }
+{
+    match scalar {
+        Scalar::Text(_) => PropertyKind::Text,
+        Scalar::Whole(_) => PropertyKind::Whole,
+        Scalar::Day(_) => PropertyKind::Day,
+    }
+}
+
+impl Keys {
+    pub(crate) fn kind(&self) -> PropertyKind
+        ensures { result ≡ kind_of self.now }
+    {
+        match self {
+            Keys::Texts(_) => PropertyKind::Text,
+            Keys::Wholes(_) => PropertyKind::Whole,
+            Keys::Days(_) => PropertyKind::Day,
+        }
+    }
+
+    fn is_before(&self, rank: usize, scalar: &Scalar, upto: bool) -> bool
+        requires { rank < length (data_of self.now) }
+        ensures { result ≡ is_before upto (compared (get_or (data_of self.now) rank null) (scalar_datum scalar.now)) }
+    {
+        match (self, scalar) {
+            (Keys::Texts(keys), Scalar::Text(text)) => says_before(
+                compare(keys[rank].as_str(), text.as_str()),
+                upto,
+            ),
+            (Keys::Wholes(keys), Scalar::Whole(number)) => says_before(
+                keys[rank].cmp(number),
+                upto,
+            ),
+            (Keys::Days(keys), Scalar::Day(day)) => says_before(keys[rank].cmp(day), upto),
+            _ => false,
+        }
+    }
+
+    // Whether the edge is none, or a value of the keys' kind.
+    pub(crate) fn takes(&self, edge: &Edge) -> bool
+        ensures { IsTrue result ↔ IsEdgeOf (kind_of self.now) edge.now }
+    {
+        match edge {
+            Edge::Free => true,
+            Edge::With(scalar) => kind_of_scalar(scalar) == self.kind(),
+            Edge::Without(scalar) => kind_of_scalar(scalar) == self.kind(),
+        }
+    }
+
+    // How many keys come before the value, or up to it.
+    pub(crate) fn rank(&self, count: u32, scalar: &Scalar, upto: bool) -> u32
+        requires ascends { IsAscending (data_of self.now) }
+        requires counted { count ≡ length (data_of self.now) }
+        ensures { IsSplit upto (data_of self.now) (scalar_datum scalar.now) result }
+    {
+        let mut low = 0;
+        let mut high = count;
+        while low < high {
+            let middle = low + (high - low) / 2;
+            if self.is_before(middle as usize, scalar, upto) {
+                low = middle + 1;
+            } else {
+                high = middle;
+            }
+        }
+        low
+    }
+
+    // How many keys lie below the lower edge.
+    pub(crate) fn low_rank(&self, count: u32, edge: &Edge) -> u32
+        requires ascends { IsAscending (data_of self.now) }
+        requires counted { count ≡ length (data_of self.now) }
+        requires alike { IsEdgeOf (kind_of self.now) edge.now }
+        ensures { IsLowRank (data_of self.now) edge.now result }
+    {
+        match edge {
+            Edge::Free => 0,
+            Edge::With(scalar) => self.rank(count, scalar, false),
+            Edge::Without(scalar) => self.rank(count, scalar, true),
+        }
+    }
+
+    // How many keys lie below the upper edge, or at it where it is taken in.
+    pub(crate) fn high_rank(&self, count: u32, edge: &Edge) -> u32
+        requires ascends { IsAscending (data_of self.now) }
+        requires counted { count ≡ length (data_of self.now) }
+        ensures { IsHighRank (data_of self.now) edge.now result }
+    {
+        match edge {
+            Edge::Free => count,
+            Edge::With(scalar) => self.rank(count, scalar, true),
+            Edge::Without(scalar) => self.rank(count, scalar, false),
+        }
+    }
+}

@@ -1,0 +1,131 @@
+//! The positions between two ranks.
+
+ghost use Rattle.std.specs.Prelude.{◌≡◌, ◌≤◌, ◌^◌, IfOk, length, slice_range, nat_le};
+ghost use Rattle.std.specs.List.{find};
+ghost use Rattle.std.specs.List.Sorted.{IsPermutation, IsNonDecreasing};
+ghost use Rattle.cad_positions.specs.Rankings.{is_between, positions_between, IsPart};
+
+use std::alloc::{AllocError, Global};
+use std::marker::Model;
+
+/// The positions whose ranks lie from one on, below another. Contracts see the list of them, which ascends.
+#[derive(Drop)]
+pub struct Found<'a> {
+    places: &'a [u32],
+    ranks: &'a [u32],
+    low: u32,
+    high: u32,
+}
+
+impl<'a> Model for Found<'a> {
+    ghost use Rattle.std.specs.Prelude.{List, ℕ};
+    ghost use Rattle.cad_positions.specs.Rankings.{positions_between, IsPart};
+
+    ghost Value = { List ℕ };
+
+    ghost view = { λ f. positions_between f.ranks.now f.low f.high };
+
+    ghost invariant = { λ f. IsPart f.places.now f.ranks.now f.low f.high };
+}
+
+fn is_between(low: u32, high: u32, rank: u32) -> bool
+    ensures { result ≡ is_between low high rank }
+{
+    low <= rank && rank < high
+}
+
+// The positions that stand between two places, as they ascend.
+fn sorted(alloc: Global, places: &[u32], low: u32, high: u32) -> Result<Vec<u32>, AllocError>
+    requires ordered { low ≤ high }
+    requires within { high ≤ length places.now }
+    ensures same { IfOk result (λ v. IsPermutation (slice_range places.now low high) v.items) }
+    ensures ascends { IfOk result (λ v. IsNonDecreasing v.items) }
+{
+    let mut found = Vec::from_slice(alloc, &places[low as usize..high as usize])?;
+    found.sort_unstable();
+    Ok(found)
+}
+
+// The positions that have these ranks, by looking at each.
+fn passing(alloc: Global, ranks: &[u32], low: u32, high: u32) -> Result<Vec<u32>, AllocError>
+    requires { length ranks.now ≤ 4294967295 }
+    ensures { IfOk result (λ v. v.items ≡ positions_between ranks.now low high) }
+{
+    let mut found = Vec::new(alloc);
+    for (position, rank) in ranks.iter().enumerate() {
+        if is_between(low, high, *rank) {
+            found.push(position as u32)?;
+        }
+    }
+    Ok(found)
+}
+
+// The first position from one on that has these ranks.
+fn first(ranks: &[u32], low: u32, high: u32, from: u32) -> Option<u32>
+    requires { length ranks.now ≤ 4294967295 }
+    ensures { result ≡ find (nat_le from) (positions_between ranks.now low high) }
+{
+    for position in from..ranks.len() as u32 {
+        if is_between(low, high, ranks[position as usize]) {
+            return Some(position);
+        }
+    }
+    None
+}
+
+impl<'a> Found<'a> {
+    ghost use Rattle.std.specs.Prelude.{◌↔◌, IsTrue};
+    ghost use Rattle.std.specs.List.{Contains};
+
+    pub(crate) fn new(places: &'a [u32], ranks: &'a [u32], low: u32, high: u32) -> Found<'a>
+        requires { IsPart places.now ranks.now low high }
+        ensures { result ≡ positions_between ranks.now low high }
+    {
+        Found {
+            places,
+            ranks,
+            low,
+            high,
+        }
+    }
+
+    /// How many there are. No memory is taken.
+    pub fn count(&self) -> u32
+        ensures { result ≡ length self.now }
+    {
+        self.high - self.low
+    }
+
+    /// Whether the position is one of them, by its rank. No memory is taken.
+    pub fn holds(&self, position: u32) -> bool
+        ensures { IsTrue result ↔ Contains self.now position }
+    {
+        (position as usize) < self.ranks.len()
+            && is_between(self.low, self.high, self.ranks[position as usize])
+    }
+
+    /// The first of them from a position on, by looking at each rank. No memory is taken.
+    pub fn first_from(&self, position: u32) -> Option<u32>
+        ensures { result ≡ find (nat_le position) self.now }
+    {
+        first(self.ranks, self.low, self.high, position)
+    }
+
+    // Whether they are few beside all positions, so that sorting them is cheaper than looking at each position.
+    fn are_few(&self) -> bool {
+        (self.high - self.low) as usize <= self.ranks.len() / 64
+    }
+
+    /// The list of them: few are sorted, many are found by looking at each position's rank. An error is want of memory.
+    pub fn list(&self, alloc: Global) -> Result<Vec<u32>, AllocError>
+        ensures { IfOk result (λ v. v.items ≡ self.now) }
+    {
+        if self.are_few() {
+            let found = sorted(alloc, self.places, self.low, self.high)?;
+            Ok(found)
+        } else {
+            let found = passing(alloc, self.ranks, self.low, self.high)?;
+            Ok(found)
+        }
+    }
+}

@@ -1,5 +1,0 @@
-use Rattle.cad_request.proofs.MemberLemmas.{members_hold_no_comma}
-use Rattle.cad_request.proofs.laws.members_hold_no_comma.Goals as goal
-
-pub returns : goal.returns
-returns c = members_hold_no_comma

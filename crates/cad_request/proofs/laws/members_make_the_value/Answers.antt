@@ -1,5 +1,0 @@
-use Rattle.cad_request.proofs.MemberLemmas.{members_make_the_value}
-use Rattle.cad_request.proofs.laws.members_make_the_value.Goals as goal
-
-pub returns : goal.returns
-returns c = members_make_the_value

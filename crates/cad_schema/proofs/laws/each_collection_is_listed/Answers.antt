@@ -1,0 +1,5 @@
+use Rattle.cad_schema.proofs.CollectionLemmas.{contained}
+use Rattle.cad_schema.proofs.laws.each_collection_is_listed.Goals as goal
+
+pub returns : goal.returns
+returns c = contained c.args.collection

@@ -1,0 +1,4 @@
+pub mod Attributes
+pub mod Collections
+pub mod NameLemmas
+pub mod Schema

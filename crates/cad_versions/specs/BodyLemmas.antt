@@ -1,0 +1,25 @@
+-- A body is told by its class and its parts.
+use Rattle.std.proofs.Common.{◌≡◌, Some, refl, ap, arith}
+use Rattle.cad_versions.specs.declared.body.Body.{Body}
+use Rattle.cad_versions.specs.declared.body.Body.TheVariants as body
+use Rattle.cad_versions.specs.declared.body.Class.{Class}
+use Rattle.cad_versions.specs.declared.body.Class.TheVariants as class
+use Rattle.cad_versions.specs.declared.body_parts.BodyParts.{BodyParts}
+use Rattle.cad_versions.specs.Class.{class_of, class_number}
+use Rattle.cad_versions.specs.BodyParts.{parts_of}
+
+pub same_class : (a b : Class) → class_number a ≡ class_number b → a ≡ b
+same_class class.Party class.Party e = refl
+same_class class.Unit class.Unit e = refl
+same_class class.Parcel class.Parcel e = refl
+same_class class.Right class.Right e = refl
+same_class class.Restriction class.Restriction e = refl
+same_class a b e = absurd (omega arith)
+
+pub same_body : (a b : Body) → class_of a ≡ class_of b → parts_of a ≡ parts_of b → a ≡ b
+same_body (body.Party n c) (body.Party m d) e f = let name : n ≡ m = ap (λ (r : BodyParts). r.name) f in let code : Some c ≡ Some d = ap (λ (r : BodyParts). r.code) f in cc
+same_body (body.Unit n) (body.Unit m) e f = let name : n ≡ m = ap (λ (r : BodyParts). r.name) f in cc
+same_body (body.Parcel u l a s p) (body.Parcel v m b t q) e f = let unit : Some u ≡ Some v = ap (λ (r : BodyParts). r.unit) f in let label : Some l ≡ Some m = ap (λ (r : BodyParts). r.label) f in let area : a ≡ b = ap (λ (r : BodyParts). r.area) f in let shape : s ≡ t = ap (λ (r : BodyParts). r.shape) f in let spot : p ≡ q = ap (λ (r : BodyParts). r.spot) f in cc
+same_body (body.Right u p c s) (body.Right v q d t) e f = let unit : Some u ≡ Some v = ap (λ (r : BodyParts). r.unit) f in let party : p ≡ q = ap (λ (r : BodyParts). r.party) f in let code : Some c ≡ Some d = ap (λ (r : BodyParts). r.code) f in let share : s ≡ t = ap (λ (r : BodyParts). r.share) f in cc
+same_body (body.Restriction u p c s w) (body.Restriction v q d t x) e f = let unit : Some u ≡ Some v = ap (λ (r : BodyParts). r.unit) f in let party : p ≡ q = ap (λ (r : BodyParts). r.party) f in let code : Some c ≡ Some d = ap (λ (r : BodyParts). r.code) f in let share : s ≡ t = ap (λ (r : BodyParts). r.share) f in let required : w ≡ x = ap (λ (r : BodyParts). r.required) f in cc
+same_body a b e f = absurd cc

@@ -1,0 +1,13 @@
+-- The features whose geometry meets a box (OGC 17-069r4, 7.15.3: bbox).
+use Rattle.std.specs.Prelude.{ℕ, Bool, false, Option, Some, None}
+use Rattle.cad_feature.specs.Features.{Item, datum_at}
+use Rattle.cad_shape.specs.declared.boxes.Bounds.{Bounds}
+use Rattle.cad_shape.specs.declared.shape.Shape.TheVariants as shape
+use Rattle.cql_lexer.specs.declared.token.SpatialRelation.TheVariants.{Intersects}
+use Rattle.cql_truth.specs.Sides.{spatial, told}
+use Rattle.cql_truth.specs.Values.{both, shape_in}
+
+-- the shape at that place meets the box; no shape, and no place, meets none
+abbrev pub meets_box : Item → Option ℕ → Bounds → Bool
+meets_box x None bounds = false
+meets_box x (Some geometry) bounds = (told (both (spatial Intersects) (shape_in (datum_at x geometry)) (Some (shape.Frame bounds)))).yes

@@ -1,0 +1,6 @@
+pub mod Forms
+pub mod FrontLemmas
+pub mod Least
+pub mod MemberLemmas
+pub mod Turns
+pub mod WrittenLemmas

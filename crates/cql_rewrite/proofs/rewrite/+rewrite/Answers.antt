@@ -1,0 +1,137 @@
+use Rattle.std.proofs.Common.{refl, arith}
+use Rattle.std.proofs.lemmas.Grind.{common_steps}
+use Rattle.cql_truth.specs.Nodes.{sides_Between, sides_Like, sides_InWhole, sides_InText, sides_InDay, sides_CompareWhole, sides_CompareText, sides_CompareDay}
+use Rattle.cql_rewrite.proofs.Least.{and_next, and_done, or_next}
+use Rattle.cql_rewrite.proofs.Turns.{turns_And, turns_Not, turns_Or, whole_costs, text_costs, day_costs, between_costs, near_costs, not_costs, and_costs, or_costs, like_costs, whole_members, text_members, day_members, whole_members_cost, text_members_cost, day_members_cost}
+use Rattle.cql_rewrite.proofs.rewrite.+rewrite.Goals as goal
+
+pub normal_parts-loop-part-preserved : goal.normal_parts-loop-part-preserved
+normal_parts-loop-part-preserved m c = record {
+  stands = λ x. grind (arith, common_steps, c.loop-part.invariant.stands x, c.in_ok-form.ensures.stands x, c.in_ok-add.ensures.stands x.item);
+  costs = λ t. and_next c.args.side t c.loop-part.forms.items c.add.new.parts.items c.in_ok-form.form c.part-item.result c.args.parts.now c.loop-part.part-index c.loop-part-test.true c.part-item.is
+      (c.in_ok-add.ensures.costs t) (c.in_ok-form.ensures.costs t) (c.loop-part.invariant.costs t);
+}
+
+pub normal_parts-loop-part-else-all-preserved : goal.normal_parts-loop-part-else-all-preserved
+normal_parts-loop-part-else-all-preserved m c = record {
+  stands = λ x. grind (arith, common_steps, c.loop-part-else-all.invariant.stands x, c.in_ok-form-2.ensures.stands x, c.in_ok-push.ensures.items);
+  costs = λ t. or_next c.args.side t c.loop-part-else-all.forms.items c.push.new.self.items c.in_ok-form-2.form c.part-item-in-loop-part-else-all.result c.args.parts.now c.loop-part-else-all.part-index c.loop-part-else-all-test.true c.part-item-in-loop-part-else-all.is
+      c.in_ok-push.ensures.items (c.in_ok-form-2.ensures.costs t) (c.loop-part-else-all.invariant.costs t);
+}
+
+pub normal_parts-returns-after-loop-part-clause-stands : goal.normal_parts-returns-after-loop-part-clause-stands
+normal_parts-returns-after-loop-part-clause-stands m c = λ x. rw c.if-all.true (grind (arith, common_steps, c.loop-part.invariant.stands x, c.all_of.ensures.stands x.item))
+
+pub normal_parts-returns-after-loop-part-clause-costs : goal.normal_parts-returns-after-loop-part-clause-costs
+normal_parts-returns-after-loop-part-clause-costs m c = λ t.
+    rw c.if-all.true (and_done c.args.side t c.loop-part.forms.items c.all_of.result c.args.parts.now c.loop-part.part-index c.loop-part-test.false (c.all_of.ensures.costs t) (c.loop-part.invariant.costs t))
+
+pub normal_parts-returns-after-loop-part-else-all-clause-stands : goal.normal_parts-returns-after-loop-part-else-all-clause-stands
+normal_parts-returns-after-loop-part-else-all-clause-stands m c = λ x. rw c.if-all.false (grind (arith, common_steps, c.loop-part-else-all.invariant.stands x, c.some_of.ensures.stands x.item))
+
+pub normal_side-returns-in_ok-form-in-CompareWhole-clause-stands : goal.normal_side-returns-in_ok-form-in-CompareWhole-clause-stands
+normal_side-returns-in_ok-form-in-CompareWhole-clause-stands m c = λ x.
+    c.in_ok-form-in-CompareWhole.ensures.stands x (rw (c.in-CompareWhole.is, sides_CompareWhole) (c.plain_wholes.ensures.says x.item))
+
+pub normal_side-returns-in_ok-form-in-CompareWhole-clause-costs : goal.normal_side-returns-in_ok-form-in-CompareWhole-clause-costs
+normal_side-returns-in_ok-form-in-CompareWhole-clause-costs m c = λ t.
+    let k = c.in-CompareWhole in
+    whole_costs c.args.side t c.in_ok-form-in-CompareWhole.form c.args.filter.now k.by k.left k.right k.is (normal_side-returns-in_ok-form-in-CompareWhole-clause-stands m c)
+    (λ e h. c.in_ok-form-in-CompareWhole.ensures.costs e (c.plain_wholes.ensures.exact h))
+
+pub normal_side-returns-in_ok-form-in-CompareText-clause-stands : goal.normal_side-returns-in_ok-form-in-CompareText-clause-stands
+normal_side-returns-in_ok-form-in-CompareText-clause-stands m c = λ x.
+    c.in_ok-form-in-CompareText.ensures.stands x (rw (c.in-CompareText.is, sides_CompareText) (c.in_ok-plain-in-CompareText.ensures.says x.item))
+
+pub normal_side-returns-in_ok-form-in-CompareText-clause-costs : goal.normal_side-returns-in_ok-form-in-CompareText-clause-costs
+normal_side-returns-in_ok-form-in-CompareText-clause-costs m c = λ t.
+    let k = c.in-CompareText in
+    text_costs c.args.side t c.in_ok-form-in-CompareText.form c.args.filter.now k.by k.left k.right k.is (normal_side-returns-in_ok-form-in-CompareText-clause-stands m c)
+    (λ e h. c.in_ok-form-in-CompareText.ensures.costs e (c.in_ok-plain-in-CompareText.ensures.exact h))
+
+pub normal_side-returns-in_ok-form-in-CompareDay-clause-stands : goal.normal_side-returns-in_ok-form-in-CompareDay-clause-stands
+normal_side-returns-in_ok-form-in-CompareDay-clause-stands m c = λ x.
+    c.in_ok-form-in-CompareDay.ensures.stands x (rw (c.in-CompareDay.is, sides_CompareDay) (c.plain_days.ensures.says x.item))
+
+pub normal_side-returns-in_ok-form-in-CompareDay-clause-costs : goal.normal_side-returns-in_ok-form-in-CompareDay-clause-costs
+normal_side-returns-in_ok-form-in-CompareDay-clause-costs m c = λ t.
+    let k = c.in-CompareDay in
+    day_costs c.args.side t c.in_ok-form-in-CompareDay.form c.args.filter.now k.by k.left k.right k.is (normal_side-returns-in_ok-form-in-CompareDay-clause-stands m c)
+    (λ e h. c.in_ok-form-in-CompareDay.ensures.costs e (c.plain_days.ensures.exact h))
+
+pub normal_side-returns-in_ok-form-in-Not-clause-stands : goal.normal_side-returns-in_ok-form-in-Not-clause-stands
+normal_side-returns-in_ok-form-in-Not-clause-stands m c = λ x. let h = c.in_ok-form-in-Not.ensures.stands x in let k = turns_Not c.args.side x.item c.in-Not.part in cc
+
+pub normal_side-returns-in_ok-form-in-Not-clause-costs : goal.normal_side-returns-in_ok-form-in-Not-clause-costs
+normal_side-returns-in_ok-form-in-Not-clause-costs m c = λ t. rw c.in-Not.is (not_costs c.args.side t c.in_ok-form-in-Not.form c.in-Not.part)
+
+pub normal_side-returns-in_ok-form-in-And-clause-stands : goal.normal_side-returns-in_ok-form-in-And-clause-stands
+normal_side-returns-in_ok-form-in-And-clause-stands m c = λ x. let h = c.in_ok-form-in-And.ensures.stands x in let k = turns_And c.args.side x.item c.in-And.parts in cc
+
+pub normal_side-returns-in_ok-form-in-And-clause-costs : goal.normal_side-returns-in_ok-form-in-And-clause-costs
+normal_side-returns-in_ok-form-in-And-clause-costs m c = λ t.
+    rw c.in-And.is (and_costs c.args.side t c.in_ok-form-in-And.form c.in-And.parts (rw c.deref-in-And.ensures.value at (c.in_ok-form-in-And.ensures.costs t)))
+
+pub normal_side-returns-in_ok-form-in-Or-clause-stands : goal.normal_side-returns-in_ok-form-in-Or-clause-stands
+normal_side-returns-in_ok-form-in-Or-clause-stands m c = λ x. let h = c.in_ok-form-in-Or.ensures.stands x in let k = turns_Or c.args.side x.item c.in-Or.parts in cc
+
+pub normal_side-returns-in_ok-form-in-Or-clause-costs : goal.normal_side-returns-in_ok-form-in-Or-clause-costs
+normal_side-returns-in_ok-form-in-Or-clause-costs m c = λ t.
+    rw c.in-Or.is (or_costs c.args.side t c.in_ok-form-in-Or.form c.in-Or.parts (rw c.deref-in-Or.ensures.value at (c.in_ok-form-in-Or.ensures.costs t)))
+
+pub normal_side-returns-in_ok-form-in-Between-clause-stands : goal.normal_side-returns-in_ok-form-in-Between-clause-stands
+normal_side-returns-in_ok-form-in-Between-clause-stands m c = λ x. c.in_ok-form-in-Between.ensures.stands x.item (rw (c.in-Between.is, sides_Between) refl)
+
+pub normal_side-returns-in_ok-form-in-Between-clause-costs : goal.normal_side-returns-in_ok-form-in-Between-clause-costs
+normal_side-returns-in_ok-form-in-Between-clause-costs m c = λ t.
+    let k = c.in-Between in
+    between_costs c.args.side t c.in_ok-form-in-Between.form c.args.filter.now k.value k.low k.high k.is (normal_side-returns-in_ok-form-in-Between-clause-stands m c) c.in_ok-form-in-Between.ensures.costs
+
+pub normal_side-returns-in-Spatial-clause-stands : goal.normal_side-returns-in-Spatial-clause-stands
+normal_side-returns-in-Spatial-clause-stands m c = λ x. c.spatial.ensures.stands x.item
+
+pub normal_side-returns-in-Spatial-clause-costs : goal.normal_side-returns-in-Spatial-clause-costs
+normal_side-returns-in-Spatial-clause-costs m c = λ t.
+    let k = c.in-Spatial in
+    near_costs c.args.side t c.spatial.result c.args.filter.now k.by k.left k.right k.is c.spatial.ensures.costs
+
+pub normal_side-returns-in_ok-form-in-InWhole-clause-stands : goal.normal_side-returns-in_ok-form-in-InWhole-clause-stands
+normal_side-returns-in_ok-form-in-InWhole-clause-stands m c = λ x.
+    let k = c.in-InWhole in
+    c.in_ok-form-in-InWhole.ensures.stands x.item (rw (k.is, c.deref-in-InWhole.ensures.value) (whole_members x.item k.value k.items))
+
+pub normal_side-returns-in_ok-form-in-InWhole-clause-costs : goal.normal_side-returns-in_ok-form-in-InWhole-clause-costs
+normal_side-returns-in_ok-form-in-InWhole-clause-costs m c = λ t.
+    let k = c.in-InWhole in
+    whole_members_cost c.args.side t c.in_ok-form-in-InWhole.form c.args.filter.now k.value k.items k.is
+    (λ e h. rw c.deref-in-InWhole.ensures.value at (c.in_ok-form-in-InWhole.ensures.costs e (rw c.deref-in-InWhole.ensures.value h) t))
+
+pub normal_side-returns-in_ok-form-in-InText-clause-stands : goal.normal_side-returns-in_ok-form-in-InText-clause-stands
+normal_side-returns-in_ok-form-in-InText-clause-stands m c = λ x.
+    let k = c.in-InText in
+    c.in_ok-form-in-InText.ensures.stands x.item (rw (k.is, c.deref-in-InText.ensures.value) (text_members x.item k.value k.items))
+
+pub normal_side-returns-in_ok-form-in-InText-clause-costs : goal.normal_side-returns-in_ok-form-in-InText-clause-costs
+normal_side-returns-in_ok-form-in-InText-clause-costs m c = λ t.
+    let k = c.in-InText in
+    text_members_cost c.args.side t c.in_ok-form-in-InText.form c.args.filter.now k.value k.items k.is
+    (λ e h. rw c.deref-in-InText.ensures.value at (c.in_ok-form-in-InText.ensures.costs e (rw c.deref-in-InText.ensures.value h) t))
+
+pub normal_side-returns-in_ok-form-in-InDay-clause-stands : goal.normal_side-returns-in_ok-form-in-InDay-clause-stands
+normal_side-returns-in_ok-form-in-InDay-clause-stands m c = λ x.
+    let k = c.in-InDay in
+    c.in_ok-form-in-InDay.ensures.stands x.item (rw (k.is, c.deref-in-InDay.ensures.value) (day_members x.item k.value k.items))
+
+pub normal_side-returns-in_ok-form-in-InDay-clause-costs : goal.normal_side-returns-in_ok-form-in-InDay-clause-costs
+normal_side-returns-in_ok-form-in-InDay-clause-costs m c = λ t.
+    let k = c.in-InDay in
+    day_members_cost c.args.side t c.in_ok-form-in-InDay.form c.args.filter.now k.value k.items k.is
+    (λ e h. rw c.deref-in-InDay.ensures.value at (c.in_ok-form-in-InDay.ensures.costs e (rw c.deref-in-InDay.ensures.value h) t))
+
+pub normal_side-returns-in_ok-form-in-Like-clause-stands : goal.normal_side-returns-in_ok-form-in-Like-clause-stands
+normal_side-returns-in_ok-form-in-Like-clause-stands m c = λ x. c.in_ok-form-in-Like.ensures.stands x (rw (c.in-Like.is, sides_Like) refl)
+
+pub normal_side-returns-in_ok-form-in-Like-clause-costs : goal.normal_side-returns-in_ok-form-in-Like-clause-costs
+normal_side-returns-in_ok-form-in-Like-clause-costs m c = λ t.
+    let k = c.in-Like in
+    like_costs c.args.side t c.in_ok-form-in-Like.form c.args.filter.now k.value k.pattern k.is (λ e. c.in_ok-form-in-Like.ensures.costs e t)

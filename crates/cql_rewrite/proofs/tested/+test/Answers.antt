@@ -1,0 +1,26 @@
+use Rattle.std.proofs.lemmas.Bool.{false≢true}
+use Rattle.cql_rewrite.proofs.Forms.{meets_And, meets_Near, meets_Or, folds_And, folds_Or, no_part_folds}
+use Rattle.cql_rewrite.proofs.tested.+test.Goals as goal
+
+pub test-returns-in-Near-clause-said : goal.test-returns-in-Near-clause-said
+test-returns-in-Near-clause-said m c = rw (c.in-Near.is, meets_Near) c.is_said-in-Near.ensures.said
+
+pub test-returns-in-And-clause-said : goal.test-returns-in-And-clause-said
+test-returns-in-And-clause-said m c = rw (c.in-And.is, meets_And, ← c.deref.ensures.value) c.meets_all.ensures.said
+
+pub test-returns-in-And-clause-answers : goal.test-returns-in-And-clause-answers
+test-returns-in-And-clause-answers m c = rw (c.in-And.is, folds_And, ← c.deref.ensures.value) c.meets_all.ensures.answers
+
+pub test-returns-in-Or-clause-said : goal.test-returns-in-Or-clause-said
+test-returns-in-Or-clause-said m c = rw (c.in-Or.is, meets_Or, ← c.deref-in-Or.ensures.value) c.meets_some.ensures.said
+
+pub test-returns-in-Or-clause-answers : goal.test-returns-in-Or-clause-answers
+test-returns-in-Or-clause-answers m c = rw (c.in-Or.is, folds_Or, ← c.deref-in-Or.ensures.value) c.meets_some.ensures.answers
+
+pub meets_all-returns-in_err-is_met-clause-answers : goal.meets_all-returns-in_err-is_met-clause-answers
+meets_all-returns-in_err-is_met-clause-answers m c =
+    λ h. absurd (false≢true (c.in_err-is_met.ensures.answers (no_part_folds c.args.parts.now c.loop-part.part-index c.part-item.result h c.loop-part-test.true c.part-item.is)))
+
+pub meets_some-returns-in_err-is_met-clause-answers : goal.meets_some-returns-in_err-is_met-clause-answers
+meets_some-returns-in_err-is_met-clause-answers m c =
+    λ h. absurd (false≢true (c.in_err-is_met.ensures.answers (no_part_folds c.args.parts.now c.loop-part.part-index c.part-item.result h c.loop-part-test.true c.part-item.is)))

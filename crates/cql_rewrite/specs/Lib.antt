@@ -1,0 +1,4 @@
+pub mod Meets
+pub mod Terms
+pub mod Costs
+pub mod Laws

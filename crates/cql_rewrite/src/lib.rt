@@ -1,0 +1,25 @@
+//! The normal form of a filter: NOT stands above no condition, constants are computed, comparisons with constants are
+//! ranges, and those of one property under one AND are joined.
+//!
+//! - [`normal`]: the normal form of a filter. Of `NOT (area < 3 OR area > 8)` it is the range of `area` from 3 to 8.
+//! - [`Normal`]: a normal form; it borrows from the filter the conditions that are no ranges.
+//! - [`test`]: whether a feature meets it, which it does exactly where the filter is true of the feature
+//! - [`laws`]: what holds of normal forms, beyond what each call says
+#![tactic(auto)]
+
+mod between;
+mod comparison;
+mod form;
+pub mod laws;
+mod likes;
+mod members;
+mod parts;
+mod plain;
+mod rewrite;
+mod spatial;
+mod terms;
+mod tested;
+
+pub use form::Normal;
+pub use rewrite::normal;
+pub use tested::test;

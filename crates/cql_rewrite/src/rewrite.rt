@@ -1,0 +1,116 @@
+//! A filter's normal form.
+
+ghost use Rattle.std.specs.Prelude.{◌≡◌, ◌≤◌, List, IfOk};
+ghost use Rattle.cql_truth.specs.Sides.{yes};
+ghost use Rattle.cql_rewrite.specs.Costs.{bound, bound_on, bounds_joined, least};
+ghost use Rattle.cql_rewrite.specs.Meets.{Written, in_side, joined_by, meets};
+
+use crate::between::between;
+use crate::comparison::formed;
+use crate::form::Normal;
+use crate::likes::likeness;
+use crate::members::members;
+use crate::parts::{add, all_of, some_of};
+use crate::spatial::spatial;
+use crate::terms::{plain_days, plain_texts, plain_wholes};
+use cql_types::Filter;
+use std::alloc::{AllocError, Global};
+
+/// The form that exactly those features meet of which the filter is true. Its cheapest plan costs no more than the
+/// filter's bound.
+pub fn normal(alloc: Global, filter: &Filter) -> Result<Normal<'_>, AllocError>
+    ensures stands { IfOk result (λ n. (x : Written) → meets x.item n ≡ yes filter.now x.item) }
+    ensures costs { IfOk result (λ n. (t : List Written) → least t n ≤ bound t filter.now) }
+{
+    let form = normal_side(alloc, filter, true)?;
+    Ok(form)
+}
+
+// The form of the features of which the filter is true, or of those of which it is false.
+#[cycle(rewrite)]
+fn normal_side(alloc: Global, filter: &Filter, side: bool) -> Result<Normal<'_>, AllocError>
+    ensures stands { IfOk result (λ n. (x : Written) → meets x.item n ≡ in_side side x.item filter.now) }
+    ensures costs { IfOk result (λ n. (t : List Written) → least t n ≤ bound_on side t filter.now) }
+{
+    match filter {
+        Filter::Truth(b) => Ok(Normal::Constant(*b == side)),
+        Filter::CompareWhole { by, left, right } => {
+            let form = formed(alloc, filter, plain_wholes(*by, left, right), side)?;
+            Ok(form)
+        }
+        Filter::CompareText { by, left, right } => {
+            let plain = plain_texts(alloc, *by, left, right)?;
+            let form = formed(alloc, filter, plain, side)?;
+            Ok(form)
+        }
+        Filter::CompareDay { by, left, right } => {
+            let form = formed(alloc, filter, plain_days(*by, left, right), side)?;
+            Ok(form)
+        }
+        Filter::Between { value, low, high } => {
+            let form = between(alloc, filter, value, low, high, side)?;
+            Ok(form)
+        }
+        Filter::Spatial { by, left, right } => Ok(spatial(filter, *by, left, right, side)),
+        Filter::Not(part) => {
+            let form = normal_side(alloc, part, !side)?;
+            Ok(form)
+        }
+        Filter::And(parts) => {
+            let form = normal_parts(alloc, parts, side, side)?;
+            Ok(form)
+        }
+        Filter::Or(parts) => {
+            let form = normal_parts(alloc, parts, side, !side)?;
+            Ok(form)
+        }
+        Filter::Like { value, pattern } => {
+            let form = likeness(alloc, filter, value, pattern, side)?;
+            Ok(form)
+        }
+        Filter::InWhole { value, items } => {
+            let form = members(alloc, filter, value, items, side)?;
+            Ok(form)
+        }
+        Filter::InText { value, items } => {
+            let form = members(alloc, filter, value, items, side)?;
+            Ok(form)
+        }
+        Filter::InDay { value, items } => {
+            let form = members(alloc, filter, value, items, side)?;
+            Ok(form)
+        }
+        Filter::CompareFlag { .. }
+        | Filter::InFlag { .. }
+        | Filter::IsNull(_)
+        | Filter::Temporal { .. } => Ok(Normal::Atom { filter, side }),
+    }
+}
+
+// The AND or the OR of the parts' forms.
+#[cycle(rewrite)]
+fn normal_parts(
+    alloc: Global,
+    parts: &[Filter],
+    side: bool,
+    all: bool,
+) -> Result<Normal<'_>, AllocError>
+    ensures stands { IfOk result (λ n. (x : Written) → meets x.item n ≡ joined_by all (in_side side x.item) parts.now) }
+    ensures costs { IfOk result (λ n. (t : List Written) → least t n ≤ bounds_joined all side t parts.now) }
+{
+    if all {
+        let mut forms = Vec::new(alloc);
+        for part in parts {
+            let form = normal_side(alloc, part, side)?;
+            add(&mut forms, form)?;
+        }
+        Ok(all_of(forms))
+    } else {
+        let mut forms = Vec::new(alloc);
+        for part in parts {
+            let form = normal_side(alloc, part, side)?;
+            forms.push(form)?;
+        }
+        Ok(some_of(forms))
+    }
+}

@@ -1,0 +1,104 @@
+//! Whether a feature meets a normal form.
+
+ghost use Rattle.std.specs.Prelude.{◌≡◌, false, chars, IfOk, IsOk};
+ghost use Rattle.std.specs.List.{list_all, list_any};
+ghost use Rattle.cad_feature.specs.Features.{datum_at};
+ghost use Rattle.cad_feature.specs.Values.{datum_of};
+ghost use Rattle.cql_text.specs.Fronts.{text_of};
+ghost use Rattle.cql_truth.specs.Folding.{folds_case};
+ghost use Rattle.cql_truth.specs.Values.{text_in};
+ghost use Rattle.cql_rewrite.specs.Meets.{folds, in_side, is_liked as is_liked_of, meets};
+
+use crate::form::Normal;
+use cad_feature::{Feature, Value};
+use cad_range::lies_in;
+use cql_text::like;
+use cql_truth::{Truth, truth};
+use cql_types::Filter;
+use std::alloc::{AllocError, Global};
+
+// Whether the filter is true of the feature, or false of it.
+fn is_said(
+    alloc: Global,
+    filter: &Filter,
+    side: bool,
+    feature: &Feature,
+) -> Result<bool, AllocError>
+    ensures said { IfOk result (λ b. b ≡ in_side side feature.now filter.now) }
+    ensures answers { folds_case filter.now ≡ false → IsOk result }
+{
+    let said = truth(alloc, filter, feature)?;
+    Ok(match said {
+        Truth::Yes => side,
+        Truth::No => !side,
+        Truth::Unknown => false,
+    })
+}
+
+fn is_liked(value: &Value, pattern: &str) -> bool
+    ensures { result ≡ is_liked_of (text_in (datum_of value.now)) (chars pattern.now) }
+{
+    match value {
+        Value::Text(text) => like(text.as_str(), pattern),
+        _ => false,
+    }
+}
+
+fn is_liked_at(feature: &Feature, property: usize, pattern: &String) -> bool
+    ensures { result ≡ is_liked_of (text_in (datum_at feature.now property)) (text_of pattern.now) }
+{
+    if property < feature.values.len() {
+        is_liked(&feature.values[property], pattern.as_str())
+    } else {
+        false
+    }
+}
+
+/// Whether the feature meets the form, or want of memory, which is taken for texts whose case is folded alone: a form
+/// without such a text is always answered.
+#[cycle(test)]
+pub fn test(alloc: Global, form: &Normal, feature: &Feature) -> Result<bool, AllocError>
+    ensures said { IfOk result (λ b. b ≡ meets feature.now form.now) }
+    ensures answers { folds form.now ≡ false → IsOk result }
+{
+    match form {
+        Normal::Constant(b) => Ok(*b),
+        Normal::Range(range) => Ok(lies_in(range, feature)),
+        Normal::Like { pattern, range } => {
+            Ok(lies_in(range, feature) && is_liked_at(feature, range.property, pattern))
+        }
+        Normal::Atom { filter, side } => is_said(alloc, filter, *side, feature),
+        Normal::Folded { filter, side } => is_said(alloc, filter, *side, feature),
+        Normal::Near { filter, .. } => is_said(alloc, filter, true, feature),
+        Normal::And(parts) => meets_all(alloc, parts, feature),
+        Normal::Or(parts) => meets_some(alloc, parts, feature),
+    }
+}
+
+#[cycle(test)]
+fn meets_all(alloc: Global, parts: &[Normal], feature: &Feature) -> Result<bool, AllocError>
+    ensures said { IfOk result (λ b. b ≡ list_all (meets feature.now) parts.now) }
+    ensures answers { list_any folds parts.now ≡ false → IsOk result }
+{
+    for part in parts {
+        let is_met = test(alloc, part, feature)?;
+        if !is_met {
+            return Ok(false);
+        }
+    }
+    Ok(true)
+}
+
+#[cycle(test)]
+fn meets_some(alloc: Global, parts: &[Normal], feature: &Feature) -> Result<bool, AllocError>
+    ensures said { IfOk result (λ b. b ≡ list_any (meets feature.now) parts.now) }
+    ensures answers { list_any folds parts.now ≡ false → IsOk result }
+{
+    for part in parts {
+        let is_met = test(alloc, part, feature)?;
+        if is_met {
+            return Ok(true);
+        }
+    }
+    Ok(false)
+}

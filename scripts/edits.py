@@ -1,0 +1,47 @@
+"""Wrong bodies: edits of a crate's code that the prover has to refuse."""
+import glob
+import os
+
+TOP = os.path.realpath(os.path.join(os.path.dirname(os.path.abspath(__file__)), ".."))
+
+
+def of_gate(crate="*", name="*"):
+    """The edits that the gate tries, of a crate or of one name."""
+    return sorted(glob.glob(f"{TOP}/crates/{crate}/must-fail/{name}.edit"))
+
+
+def aside(crate="*", name="*"):
+    """The further ones, that stand aside."""
+    return sorted(glob.glob(f"{TOP}/wrong-bodies/{crate}/{name}.edit"))
+
+
+def crate_of(edit):
+    """The name of the crate whose code the edit turns."""
+    folder = os.path.dirname(edit)
+    return os.path.basename(os.path.dirname(folder) if os.path.basename(folder) == "must-fail" else folder)
+
+
+def turned(edit):
+    """The texts that the edit makes, by the paths of their files in the crate, and why it can't be put in place."""
+    crate = f"{TOP}/crates/{crate_of(edit)}"
+    path, old, pairs, texts, why = "", None, 0, {}, []
+    with open(edit, encoding="utf-8", newline="") as it:
+        lines = it.read().split("\n")
+    for line in lines:
+        if line.startswith("file: "):
+            path = line[len("file: ") :].strip()
+        elif line.startswith("old: "):
+            old = line[len("old: ") :]
+        elif line.startswith("new:"):
+            if path not in texts:
+                with open(f"{crate}/{path}", encoding="utf-8") as it:
+                    texts[path] = it.read()
+            count = texts[path].count(old)
+            if count != 1:
+                why.append(f"a text stands {count} times in {path}")
+            new = line[len("new:") :]
+            texts[path] = texts[path].replace(old, new[1:] if new.startswith(" ") else new)
+            pairs += 1
+    if not pairs:
+        why.append("it changes nothing")
+    return texts, why
