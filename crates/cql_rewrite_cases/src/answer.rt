@@ -4,8 +4,8 @@ ghost use Rattle.cad_versions.specs.Listing.{IsListing};
 
 use crate::edges::put_range;
 use cad_feature::{Feature, flatten};
-use cad_schema::Collection;
 use cad_range::lies_in;
+use cad_schema::Collection;
 use cad_versions::Version;
 use cql_filter::{FilterFault, read};
 use cql_rewrite::{Normal, normal, test};
