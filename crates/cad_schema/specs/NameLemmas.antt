@@ -1,11 +1,11 @@
 -- What is proved of the collections one by one, and what is proved of all by it.
-use Rattle.std.proofs.Common.{◌≡◌, ℕ, List, [], ◌∷◌, Bool, true, false, true≢false, not, Option, Some, None, Contains, cond, find, ap, refl, sym, ◌∙◌, arith}
+use Rattle.std.proofs.Common.{◌≡◌, ℕ, List, [], ◌∷◌, Bool, true, false, true≢false, not, Some, Contains, cond, find, ap, refl, sym, ◌∙◌, arith}
 use Rattle.std.specs.List.{list_any}
 use Rattle.std.proofs.lemmas.List.Folds.{list_any_at}
 use Rattle.std.specs.Str.{bytes_eq}
 use Rattle.std.proofs.lemmas.Slice.Eq.{bytes_eq-Decides}
 use Rattle.cad_schema.specs.declared.collection.Collection.{Collection}
-use Rattle.cad_schema.specs.declared.collection.Collection.TheVariants.{Parcels, Rights, Restrictions, Units, Parties}
+use Rattle.cad_schema.specs.declared.collection.Collection.TheVariants.{Parcels, Rights, Restrictions, Units, Parties, Responsibilities}
 use Rattle.cad_schema.specs.Collections.{collections, name_of, NamesAreReadBack, WhatIsReadHasTheName}
 
 -- the list of all has each
@@ -15,6 +15,7 @@ contained Rights = (1, omega arith, refl)
 contained Restrictions = (2, omega arith, refl)
 contained Units = (3, omega arith, refl)
 contained Parties = (4, omega arith, refl)
+contained Responsibilities = (5, omega arith, refl)
 
 -- so a test that all of the list pass, each passes
 pub each_passes : (test : Collection → Bool) → list_any (λ c. not (test c)) collections ≡ false → (c : Collection) → test c ≡ true
@@ -32,6 +33,7 @@ names_are_read_back Rights = refl
 names_are_read_back Restrictions = refl
 names_are_read_back Units = refl
 names_are_read_back Parties = refl
+names_are_read_back Responsibilities = refl
 
 -- what is found in a list of collections has the name that is looked for
 found_has : (name : List ℕ) (c : Collection) (cs : List Collection) → find (λ c. bytes_eq name (name_of c)) cs ≡ Some c → name ≡ name_of c

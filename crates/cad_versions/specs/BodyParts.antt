@@ -22,6 +22,7 @@ parts_of (body.Unit n) = record no_parts { name = n }
 parts_of (body.Parcel u l a r p) = record no_parts { unit = Some u; label = Some l; area = a; shape = r; spot = p }
 parts_of (body.Right u p c s) = record no_parts { unit = Some u; party = p; code = Some c; share = s }
 parts_of (body.Restriction u p c s q) = record no_parts { unit = Some u; party = p; code = Some c; share = s; required = q }
+parts_of (body.Responsibility u p c s) = record no_parts { unit = Some u; party = p; code = Some c; share = s }
 
 -- the body is of this class, and has these parts and no others
 abbrev pub IsMadeOf : Class → BodyParts → Body → Type 0
@@ -49,7 +50,7 @@ pub record IsNoParcel (parts : BodyParts) : Type 0 where
   pub spot : parts.spot ≡ None
   pub shape : parts.shape ≡ None
 
--- none of the parts that rights and restrictions alone have
+-- none of the parts that rights, restrictions and responsibilities alone have
 pub record IsNoRight (parts : BodyParts) : Type 0 where
   pub party : parts.party ≡ None
   pub share : parts.share ≡ None

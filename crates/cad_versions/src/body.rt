@@ -46,6 +46,13 @@ pub enum Body {
         share: Option<Share>,
         required: Option<bool>,
     },
+    /// LA_Responsibility for a unit. The code says what is to be done.
+    Responsibility {
+        unit: ObjectId,
+        party: Option<ObjectId>,
+        code: Words,
+        share: Option<Share>,
+    },
 }
 
 /// The class of an object, which all its versions have.
@@ -61,6 +68,8 @@ pub enum Class {
     Right,
     /// A restriction of a unit.
     Restriction,
+    /// A responsibility for a unit.
+    Responsibility,
 }
 
 impl Body {
@@ -74,6 +83,7 @@ impl Body {
             Body::Parcel { .. } => Class::Parcel,
             Body::Right { .. } => Class::Right,
             Body::Restriction { .. } => Class::Restriction,
+            Body::Responsibility { .. } => Class::Responsibility,
         }
     }
 }
@@ -89,6 +99,7 @@ impl Class {
             Class::Parcel => 3,
             Class::Right => 4,
             Class::Restriction => 5,
+            Class::Responsibility => 6,
         }
     }
 
@@ -102,6 +113,7 @@ impl Class {
             3 => Some(Class::Parcel),
             4 => Some(Class::Right),
             5 => Some(Class::Restriction),
+            6 => Some(Class::Responsibility),
             _ => None,
         }
     }
