@@ -2,7 +2,7 @@
 use Rattle.std.specs.Prelude.{◌≡◌, ℕ, Bool, Option, Some, None}
 use Rattle.std.specs.Option.{option_copied}
 use Rattle.cad_shape.specs.declared.point.Point.{Point}
-use Rattle.cad_shape.specs.declared.ring.Ring.{Ring}
+use Rattle.cad_shape.specs.declared.polygon.Region.{Region}
 use Rattle.cad_versions.specs.declared.object_id.ObjectId.{ObjectId}
 use Rattle.cad_versions.specs.declared.words.Words.{Words}
 use Rattle.cad_versions.specs.declared.share.Share.{Share}
@@ -83,5 +83,5 @@ required_in b = (parts_of b).required
 abbrev pub spot_in : Body → Option Point
 spot_in b = (parts_of b).spot
 
-abbrev pub shape_in : Body → Option Ring
+abbrev pub shape_in : Body → Option Region
 shape_in b = (parts_of b).shape

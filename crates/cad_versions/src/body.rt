@@ -6,7 +6,7 @@ ghost use Rattle.cad_versions.specs.Class.{class_of, class_number, class_numbere
 use crate::object_id::ObjectId;
 use crate::share::Share;
 use crate::words::Words;
-use cad_shape::{Point, Ring};
+use cad_shape::{Point, Region};
 
 /// What a version says of its object, by the object's class.
 #[derive(Debug, Drop)]
@@ -24,11 +24,11 @@ pub enum Body {
     Parcel {
         unit: ObjectId,
         label: Words,
-        /// In whole square metres. It is told with the parcel, and not worked out from the outline.
+        /// In whole square metres. It is told with the parcel, and not worked out from the shape.
         area: Option<u32>,
-        /// The outline.
-        shape: Option<Ring>,
-        /// A reference point. It may stand without an outline, and may lie anywhere.
+        /// The region inside an outline and outside holes.
+        shape: Option<Region>,
+        /// A reference point. It may stand without a shape, and may lie anywhere.
         spot: Option<Point>,
     },
     /// LA_Right on a unit. The code says what kind of right it is.

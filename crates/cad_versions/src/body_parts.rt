@@ -10,7 +10,7 @@ use crate::body::{Body, Class};
 use crate::object_id::ObjectId;
 use crate::share::Share;
 use crate::words::Words;
-use cad_shape::{Point, Ring};
+use cad_shape::{Point, Region};
 
 /// The parts of a body, each where its class has it.
 #[derive(Debug, Drop)]
@@ -33,8 +33,8 @@ pub struct BodyParts {
     pub required: Option<bool>,
     /// The reference point of a parcel.
     pub spot: Option<Point>,
-    /// The outline of a parcel.
-    pub shape: Option<Ring>,
+    /// The region of a parcel.
+    pub shape: Option<Region>,
 }
 
 /// The same parts, lent by a body.
@@ -58,8 +58,8 @@ pub struct LentParts<'a> {
     pub required: Option<bool>,
     /// The reference point of a parcel.
     pub spot: Option<Point>,
-    /// The outline of a parcel.
-    pub shape: Option<&'a Ring>,
+    /// The region of a parcel.
+    pub shape: Option<&'a Region>,
 }
 
 /// A body that has none.
@@ -223,8 +223,8 @@ impl Body {
         self.parts().spot
     }
 
-    /// The outline of a parcel.
-    pub fn shape(&self) -> Option<&Ring>
+    /// The region of a parcel.
+    pub fn shape(&self) -> Option<&Region>
         ensures { option_copied result ≡ shape_in self.now }
     {
         self.parts().shape
@@ -318,7 +318,7 @@ fn parcel(
     unit: Option<ObjectId>,
     label: Option<Words>,
     area: Option<u32>,
-    shape: Option<Ring>,
+    shape: Option<Region>,
     spot: Option<Point>,
 ) -> Option<Body>
     ensures { MatchOption result ((b : BodyOfVersion) → ¬ IsMadeOf Class.Parcel (record no_parts { unit = unit; label = label; area = area; shape = shape; spot = spot }) b) (IsMadeOf Class.Parcel (record no_parts { unit = unit; label = label; area = area; shape = shape; spot = spot })) }

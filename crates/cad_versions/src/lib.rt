@@ -28,6 +28,7 @@ pub mod laws;
 mod ledger;
 mod limits;
 mod object_id;
+mod ring_bytes;
 mod shape_bytes;
 mod share;
 mod version;
