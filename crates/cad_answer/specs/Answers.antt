@@ -22,7 +22,7 @@ pub record Asked : Type 0 where
   pub filter : Option Filter
 
 abbrev pub asked_of : Question → Asked
-asked_of question = record { days = question.days; bounds = question.bounds; filter = option_map (λ f. f.now) question.filter }
+asked_of question = record { days = question.days; bounds = question.bounds; filter = option_map (λ c. c.filter.now) question.filter }
 
 -- what is not asked restricts nothing
 abbrev pub if_asked : {A : Type 0} → (A → Bool) → Option A → Bool

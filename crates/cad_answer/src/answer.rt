@@ -5,14 +5,15 @@ ghost use Rattle.cad_shape.specs.Shapes.{lent_shape};
 ghost use Rattle.cad_answer.specs.Answers as spec;
 ghost use Rattle.cad_answer.specs.Answers.{asked_of, is_true_of, if_asked, answers};
 ghost use Rattle.cql_truth.specs.Sides.{yes};
+ghost use Rattle.cql_rewrite.specs.Meets.{HoldsCharacters};
 
+use crate::condition::Condition;
 use crate::places::Places;
 use crate::question::Question;
 use cad_day::{Interval, Relation, holds};
 use cad_feature::Feature;
 use cad_shape::{Bounds, ShapeRef};
-use cql_truth::{Truth, truth};
-use cql_types::Filter;
+use cql_rewrite::test;
 use std::alloc::{AllocError, Global};
 
 fn meets_days(days: Option<Interval>, lifespan: Option<Interval>) -> bool
@@ -35,11 +36,12 @@ fn meets_bounds(bounds: Option<Bounds>, geometry: Option<ShapeRef>) -> bool
     }
 }
 
-fn is_true(alloc: Global, filter: &Filter, feature: &Feature) -> Result<bool, AllocError>
-    ensures { IfOk result (λ is_true. is_true ≡ yes filter.now feature.now) }
+fn is_true(alloc: Global, condition: Condition, feature: &Feature) -> Result<bool, AllocError>
+    requires { HoldsCharacters feature.now }
+    ensures { IfOk result (λ is_true. is_true ≡ yes condition.entry.filter.now feature.now) }
 {
-    let truth = truth(alloc, filter, feature)?;
-    Ok(truth == Truth::Yes)
+    let is_met = test(alloc, condition.normal, feature)?;
+    Ok(is_met)
 }
 
 /// Whether the feature, with its lifespan and geometry at these places, answers the question.
@@ -49,6 +51,7 @@ pub(crate) fn is_answer(
     question: Question,
     feature: &Feature,
 ) -> Result<bool, AllocError>
+    requires { HoldsCharacters feature.now }
     ensures { IfOk result (λ is_answer. is_answer ≡ answers places (asked_of question.entry) feature.now) }
 {
     if !meets_days(question.days, places.lifespan(feature)) {
@@ -59,8 +62,8 @@ pub(crate) fn is_answer(
     }
     match question.filter {
         None => Ok(true),
-        Some(filter) => {
-            let is_true = is_true(alloc, filter, feature)?;
+        Some(condition) => {
+            let is_true = is_true(alloc, condition, feature)?;
             Ok(is_true)
         }
     }

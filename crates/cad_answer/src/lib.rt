@@ -1,5 +1,6 @@
 //! Which features of a collection answer a question, and a page of them.
 //!
+//! - [`Condition`]: a filter with its normal form, by which features are tested
 //! - [`Question`]: days, a box and a filter that restrict an answer, and which part of the answer is wanted
 //! - [`page`]: the first features that answer, after one that is named, and whether more are left: a [`Page`]
 //! - `laws`: that pages ascend and are full, and that the pages of a walk, joined, are the whole answer
@@ -11,12 +12,14 @@
 
 mod after;
 mod answer;
+mod condition;
 pub mod laws;
 mod places;
 mod question;
 mod rows;
 mod scan;
 
+pub use condition::Condition;
 pub use question::Question;
 pub use rows::Page;
 pub use scan::page;

@@ -1,9 +1,11 @@
 //! The search for a page of an answer.
 
 ghost use Rattle.std.specs.Prelude.{◌≡◌, IfOk, map};
+ghost use Rattle.std.specs.List.{All};
 ghost use Rattle.std.specs.List.Sorted.{IsStrictlySortedBy};
 ghost use Rattle.cad_feature.specs.Features.{by_identifier};
 ghost use Rattle.cad_answer.specs.Answers.{asked_of, answer};
+ghost use Rattle.cql_rewrite.specs.Meets.{HoldsCharacters};
 ghost use Rattle.cad_answer.specs.Slices.{after_of, rows_of, slice, is_more};
 
 use crate::after::features_after;
@@ -24,7 +26,8 @@ pub fn page<'a>(
     features: &'a [Feature],
     question: Question,
 ) -> Result<Page<'a>, AllocError>
-    requires { IsStrictlySortedBy by_identifier features.now }
+    requires ascending { IsStrictlySortedBy by_identifier features.now }
+    requires written { All HoldsCharacters features.now }
     ensures rows { IfOk result (λ page. rows_of page
         ≡ slice (after_of question.entry) question.entry.limit (answer collection (asked_of question.entry) features.now)) }
     ensures more { IfOk result (λ page. page.more

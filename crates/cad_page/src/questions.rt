@@ -1,18 +1,21 @@
 //! What a request asks of a snapshot.
 
-ghost use Rattle.std.specs.Prelude.{◌≡◌, IfOk};
+ghost use Rattle.std.specs.Prelude.{◌≡◌, IfOk, option_map};
 ghost use Rattle.std.specs.List.{All};
 ghost use Rattle.cad_feature.specs.Features.{IsFeatureOf};
 ghost use Rattle.cad_answer.specs.Answers.{asked_of};
 ghost use Rattle.cad_answer.specs.Slices.{after_of, rows_of};
 ghost use Rattle.cad_page.specs.Pages.{restrictions, beginning, rows_in, is_more_in};
 
-use cad_answer::{Page, Question, page};
+use cad_answer::{Condition, Page, Question, page};
 use cad_ask::Ask;
 use cad_snapshot::Snapshot;
+use cql_rewrite::normal;
 use std::alloc::{AllocError, Global};
 
-fn question(ask: &Ask) -> Question<'_>
+// The question, with the condition that its filter comes to.
+fn question<'a>(ask: &Ask, condition: Option<Condition<'a>>) -> Question<'a>
+    requires { option_map (λ c. c.filter.now) condition.entry ≡ ask.now.filter }
     ensures asked { asked_of result ≡ restrictions ask.now }
     ensures after { after_of result ≡ beginning ask.now }
     ensures limit { result.limit ≡ ask.now.selection.limit }
@@ -24,13 +27,30 @@ fn question(ask: &Ask) -> Question<'_>
     Question {
         days: ask.selection.datetime,
         bounds: ask.selection.bbox,
-        filter: ask.filter.as_ref(),
+        filter: condition,
         after,
         limit: ask.selection.limit,
     }
 }
 
-/// The page that is asked for.
+// The page of the features that meet the condition too.
+fn page_where<'a>(
+    alloc: Global,
+    ask: &Ask,
+    snapshot: &'a Snapshot,
+    condition: Option<Condition>,
+) -> Result<Page<'a>, AllocError>
+    requires { option_map (λ c. c.filter.now) condition.entry ≡ ask.now.filter }
+    ensures rows { IfOk result (λ page. rows_of page ≡ rows_in ask.now snapshot.now) }
+    ensures more { IfOk result (λ page. page.more ≡ is_more_in ask.now snapshot.now) }
+    ensures features { IfOk result (λ page. All (IsFeatureOf ask.now.collection) (rows_of page)) }
+{
+    let features = snapshot.features(ask.collection);
+    let page = page(alloc, ask.collection, features, question(ask, condition))?;
+    Ok(page)
+}
+
+/// The page that is asked for. The normal form of its filter is made once.
 pub(crate) fn page_asked<'a>(
     alloc: Global,
     ask: &Ask,
@@ -40,7 +60,19 @@ pub(crate) fn page_asked<'a>(
     ensures more { IfOk result (λ page. page.more ≡ is_more_in ask.now snapshot.now) }
     ensures features { IfOk result (λ page. All (IsFeatureOf ask.now.collection) (rows_of page)) }
 {
-    let features = snapshot.features(ask.collection);
-    let page = page(alloc, ask.collection, features, question(ask))?;
-    Ok(page)
+    match &ask.filter {
+        None => {
+            let page = page_where(alloc, ask, snapshot, None)?;
+            Ok(page)
+        }
+        Some(filter) => {
+            let normal = normal(alloc, filter)?;
+            let condition = Condition {
+                filter,
+                normal: &normal,
+            };
+            let page = page_where(alloc, ask, snapshot, Some(condition))?;
+            Ok(page)
+        }
+    }
 }

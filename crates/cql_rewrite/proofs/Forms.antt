@@ -9,7 +9,7 @@ use Rattle.cql_truth.specs.Values.{text_in}
 use Rattle.cad_feature.specs.declared.range.Range.{Range as RangeOf}
 use Rattle.cad_range.specs.Ranges.{lies_in}
 use Rattle.cql_rewrite.specs.declared.form.Normal.{Normal}
-use Rattle.cql_rewrite.specs.declared.form.Normal.TheVariants.{Constant, Range, Like, Near, And, Or, rolls-Constant, rolls-Range, rolls-Like, rolls-Near, rolls-And, rolls-Or}
+use Rattle.cql_rewrite.specs.declared.form.Normal.TheVariants.{Constant, Range, Like, Folded, Near, And, Or, rolls-Constant, rolls-Range, rolls-Like, rolls-Folded, rolls-Near, rolls-And, rolls-Or}
 use Rattle.cql_rewrite.specs.declared.form.Normal.TheFolds.{fold-roll-Normal}
 use Rattle.cql_rewrite.specs.declared.form.Normal.TheOpen.{Normal-F}
 use Rattle.std.proofs.Common.{◌<◌, zero, suc, length, get_or, Option, Some, None, Bor, arith}
@@ -40,6 +40,9 @@ meets_Like x pattern r = ap (meets x) (sym (rolls-Like pattern r)) ∙ fold-roll
 
 pub meets_Near : (x : Item) (f : Bor Filter) (property : ℕ) (shape : Bor Shape) → meets x (Near f property shape) ≡ in_side true x f.now
 meets_Near x f property shape = ap (meets x) (sym (rolls-Near f property shape)) ∙ fold-roll-Normal Bool (meet_step x) (Normal-F.Near f property shape)
+
+pub meets_Folded : (x : Item) (f : Filter) (side : Bool) → meets x (Folded f side) ≡ in_side side x f
+meets_Folded x f side = ap (meets x) (sym (rolls-Folded f side)) ∙ fold-roll-Normal Bool (meet_step x) (Normal-F.Folded f side)
 
 pub meets_And : (x : Item) (v : Vec Normal Global) → meets x (And v) ≡ list_all (meets x) v.items
 meets_And x v = ap (meets x) (sym (rolls-And v)) ∙ fold-roll-Normal Bool (meet_step x) (Normal-F.And v) ∙ list_all-map (λ b. b) (meets x) v.items
@@ -109,8 +112,8 @@ or_last a b = grind arith
 pub two_all : {X : Type 0} (p : X → Bool) (none one two : List X) (a b : Bool) → none ≡ [] → list_all p one ≡ (list_all p none && a) → list_all p two ≡ (list_all p one && b) → list_all p two ≡ (a && b)
 two_all p none one two a b e f g = g ∙ ap (λ c. c && b) (f ∙ ap (λ l. list_all p l && a) e)
 
-pub two_any : {X : Type 0} (p : X → Bool) (none one two : List X) (a b : X) → none ≡ [] → one ≡ none ++ a ∷ [] → two ≡ one ++ b ∷ [] → list_any p two ≡ (p a || p b)
-two_any p none one two a b e f g = rw (g, f, e) (sym (or_last (p a) (p b)))
+pub two_any : {X : Type 0} (p : X → Bool) (none one two : List X) (a b : Bool) → none ≡ [] → list_any p one ≡ (list_any p none || a) → list_any p two ≡ (list_any p one || b) → list_any p two ≡ (a || b)
+two_any p none one two a b e f g = g ∙ ap (λ c. c || b) (f ∙ ap (λ l. list_any p l || a) e)
 
 pub pair_sides : (side : Bool) (s t : Sides) → joined_test side (side_of side s) (side_of side t) ≡ side_of side (conjunction (s ∷ t ∷ []))
 pair_sides true s t = and_last s.yes t.yes
@@ -145,3 +148,41 @@ and_true a = grind arith
 
 pub all_stepped : {X : Type 0} (p : X → Bool) (now rest : List X) {whole : Bool} → rest ≡ [] → (list_all p now && list_all p rest) ≡ whole → list_all p now ≡ whole
 all_stepped p now rest steps so_far = sym (and_true (list_all p now)) ∙ ap (λ l. list_all p now && list_all p l) (sym steps) ∙ so_far
+
+-- ---- constants among parts
+
+pub added_always : (x : Item) (n : Normal) (b : Bool) → n ≡ Constant true → b ≡ (b && meets x n)
+added_always x n b e = sym (ap (λ m. b && m) (ap (meets x) e ∙ meets_Constant x true) ∙ and_true b)
+
+or_false : (a : Bool) → (a || false) ≡ a
+or_false a = grind arith
+
+or_assoc : (a b c : Bool) → ((a || b) || c) ≡ (a || (b || c))
+or_assoc a b c = grind arith
+
+pub added_never : (x : Item) (n : Normal) (b : Bool) → n ≡ Constant false → b ≡ (b || meets x n)
+added_never x n b e = sym (ap (λ m. b || m) (ap (meets x) e ∙ meets_Constant x false) ∙ or_false b)
+
+pub any_more : {X : Type 0} (p : X → Bool) (xs : List X) (x : X) → list_any p (xs ++ x ∷ []) ≡ (list_any p xs || p x)
+any_more p [] x = or_false (p x)
+any_more p (y ∷ xs) x = ap (λ b. p y || b) (any_more p xs x) ∙ sym (or_assoc (p y) (list_any p xs) (p x))
+
+or_true : (a b : Bool) → a ≡ true → (a || b) ≡ true
+or_true a b h = grind arith
+
+true_or : (a b : Bool) → b ≡ true → (a || b) ≡ true
+true_or a b h = grind arith
+
+-- what holds of one holds of some
+any_at : {X : Type 0} (p : X → Bool) (xs : List X) (i : ℕ) (d : X) → p (get_or xs i d) ≡ true → i < length xs → list_any p xs ≡ true
+any_at p [] i d h l = absurd (omega arith)
+any_at p (x ∷ xs) zero d h l = or_true (p x) (list_any p xs) h
+any_at p (x ∷ xs) (suc i) d h l = true_or (p x) (list_any p xs) (any_at p xs i d h (omega arith))
+
+pub met_by_all : (x : Item) (parts : List Normal) (i : ℕ) (part : Normal) → part ≡ Constant true → i < length parts → part ≡ get_or parts i part → list_any (meets x) parts ≡ true
+met_by_all x parts i part always l e = any_at (meets x) parts i part (ap (meets x) (sym e ∙ always) ∙ meets_Constant x true) l
+
+pub only_any : {X : Type 0} (p : X → Bool) (xs : List X) (x : X) → length xs ≡ 1 → x ≡ get_or xs 0 x → p x ≡ list_any p xs
+only_any p [] x h e = absurd (omega arith)
+only_any p (y ∷ []) x h e = ap p e ∙ sym (or_false (p y))
+only_any p (y ∷ z ∷ xs) x h e = absurd (omega arith)

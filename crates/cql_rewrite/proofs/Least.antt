@@ -189,12 +189,11 @@ and_done side t forms n fs i h under so_far =
 
 -- one part more of an OR
 pub or_next : (side : Bool) (t : List Written) (forms new : List Normal) (n : Normal) (f : Filter) (fs : List Filter) (i : ℕ) {whole : ℕ} → suc i ≤ length fs → f ≡ get_or fs i f →
-    new ≡ forms ++ n ∷ [] → least t n ≤ bound_on side t f →
+    total (map (least t) new) ≤ total (map (least t) forms) + least t n → least t n ≤ bound_on side t f →
     total (map (least t) forms) + total (map (bound_on side t) (drop i fs)) ≤ whole → total (map (least t) new) + total (map (bound_on side t) (drop (i + 1) fs)) ≤ whole
 or_next side t forms new n f fs i h at added part so_far =
     let e : total (map (bound_on side t) (drop i fs)) ≡ bound_on side t f + total (map (bound_on side t) (drop (i + 1) fs)) = ap total (bounds_next side t fs i f h at) in
-    let m : total (map (least t) new) ≡ total (map (least t) forms) + least t n = ap (λ ns. total (map (least t) ns)) added ∙ least_of_some_more t forms n in
-    omega (arith, e, m, part, so_far)
+    omega (arith, e, added, part, so_far)
 
 -- ---- parts that are added one by one
 
@@ -207,3 +206,30 @@ pub least_stepped : (t : List Written) (now rest : List Normal) {whole : ℕ} �
 least_stepped t now rest steps so_far =
     let e : least_of_all t rest ≡ every t = ap (least_of_all t) steps in
     omega (arith, e, so_far, all_under t now)
+
+-- ---- constants among parts
+
+-- what every feature meets adds no cost to an AND
+pub always_costs : (t : List Written) (parts : List Normal) (n : Normal) → n ≡ Constant true → least_of_all t parts ≤ min (least_of_all t parts) (least t n)
+always_costs t parts n e =
+    let all : least t n ≡ every t = ap (least t) e ∙ least_Constant t true in
+    omega (arith, all, all_under t parts)
+
+total_at : (t : List Written) (ns : List Normal) (i : ℕ) (d : Normal) → suc i ≤ length ns → least t (get_or ns i d) ≤ total (map (least t) ns)
+total_at t [] i d h = absurd (omega arith)
+total_at t (n ∷ ns) zero d h = omega arith
+total_at t (n ∷ ns) (suc i) d h = omega (arith, total_at t ns i d (omega arith))
+
+-- an OR with a part that every feature meets costs all
+pub all_of_some : (t : List Written) (ns : List Normal) (i : ℕ) (n : Normal) → n ≡ Constant true → suc i ≤ length ns → n ≡ get_or ns i n → least_of_some t ns ≡ every t
+all_of_some t ns i n always h e =
+    let one : least t (get_or ns i n) ≡ every t = ap (least t) (sym e ∙ always) ∙ least_Constant t true in
+    omega (arith, one, total_at t ns i n h)
+
+pub either_pushed : (t : List Written) (old new : List Normal) (n : Normal) → new ≡ old ++ n ∷ [] → total (map (least t) new) ≤ total (map (least t) old) + least t n
+either_pushed t old new n e = omega (arith, ap (λ ns. total (map (least t) ns)) e ∙ least_of_some_more t old n)
+
+pub only_some : (t : List Written) (ns : List Normal) (n : Normal) → length ns ≡ 1 → n ≡ get_or ns 0 n → least t n ≤ least_of_some t ns
+only_some t [] n h e = absurd (omega arith)
+only_some t (m ∷ []) n h e = rw e (omega (arith, least_under t m))
+only_some t (m ∷ k ∷ ns) n h e = absurd (omega arith)

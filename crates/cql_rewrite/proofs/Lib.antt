@@ -1,3 +1,4 @@
+pub mod FoldedLemmas
 pub mod Forms
 pub mod FrontLemmas
 pub mod Least

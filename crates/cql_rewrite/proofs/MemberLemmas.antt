@@ -15,10 +15,6 @@ or_assoc a b c = grind arith
 or_none : (a : Bool) → (a || false) ≡ a
 or_none a = grind arith
 
-any_more : {X : Type 0} (p : X → Bool) (xs : List X) (x : X) → list_any p (xs ++ x ∷ []) ≡ (list_any p xs || p x)
-any_more p [] x = or_none (p x)
-any_more p (y ∷ xs) x = ap (λ b. p y || b) (any_more p xs x) ∙ sym (or_assoc (p y) (list_any p xs) (p x))
-
 drop_next : {X : Type 0} (xs : List X) (i : ℕ) (x : X) → suc i ≤ length xs → x ≡ get_or xs i x → drop i xs ≡ x ∷ drop (i + 1) xs
 drop_next xs i x h e = rw (add-one, drop-cons xs i x, ← e) refl
 
@@ -29,11 +25,11 @@ drop_over (x ∷ xs) zero h = absurd (omega arith)
 drop_over (x ∷ xs) (suc i) h = drop_over xs i (omega arith)
 
 module _ {T : Type 0} (equal : Item → T → T → Sides) (a : T) where
-  pub any_next : (x : Item) (forms new : List Normal) (n : Normal) (item : T) (items : List T) (i : ℕ) {whole : Bool} → suc i ≤ length items → item ≡ get_or items i item → new ≡ forms ++ n ∷ [] → meets x n ≡ (equal x a item).yes →
+  pub any_next : (x : Item) (forms new : List Normal) (n : Normal) (item : T) (items : List T) (i : ℕ) {whole : Bool} → suc i ≤ length items → item ≡ get_or items i item → list_any (meets x) new ≡ (list_any (meets x) forms || meets x n) → meets x n ≡ (equal x a item).yes →
       (list_any (meets x) forms || any_equal equal x a (drop i items)) ≡ whole → (list_any (meets x) new || any_equal equal x a (drop (i + 1) items)) ≡ whole
   any_next x forms new n item items i h at added same so_far =
       let left : any_equal equal x a (drop i items) ≡ ((equal x a item).yes || any_equal equal x a (drop (i + 1) items)) = ap (any_equal equal x a) (drop_next items i item h at) in
-      let more : list_any (meets x) new ≡ (list_any (meets x) forms || (equal x a item).yes) = ap (list_any (meets x)) added ∙ any_more (meets x) forms n ∙ ap (λ b. list_any (meets x) forms || b) same in
+      let more : list_any (meets x) new ≡ (list_any (meets x) forms || (equal x a item).yes) = added ∙ ap (λ b. list_any (meets x) forms || b) same in
       ap (λ b. b || any_equal equal x a (drop (i + 1) items)) more
       ∙ or_assoc (list_any (meets x) forms) (equal x a item).yes (any_equal equal x a (drop (i + 1) items))
       ∙ ap (λ b. list_any (meets x) forms || b) (sym left)
@@ -49,12 +45,11 @@ module _ {T : Type 0} (equal : Item → T → T → Sides) (a : T) where
       let alike : least t n ≡ count_of t equal a item = counted t ∙ count_alike (λ (x : Written). meets x.item n) (λ (x : Written). (equal x.item a item).yes) t (λ x. same x.item) in
       omega (arith, alike)
 
-  pub sum_next : (t : List Written) (forms new : List Normal) (n : Normal) (item : T) (items : List T) (i : ℕ) {whole : ℕ} → suc i ≤ length items → item ≡ get_or items i item → new ≡ forms ++ n ∷ [] → least t n ≤ count_of t equal a item →
+  pub sum_next : (t : List Written) (forms new : List Normal) (n : Normal) (item : T) (items : List T) (i : ℕ) {whole : ℕ} → suc i ≤ length items → item ≡ get_or items i item → total (map (least t) new) ≤ total (map (least t) forms) + least t n → least t n ≤ count_of t equal a item →
       total (map (least t) forms) + total (map (count_of t equal a) (drop i items)) ≤ whole → total (map (least t) new) + total (map (count_of t equal a) (drop (i + 1) items)) ≤ whole
   sum_next t forms new n item items i h at added part so_far =
       let left : total (map (count_of t equal a) (drop i items)) ≡ count_of t equal a item + total (map (count_of t equal a) (drop (i + 1) items)) = ap (λ l. total (map (count_of t equal a) l)) (drop_next items i item h at) in
-      let more : total (map (least t) new) ≡ total (map (least t) forms) + least t n = ap (λ ns. total (map (least t) ns)) added ∙ least_of_some_more t forms n in
-      omega (arith, left, more, part, so_far)
+      omega (arith, left, added, part, so_far)
 
   pub sum_done : (t : List Written) (forms : List Normal) (n : Normal) (items : List T) (i : ℕ) → length items ≤ i → least t n ≤ least_of_some t forms →
       total (map (least t) forms) + total (map (count_of t equal a) (drop i items)) ≤ total (map (count_of t equal a) items) → least t n ≤ count_in true t equal a items

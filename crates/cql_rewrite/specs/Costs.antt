@@ -202,3 +202,7 @@ least_or t (Some n) = least t n
 -- more parts of an AND cost no more than what stood, nor than each of them
 abbrev pub CostsAll : List Normal → List Normal → List Normal → Type 0
 CostsAll old new parts = (t : List Written) → least_of_all t new ≤ min (least_of_all t old) (least_of_all t parts)
+
+-- one more part of an OR costs no more than what stood and the part
+abbrev pub CostsEither : List Normal → List Normal → Normal → Type 0
+CostsEither old new part = (t : List Written) → total (map (least t) new) ≤ total (map (least t) old) + least t part

@@ -100,3 +100,7 @@ AddsBoth old new a b = (x : Item) → list_all (meets x) new ≡ (list_all (meet
 -- more parts of an AND
 abbrev pub AddsAll : List Normal → List Normal → List Normal → Type 0
 AddsAll old new parts = (x : Item) → list_all (meets x) new ≡ (list_all (meets x) old && list_all (meets x) parts)
+
+-- one more part of an OR, in whatever way it is kept
+abbrev pub AddsEither : List Normal → List Normal → Normal → Type 0
+AddsEither old new part = (x : Item) → list_any (meets x) new ≡ (list_any (meets x) old || meets x part)

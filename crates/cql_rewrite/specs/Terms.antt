@@ -9,6 +9,7 @@ use Rattle.cad_feature.specs.declared.range.Range.{Range}
 use Rattle.cad_range.specs.Ranges.{compared as order_of, lies_in}
 use Rattle.cql_lexer.specs.declared.token.Comparison.{Comparison}
 use Rattle.cql_lexer.specs.declared.token.Comparison.TheVariants as comparison
+use Rattle.cql_types.specs.declared.filter.Filter.{Filter}
 use Rattle.cql_types.specs.declared.filter.DayTerm.{DayTerm}
 use Rattle.cql_types.specs.declared.filter.TextTerm.{TextTerm}
 use Rattle.cql_types.specs.declared.filter.WholeTerm.{WholeTerm}
@@ -16,7 +17,7 @@ use Rattle.cql_types.specs.declared.filter.WholeTerm.TheVariants as whole
 use Rattle.cql_types.specs.declared.filter.TextTerm.TheVariants as text
 use Rattle.cql_types.specs.declared.filter.DayTerm.TheVariants as day
 use Rattle.cql_truth.specs.Arithmetic.{whole_value}
-use Rattle.cql_truth.specs.Sides.{Sides, compared, days, is_like, stands, texts, told, wholes}
+use Rattle.cql_truth.specs.Sides.{Sides, among, compared, days, is_like, sides, stands, texts, told, wholes}
 use Rattle.cql_truth.specs.Values.{day_value, text_value}
 use Rattle.cql_rewrite.specs.declared.form.Normal.{Normal}
 use Rattle.cql_rewrite.specs.declared.plain.Plain.{Plain}
@@ -36,6 +37,10 @@ day_sides by x a b = compared (days by) (day_value x a) (day_value x b)
 
 abbrev pub like_sides : Item → TextTerm → TextTerm → Sides
 like_sides x a pattern = compared is_like (text_value x a) (text_value x pattern)
+
+-- IN over texts
+abbrev pub in_text_sides : Item → TextTerm → List TextTerm → Sides
+in_text_sides x a items = among (texts comparison.Equal) (text_value x) (text_value x a) items
 
 -- every comparison but <>
 abbrev pub is_ranged : Comparison → Bool
@@ -98,6 +103,11 @@ turned_of comparison.AtLeast = comparison.AtMost
 abbrev pub met_or : Item → Option Normal → Bool → Bool
 met_or x None given = given
 met_or x (Some n) given = meets x n
+
+-- what is said of a feature by a filter, where there is one; else what is given
+abbrev pub filter_or : Item → Option Filter → Sides → Sides
+filter_or x None given = given
+filter_or x (Some f) given = sides x f
 
 -- what a range says, where there is one; else what is given
 abbrev pub said_by : Option Range → Item → Bool → Bool

@@ -6,8 +6,9 @@ ghost use Rattle.cad_range.specs.Ranges.{lies_in_if_any};
 ghost use Rattle.cql_truth.specs.Arithmetic.{whole_in, whole_value};
 ghost use Rattle.cql_truth.specs.Sides.{between as between_of, sides};
 ghost use Rattle.cql_rewrite.specs.Costs.{IsCounted, is_plain_between};
-ghost use Rattle.cql_rewrite.specs.Meets.{in_side, meets, side_of};
-ghost use Rattle.cql_rewrite.specs.Terms.{met_or};
+ghost use Rattle.cql_lexer.specs.declared.token.Comparison.TheVariants.{AtMost};
+ghost use Rattle.cql_rewrite.specs.Meets.{in_side, joined_test, meets, side_of};
+ghost use Rattle.cql_rewrite.specs.Terms.{met_or, whole_sides};
 
 use crate::comparison::exact_form;
 use crate::form::Normal;
@@ -42,6 +43,26 @@ fn literal_between<'a>(value: &WholeTerm, low: &WholeTerm, high: &WholeTerm) -> 
     }
 }
 
+// That the value is at most the one number, joined to the form of the other comparison.
+fn with_most<'a>(
+    alloc: Global,
+    least: Normal<'a>,
+    value: &WholeTerm,
+    high: &WholeTerm,
+    side: bool,
+) -> Result<Option<Normal<'a>>, AllocError>
+    ensures { IfOk result (λ o. (x : Item) → met_or x o (joined_test side (meets x least.entry) (side_of side (whole_sides AtMost x value.now high.now))) ≡ joined_test side (meets x least.entry) (side_of side (whole_sides AtMost x value.now high.now))) }
+{
+    let most = exact_form(alloc, plain_wholes(Comparison::AtMost, value, high), side)?;
+    match most {
+        Some(most) => {
+            let form = pair(alloc, least, most, side)?;
+            Ok(Some(form))
+        }
+        None => Ok(None),
+    }
+}
+
 // Both comparisons, where each comes to a constant or a range.
 fn computed_between<'a>(
     alloc: Global,
@@ -53,13 +74,12 @@ fn computed_between<'a>(
     ensures { IfOk result (λ o. (x : Item) → met_or x o (side_of side (between_of (whole_value x value.now) (whole_value x low.now) (whole_value x high.now))) ≡ side_of side (between_of (whole_value x value.now) (whole_value x low.now) (whole_value x high.now))) }
 {
     let least = exact_form(alloc, plain_wholes(Comparison::AtLeast, value, low), side)?;
-    let most = exact_form(alloc, plain_wholes(Comparison::AtMost, value, high), side)?;
-    match (least, most) {
-        (Some(least), Some(most)) => {
-            let form = pair(alloc, least, most, side)?;
-            Ok(Some(form))
+    match least {
+        Some(least) => {
+            let form = with_most(alloc, least, value, high, side)?;
+            Ok(form)
         }
-        _ => Ok(None),
+        None => Ok(None),
     }
 }
 

@@ -7,6 +7,7 @@ ghost use Rattle.cql_rewrite.specs.Costs.{IsCounted};
 ghost use Rattle.cql_rewrite.specs.Meets.{Written, in_side, meets, side_of};
 ghost use Rattle.cql_rewrite.specs.Terms.{is_exact, met_or, plain_sides};
 
+use crate::folded::atom;
 use crate::form::Normal;
 use crate::plain::{Plain, plain_range, sided};
 use cql_types::Filter;
@@ -53,6 +54,9 @@ pub(crate) fn formed<'a>(
     let form = exact_form(alloc, plain, side)?;
     match form {
         Some(form) => Ok(form),
-        None => Ok(Normal::Atom { filter, side }),
+        None => {
+            let form = atom(alloc, filter, side)?;
+            Ok(form)
+        }
     }
 }

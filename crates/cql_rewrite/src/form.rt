@@ -21,7 +21,7 @@ pub enum Normal<'a> {
         filter: &'a Filter,
         side: bool,
     },
-    /// The same of a filter in which the case of constants is folded already.
+    /// The same of a condition in which the case of each constant is folded beforehand.
     Folded {
         filter: Filter,
         side: bool,

@@ -9,6 +9,7 @@
 
 mod between;
 mod comparison;
+mod folded;
 mod form;
 pub mod laws;
 mod likes;

@@ -11,6 +11,7 @@ ghost use Rattle.cql_rewrite.specs.Costs.{begun_by, least, least_or, like_bound}
 ghost use Rattle.cql_rewrite.specs.Meets.{Written, in_side, is_liked, meets};
 ghost use Rattle.cql_rewrite.specs.Terms.{end_limit, like_sides, met_or};
 
+use crate::folded::atom;
 use crate::form::Normal;
 use crate::terms::copied;
 use cad_range::{Edge, Range, Scalar};
@@ -92,6 +93,26 @@ fn like_form<'a>(
     }
 }
 
+// The form of a LIKE that is true.
+fn liked<'a>(
+    alloc: Global,
+    filter: &'a Filter,
+    value: &TextTerm,
+    pattern: &TextTerm,
+) -> Result<Normal<'a>, AllocError>
+    ensures stands { IfOk result (λ n. (x : Written) → sides x.item filter.now ≡ like_sides x.item value.now pattern.now → meets x.item n ≡ in_side true x.item filter.now) }
+    ensures costs { IfOk result (λ n. (t : List Written) → least t n ≤ like_bound t value.now pattern.now) }
+{
+    let form = like_form(alloc, value, pattern)?;
+    match form {
+        Some(form) => Ok(form),
+        None => {
+            let condition = atom(alloc, filter, true)?;
+            Ok(condition)
+        }
+    }
+}
+
 /// The form of LIKE.
 pub(crate) fn likeness<'a>(
     alloc: Global,
@@ -104,10 +125,10 @@ pub(crate) fn likeness<'a>(
     ensures costs { IfOk result (λ n. side ≡ true → (t : List Written) → least t n ≤ like_bound t value.now pattern.now) }
 {
     if side {
-        let form = like_form(alloc, value, pattern)?;
-        if let Some(form) = form {
-            return Ok(form);
-        }
+        let form = liked(alloc, filter, value, pattern)?;
+        Ok(form)
+    } else {
+        let condition = atom(alloc, filter, side)?;
+        Ok(condition)
     }
-    Ok(Normal::Atom { filter, side })
 }

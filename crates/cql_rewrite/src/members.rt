@@ -10,8 +10,9 @@ ghost use Rattle.cql_rewrite.specs.Meets.{Written, in_side, meets};
 ghost use Rattle.cql_rewrite.specs.Terms.{met_or};
 
 use crate::comparison::exact_form;
+use crate::folded::atom;
 use crate::form::Normal;
-use crate::parts::some_of;
+use crate::parts::{add_either, some_of};
 use crate::terms::Term;
 use cql_lexer::Comparison;
 use cql_types::Filter;
@@ -46,7 +47,7 @@ fn equal_items<'a, T: Term>(
     for item in items {
         let form = equal_item(alloc, value, item)?;
         match form {
-            Some(form) => forms.push(form)?,
+            Some(form) => add_either(&mut forms, form)?,
             None => return Ok(None),
         }
     }
@@ -70,5 +71,6 @@ pub(crate) fn members<'a, T: Term>(
             return Ok(form);
         }
     }
-    Ok(Normal::Atom { filter, side })
+    let form = atom(alloc, filter, side)?;
+    Ok(form)
 }

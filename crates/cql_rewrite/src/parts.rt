@@ -1,11 +1,11 @@
 //! The parts of an AND and of an OR.
 
-ghost use Rattle.std.specs.Prelude.{◌≡◌, ◌<◌, ◌≤◌, false, length, List, IfOk, IfSome, IsTrue, OnOk};
+ghost use Rattle.std.specs.Prelude.{◌≡◌, ◌<◌, ◌≤◌, ◌&&◌, ◌||◌, false, true, length, List, IfOk, IfSome, IsTrue, OnOk};
 ghost use Rattle.std.specs.List.{list_all, list_any};
 ghost use Rattle.cad_feature.specs.Features.{Item};
 ghost use Rattle.cad_range.specs.Ranges.{lies_in_if_any};
-ghost use Rattle.cql_rewrite.specs.Costs.{CostsAll, CostsBoth, CostsPart, least, least_of_all, least_of_some, range_count};
-ghost use Rattle.cql_rewrite.specs.Meets.{AddsAll, AddsBoth, AddsPart, Written, joined_test, meets};
+ghost use Rattle.cql_rewrite.specs.Costs.{CostsAll, CostsBoth, CostsEither, CostsPart, every, least, least_of_all, least_of_some, range_count};
+ghost use Rattle.cql_rewrite.specs.Meets.{AddsAll, AddsBoth, AddsEither, AddsPart, Written, joined_test, meets};
 
 use crate::form::Normal;
 use cad_range::{Range, joined};
@@ -38,8 +38,20 @@ fn add_all<'a>(parts: &mut Vec<Normal<'a>>, inner: Vec<Normal<'a>>) -> Result<()
     Ok(())
 }
 
-// One more part, as it is; a range is joined with one of the same property.
+// One more part; what every feature meets is left out.
 fn add_one<'a>(parts: &mut Vec<Normal<'a>>, part: Normal<'a>) -> Result<(), AllocError>
+    ensures stands { OnOk result (AddsPart parts.old.items parts.new.items part.entry) }
+    ensures costs { OnOk result (CostsPart parts.old.items parts.new.items part.entry) }
+{
+    if is_always(&part) {
+        return Ok(());
+    }
+    add_kept(parts, part)?;
+    Ok(())
+}
+
+// One more part, as it is; a range is joined with one of the same property.
+fn add_kept<'a>(parts: &mut Vec<Normal<'a>>, part: Normal<'a>) -> Result<(), AllocError>
     ensures stands { OnOk result (AddsPart parts.old.items parts.new.items part.entry) }
     ensures costs { OnOk result (CostsPart parts.old.items parts.new.items part.entry) }
 {
@@ -139,6 +151,9 @@ pub(crate) fn all_of(parts: Vec<Normal<'_>>) -> Normal<'_>
     if has_never(&parts) {
         return Normal::Constant(false);
     }
+    if parts.is_empty() {
+        return Normal::Constant(true);
+    }
     let mut parts = parts;
     if parts.len() == 1 {
         let only = parts.remove(0);
@@ -147,12 +162,70 @@ pub(crate) fn all_of(parts: Vec<Normal<'_>>) -> Normal<'_>
     Normal::And(parts)
 }
 
+/// One more part of an OR; what no feature meets is left out.
+pub(crate) fn add_either<'a>(
+    parts: &mut Vec<Normal<'a>>,
+    part: Normal<'a>,
+) -> Result<(), AllocError>
+    ensures stands { OnOk result (AddsEither parts.old.items parts.new.items part.entry) }
+    ensures costs { OnOk result (CostsEither parts.old.items parts.new.items part.entry) }
+{
+    if is_never(&part) {
+        return Ok(());
+    }
+    parts.push(part)?;
+    Ok(())
+}
+
 /// The OR of the parts.
 pub(crate) fn some_of(parts: Vec<Normal<'_>>) -> Normal<'_>
     ensures stands { (x : Item) → meets x result ≡ list_any (meets x) parts.entry.items }
     ensures costs { (t : List Written) → least t result ≤ least_of_some t parts.entry.items }
 {
+    if has_always(&parts) {
+        return Normal::Constant(true);
+    }
+    if parts.is_empty() {
+        return Normal::Constant(false);
+    }
+    let mut parts = parts;
+    if parts.len() == 1 {
+        let only = parts.remove(0);
+        return only;
+    }
     Normal::Or(parts)
+}
+
+fn has_always(parts: &[Normal]) -> bool
+    ensures stands { IsTrue result → (x : Item) → list_any (meets x) parts.now ≡ true }
+    ensures costs { IsTrue result → (t : List Written) → least_of_some t parts.now ≡ every t }
+{
+    for part in parts {
+        if is_always(part) {
+            return true;
+        }
+    }
+    false
+}
+
+// Whether every feature meets the part, being the constant.
+fn is_always(part: &Normal) -> bool
+    ensures { IsTrue result → part.now ≡ Normal.Constant true }
+{
+    match part {
+        Normal::Constant(b) => *b,
+        _ => false,
+    }
+}
+
+// Whether no feature meets the part, being the constant.
+fn is_never(part: &Normal) -> bool
+    ensures { IsTrue result → part.now ≡ Normal.Constant false }
+{
+    match part {
+        Normal::Constant(b) => !*b,
+        _ => false,
+    }
 }
 
 fn has_never(parts: &[Normal]) -> bool
@@ -166,6 +239,28 @@ fn has_never(parts: &[Normal]) -> bool
     false
 }
 
+fn both<'a>(alloc: Global, first: Normal<'a>, second: Normal<'a>) -> Result<Normal<'a>, AllocError>
+    ensures { IfOk result (λ n. (x : Item) → meets x n ≡ (meets x first.entry && meets x second.entry)) }
+{
+    let mut parts = Vec::new(alloc);
+    add(&mut parts, first)?;
+    add(&mut parts, second)?;
+    Ok(all_of(parts))
+}
+
+fn either<'a>(
+    alloc: Global,
+    first: Normal<'a>,
+    second: Normal<'a>,
+) -> Result<Normal<'a>, AllocError>
+    ensures { IfOk result (λ n. (x : Item) → meets x n ≡ (meets x first.entry || meets x second.entry)) }
+{
+    let mut parts = Vec::new(alloc);
+    add_either(&mut parts, first)?;
+    add_either(&mut parts, second)?;
+    Ok(some_of(parts))
+}
+
 /// The AND of two forms, or their OR.
 pub(crate) fn pair<'a>(
     alloc: Global,
@@ -175,14 +270,11 @@ pub(crate) fn pair<'a>(
 ) -> Result<Normal<'a>, AllocError>
     ensures { IfOk result (λ n. (x : Item) → meets x n ≡ joined_test all (meets x first.entry) (meets x second.entry)) }
 {
-    let mut parts = Vec::new(alloc);
     if all {
-        add(&mut parts, first)?;
-        add(&mut parts, second)?;
-        Ok(all_of(parts))
+        let form = both(alloc, first, second)?;
+        Ok(form)
     } else {
-        parts.push(first)?;
-        parts.push(second)?;
-        Ok(some_of(parts))
+        let form = either(alloc, first, second)?;
+        Ok(form)
     }
 }

@@ -10,7 +10,7 @@ use crate::comparison::formed;
 use crate::form::Normal;
 use crate::likes::likeness;
 use crate::members::members;
-use crate::parts::{add, all_of, some_of};
+use crate::parts::{add, add_either, all_of, some_of};
 use crate::spatial::spatial;
 use crate::terms::{plain_days, plain_texts, plain_wholes};
 use cql_types::Filter;
@@ -109,7 +109,7 @@ fn normal_parts(
         let mut forms = Vec::new(alloc);
         for part in parts {
             let form = normal_side(alloc, part, side)?;
-            forms.push(form)?;
+            add_either(&mut forms, form)?;
         }
         Ok(some_of(forms))
     }

@@ -1,4 +1,7 @@
 use Rattle.cql_rewrite.proofs.likes.likeness.Goals as goal
 
-pub returns-in-Some-clause-stands : goal.returns-in-Some-clause-stands
-returns-in-Some-clause-stands c = λ x h. rw (c.if-side.true, h) (rw c.in-Some.is at (c.in_ok-form.ensures.stands x))
+pub returns-in_ok-form-clause-stands : goal.returns-in_ok-form-clause-stands
+returns-in_ok-form-clause-stands c = λ x h. rw c.if-side.true (c.in_ok-form.ensures.stands x h)
+
+pub returns-in_ok-condition-clause-stands : goal.returns-in_ok-condition-clause-stands
+returns-in_ok-condition-clause-stands c = λ x h. c.in_ok-condition.ensures x.item

@@ -15,12 +15,12 @@ loop-item-preserved g c =
     let item = c.item-item.result in
     let i = c.loop-item.item-index in
     let old = c.loop-item.forms.items in
-    let new = c.push.new.self.items in
+    let new = c.add_either.new.parts.items in
     let same : (x : Item) → meets x form ≡ (equal x value item).yes = λ x. rw c.in-Some.is at (c.in_ok-form.ensures.stands x) in
     let counted : IsCounted form = rw c.in-Some.is at c.in_ok-form.ensures.counted in
     record {
-      stands = λ x. any_next equal value x old new form item items i c.loop-item-test.true c.item-item.is c.in_ok-push-in-Some.ensures.items (same x) (c.loop-item.invariant.stands x);
-      costs = λ t. sum_next equal value t old new form item items i c.loop-item-test.true c.item-item.is c.in_ok-push-in-Some.ensures.items (one_costs equal value t form item counted same) (c.loop-item.invariant.costs t);
+      stands = λ x. any_next equal value x old new form item items i c.loop-item-test.true c.item-item.is (c.in_ok-add_either-in-Some.ensures.stands x) (same x) (c.loop-item.invariant.stands x);
+      costs = λ t. sum_next equal value t old new form item items i c.loop-item-test.true c.item-item.is (c.in_ok-add_either-in-Some.ensures.costs t) (one_costs equal value t form item counted same) (c.loop-item.invariant.costs t);
     }
 
 pub returns-clause-stands : goal.returns-clause-stands

@@ -1,13 +1,12 @@
+use Rattle.std.proofs.Common.{refl}
+use Rattle.std.specs.List.{list_all}
 use Rattle.cql_rewrite.specs.Meets.{meets}
-use Rattle.cql_rewrite.proofs.Forms.{all_more}
-use Rattle.cql_rewrite.proofs.Least.{least_of_all_pushed}
+use Rattle.cql_rewrite.proofs.Forms.{added_always}
+use Rattle.cql_rewrite.proofs.Least.{always_costs}
 use Rattle.cql_rewrite.proofs.parts.add_one.Goals as goal
 
-pub returns-in_ok-add_range-in-Range-clause-stands : goal.returns-in_ok-add_range-in-Range-clause-stands
-returns-in_ok-add_range-in-Range-clause-stands c = λ x. rw c.in-Range.is (c.in_ok-add_range-in-Range.ensures.stands x)
-
-pub returns-in_ok-push-in_default : goal.returns-in_ok-push-in_default
-returns-in_ok-push-in_default c = record {
-  stands = λ x. rw c.in_ok-push-in_default.ensures.items (all_more (meets x) _ _);
-  costs = λ t. least_of_all_pushed t _ _ _ c.in_ok-push-in_default.ensures.items;
+pub returns-then-is_always : goal.returns-then-is_always
+returns-then-is_always c = record {
+  stands = λ x. added_always x c.args.part (list_all (meets x) c.args.parts.now.items) (c.if-is_always.ensures refl);
+  costs = λ t. always_costs t c.args.parts.now.items c.args.part (c.if-is_always.ensures refl);
 }

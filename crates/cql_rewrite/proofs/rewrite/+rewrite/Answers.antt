@@ -14,9 +14,9 @@ normal_parts-loop-part-preserved m c = record {
 
 pub normal_parts-loop-part-else-all-preserved : goal.normal_parts-loop-part-else-all-preserved
 normal_parts-loop-part-else-all-preserved m c = record {
-  stands = λ x. grind (arith, common_steps, c.loop-part-else-all.invariant.stands x, c.in_ok-form-2.ensures.stands x, c.in_ok-push.ensures.items);
-  costs = λ t. or_next c.args.side t c.loop-part-else-all.forms.items c.push.new.self.items c.in_ok-form-2.form c.part-item-in-loop-part-else-all.result c.args.parts.now c.loop-part-else-all.part-index c.loop-part-else-all-test.true c.part-item-in-loop-part-else-all.is
-      c.in_ok-push.ensures.items (c.in_ok-form-2.ensures.costs t) (c.loop-part-else-all.invariant.costs t);
+  stands = λ x. grind (arith, common_steps, c.loop-part-else-all.invariant.stands x, c.in_ok-form-2.ensures.stands x, c.in_ok-add_either.ensures.stands x.item);
+  costs = λ t. or_next c.args.side t c.loop-part-else-all.forms.items c.add_either.new.parts.items c.in_ok-form-2.form c.part-item-in-loop-part-else-all.result c.args.parts.now c.loop-part-else-all.part-index c.loop-part-else-all-test.true c.part-item-in-loop-part-else-all.is
+      (c.in_ok-add_either.ensures.costs t) (c.in_ok-form-2.ensures.costs t) (c.loop-part-else-all.invariant.costs t);
 }
 
 pub normal_parts-returns-after-loop-part-clause-stands : goal.normal_parts-returns-after-loop-part-clause-stands

@@ -2,7 +2,7 @@ use Rattle.cad_feature.specs.Features.{IsFeatureOf}
 use Rattle.cad_answer.specs.Answers.{asked_of}
 use Rattle.cad_answer.specs.Slices.{after_of}
 use Rattle.cad_page.proofs.PageLemmas.{all_rows}
-use Rattle.cad_page.proofs.questions.page_asked.Goals as goal
+use Rattle.cad_page.proofs.questions.page_where.Goals as goal
 
 pub returns-clause-features : goal.returns-clause-features
 returns-clause-features c =

@@ -1,0 +1,18 @@
+//! Filters with their normal forms.
+
+ghost use Rattle.std.specs.Prelude.{◌≡◌};
+ghost use Rattle.cql_truth.specs.Sides.{yes};
+ghost use Rattle.cql_rewrite.specs.Meets.{Written, meets};
+
+use cql_rewrite::Normal;
+use cql_types::Filter;
+
+/// A filter, and its normal form, by which features are tested.
+#[derive(Clone, Copy)]
+pub struct Condition<'a> {
+    /// The filter.
+    pub filter: &'a Filter,
+    /// Its normal form.
+    pub normal: &'a Normal<'a>,
+    pub ghost stands: { (x : Written) → meets x.item normal.now ≡ yes filter.now x.item },
+}
