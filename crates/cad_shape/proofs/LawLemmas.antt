@@ -14,6 +14,11 @@ use Rattle.cad_shape.specs.Crossings.{IsFirstCrossing}
 use Rattle.cad_shape.specs.Boxes.{IsExtent}
 use Rattle.cad_shape.specs.Rings.{corners_of, IsRingFault}
 use lib.Dec.{T_prop}
+use Rattle.cad_shape.specs.declared.ring.Ring.{Ring}
+use Rattle.cad_shape.specs.declared.polygon.RegionFault.{RegionFault}
+use Rattle.cad_shape.specs.declared.polygon.RegionFault.TheVariants as region
+use Rattle.cad_shape.specs.Polygons.{AreFew, IsFirstOutside}
+use Rattle.cad_shape.specs.RegionRings.{IsRegionFault}
 use Rattle.cad_shape.specs.declared.ring.RingFault.{RingFault}
 use Rattle.cad_shape.specs.declared.ring.RingFault.TheVariants.{TooFew, TooMany, Crosses, Flat}
 use Rattle.cad_shape.specs.Shapes.{shape_corners, IsIn, SomeIn, RegionsMeet, Meets, IsWithin}
@@ -127,7 +132,7 @@ all_unpushed : {X : Type 0} (P : X → Type 0) (xs : List X) (x : X) → AllByRe
 all_unpushed P [] x h = h
 all_unpushed P (y ∷ ys) x h = let k = all_unpushed P ys x h.1 in (k.0, (h.0, k.1))
 
-ring_corners_in : (cs : List Point) → All (λ (c : Point). IsInRegion c (edges_of cs)) cs
+pub ring_corners_in : (cs : List Point) → All (λ (c : Point). IsInRegion c (edges_of cs)) cs
 ring_corners_in [] = All-nil (λ (c : Point). IsInRegion c [])
 ring_corners_in (p ∷ qs) =
     All-from_recursion (λ (c : Point). IsInRegion c (edges_of (p ∷ qs))) (p ∷ qs)
@@ -203,3 +208,27 @@ one_fault corners (Crosses i j) TooFew h k = let n = h.0 in absurd (omega arith)
 one_fault corners (Crosses i j) TooMany h k = let n = h.0 in absurd (omega arith)
 one_fault corners (Crosses i j) Flat h k = absurd (h.1 k.1)
 one_fault corners (Crosses i j) (Crosses k l) f g = let e = one_crossing (edges_of corners) i j k l f.2 g.2 in ap₂ Crosses e.0 e.1
+
+pub one_outside : (rings : List Ring) (i k : ℕ) → IsFirstOutside rings i → IsFirstOutside rings k → k ≡ i
+one_outside rings i k f g = ⊎_elim
+    (λ d. absurd (g.first i d f.outside))
+    (λ d. ⊎_elim (λ e. absurd (f.first k e g.outside)) (λ e. omega arith) (cases_lt k i))
+    (cases_lt i k)
+
+are_many : (rings : List Ring) → AreFew rings → ¬ (IsRegionFault rings region.TooMany)
+are_many rings h k = ⊎_elim (λ l. absurd (omega arith)) (λ l. absurd (omega arith)) k
+
+are_none : (rings : List Ring) → length rings ≡ 0 → AreFew rings
+are_none [] h = (omega arith, omega arith)
+are_none (r ∷ rs) h = absurd (omega arith)
+
+pub one_region_fault : (rings : List Ring) (fault other : RegionFault) → IsRegionFault rings fault → IsRegionFault rings other → other ≡ fault
+one_region_fault rings region.NoRing region.NoRing h k = refl
+one_region_fault rings region.NoRing region.TooMany h k = absurd (are_many rings (are_none rings h) k)
+one_region_fault rings region.NoRing (region.Outside i) h k = let w = k.1.within in absurd (omega arith)
+one_region_fault rings region.TooMany region.NoRing h k = absurd (are_many rings (are_none rings k) h)
+one_region_fault rings region.TooMany region.TooMany h k = refl
+one_region_fault rings region.TooMany (region.Outside i) h k = absurd (are_many rings k.0 h)
+one_region_fault rings (region.Outside i) region.NoRing h k = let w = h.1.within in absurd (omega arith)
+one_region_fault rings (region.Outside i) region.TooMany h k = absurd (are_many rings h.0 k)
+one_region_fault rings (region.Outside i) (region.Outside j) h k = ap region.Outside (one_outside rings i j h.1 k.1)

@@ -12,4 +12,5 @@ pub mod ShapeLemmas
 pub mod Neighbours
 pub mod LawLemmas
 pub mod PlainRingLemmas
+pub mod RegionLemmas
 mod TestLemmas

@@ -5,11 +5,15 @@ use Rattle.cad_shape.specs.declared.point.Point.{Point}
 use Rattle.cad_shape.specs.declared.boxes.Bounds.{Bounds}
 use Rattle.cad_shape.specs.declared.ring.Ring.{Ring}
 use Rattle.cad_shape.specs.declared.ring.RingFault.{RingFault}
+use Rattle.cad_shape.specs.declared.polygon.Region.{Region}
+use Rattle.cad_shape.specs.declared.polygon.RegionFault.{RegionFault}
 use Rattle.cad_shape.specs.declared.shape.Shape.{Shape}
 use Rattle.cad_shape.specs.Edges.{edges_of}
 use Rattle.cad_shape.specs.Frames.{IsHeld, Overlap, IsLeastBounds}
 use Rattle.cad_shape.specs.Outlines.{IsRing}
 use Rattle.cad_shape.specs.PlainRings.{coordinates, is_plain_ring}
+use Rattle.cad_shape.specs.Polygons.{IsRegion}
+use Rattle.cad_shape.specs.RegionRings.{rings_of, IsRegionFault}
 use Rattle.cad_shape.specs.Regions.{CrossesRight, passes, IsInRegion}
 use Rattle.cad_shape.specs.Rings.{corners_of, IsRingFault}
 use Rattle.cad_shape.specs.Segments.{Meet}
@@ -43,6 +47,14 @@ OneFaultAlone = (corners : List Point) (fault : RingFault) → IsRingFault corne
 -- two rings of one list of corners are one value
 abbrev pub CornersMakeTheRing : Type 0
 CornersMakeTheRing = (a b : Ring) → corners_of a ≡ corners_of b → a ≡ b
+
+-- a list of rings has one fault alone, and with one it is no region
+abbrev pub OneRegionFaultAlone : Type 0
+OneRegionFaultAlone = (rings : List Ring) (fault : RegionFault) → IsRegionFault rings fault → ¬ (IsRegion rings) × ((other : RegionFault) → IsRegionFault rings other → other ≡ fault)
+
+-- two regions of one list of rings are one value
+abbrev pub RingsMakeTheRegion : Type 0
+RingsMakeTheRegion = (a b : Region) → rings_of a ≡ rings_of b → a ≡ b
 
 -- corners have one least box
 abbrev pub OneLeastBox : Type 0

@@ -8,6 +8,8 @@ pub mod Areas
 pub mod Crossings
 pub mod Outlines
 pub mod Rings
+pub mod Polygons
+pub mod RegionRings
 pub mod Shapes
 pub mod Laws
 pub mod PlainRings

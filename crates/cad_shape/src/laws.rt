@@ -1,7 +1,7 @@
 //! Laws of segments, regions and shapes, each proved for the definitions that the contracts cite. Nothing runs here.
 
 ghost use Rattle.cad_shape.specs.Laws.{SegmentsMeetEitherWay, CountedEdgesCross, TurningKeepsRegions, OrderKeepsRegions};
-ghost use Rattle.cad_shape.specs.Laws.{OneFaultAlone, CornersMakeTheRing, OneLeastBox, MeetingIsSymmetric, CornersLieInside};
+ghost use Rattle.cad_shape.specs.Laws.{OneFaultAlone, CornersMakeTheRing, OneRegionFaultAlone, RingsMakeTheRegion, OneLeastBox, MeetingIsSymmetric, CornersLieInside};
 ghost use Rattle.cad_shape.specs.Laws.{BoundsHoldTheShape, BoundsOverlap, PlainRingsAreRings, WithinMeets, TestsTell};
 
 /// Segments that meet do so whichever is named first, and from whichever end.
@@ -37,6 +37,16 @@ pub fn one_fault_alone()
 /// Two rings of one list of corners are one value.
 pub fn corners_make_the_ring()
     ensures { CornersMakeTheRing }
+{}
+
+/// A list of rings has one fault alone, and with one it is no region.
+pub fn one_region_fault_alone()
+    ensures { OneRegionFaultAlone }
+{}
+
+/// Two regions of one list of rings are one value.
+pub fn rings_make_the_region()
+    ensures { RingsMakeTheRegion }
 {}
 
 /// Corners have one least box.

@@ -3,6 +3,7 @@
 //! - `Point`: a point within 100,000 kilometres of the origin either way.
 //! - `Bounds`: a closed box with sides along the axes.
 //! - `Ring`: a simple closed line with area through 3 to 1,000 corners; `RingFault` says why a list of corners is none.
+//! - `Region`: an outer ring and the holes in it, at most 100 rings; `RegionFault` says why a list of rings is none.
 //! - `Shape`: a point, a box or the region inside a ring; `ShapeRef`: the same with the ring lent.
 //! - `segments_meet`: whether two segments share a point.
 //! - `in_region`: whether a point lies in the region inside a ring.
@@ -24,6 +25,7 @@ mod crossing;
 pub mod laws;
 mod meeting;
 mod point;
+mod polygon;
 mod region;
 mod relation;
 mod ring;
@@ -32,6 +34,7 @@ mod shape;
 
 pub use boxes::Bounds;
 pub use point::Point;
+pub use polygon::{Region, RegionFault};
 pub use relation::{bounds, in_region, meets, within};
 pub use ring::{Ring, RingFault};
 pub use segment::segments_meet;

@@ -1,0 +1,204 @@
+//! Regions with holes, by their rings.
+
+ghost use Rattle.std.specs.Prelude.{◌≡◌, ◌↔◌, ◌<◌, ◌≤◌, IsTrue, length, MatchOption};
+ghost use Rattle.cad_shape.specs.Polygons.{rings_corners, AreFew, ReachesOut, NoneOutside, IsFirstOutside};
+ghost use Rattle.cad_shape.specs.Rings.{corners_of};
+
+use crate::relation::in_region;
+use crate::{Bounds, Ring};
+use std::alloc::{AllocError, Global};
+use std::marker::Model;
+use thiserror::Error;
+
+// The list of rings, so that two regions of one list of rings are one value.
+#[derive(Debug, Drop)]
+struct Rings {
+    list: Vec<Ring>,
+}
+
+impl Model for Rings {
+    ghost use Rattle.std.specs.Prelude.{List};
+    ghost use Rattle.cad_shape.specs.declared.ring.Ring.{Ring};
+
+    ghost Value = { List Ring };
+
+    ghost view = { λ rings. rings.list.items };
+}
+
+/// A part of the plane inside an exterior boundary, which is the first of its rings, and outside all others, which are
+/// its holes. Edges are taken in, those of holes too. Holes lie in the region of the exterior boundary; they may touch it
+/// and each other.
+#[derive(Debug, Drop)]
+pub struct Region {
+    rings: Rings,
+    pub ghost some: { 0 < length rings },
+    pub ghost not_too_many_rings: { length rings ≤ 100 },
+    pub ghost not_too_many_corners: { length (rings_corners rings) ≤ 1000 },
+    pub ghost inside: { NoneOutside rings },
+}
+
+/// Why a list of rings is no region.
+#[derive(Clone, Copy, Debug, PartialEq, Eq, Error)]
+pub enum RegionFault {
+    /// No exterior boundary.
+    #[error("a region has a ring")]
+    NoRing,
+    /// More than 100 rings, or more than 1,000 corners together.
+    #[error("a region has at most 100 rings, and at most 1,000 corners together")]
+    TooMany,
+    /// The first ring, where the exterior boundary is ring 0, with a corner that does not lie in the exterior boundary.
+    #[error("ring {ring} does not lie in the first one")]
+    Outside { ring: u32 },
+}
+
+impl Rings {
+    ghost use Rattle.std.specs.Prelude.{IfOk};
+
+    fn as_slice(&self) -> &[Ring]
+        ensures { result.now ≡ self.now }
+    {
+        self.list.as_slice()
+    }
+
+    fn copy(&self, alloc: Global) -> Result<Rings, AllocError>
+        ensures { IfOk result (λ copy. copy ≡ self.now) }
+    {
+        let mut list = Vec::with_capacity(alloc, self.list.len())?;
+        for ring in &self.list {
+            list.push(ring.copy(alloc)?)?;
+        }
+        Ok(Rings { list })
+    }
+}
+
+impl Region {
+    ghost use Rattle.std.specs.Prelude.{IfOk, MatchResult};
+    ghost use Rattle.cad_shape.specs.Frames.{IsLeastBounds};
+    ghost use Rattle.cad_shape.specs.RegionRings.{rings_of, outer_corners, region_corners, IsRegionFault};
+
+    /// The region of these rings, the exterior boundary first, or its first fault and the rings again.
+    pub fn new(rings: Vec<Ring>) -> Result<Region, (RegionFault, Vec<Ring>)>
+        ensures { MatchResult result
+            (λ region. rings_of region ≡ rings.items)
+            (λ refusal. IsRegionFault rings.items refusal.0 × (refusal.1 ≡ rings)) }
+    {
+        if let Some(fault) = RegionFault::first(rings.as_slice()) {
+            return Err((fault, rings));
+        }
+        let rings = Rings { list: rings };
+        Ok(Region { rings })
+    }
+
+    /// The rings in order, the exterior boundary first.
+    pub fn rings(&self) -> &[Ring]
+        ensures { result.now ≡ rings_of self.now }
+    {
+        self.rings.as_slice()
+    }
+
+    /// The least box that holds the exterior boundary, and with it all rings.
+    pub fn bounds(&self) -> Bounds
+        ensures outer { IsLeastBounds result (outer_corners self.now) }
+        ensures all { IsLeastBounds result (region_corners self.now) }
+    {
+        self.rings.as_slice()[0].bounds()
+    }
+
+    /// The same region once more.
+    pub fn copy(&self, alloc: Global) -> Result<Region, AllocError>
+        ensures { IfOk result (λ copy. copy ≡ self.now) }
+    {
+        let rings = self.rings.copy(alloc)?;
+        Ok(Region { rings })
+    }
+}
+
+// How many corners the rings have together.
+fn corners_together(rings: &[Ring]) -> usize
+    requires { length rings.now ≤ 100 }
+    ensures { result ≡ length (rings_corners rings.now) }
+{
+    let mut count = 0;
+    for ring in rings {
+        count += ring.corners().len();
+    }
+    count
+}
+
+fn are_few(rings: &[Ring]) -> bool
+    ensures { IsTrue result ↔ AreFew rings.now }
+{
+    rings.len() <= 100 && corners_together(rings) <= 1000
+}
+
+// Whether some corner of the ring does not lie in the region of the outer one.
+fn reaches_out(outer: &Ring, ring: &Ring) -> bool
+    ensures { IsTrue result ↔ ReachesOut (corners_of outer.now) (corners_of ring.now) }
+{
+    for corner in ring.corners() {
+        if !in_region(*corner, outer) {
+            return true;
+        }
+    }
+    false
+}
+
+// The first ring that does not lie in the region of the first of all, if there is one.
+fn first_outside(rings: &[Ring]) -> Option<usize>
+    requires { 0 < length rings.now }
+    ensures { MatchOption result (NoneOutside rings.now) (λ i. IsFirstOutside rings.now i) }
+{
+    for i in 1..rings.len() {
+        if reaches_out(&rings[0], &rings[i]) {
+            return Some(i);
+        }
+    }
+    None
+}
+
+impl RegionFault {
+    ghost use Rattle.cad_shape.specs.Polygons.{IsRegion};
+    ghost use Rattle.cad_shape.specs.RegionRings.{IsRegionFault, region_fault_row};
+
+    // The first fault of these rings, if they have one.
+    fn first(rings: &[Ring]) -> Option<RegionFault>
+        ensures { MatchOption result (IsRegion rings.now) (λ fault. IsRegionFault rings.now fault) }
+    {
+        if rings.is_empty() {
+            return Some(RegionFault::NoRing);
+        }
+        if !are_few(rings) {
+            return Some(RegionFault::TooMany);
+        }
+        match first_outside(rings) {
+            Some(ring) => Some(RegionFault::Outside { ring: ring as u32 }),
+            None => None,
+        }
+    }
+
+    // The number and the name.
+    fn row(&self) -> (u8, &'static str)
+        ensures number { result.0 ≡ (region_fault_row self.now).0 }
+        ensures name { result.1.now ≡ (region_fault_row self.now).1 }
+    {
+        match self {
+            RegionFault::NoRing => (1, "NoRing"),
+            RegionFault::TooMany => (2, "TooMany"),
+            RegionFault::Outside { .. } => (3, "Outside"),
+        }
+    }
+
+    /// The fault's number, from 1.
+    pub fn number(&self) -> u8
+        ensures { result ≡ (region_fault_row self.now).0 }
+    {
+        self.row().0
+    }
+
+    /// The fault's name, for messages.
+    pub fn name(&self) -> &'static str
+        ensures { result.now ≡ (region_fault_row self.now).1 }
+    {
+        self.row().1
+    }
+}
