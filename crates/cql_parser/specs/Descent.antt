@@ -58,7 +58,7 @@ want_pair (for_slot ss op ts k) = want_slot whole_slot (sign_slot comma_sign ∷
 abbrev pub have_corner : ForSlot → Corner → State
 have_corner (for_slot ss op ts k) c = want_slots ss op (ts ++ numbers_of (c ∷ [])) k
 
--- around a ring
+-- before a ring
 abbrev pub want_ring : ForPrimary → State
 want_ring k = want_slots ring_slots ring_op [] k
 
