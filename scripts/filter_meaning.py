@@ -32,10 +32,11 @@ def span(begin, end):
     return (begin or FIRST, end or LAST)
 
 
-def shape_of(value):
+def shape_of(value, holes=()):
+    """A point, or the region inside a list of corners, without those of its holes."""
     if value is None:
         return None
-    return ("spot", value) if isinstance(value, tuple) else ("region", value)
+    return ("spot", value) if isinstance(value, tuple) else ("region", [value, *holes])
 
 
 def features(collection):
@@ -50,7 +51,7 @@ def features(collection):
         yield f"{object_}.{number}", values
 
 
-# ---- shapes: ("spot", point), ("region", corners) or ("frame", low, high); fractions never arise
+# ---- shapes: ("spot", point), ("region", rings) or ("frame", low, high); fractions never arise
 
 def turn(p, q, r):
     return (q[0] - p[0]) * (r[1] - p[1]) - (q[1] - p[1]) * (r[0] - p[0])
@@ -67,16 +68,19 @@ def segments_meet(a, b, c, d):
     return turn(a, b, c) * turn(a, b, d) < 0 and turn(c, d, a) * turn(c, d, b) < 0
 
 
-def corners_of(shape):
+def rings_of(shape):
     if shape[0] == "region":
         return shape[1]
     (x, y), (u, v) = shape[1], shape[2]
-    return [(x, y), (u, y), (u, v), (x, v)]
+    return [[(x, y), (u, y), (u, v), (x, v)]]
+
+
+def corners_of(shape):
+    return [corner for ring in rings_of(shape) for corner in ring]
 
 
 def edges_of(shape):
-    corners = corners_of(shape)
-    return list(zip(corners, corners[1:] + corners[:1]))
+    return [edge for ring in rings_of(shape) for edge in zip(ring, ring[1:] + ring[:1])]
 
 
 def on_edge(point, shape):
@@ -158,10 +162,15 @@ def value(tree, feature):
         return day_of(parts[0][3])
     if operator == "interval":
         return interval(parts, feature)
+    if operator == "polygon":
+        return ("region", [points_of(ring[2])[:-1] for ring in parts])
+    points = points_of(parts)
+    return ("spot", points[0]) if operator == "point" else ("frame", points[0], points[1])
+
+
+def points_of(parts):
     numbers = [number(it) for it in parts]
-    points = list(zip(numbers[::2], numbers[1::2]))
-    return {"point": lambda: ("spot", points[0]), "polygon": lambda: ("region", points[:-1]),
-            "bbox": lambda: ("frame", points[0], points[1])}[operator]()
+    return list(zip(numbers[::2], numbers[1::2]))
 
 
 def interval(parts, feature):

@@ -219,13 +219,11 @@ class Reader:
         if sort == "POINT":
             return ("point", place, [self.whole(), self.whole()], None)
         if sort == "POLYGON":
-            self.take("(")
-            parts = [self.whole(), self.whole()]
+            rings = [self.ring()]
             while self.sort() == ",":
                 self.at += 1
-                parts += [self.whole(), self.whole()]
-            self.take(")")
-            return ("polygon", place, parts, None)
+                rings.append(self.ring())
+            return ("polygon", place, rings, None)
         if sort == "BBOX":
             parts = [self.whole()]
             for _ in range(3):
@@ -235,6 +233,15 @@ class Reader:
         left = self.sum()
         self.take(",")
         return ("spatial" if sort in SPATIAL else "temporal", place, [left, self.sum()], sort)
+
+    def ring(self):
+        self.take("(")
+        parts = [self.whole(), self.whole()]
+        while self.sort() == ",":
+            self.at += 1
+            parts += [self.whole(), self.whole()]
+        self.take(")")
+        return ("ring", parts[0][1], parts, None)
 
     def bound(self):
         at, sort, content = self.take("text", "name")
@@ -311,6 +318,28 @@ def is_ring(corners):
     return area != 0 and not crosses(corners)
 
 
+def is_in_ring(point, corners):
+    """Whether the point is on an edge of the ring, or inside: by the turns of the edges round it."""
+    x, y = point
+    winding = 0
+    for (a, b), (c, d) in zip(corners, corners[1:] + corners[:1]):
+        side = (c - a) * (y - b) - (x - a) * (d - b)
+        if side == 0 and min(a, c) <= x <= max(a, c) and min(b, d) <= y <= max(b, d):
+            return True
+        if b <= y < d and side > 0:
+            winding += 1
+        if d <= y < b and side < 0:
+            winding -= 1
+    return winding != 0
+
+
+def is_region(rings):
+    """Whether the lists of corners are an outer ring and holes in its closed region."""
+    if not all(is_ring(it) for it in rings) or len(rings) > 100 or sum(map(len, rings)) > 1000:
+        return False
+    return all(is_in_ring(corner, rings[0]) for hole in rings[1:] for corner in hole)
+
+
 def whole_of(spelled):
     """The value, or the cause that it has none."""
     sign, digits = (-1, spelled[1:]) if spelled.startswith("-") else (1, spelled)
@@ -376,15 +405,20 @@ def kind(tree, schema, faults):
         if kinds[0].value and kinds[1].value and kinds[0].value > kinds[1].value:
             return wrong("EndsTurned", place)
         return Kind("Span")
-    if operator in ("point", "polygon", "bbox"):
+    if operator == "ring":
         numbers = [it.value for it in kinds]
-        points = list(zip(numbers[::2], numbers[1::2]))
+        return Kind("Line", value=list(zip(numbers[::2], numbers[1::2])))
+    if operator == "polygon":
+        lines = [it.value for it in kinds]
+        good = all(abs(it) <= 10**11 for line in lines for point in line for it in point)
+        good = good and all(line[0] == line[-1] for line in lines) and is_region([line[:-1] for line in lines])
+        return Kind("Area") if good else wrong("BadShape", place)
+    if operator in ("point", "bbox"):
+        numbers = [it.value for it in kinds]
         good = all(abs(it) <= 10**11 for it in numbers)
-        if operator == "polygon":
-            good = good and points[0] == points[-1] and is_ring(points[:-1])
         if operator == "bbox":
-            good = good and points[0][0] < points[1][0] and points[0][1] < points[1][1]
-        return Kind({"point": "Spot", "polygon": "Area", "bbox": "Frame"}[operator]) if good else wrong("BadShape", place)
+            good = good and numbers[0] < numbers[2] and numbers[1] < numbers[3]
+        return Kind({"point": "Spot", "bbox": "Frame"}[operator]) if good else wrong("BadShape", place)
     condition = Kind("Condition")
     if operator in ("compare", "in"):
         ordered = operator == "compare" and extra not in ("=", "<>")

@@ -29,8 +29,8 @@ def head(object_, number, begin, end=None):
 
 
 def parcel(first, label, area, corners, spot, unit, unit_name):
-    return {**first, "label": label, "area": area, "geometry": corners and ("area", corners),
-            "reference_point": spot and ("spot", [spot]), "unit": unit, "unit_name": unit_name}
+    return {**first, "label": label, "area": area, "geometry": corners and ("area", [corners]),
+            "reference_point": spot and ("spot", [[spot]]), "unit": unit, "unit_name": unit_name}
 
 
 SQUARE = [(0, 0), (20000, 0), (20000, 20000), (0, 20000)]
@@ -77,11 +77,16 @@ def step(sign, a, b):
     return result if -2**63 <= result < 2**63 else None
 
 
-# ---- shapes: a kind and its corners
+# ---- shapes: a kind and its rings, each a list of corners; a spot is one corner
 
 def edges(shape):
-    corners = shape[1]
-    return [] if shape[0] == "spot" else list(zip(corners, corners[1:] + corners[:1]))
+    if shape[0] == "spot":
+        return []
+    return [(ring[i - 1], ring[i]) for ring in shape[1] for i in range(len(ring))]
+
+
+def corners(shape):
+    return sum(shape[1], [])
 
 
 def on_edge(p, a, b):
@@ -105,7 +110,7 @@ def share_point(e, f):
 
 def inside(p, shape):
     if shape[0] == "spot":
-        return p == shape[1][0]
+        return p == shape[1][0][0]
     if any(on_edge(p, *e) for e in edges(shape)):
         return True
     crossed = 0
@@ -117,16 +122,16 @@ def inside(p, shape):
 
 def meet(a, b):
     if "spot" in (a[0], b[0]):
-        return inside(a[1][0], b) if a[0] == "spot" else inside(b[1][0], a)
-    return (any(share_point(e, f) for e in edges(a) for f in edges(b)) or any(inside(p, b) for p in a[1])
-            or any(inside(p, a) for p in b[1]))
+        return inside(a[1][0][0], b) if a[0] == "spot" else inside(b[1][0][0], a)
+    return (any(share_point(e, f) for e in edges(a) for f in edges(b)) or any(inside(p, b) for p in corners(a))
+            or any(inside(p, a) for p in corners(b)))
 
 
 def within(a, b):
     if a[0] == "spot":
-        return inside(a[1][0], b) and not any(on_edge(a[1][0], *e) for e in edges(b))
-    return b[1][0][0] <= min(x for x, _ in a[1]) and max(x for x, _ in a[1]) <= b[1][2][0] and \
-        b[1][0][1] <= min(y for _, y in a[1]) and max(y for _, y in a[1]) <= b[1][2][1]
+        return inside(a[1][0][0], b) and not any(on_edge(a[1][0][0], *e) for e in edges(b))
+    (left, low), _, (right, high), _ = b[1][0]
+    return all(left <= x <= right and low <= y <= high for x, y in corners(a))
 
 
 SPATIAL = {"S_INTERSECTS": meet, "S_DISJOINT": lambda a, b: not meet(a, b), "S_WITHIN": within,
@@ -166,14 +171,18 @@ def value(tree, x):
         for sign, part in zip(extra, parts[1:]):
             total = step(sign, total, value(part, x))
         return total
-    numbers = [filter_model.whole_of(part[3]) for part in parts]
-    points = list(zip(numbers[::2], numbers[1::2]))
-    if operator == "point":
-        return ("spot", points)
     if operator == "polygon":
-        return ("area", points[:-1])
+        return ("area", [points_of(ring[2])[1:] for ring in parts])
+    points = points_of(parts)
+    if operator == "point":
+        return ("spot", [points])
     (x0, y0), (x1, y1) = points
-    return ("frame", [(x0, y0), (x1, y0), (x1, y1), (x0, y1)])
+    return ("frame", [[(x0, y0), (x1, y0), (x1, y1), (x0, y1)]])
+
+
+def points_of(parts):
+    numbers = [filter_model.whole_of(part[3]) for part in parts]
+    return list(zip(numbers[::2], numbers[1::2]))
 
 
 def bound(tree, x, side):

@@ -6,12 +6,12 @@ use Rattle.std.specs.declared.vec.Vec.{Vec}
 use Rattle.std.specs.Vec.{vec_len}
 use Rattle.cql_tree.specs.Syntax.{Syntax, Op, node, part, parts_of, joined, or_op, and_op, sum_op, product_op, in_op}
 use Rattle.cql_parser.specs.Machine.{in_node}
-use Rattle.cql_tree.specs.Views.{syntax_of, parts_in, syntaxes_of, terms_in, terms_of, additions_in, additions_of, term_of, factor_of, factors_in, factors_of, multiplications_in, multiplications_of}
+use Rattle.cql_tree.specs.Views.{syntax_of, syntaxes_of, terms_of, additions_in, additions_of, term_of, factor_of, factors_of, multiplications_in, multiplications_of}
 use Rattle.cql_tree.specs.Rows.{vec_parts, vec_terms, vec_additions, vec_factors, vec_multiplications}
 use Rattle.cql_tree.specs.declared.tree.Term.{Term}
 use Rattle.cql_tree.specs.declared.tree.Factor.{Factor}
-use Rattle.cql_tree.specs.declared.tree.Tree.{Tree, Row_of-Tree, end_of-Tree, more_of-Tree, items-the_row-Tree, items_hidden-the_row-Tree-0, Row_of-Term, end_of-Term, more_of-Term, items-the_row-Term, items_hidden-the_row-Term-1, Row_of-Factor, end_of-Factor, more_of-Factor, items-the_row-Factor, items_hidden-the_row-Factor-2}
-use Rattle.cql_tree.specs.declared.tree.Tree.TheBlock.{hidden-the_row-Tree-0, hidden-the_row-Term-1, hidden-the_row-Factor-2}
+use Rattle.cql_tree.specs.declared.tree.Tree.{Tree}
+use Rattle.cql_tree.specs.declared.tree.Tree.TheBlock.{hidden-the_row-Term-1, hidden-the_row-Factor-2}
 use Rattle.cql_tree.specs.declared.tree.Tree.TheVariants.{Or, And, In, Sum, Product}
 
 some_joined : {A : Type 0} (op : Op) (f : Syntax) (us : List A) (to : A → Syntax) (n : ℕ) → n ≡ length us →

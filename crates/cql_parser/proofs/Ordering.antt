@@ -2,7 +2,7 @@
 use Rattle.std.proofs.Common.{◌≡◌, ℕ, ◌+◌, ◌<◌, ◌≤◌, Bool, List, [], ◌∷◌, refl, arith}
 use Rattle.cql_lexer.specs.Mark.{Mark, at}
 use Rattle.cql_tree.specs.Syntax.{Syntax, Parts, part, parts_of, joined, node, Op, or_op, and_op, not_op, compare_op, like_op, between_op, in_op, is_null_op, sum_op, product_op, casei_op, date_op, interval_op, point_op, polygon_op, ring_op, bbox_op, spatial_op, temporal_op, keyed, place_of}
-use Rattle.cql_parser.specs.Grammar.{IsWhole, number_rule, plus_rule, minus_rule, IsBound, text_bound, name_bound, IsCornersRest, corners_end, corners_more, IsRing, ring_rule, IsNegation, plain, negated, IsOr, or_rule, IsOrRest, or_end, or_more, IsAnd, and_rule, IsAndRest, and_end, and_more, IsNot, not_rule, plain_rule, IsPredicate, predicate_rule, IsTail, no_tail, compare_tail, like_tail, between_tail, in_tail, null_tail, IsItemsRest, items_end, items_more, IsSum, sum_rule, IsSumRest, sum_end, sum_more, IsProduct, product_rule, IsProductRest, product_end, product_more, IsPrimary, paren_rule, name_rule, text_rule, whole_rule, true_rule, false_rule, casei_rule, date_rule, interval_rule, point_rule, polygon_rule, bbox_rule, spatial_rule, temporal_rule}
+use Rattle.cql_parser.specs.Grammar.{IsWhole, number_rule, plus_rule, minus_rule, IsBound, text_bound, name_bound, IsCornersRest, corners_end, corners_more, IsRing, ring_rule, IsRingsRest, rings_end, rings_more, IsNegation, plain, negated, IsOr, or_rule, IsOrRest, or_end, or_more, IsAnd, and_rule, IsAndRest, and_end, and_more, IsNot, not_rule, plain_rule, IsPredicate, predicate_rule, IsTail, no_tail, compare_tail, like_tail, between_tail, in_tail, null_tail, IsItemsRest, items_end, items_more, IsSum, sum_rule, IsSumRest, sum_end, sum_more, IsProduct, product_rule, IsProductRest, product_end, product_more, IsPrimary, paren_rule, name_rule, text_rule, whole_rule, true_rule, false_rule, casei_rule, date_rule, interval_rule, point_rule, polygon_rule, bbox_rule, spatial_rule, temporal_rule}
 use Rattle.cql_tree.specs.declared.tree.Addition.{Addition}
 use Rattle.cql_tree.specs.declared.tree.Multiplication.{Multiplication}
 use Rattle.cql_tree.specs.Order.{Ascend, InOrder, leaf_in_order, node_in_order, AreInOrder, no_part, one_part, IsOrdered}
@@ -106,6 +106,15 @@ ring_orders from (ring_rule {p} x y rest) h =
     let v = whole_orders u.0 y u.2 in
     let r = corners_order v.0 rest v.2 in
     (r.0, node_orders ring_op (λ n. refl) (earlier from (omega (arith, a)) u.1) (one_part v.1 r.1), r.2)
+
+rings_order : {xs ys : List Mark} {ts : List Syntax} (from : ℕ) → IsRingsRest xs ts ys → Ascend from xs →
+    AllOrdered from ts ys
+rings_order from (rings_end {p}) h = let a = h.0 in (p + 1, no_part (omega (arith, a)), h.1)
+rings_order from (rings_more {p} ring rest) h =
+    let a = h.0 in
+    let f = ring_orders (p + 1) ring h.1 in
+    let r = rings_order f.0 rest f.2 in
+    (r.0, one_part (earlier from (omega (arith, a)) f.1) r.1, r.2)
 
 negation_orders : {n : Bool} {xs ys : List Mark} (from : ℕ) → IsNegation n xs ys → Ascend from xs → Ascend from ys
 negation_orders from plain h = h
@@ -279,14 +288,11 @@ mutual
             (one_part (closed_orders g.0 g.1 g.2.0) (no_part (same _))),
         g.2.1,
       )
-  primary_orders from (polygon_rule {p} {q} {r} a) h =
+  primary_orders from (polygon_rule {p} {q} a rest) h =
       let e = h.1.0 in
-      let f = ring_orders (q + 1) a h.1.1 in (
-        r + 1,
-        keyed_orders (polygon_op p) p (λ n. refl) h.0
-            (earlier (p + 1) (omega (arith, e)) (closed_orders f.0 f.1 f.2.0)) (no_part (same _)),
-        f.2.1,
-      )
+      let f = ring_orders (q + 1) a h.1.1 in
+      let g = rings_order f.0 rest f.2 in
+      (g.0, keyed_orders (polygon_op p) p (λ n. refl) h.0 (earlier (p + 1) (omega (arith, e)) f.1) g.1, g.2)
   primary_orders from (bbox_rule {p} {q} {r} {u} {v} {w} a b c d) h =
       let e = h.1.0 in
       let f = whole_orders (q + 1) a h.1.1 in

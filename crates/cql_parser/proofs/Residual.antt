@@ -8,10 +8,10 @@ use Rattle.cql_tree.specs.declared.tree.Addition.{Addition}
 use Rattle.cql_tree.specs.declared.tree.Addition.TheVariants.{Plus, Minus}
 use Rattle.cql_tree.specs.declared.tree.Multiplication.{Multiplication}
 use Rattle.cql_tree.specs.declared.tree.Multiplication.TheVariants as by
-use Rattle.cql_tree.specs.Syntax.{Syntax, joined, leaf, name_leaf, number_leaf, day_leaf, bound_leaf, Op, or_op, and_op, sum_op, product_op, casei_op, date_op, interval_op, point_op, polygon_op, bbox_op, spatial_op, temporal_op}
-use Rattle.cql_parser.specs.Grammar.{IsWhole, number_rule, plus_rule, minus_rule, IsBound, text_bound, name_bound, IsCornersRest, corners_end, corners_more, ring_rule, IsNegation, negated, IsOr, or_rule, IsOrRest, or_end, or_more, IsAnd, and_rule, IsAndRest, and_end, and_more, IsNot, not_rule, plain_rule, IsPredicate, predicate_rule, IsTail, no_tail, compare_tail, like_tail, between_tail, in_tail, null_tail, IsItemsRest, items_end, items_more, IsSum, sum_rule, IsSumRest, sum_end, sum_more, IsProduct, product_rule, IsProductRest, product_end, product_more, IsPrimary, paren_rule, name_rule, text_rule, whole_rule, true_rule, false_rule, casei_rule, date_rule, interval_rule, point_rule, polygon_rule, bbox_rule, spatial_rule, temporal_rule}
+use Rattle.cql_tree.specs.Syntax.{Syntax, joined, leaf, name_leaf, number_leaf, day_leaf, bound_leaf, Op, or_op, and_op, sum_op, product_op, casei_op, date_op, interval_op, point_op, polygon_op, ring_op, bbox_op, spatial_op, temporal_op}
+use Rattle.cql_parser.specs.Grammar.{IsWhole, number_rule, plus_rule, minus_rule, IsBound, text_bound, name_bound, IsCornersRest, corners_end, corners_more, IsRing, ring_rule, IsRingsRest, rings_end, rings_more, IsNegation, negated, IsOr, or_rule, IsOrRest, or_end, or_more, IsAnd, and_rule, IsAndRest, and_end, and_more, IsNot, not_rule, plain_rule, IsPredicate, predicate_rule, IsTail, no_tail, compare_tail, like_tail, between_tail, in_tail, null_tail, IsItemsRest, items_end, items_more, IsSum, sum_rule, IsSumRest, sum_end, sum_more, IsProduct, product_rule, IsProductRest, product_end, product_more, IsPrimary, paren_rule, name_rule, text_rule, whole_rule, true_rule, false_rule, casei_rule, date_rule, interval_rule, point_rule, polygon_rule, bbox_rule, spatial_rule, temporal_rule}
 use Rattle.cql_parser.specs.Grammar as grammar
-use Rattle.cql_parser.specs.Machine.{Sign, comma_sign, close_sign, Slot, open_slot, sign_slot, text_slot, bound_slot, whole_slot, corners_slot, sum_slot, ForOr, whole, in_paren, ForAnd, or_part, ForNot, and_part, ForPredicate, plain, under_not, ForSum, left, right, pattern, low, high, item, argument, ForProduct, sum_part, ForPrimary, product_part, ForWhole, as_primary, as_slot, State, want_not, want_primary, after_sign, after_not, after_in, after_is, want_null, want_slot, have_factors, have_terms, have_sum, have_items, have_ands, have_ors, have_or, want_product, want_sum, want_predicate, want_and, want_or, have_primary, have_predicate, have_whole, want_slots, not_node, compare_node, like_node, between_node, in_node, null_node, filled, Inner, tails, adds, multiplies, Role, joins_or, joins_and, inner, role_of, Step, refuse, whole_tree, go_on, or_step, ors_step, and_step, ands_step, not_step, predicate_step, left_step, low_step, item_step, sign_step, sum_step, terms_step, product_step, factors_step, two_sums, date_slots, interval_slots, point_slots, polygon_slots, bbox_slots, begin_digits, begin_whole, begin_primary, begin_not, begin_negated, begin_items, begin_null, begin_is, slot_step, on_first, step}
+use Rattle.cql_parser.specs.Machine.{Sign, comma_sign, close_sign, Slot, open_slot, sign_slot, text_slot, bound_slot, whole_slot, corners_slot, sum_slot, ForOr, whole, in_paren, ForAnd, or_part, ForNot, and_part, ForPredicate, plain, under_not, ForSum, left, right, pattern, low, high, item, argument, ForProduct, sum_part, ForPrimary, product_part, ring_part, ForWhole, as_primary, as_slot, State, want_not, want_primary, after_sign, after_not, after_in, after_is, want_null, want_slot, have_factors, have_terms, have_sum, have_items, have_rings, have_ands, have_ors, have_or, want_product, want_sum, want_predicate, want_and, want_or, have_primary, have_predicate, have_whole, want_slots, not_node, compare_node, like_node, between_node, in_node, null_node, filled, Inner, tails, adds, multiplies, Role, joins_or, joins_and, inner, role_of, Step, refuse, whole_tree, go_on, or_step, ors_step, and_step, ands_step, not_step, predicate_step, left_step, low_step, item_step, sign_step, sum_step, terms_step, product_step, factors_step, two_sums, date_slots, interval_slots, point_slots, ring_slots, polygon_slots, bbox_slots, begin_digits, begin_whole, begin_primary, begin_not, begin_negated, begin_items, begin_null, begin_is, slot_step, rings_step, on_first, step}
 
 -- ---- the parts of a rule that no line of the grammar names
 
@@ -112,6 +112,9 @@ abbrev mutual
   GetsPrimary (product_part ms us k) t xs tree =
       (signs : List Multiplication) × (ts : List Syntax) × (ys : List Mark) × IsProductRest xs signs ts ys ×
       GetsProduct k (joined (product_op (ms ++ signs)) ((us ++ t ∷ []) ++ ts)) ys tree
+  GetsPrimary (ring_part p us k) t xs tree =
+      (ts : List Syntax) × (ys : List Mark) × IsRingsRest xs ts ys ×
+      GetsPrimary k (filled (polygon_op p) ((us ++ t ∷ []) ++ ts)) ys tree
 
 -- the slots are filled, and the tokens behind them complete the whole
 abbrev pub GetsSlots : List Slot → Op → List Syntax → ForPrimary → List Mark → Syntax → Type 0
@@ -144,6 +147,8 @@ Completes (have_terms k js us) xs tree =
 Completes (have_sum k t) xs tree = GetsSum k t xs tree
 Completes (have_items n a us k) xs tree =
     (ts : List Syntax) × (ys : List Mark) × IsItemsRest xs ts ys × GetsPredicate k (in_node n a (us ++ ts)) ys tree
+Completes (have_rings p us k) xs tree =
+    (ts : List Syntax) × (ys : List Mark) × IsRingsRest xs ts ys × GetsPrimary k (filled (polygon_op p) (us ++ ts)) ys tree
 Completes (have_ands k us) xs tree =
     (ts : List Syntax) × (ys : List Mark) × IsAndRest xs ts ys × GetsAnd k (joined and_op (us ++ ts)) ys tree
 Completes (have_ors k us) xs tree =
@@ -162,10 +167,12 @@ Follows (go_on s) (x ∷ xs) tree = Completes s xs tree
 primary_completes : (k : ForPrimary) (t : Syntax) (xs : List Mark) (tree : Syntax) → GetsPrimary k t xs tree →
     Completes (have_primary k t) xs tree
 primary_completes (product_part ms us k) t xs tree h = h
+primary_completes (ring_part p us k) t xs tree h = h
 
 primary_gets : (k : ForPrimary) (t : Syntax) (xs : List Mark) (tree : Syntax) → Completes (have_primary k t) xs tree →
     GetsPrimary k t xs tree
 primary_gets (product_part ms us k) t xs tree h = h
+primary_gets (ring_part p us k) t xs tree h = h
 
 predicate_completes : (k : ForPredicate) (t : Syntax) (xs : List Mark) (tree : Syntax) → GetsPredicate k t xs tree →
     Completes (have_predicate k t) xs tree
@@ -694,16 +701,16 @@ whole_began k (at p s ∷ xs) tree h = absurd h
 
 -- ---- functions and literals
 
-corners_fill : {zs ys : List Mark} {ts : List Syntax} {r : ℕ} → IsCornersRest zs ts (at r closing ∷ ys) →
-    Fills (corners_slot ∷ sign_slot close_sign ∷ []) zs ts ys
-corners_fill corners_end = fill_last (fill_sign closed fill_end)
+corners_fill : {zs ys : List Mark} {ts : List Syntax} → IsCornersRest zs ts ys → Fills (corners_slot ∷ []) zs ts ys
+corners_fill corners_end = fill_last fill_end
 corners_fill (corners_more x y rest) = fill_corner (fill_whole x (fill_whole y (corners_fill rest)))
 
-corners_filled : {zs ys : List Mark} {ts : List Syntax} → Fills (corners_slot ∷ sign_slot close_sign ∷ []) zs ts ys →
-    (r : ℕ) × IsCornersRest zs ts (at r closing ∷ ys)
-corners_filled (fill_last (fill_sign closed fill_end)) = (_, corners_end)
-corners_filled (fill_corner (fill_whole x (fill_whole y f))) =
-    let c = corners_filled f in (c.0, corners_more x y c.1)
+corners_filled : {zs ys : List Mark} {ts : List Syntax} → Fills (corners_slot ∷ []) zs ts ys → IsCornersRest zs ts ys
+corners_filled (fill_last fill_end) = corners_end
+corners_filled (fill_corner (fill_whole x (fill_whole y f))) = corners_more x y (corners_filled f)
+
+ring_filled : {ts : List Syntax} {xs ys : List Mark} → Fills ring_slots xs ts ys → IsRing xs (filled ring_op ts) ys
+ring_filled (fill_open (fill_whole x (fill_whole y f))) = ring_rule x y (corners_filled f)
 
 casei_joins : {p : ℕ} {ts : List Syntax} {xs ys : List Mark} → Fills (open_slot ∷ sum_slot close_sign ∷ []) xs ts ys →
     IsPrimary (at p (word Casei) ∷ xs) (filled (casei_op p) ts) ys
@@ -721,10 +728,9 @@ point_joins : {p : ℕ} {ts : List Syntax} {xs ys : List Mark} → Fills point_s
     IsPrimary (at p (word Point) ∷ xs) (filled (point_op p) ts) ys
 point_joins (fill_open (fill_whole x (fill_whole y (fill_sign closed fill_end)))) = point_rule x y
 
-polygon_joins : {p : ℕ} {ts : List Syntax} {xs ys : List Mark} → Fills polygon_slots xs ts ys →
-    IsPrimary (at p (word Polygon) ∷ xs) (filled (polygon_op p) ts) ys
-polygon_joins (fill_open (fill_open (fill_whole x (fill_whole y f)))) =
-    let c = corners_filled f in polygon_rule (ring_rule x y c.1)
+polygon_joins : {p : ℕ} {ts us : List Syntax} {xs ys zs : List Mark} → Fills polygon_slots xs ts ys → IsRingsRest ys us zs →
+    IsPrimary (at p (word Polygon) ∷ xs) (filled (polygon_op p) (filled ring_op ts ∷ us)) zs
+polygon_joins (fill_open f) rest = polygon_rule (ring_filled f) rest
 
 bbox_joins : {p : ℕ} {ts : List Syntax} {xs ys : List Mark} → Fills bbox_slots xs ts ys →
     IsPrimary (at p (word Bbox) ∷ xs) (filled (bbox_op p) ts) ys
@@ -739,6 +745,34 @@ spatial_joins (fill_open (fill_sum a parted (fill_sum b closed fill_end))) = spa
 temporal_joins : {p : ℕ} {c : Relation} {ts : List Syntax} {xs ys : List Mark} → Fills two_sums xs ts ys →
     IsPrimary (at p (word (Temporal c)) ∷ xs) (filled (temporal_op p c) ts) ys
 temporal_joins (fill_open (fill_sum a parted (fill_sum b closed fill_end))) = temporal_rule a b
+
+-- ---- behind a ring
+
+rings_to : {xs ys : List Mark} {ts : List Syntax} (p : ℕ) (us : List Syntax) (k : ForPrimary) (tree : Syntax) →
+    IsRingsRest xs ts ys → GetsPrimary k (filled (polygon_op p) (us ++ ts)) ys tree →
+    Follows (rings_step (role_of xs) p us k) xs tree
+rings_to {ys = ys} p us k tree rings_end g =
+    primary_completes k (filled (polygon_op p) us) ys tree (rw (append-nil us) at g)
+rings_to p us k tree (rings_more {t} {ts} (ring_rule x y corners) rest) g = (
+  _,
+  _,
+  fill_open (fill_whole x (fill_whole y (corners_fill corners))),
+  (_, _, rest, rw (append_assoc us (t ∷ []) ts) g),
+)
+
+rings_from : (p : ℕ) (us : List Syntax) (k : ForPrimary) (xs : List Mark) (tree : Syntax) →
+    Follows (rings_step (role_of xs) p us k) xs tree →
+    (ts : List Syntax) × (ys : List Mark) × IsRingsRest xs ts ys × GetsPrimary k (filled (polygon_op p) (us ++ ts)) ys tree
+rings_from p us k (at q closing ∷ xs) tree h =
+    ([], xs, rings_end, rw (append-nil us) (primary_gets k (filled (polygon_op p) us) xs tree h))
+rings_from p us k (at q comma ∷ xs) tree h = (
+  filled ring_op h.0 ∷ h.3.0,
+  h.3.1,
+  rings_more (ring_filled h.2) h.3.2,
+  rw (append_assoc us (filled ring_op h.0 ∷ []) h.3.0) at h.3.3,
+)
+rings_from p us k (at q (word And) ∷ xs) tree h = absurd h
+rings_from p us k xs tree h = absurd h
 
 -- ---- a primary begins
 
@@ -757,8 +791,8 @@ primary_begins k tree date_rule g = (_, _, fill_open (fill_text (fill_sign close
 primary_begins k tree (interval_rule a b) g =
     (_, _, fill_open (fill_bound a (fill_sign parted (fill_bound b (fill_sign closed fill_end)))), g)
 primary_begins k tree (point_rule x y) g = (_, _, fill_open (fill_whole x (fill_whole y (fill_sign closed fill_end))), g)
-primary_begins k tree (polygon_rule (ring_rule x y rest)) g =
-    (_, _, fill_open (fill_open (fill_whole x (fill_whole y (corners_fill rest)))), g)
+primary_begins k tree (polygon_rule (ring_rule x y corners) rest) g =
+    (_, _, fill_open (fill_open (fill_whole x (fill_whole y (corners_fill corners)))), (_, _, rest, g))
 primary_begins k tree (bbox_rule a b c d) g = (
   _,
   _,
@@ -792,7 +826,7 @@ primary_began k (at p (word Casei) ∷ xs) tree h = (_, _, casei_joins h.2, h.3)
 primary_began k (at p (word Date) ∷ xs) tree h = (_, _, date_joins h.2, h.3)
 primary_began k (at p (word Interval) ∷ xs) tree h = (_, _, interval_joins h.2, h.3)
 primary_began k (at p (word Point) ∷ xs) tree h = (_, _, point_joins h.2, h.3)
-primary_began k (at p (word Polygon) ∷ xs) tree h = (_, _, polygon_joins h.2, h.3)
+primary_began k (at p (word Polygon) ∷ xs) tree h = (_, _, polygon_joins h.2 h.3.2, h.3.3)
 primary_began k (at p (word Bbox) ∷ xs) tree h = (_, _, bbox_joins h.2, h.3)
 primary_began k (at p (word (Spatial c)) ∷ xs) tree h = (_, _, spatial_joins h.2, h.3)
 primary_began k (at p (word (Temporal c)) ∷ xs) tree h = (_, _, temporal_joins h.2, h.3)
@@ -944,6 +978,7 @@ step_to (have_factors k ms us) xs tree h = factors_to k ms us xs tree h
 step_to (have_terms k js us) xs tree h = terms_to k js us xs tree h
 step_to (have_sum k t) xs tree h = sum_to k t xs tree h
 step_to (have_items n a us k) xs tree h = items_to n a us k tree h.2 h.3
+step_to (have_rings p us k) xs tree h = rings_to p us k tree h.2 h.3
 step_to (have_ands k us) xs tree h = ands_to k us xs tree h
 step_to (have_ors k us) xs tree h = ors_to k us xs tree h
 step_to (have_or k t) xs tree h = or_to k t xs tree h
@@ -962,6 +997,7 @@ step_from (have_factors k ms us) xs tree h = factors_from k ms us xs tree h
 step_from (have_terms k js us) xs tree h = terms_from k js us xs tree h
 step_from (have_sum k t) xs tree h = sum_from k t xs tree h
 step_from (have_items n a us k) xs tree h = items_from n a us k xs tree h
+step_from (have_rings p us k) xs tree h = rings_from p us k xs tree h
 step_from (have_ands k us) xs tree h = ands_from k us xs tree h
 step_from (have_ors k us) xs tree h = ors_from k us xs tree h
 step_from (have_or k t) xs tree h = or_from k t xs tree h

@@ -2,9 +2,9 @@
 use Rattle.std.proofs.Common.{◌≡◌, ℕ, true, false, List, [], ◌∷◌, ◌++◌, refl, subst, ap}
 use Rattle.cql_lexer.specs.Mark.{Sort, Mark, at, opening, closing, comma, word, text, number}
 use Rattle.cql_lexer.specs.declared.token.Keyword.TheVariants.{And, Like, Null}
-use Rattle.cql_tree.specs.Syntax.{Syntax, leaf, number_leaf, day_leaf, bound_leaf, joined, or_op, and_op, sum_op, product_op}
-use Rattle.cql_parser.specs.Grammar.{or_end, and_end, plain_rule, predicate_rule, no_tail, items_end, IsSum, sum_rule, sum_end, product_rule, product_end, whole_rule, number_rule, text_bound}
-use Rattle.cql_parser.specs.Machine.{Sign, comma_sign, close_sign, Slot, open_slot, sign_slot, text_slot, bound_slot, whole_slot, corners_slot, sum_slot, ForOr, whole, in_paren, ForAnd, or_part, ForNot, and_part, ForPredicate, plain, under_not, ForSum, left, right, pattern, low, high, item, argument, ForProduct, sum_part, ForPrimary, product_part, ForWhole, as_primary, as_slot, State, want_not, want_primary, after_sign, after_not, after_in, after_is, want_null, want_slot, have_factors, have_terms, have_sum, have_items, have_ands, have_ors, have_or, not_node, compare_node, like_node, between_node, in_node, null_node, filled, Step, refuse, whole_tree, go_on, step, Outcome, spells, stops, ended, continued, run}
+use Rattle.cql_tree.specs.Syntax.{Syntax, leaf, number_leaf, day_leaf, bound_leaf, joined, or_op, and_op, sum_op, product_op, polygon_op}
+use Rattle.cql_parser.specs.Grammar.{rings_end, or_end, and_end, plain_rule, predicate_rule, no_tail, items_end, IsSum, sum_rule, sum_end, product_rule, product_end, whole_rule, number_rule, text_bound}
+use Rattle.cql_parser.specs.Machine.{Sign, comma_sign, close_sign, Slot, open_slot, sign_slot, text_slot, bound_slot, whole_slot, corners_slot, sum_slot, ForOr, whole, in_paren, ForAnd, or_part, ForNot, and_part, ForPredicate, plain, under_not, ForSum, left, right, pattern, low, high, item, argument, ForProduct, sum_part, ForPrimary, product_part, ring_part, ForWhole, as_primary, as_slot, State, want_not, want_primary, after_sign, after_not, after_in, after_is, want_null, want_slot, have_factors, have_terms, have_sum, have_items, have_rings, have_ands, have_ors, have_or, not_node, compare_node, like_node, between_node, in_node, null_node, filled, Step, refuse, whole_tree, go_on, step, Outcome, spells, stops, ended, continued, run}
 use Rattle.cql_parser.proofs.Residual.{Takes, closed, parted, digits, high_end, items, is_null, null, not_like, Fills, fill_end, fill_open, fill_sign, fill_text, fill_bound, fill_whole, fill_last, fill_sum, GetsOr, GetsAnd, GetsNot, GetsPredicate, GetsSum, GetsProduct, GetsPrimary, GetsWhole, Completes, Follows, step_to, step_from}
 
 -- ---- each state can be completed
@@ -102,6 +102,9 @@ mutual
   closes_primary (product_part ms us k) t =
       let c = closes_product k (joined (product_op (ms ++ [])) ((us ++ t ∷ []) ++ [])) in
       (c.0, c.1, ([], [], c.0, product_end, c.2))
+  closes_primary (ring_part p us k) t =
+      let c = closes_primary k (filled (polygon_op p) ((us ++ t ∷ []) ++ [])) in
+      (at 0 closing ∷ c.0, c.1, ([], c.0, rings_end, c.2))
 
 closes_whole : (k : ForWhole) (t : Syntax) → (more : List Mark) × (tree : Syntax) × GetsWhole k t more tree
 closes_whole (as_primary k) t = closes_primary k t
@@ -139,6 +142,8 @@ lives (have_terms k js us) =
 lives (have_sum k t) = closes_sum k t
 lives (have_items n a us k) =
     let c = closes_predicate k (in_node n a (us ++ [])) in (at 0 closing ∷ c.0, c.1, ([], c.0, items_end, c.2))
+lives (have_rings p us k) =
+    let c = closes_primary k (filled (polygon_op p) (us ++ [])) in (at 0 closing ∷ c.0, c.1, ([], c.0, rings_end, c.2))
 lives (have_ands k us) =
     let c = closes_and k (joined and_op (us ++ [])) in (c.0, c.1, ([], c.0, and_end, c.2))
 lives (have_ors k us) =
@@ -219,6 +224,7 @@ step_first (have_factors k ms us) p q xs ys = refl
 step_first (have_terms k js us) p q xs ys = refl
 step_first (have_sum k t) p q xs ys = refl
 step_first (have_items n a us k) p q xs ys = refl
+step_first (have_rings n us k) p q xs ys = refl
 step_first (have_ands k us) p q xs ys = refl
 step_first (have_ors k us) p q xs ys = refl
 step_first (have_or k t) p q xs ys = refl

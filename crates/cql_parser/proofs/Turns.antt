@@ -15,14 +15,14 @@ use Rattle.cql_tree.specs.declared.tree.Corner.{Corner}
 use Rattle.cql_parser.specs.declared.start.Pairing.{Pairing}
 use Rattle.cql_parser.specs.declared.start.Pairing.TheVariants as pairing
 use Rattle.cql_parser.specs.Grammar.{addition_sort, multiplication_sort}
-use Rattle.cql_tree.specs.Syntax.{Syntax, Op, joined, leaf, name_leaf, number_leaf, day_leaf, bound_leaf, truth_leaf, or_op, and_op, sum_op, product_op, polygon_op}
-use Rattle.cql_parser.specs.Descent.{Begins, BeginsNo, Parses, IsStopped, ForSlot, for_slot, want_here, pass_here, have_here, want_corner, want_pair, have_corner, ForRing, for_ring, want_ring, have_corners, have_ring}
+use Rattle.cql_tree.specs.Syntax.{Syntax, Op, joined, leaf, name_leaf, number_leaf, day_leaf, bound_leaf, truth_leaf, or_op, and_op, sum_op, product_op, polygon_op, ring_op}
+use Rattle.cql_parser.specs.Descent.{Begins, BeginsNo, Parses, IsStopped, ForSlot, for_slot, want_here, pass_here, have_here, want_corner, want_pair, have_corner, want_ring, have_corners}
 use Rattle.cql_parser.specs.Starts.{IsNoTail, IsNoNegated, BeginsNegated, IsNoCall, IsNoLiteral, word_of, pair_op}
 use Rattle.cql_tree.specs.Views.{syntax_of, number_of, numbers_of}
 use Rattle.cql_parser.specs.declared.stop.Stop.{Stop}
 use Rattle.cql_parser.specs.declared.stop.Stop.TheVariants.{Memory, At}
 use Rattle.cql_parser.specs.declared.stop.Parsed.{Parsed}
-use Rattle.cql_parser.specs.Machine.{Sign, comma_sign, close_sign, Slot, open_slot, sign_slot, text_slot, bound_slot, whole_slot, corners_slot, ForOr, whole, in_paren, ForAnd, or_part, ForNot, and_part, ForPredicate, plain, under_not, ForSum, left, right, pattern, low, high, item, argument, ForProduct, sum_part, ForPrimary, product_part, ForWhole, as_primary, as_slot, State, want_not, want_primary, after_sign, after_not, after_in, after_is, want_null, want_slot, have_factors, have_terms, have_sum, have_items, have_ands, have_ors, have_or, want_product, want_predicate, have_primary, have_product, have_predicate, have_and, have_whole, want_slots, compare_node, like_node, between_node, refuse, go_on, role_of, predicate_step, step, Outcome, spells, stops, ended, continued, run, two_sums}
+use Rattle.cql_parser.specs.Machine.{Sign, comma_sign, close_sign, Slot, open_slot, sign_slot, text_slot, bound_slot, whole_slot, corners_slot, ForOr, whole, in_paren, ForAnd, or_part, ForNot, and_part, ForPredicate, plain, under_not, ForSum, left, right, pattern, low, high, item, argument, ForProduct, sum_part, ForPrimary, product_part, ring_part, ForWhole, as_primary, as_slot, State, want_not, want_primary, after_sign, after_not, after_in, after_is, want_null, want_slot, have_factors, have_terms, have_sum, have_items, have_rings, have_ands, have_ors, have_or, want_product, want_predicate, have_primary, have_product, have_predicate, have_and, have_whole, want_slots, compare_node, like_node, between_node, filled, ring_slots, refuse, go_on, role_of, predicate_step, step, Outcome, spells, stops, ended, continued, run, two_sums}
 
 -- ---- one step of a run
 
@@ -425,47 +425,55 @@ pub numbers_push : (cs : List Corner) (c : Corner) → numbers_of (cs ++ c ∷ [
 numbers_push [] c = refl
 numbers_push (d ∷ cs) c = ap (λ ts. number_of d.x ∷ number_of d.y ∷ ts) (numbers_push cs c)
 
-ring_is : (k : ForRing) (ts : List Syntax) (xs : List Mark) → BeginsNo comma xs → BeginsNo closing xs →
+ring_is : (k : ForPrimary) (ts : List Syntax) (xs : List Mark) → BeginsNo comma xs → BeginsNo closing xs →
     step (have_corners ts k) xs ≡ refuse
-ring_is (for_ring q k) ts (at p comma ∷ xs) h g = absurd (h xs (refl, refl))
-ring_is (for_ring q k) ts (at p closing ∷ xs) h g = absurd (g xs (refl, refl))
-ring_is (for_ring q k) ts xs h g = refl
+ring_is k ts (at p comma ∷ xs) h g = absurd (h xs (refl, refl))
+ring_is k ts (at p closing ∷ xs) h g = absurd (g xs (refl, refl))
+ring_is k ts xs h g = refl
 
-pub ring_stops : (k : ForRing) (ts : List Syntax) (xs : List Mark) → BeginsNo comma xs → BeginsNo closing xs →
+pub ring_stops : (k : ForPrimary) (ts : List Syntax) (xs : List Mark) → BeginsNo comma xs → BeginsNo closing xs →
     run (have_corners ts k) xs ≡ stops xs
 ring_stops k ts xs h g = refuses (have_corners ts k) xs (ring_is k ts xs h g)
 
 -- the opening parenthesis of a ring, and the corners behind it
-abbrev pub ring_open : ForRing → ForSlot
-ring_open (for_ring p k) =
-    for_slot (whole_slot ∷ whole_slot ∷ corners_slot ∷ sign_slot close_sign ∷ []) (polygon_op p) [] k
+abbrev pub ring_open : ForPrimary → ForSlot
+ring_open k = for_slot (whole_slot ∷ whole_slot ∷ corners_slot ∷ []) ring_op [] k
 
-abbrev pub corner_of : List Syntax → ForRing → ForSlot
-corner_of ts (for_ring p k) = for_slot (corners_slot ∷ sign_slot close_sign ∷ []) (polygon_op p) ts k
-
-abbrev pub first_corner : ForRing → ForSlot
-first_corner k = corner_of [] k
-
-pub ring_begins : (k : ForRing) (xs : List Mark) → run (want_ring k) xs ≡ run (want_here open_slot (ring_open k)) xs
-ring_begins (for_ring p k) xs = refl
-
-pub ring_first : (k : ForRing) (xs : List Mark) → run (pass_here (ring_open k)) xs ≡ run (want_corner (first_corner k)) xs
-ring_first (for_ring p k) xs = refl
+abbrev pub corner_of : List Syntax → ForPrimary → ForSlot
+corner_of ts k = for_slot (corners_slot ∷ []) ring_op ts k
 
 -- behind a corner
-pub ring_next : (k : ForRing) (ts : List Syntax) (c : Corner) (xs : List Mark) →
-    run (have_corner (corner_of ts k) c) xs ≡ run (have_corners (ts ++ numbers_of (c ∷ [])) k) xs
-ring_next (for_ring p k) ts c xs = refl
-
-pub corner_goes : (k : ForRing) (ts : List Syntax) (xs ys : List Mark) → Begins comma xs ys →
+pub corner_goes : (k : ForPrimary) (ts : List Syntax) (xs ys : List Mark) → Begins comma xs ys →
     run (have_corners ts k) xs ≡ run (want_corner (corner_of ts k)) ys
-corner_goes (for_ring p k) ts xs ys h =
-    goes (have_corners ts (for_ring p k)) (want_corner (corner_of ts (for_ring p k))) comma xs ys (λ q. refl) h
+corner_goes k ts xs ys h = goes (have_corners ts k) (want_corner (corner_of ts k)) comma xs ys (λ q. refl) h
 
-pub ring_closes : (k : ForRing) (ts : List Syntax) (xs ys : List Mark) → Begins closing xs ys →
-    run (have_corners ts k) xs ≡ run (have_ring ts k) ys
-ring_closes (for_ring p k) ts xs ys h =
-    goes (have_corners ts (for_ring p k)) (have_ring ts (for_ring p k)) closing xs ys (λ q. refl) h
+pub ring_closes : (k : ForPrimary) (ts : List Syntax) (xs ys : List Mark) → Begins closing xs ys →
+    run (have_corners ts k) xs ≡ run (have_primary k (filled ring_op ts)) ys
+ring_closes k ts xs ys h = goes (have_corners ts k) (have_primary k (filled ring_op ts)) closing xs ys (λ q. refl) h
+
+-- the opening parenthesis of a polygon, and the rings behind it
+abbrev pub rings_open : ℕ → ForPrimary → ForSlot
+rings_open p k = for_slot ring_slots ring_op [] (ring_part p [] k)
+
+rings_is : (p : ℕ) (k : ForPrimary) (ts : List Syntax) (xs : List Mark) → BeginsNo comma xs → BeginsNo closing xs →
+    step (have_rings p ts k) xs ≡ refuse
+rings_is p k ts (at q comma ∷ xs) h g = absurd (h xs (refl, refl))
+rings_is p k ts (at q closing ∷ xs) h g = absurd (g xs (refl, refl))
+rings_is p k ts (at q (word And) ∷ xs) h g = refl
+rings_is p k ts xs h g = refl
+
+pub rings_stop : (p : ℕ) (k : ForPrimary) (ts : List Syntax) (xs : List Mark) → BeginsNo comma xs → BeginsNo closing xs →
+    run (have_rings p ts k) xs ≡ stops xs
+rings_stop p k ts xs h g = refuses (have_rings p ts k) xs (rings_is p k ts xs h g)
+
+pub ring_goes : (p : ℕ) (k : ForPrimary) (ts : List Syntax) (xs ys : List Mark) → Begins comma xs ys →
+    run (have_rings p ts k) xs ≡ run (want_ring (ring_part p ts k)) ys
+ring_goes p k ts xs ys h = goes (have_rings p ts k) (want_ring (ring_part p ts k)) comma xs ys (λ q. refl) h
+
+pub rings_close : (p : ℕ) (k : ForPrimary) (ts : List Syntax) (xs ys : List Mark) → Begins closing xs ys →
+    run (have_rings p ts k) xs ≡ run (have_primary k (filled (polygon_op p) ts)) ys
+rings_close p k ts xs ys h =
+    goes (have_rings p ts k) (have_primary k (filled (polygon_op p) ts)) closing xs ys (λ q. refl) h
 
 -- ---- a name or a literal begins
 

@@ -3,8 +3,8 @@ use Rattle.std.specs.Prelude.{◌≡◌, ℕ, List, [], ◌∷◌, ◌++◌, Res
 use Rattle.std.specs.declared.alloc.Global.{Global}
 use Rattle.std.specs.declared.boxed.Box.{Box}
 use Rattle.cql_lexer.specs.Mark.{Sort, Mark, at, marks}
-use Rattle.cql_tree.specs.Syntax.{Syntax, Op, polygon_op}
-use Rattle.cql_parser.specs.Machine.{Slot, open_slot, whole_slot, corners_slot, sign_slot, comma_sign, close_sign, ForPrimary, State, whole, want_or, want_slot, want_slots, spells, stops, run}
+use Rattle.cql_tree.specs.Syntax.{Syntax, Op, ring_op}
+use Rattle.cql_parser.specs.Machine.{Slot, whole_slot, corners_slot, sign_slot, comma_sign, ForPrimary, ring_part, State, whole, want_or, want_slot, want_slots, ring_slots, polygon_slots, spells, stops, run}
 use Rattle.cql_tree.specs.Views.{syntax_of, numbers_of}
 use Rattle.cql_parser.specs.declared.stop.Stop.{Stop}
 use Rattle.cql_parser.specs.declared.stop.Stop.TheVariants.{Memory, At}
@@ -58,20 +58,17 @@ want_pair (for_slot ss op ts k) = want_slot whole_slot (sign_slot comma_sign ∷
 abbrev pub have_corner : ForSlot → Corner → State
 have_corner (for_slot ss op ts k) c = want_slots ss op (ts ++ numbers_of (c ∷ [])) k
 
--- what is open around the ring of a polygon: its keyword's place
-pub data ForRing : Type 0 where
-  for_ring : (place : ℕ) → ForPrimary → ForRing
-
-abbrev pub want_ring : ForRing → State
-want_ring (for_ring p k) =
-    want_slot open_slot (whole_slot ∷ whole_slot ∷ corners_slot ∷ sign_slot close_sign ∷ []) (polygon_op p) [] k
+-- before a ring
+abbrev pub want_ring : ForPrimary → State
+want_ring k = want_slots ring_slots ring_op [] k
 
 -- behind a corner
-abbrev pub have_corners : List Syntax → ForRing → State
-have_corners ts (for_ring p k) = want_slot corners_slot (sign_slot close_sign ∷ []) (polygon_op p) ts k
+abbrev pub have_corners : List Syntax → ForPrimary → State
+have_corners ts k = want_slot corners_slot [] ring_op ts k
 
-abbrev pub have_ring : List Syntax → ForRing → State
-have_ring ts (for_ring p k) = want_slot (sign_slot close_sign) [] (polygon_op p) ts k
+-- what a polygon's keyword leaves
+abbrev pub want_rings : (place : ℕ) → ForPrimary → State
+want_rings p k = want_slots polygon_slots ring_op [] (ring_part p [] k)
 
 -- the first token is of this sort, and these follow it
 abbrev pub Begins : Sort → List Mark → List Mark → Type 0

@@ -38,6 +38,12 @@ pub data IsRing : List Mark → Syntax → List Mark → Type 0 where
       IsWhole xs x ys → IsWhole ys y zs → IsCornersRest zs ts ws →
       IsRing (at p opening ∷ xs) (node ring_op (parts_of (x ∷ y ∷ ts))) ws
 
+-- { "," ring } ")"
+pub data IsRingsRest : List Mark → List Syntax → List Mark → Type 0 where
+  rings_end : {p : ℕ} {xs : List Mark} → IsRingsRest (at p closing ∷ xs) [] xs
+  rings_more : {p : ℕ} {t : Syntax} {ts : List Syntax} {xs ys zs : List Mark} →
+      IsRing xs t ys → IsRingsRest ys ts zs → IsRingsRest (at p comma ∷ xs) (t ∷ ts) zs
+
 -- [ NOT ]
 pub data IsNegation : Bool → List Mark → List Mark → Type 0 where
   plain : {xs : List Mark} → IsNegation false xs xs
@@ -164,9 +170,9 @@ mutual
     -- POINT "(" whole whole ")"
     point_rule : {p q r : ℕ} {x y : Syntax} {xs ys zs : List Mark} → IsWhole xs x ys → IsWhole ys y (at r closing ∷ zs) →
         IsPrimary (at p (word Point) ∷ at q opening ∷ xs) (node (point_op p) (parts_of (x ∷ y ∷ []))) zs
-    -- POLYGON "(" ring ")"
-    polygon_rule : {p q r : ℕ} {a : Syntax} {xs ys : List Mark} → IsRing xs a (at r closing ∷ ys) →
-        IsPrimary (at p (word Polygon) ∷ at q opening ∷ xs) (node (polygon_op p) (parts_of (a ∷ []))) ys
+    -- POLYGON "(" ring { "," ring } ")"
+    polygon_rule : {p q : ℕ} {a : Syntax} {ts : List Syntax} {xs ys zs : List Mark} → IsRing xs a ys → IsRingsRest ys ts zs →
+        IsPrimary (at p (word Polygon) ∷ at q opening ∷ xs) (node (polygon_op p) (parts_of (a ∷ ts))) zs
     -- BBOX "(" whole "," whole "," whole "," whole ")"
     bbox_rule : {p q r u v w : ℕ} {a b c d : Syntax} {xs xs' xs'' xs''' ys : List Mark} →
         IsWhole xs a (at r comma ∷ xs') → IsWhole xs' b (at u comma ∷ xs'') →

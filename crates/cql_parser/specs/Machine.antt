@@ -55,8 +55,10 @@ mutual
   pub data ForProduct : Type 0 where
     sum_part : (signs : List Addition) → (before : List Syntax) → ForSum → ForProduct
 
+  -- around a primary, or around a ring of a polygon: its keyword's place, and the rings before this one
   pub data ForPrimary : Type 0 where
     product_part : (signs : List Multiplication) → (before : List Syntax) → ForProduct → ForPrimary
+    ring_part : (place : ℕ) → (before : List Syntax) → ForPrimary → ForPrimary
 
 -- what is open around a number
 pub data ForWhole : Type 0 where
@@ -77,6 +79,7 @@ pub data State : Type 0 where
   have_terms : ForSum → (signs : List Addition) → (parts : List Syntax) → State
   have_sum : ForSum → Syntax → State
   have_items : (is_negated : Bool) → (value : Syntax) → (items : List Syntax) → ForPredicate → State
+  have_rings : (place : ℕ) → (rings : List Syntax) → ForPrimary → State
   have_ands : ForAnd → (parts : List Syntax) → State
   have_ors : ForOr → (parts : List Syntax) → State
   have_or : ForOr → Syntax → State
@@ -98,6 +101,7 @@ want_or k = want_and (or_part [] k)
 
 abbrev pub have_primary : ForPrimary → Syntax → State
 have_primary (product_part signs ts k) t = have_factors k signs (ts ++ t ∷ [])
+have_primary (ring_part p ts k) t = have_rings p (ts ++ t ∷ []) k
 
 abbrev pub have_product : ForProduct → Syntax → State
 have_product (sum_part signs ts k) t = have_terms k signs (ts ++ t ∷ [])
@@ -130,9 +134,8 @@ in_node n a ts = node (in_op n) (parts_of (a ∷ ts))
 abbrev pub null_node : Bool → Syntax → Syntax
 null_node n a = node (is_null_op n) (parts_of (a ∷ []))
 
--- a function or a literal of these parts: a polygon's are the numbers of its ring
+-- a function, a literal or a ring of these parts
 abbrev pub filled : Op → List Syntax → Syntax
-filled (polygon_op p) ts = node (polygon_op p) (parts_of (node ring_op (parts_of ts) ∷ []))
 filled op ts = node op (parts_of ts)
 
 abbrev pub want_slots : List Slot → Op → List Syntax → ForPrimary → State
@@ -277,8 +280,12 @@ interval_slots = open_slot ∷ bound_slot ∷ sign_slot comma_sign ∷ bound_slo
 abbrev pub point_slots : List Slot
 point_slots = open_slot ∷ whole_slot ∷ whole_slot ∷ sign_slot close_sign ∷ []
 
+abbrev pub ring_slots : List Slot
+ring_slots = open_slot ∷ whole_slot ∷ whole_slot ∷ corners_slot ∷ []
+
+-- and that of a polygon before its first ring
 abbrev pub polygon_slots : List Slot
-polygon_slots = open_slot ∷ open_slot ∷ whole_slot ∷ whole_slot ∷ corners_slot ∷ sign_slot close_sign ∷ []
+polygon_slots = open_slot ∷ ring_slots
 
 abbrev pub bbox_slots : List Slot
 bbox_slots =
@@ -292,7 +299,7 @@ begin_word k p Casei = go_on (want_slots (open_slot ∷ sum_slot close_sign ∷ 
 begin_word k p Date = go_on (want_slots date_slots (date_op p) [] k)
 begin_word k p Interval = go_on (want_slots interval_slots (interval_op p) [] k)
 begin_word k p Point = go_on (want_slots point_slots (point_op p) [] k)
-begin_word k p Polygon = go_on (want_slots polygon_slots (polygon_op p) [] k)
+begin_word k p Polygon = go_on (want_slots polygon_slots ring_op [] (ring_part p [] k))
 begin_word k p Bbox = go_on (want_slots bbox_slots (bbox_op p) [] k)
 begin_word k p (Spatial c) = go_on (want_slots two_sums (spatial_op p c) [] k)
 begin_word k p (Temporal c) = go_on (want_slots two_sums (temporal_op p c) [] k)
@@ -349,6 +356,12 @@ slot_step corners_slot ss op ts k p comma = go_on (want_slot whole_slot (whole_s
 slot_step (sum_slot s) ss op ts k p q = begin_primary (product_part [] [] (sum_part [] [] (argument s ss op ts k))) p q
 slot_step _ ss op ts k p _ = refuse
 
+-- behind a ring
+abbrev pub rings_step : Role → ℕ → List Syntax → ForPrimary → Step
+rings_step closes p ts k = go_on (have_primary k (filled (polygon_op p) ts))
+rings_step parts p ts k = go_on (want_slots ring_slots ring_op [] (ring_part p ts k))
+rings_step _ p ts k = refuse
+
 abbrev pub on_first : List Mark → (ℕ → Sort → Step) → Step
 on_first [] f = refuse
 on_first (at p s ∷ xs) f = f p s
@@ -367,6 +380,7 @@ step (have_factors k signs ts) xs = factors_step (role_of xs) k signs ts
 step (have_terms k signs ts) xs = terms_step (role_of xs) k signs ts
 step (have_sum k t) xs = sum_step (role_of xs) k t
 step (have_items n a ts k) xs = item_step (role_of xs) n a ts k
+step (have_rings p ts k) xs = rings_step (role_of xs) p ts k
 step (have_ands k ts) xs = ands_step (role_of xs) k ts
 step (have_ors k ts) xs = ors_step (role_of xs) k ts
 step (have_or k t) xs = or_step (role_of xs) k t

@@ -2,11 +2,11 @@
 
 ghost use Rattle.std.specs.Prelude.{◌≡◌, ◌<◌, [], length, IfOk, MatchResult};
 ghost use Rattle.cql_lexer.specs.Mark.{marks};
-ghost use Rattle.cql_tree.specs.Syntax.{date_op, interval_op, point_op, polygon_op, bbox_op};
-ghost use Rattle.cql_parser.specs.Machine.{as_primary, run, want_primary, want_slots, after_sign, have_primary, date_slots, interval_slots, point_slots, polygon_slots, bbox_slots};
-ghost use Rattle.cql_tree.specs.Views.{numbers_of};
+ghost use Rattle.cql_tree.specs.Syntax.{date_op, interval_op, point_op, bbox_op};
+ghost use Rattle.cql_parser.specs.Machine.{ForPrimary, as_primary, run, want_primary, want_slots, after_sign, have_primary, date_slots, interval_slots, point_slots, bbox_slots};
+ghost use Rattle.cql_tree.specs.Views.{ring_of};
 ghost use Rattle.cql_parser.specs.Starts.{IsNoCall};
-ghost use Rattle.cql_parser.specs.Descent.{Parses, IsStopped, ForRing, want_ring, have_ring};
+ghost use Rattle.cql_parser.specs.Descent.{Parses, IsStopped, want_ring, want_rings};
 
 use crate::lookahead::{after_close, after_comma};
 use crate::node::{
@@ -107,27 +107,36 @@ fn parse_point<'a>(alloc: Global, place: usize, tokens: &'a [Token]) -> Result<P
     Ok(Parsed { tree, rest })
 }
 
-// POLYGON "(" ring ")"
+// POLYGON "(" ring { "," ring } ")"
 fn parse_polygon<'a>(
     alloc: Global,
     place: usize,
     tokens: &'a [Token],
 ) -> Result<Parsed<'a>, Stop<'a>>
-    ensures parses { Parses (want_slots polygon_slots (polygon_op place) []) have_primary (marks tokens.now) result }
+    ensures parses { Parses (want_rings place) have_primary (marks tokens.now) result }
     ensures shorter { IfOk result (λ r. length r.rest.now < length tokens.now) }
 {
     let after = pass_open(tokens)?;
-    let (ring, after) = parse_ring(alloc, after)?;
-    let rest = pass_close(after)?;
-    let tree = polygon_tree(alloc, place, ring)?;
-    Ok(Parsed { tree, rest })
+    let (first, mut rest) = parse_ring(alloc, after)?;
+    let mut rings = Vec::new(alloc);
+    rings.push(first)?;
+    while let Some(after) = after_comma(rest) {
+        let (ring, left) = parse_ring(alloc, after)?;
+        rings.push(ring)?;
+        rest = left;
+    }
+    let Some(after) = after_close(rest) else {
+        return Err(Stop::At(rest));
+    };
+    let tree = polygon_tree(alloc, place, rings)?;
+    Ok(Parsed { tree, rest: after })
 }
 
 // ring = "(" whole whole { "," whole whole } ")"
 fn parse_ring(alloc: Global, tokens: &[Token]) -> Result<(Ring, &[Token]), Stop<'_>>
     ensures parses { MatchResult result
-        (λ r. (k : ForRing) → run (want_ring k) (marks tokens.now) ≡
-        run (have_ring (numbers_of r.0.corners.items) k) (marks r.1.now))
+        (λ r. (k : ForPrimary) → run (want_ring k) (marks tokens.now) ≡
+        run (have_primary k (ring_of r.0)) (marks r.1.now))
         (IsStopped want_ring (marks tokens.now)) }
     ensures shorter { IfOk result (λ r. length r.1.now < length tokens.now) }
 {

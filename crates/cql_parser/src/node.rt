@@ -4,7 +4,7 @@ ghost use Rattle.std.specs.Prelude.{◌≡◌, [], ◌∷◌, IfOk, string_bytes
 ghost use Rattle.cql_tree.specs.Syntax.{joined, leaf, name_leaf, text_leaf, truth_leaf, or_op, and_op, sum_op, product_op, spatial_op, temporal_op, casei_op, date_op, interval_op, point_op, polygon_op, bbox_op, day_leaf, bound_leaf, number_leaf};
 ghost use Rattle.cql_parser.specs.Starts.{pair_op};
 ghost use Rattle.cql_parser.specs.Machine.{not_node, compare_node, like_node, between_node, in_node, null_node, filled};
-ghost use Rattle.cql_tree.specs.Views.{syntax_of, syntaxes_of, terms_of, additions_of, factors_of, multiplications_of, number_of, bound_of, numbers_of};
+ghost use Rattle.cql_tree.specs.Views.{syntax_of, syntaxes_of, terms_of, additions_of, factors_of, multiplications_of, number_of, bound_of, numbers_of, rings_of};
 
 use crate::start::Pairing;
 use cad_day::Relation;
@@ -284,13 +284,11 @@ pub fn bbox_tree(
     Ok(Box::new(alloc, Tree::Bbox { place, low, high })?)
 }
 
-/// An area of one ring.
+/// An area: its outer ring, then those of its holes.
 #[tactic(auto, unfolding(cql_tree::specs::Views::syntax_of))]
-pub fn polygon_tree(alloc: Global, place: usize, ring: Ring) -> Result<Box<Tree>, AllocError>
-    ensures { IfOk result (λ t. syntax_of t.value ≡ filled (polygon_op place) (numbers_of ring.corners.items)) }
+pub fn polygon_tree(alloc: Global, place: usize, rings: Vec<Ring>) -> Result<Box<Tree>, AllocError>
+    ensures { IfOk result (λ t. syntax_of t.value ≡ filled (polygon_op place) (rings_of rings.items)) }
 {
-    let mut rings = Vec::new(alloc);
-    rings.push(ring)?;
     Ok(Box::new(alloc, Tree::Polygon { place, rings })?)
 }
 

@@ -34,7 +34,7 @@ pub data Op : Type 0 where
   interval_op : (place : ℕ) → Op
   -- x and y
   point_op : (place : ℕ) → Op
-  -- its rings, of which the grammar writes one
+  -- the outer ring, then those of holes
   polygon_op : (place : ℕ) → Op
   -- x and y of each corner
   ring_op : Op

@@ -103,7 +103,7 @@ pub enum Tree {
         place: usize,
         corner: Corner,
     },
-    /// `POLYGON((x y, ..))`: its rings, of which the grammar writes one.
+    /// `POLYGON((x y, ..), ..)`: its outer ring, then those of its holes.
     Polygon {
         place: usize,
         rings: Vec<Ring>,

@@ -4,8 +4,8 @@ use Rattle.std.specs.Option.{is_some}
 use Rattle.cad_schema.specs.declared.property.PropertyKind.{PropertyKind}
 use Rattle.cad_schema.specs.declared.property.PropertyKind.TheVariants as property
 use Rattle.cad_schema.specs.Attributes.{Named}
-use Rattle.cad_shape.specs.declared.point.Point.{Point}
-use Rattle.cad_shape.specs.Rings.{ring_is}
+use Rattle.cad_shape.specs.declared.ring.Ring.{Ring}
+use Rattle.cad_shape.specs.RegionRings.{rings_of, region_is}
 use Rattle.cql_tree.specs.Syntax.{Syntax, Parts, Leaf, Op, part, node, place_of}
 use Rattle.cql_types.specs.declared.filter.EndTerm.{EndTerm}
 use Rattle.cql_types.specs.declared.filter.Operation.{Operation}
@@ -267,7 +267,7 @@ numbers_have no_number = ([], kinds.no_more, refl)
 numbers_have (one_number e r) = let rest = numbers_have r in
     (_, kinds.one_more (leaf_has (ap kind_of_number e)) rest.1, rest.2)
 
-pub rings_have : {s : List Named} {ps : Parts} {rings : List (List Point)} → AreRings ps rings → (ms : List Mark) × Have s ps ms × (first_not is_line ms ≡ None)
+pub rings_have : {s : List Named} {ps : Parts} {rings : List Ring} → AreRings ps rings → (ms : List Mark) × Have s ps ms × (first_not is_line ms ≡ None)
 rings_have no_ring = ([], kinds.no_more, refl)
 rings_have (one_ring numbers r) =
     let here = numbers_have numbers in
@@ -288,9 +288,9 @@ drawn_has (interval {t = t} {u = u} from to e) =
 drawn_has (point at numbers) =
     let have = numbers_have numbers in
     node_has have.1 have.2 (record { x = at.x; y = at.y; numbers = numbers; x_in_range = at.x_in_range; y_in_range = at.y_in_range })
-drawn_has (region ring rings) =
-    let have = rings_have rings in
-    node_has have.1 have.2 (record { corners = _; rings = rings; is_ring = ring_is ring })
+drawn_has (region polygon lines) =
+    let have = rings_have lines in
+    node_has have.1 have.2 (record { rings = rings_of polygon; lines = lines; is_region = region_is polygon })
 drawn_has (box b numbers width height) =
     let have = numbers_have numbers in
     node_has have.1 have.2 (record {

@@ -1,12 +1,15 @@
 -- The numbers of a literal, and what they are those of.
-use Rattle.std.proofs.Common.{◌≡◌, refl, ap, ap₂, sym, subst, ◌∙◌, ℕ, ℤ, List, [], ◌∷◌, ◌++◌, ◌<◌, ◌+◌, length, get_or, drop, drop-cons, add-one, arith, Option, Some, None, Result, Ok, Err}
+use Rattle.std.proofs.Common.{◌≡◌, refl, ap, ap₂, sym, subst, ◌∙◌, ℕ, ℤ, List, [], ◌∷◌, ◌++◌, ◌<◌, ◌+◌, length, get_or, drop, drop-cons, add-one, Option, Some, None, Result, Ok, Err}
 use Rattle.std.specs.Prelude.{string_bytes}
 use Rattle.cad_schema.specs.Attributes.{Named}
 use Rattle.cad_shape.specs.declared.point.Point.{Point}
 use Rattle.cad_shape.specs.Coordinates.{IsCoordinate}
 use Rattle.cad_shape.specs.Outlines.{IsRing}
 use Rattle.cad_shape.specs.declared.ring.Ring.{Ring}
-use Rattle.cad_shape.specs.Rings.{corners_of, IsRingFault, no_ring as none_round}
+use Rattle.cad_shape.specs.Rings.{corners_of, IsRingFault, no_ring as none_round, same_ring}
+use Rattle.cad_shape.specs.declared.polygon.Region.{Region}
+use Rattle.cad_shape.specs.Polygons.{IsRegion}
+use Rattle.cad_shape.specs.RegionRings.{rings_of as region_rings}
 use Rattle.cad_shape.specs.declared.ring.RingFault.{RingFault}
 use Rattle.std.specs.declared.alloc.Global.{Global}
 use Rattle.std.specs.declared.vec.Vec.{Vec}
@@ -32,9 +35,9 @@ use Rattle.std.proofs.Math.Dec.{T_prop}
 use Rattle.cql_types.specs.declared.literal.Position.{Position}
 use Rattle.cql_types.specs.Kinds.{Mark, Have, leaf_has, node_has, no_more, one_more, is_line, kind_of_number, first_not, unsound}
 use Rattle.cql_types.specs.Numbers.{written}
-use Rattle.cql_types.specs.Literals.{AreNumbers, no_number, one_number, AreRings, no_ring, one_ring, IsPoint, IsBox, coordinates_of, closed}
+use Rattle.cql_types.specs.Literals.{AreNumbers, no_number, one_number, AreRings, no_ring, one_ring, IsPoint, IsBox, coordinates_of, closed, outline_of}
 use Rattle.cql_types.specs.Contract.{ForFault, IsFirst, IsFirstIn, leaf_first, unsound_first, here_first, later_first, inside_first}
-use Rattle.cql_types.specs.Reading.{IsFirstNumber, positions_of, lines_of, AreLines, no_line, one_line, IsFrame}
+use Rattle.cql_types.specs.Reading.{IsFirstNumber, positions_of, lines_of, AreLines, no_line, one_line, outlines_of, IsRegionAlong, IsFrame}
 
 same_cons : {z w : ℤ} {zs ws : List ℤ} → z ≡ w → zs ≡ ws → z ∷ zs ≡ w ∷ ws
 same_cons e f = cc
@@ -201,20 +204,74 @@ lines_have (one_line numbers r) =
     let rest = lines_have r in
     (_, one_more (node_has here.1 here.2 tt) rest.1, rest.2)
 
-one_line_round : {ps : Parts} {lines : List (List ℤ)} {corners : List Point} → AreLines ps lines → AreRings ps (corners ∷ []) → lines ≡ coordinates_of (closed corners) ∷ []
-one_line_round (one_line m no_line) (one_ring h no_ring) = ap (λ zs. zs ∷ []) (numbers_once m h)
-one_line_round (one_line m (one_line k r)) (one_ring h rings) = elim rings [ ]
-one_line_round no_line rings = elim rings [ ]
+first_line : {zs ws : List ℤ} {lines others : List (List ℤ)} → zs ∷ lines ≡ ws ∷ others → (zs ≡ ws) × (lines ≡ others)
+first_line e = (cc, cc)
 
-pub region_unsound : {s : List Named} (p : ℕ) {ps : Parts} {lines : List (List ℤ)} → AreLines ps lines →
-    ((corners : List Point) → lines ≡ coordinates_of (closed corners) ∷ [] → ¬ IsRing corners) → IsFirst s (node (polygon_op p) ps) (unsound (polygon_op p) ps)
+-- the lines of the parts are those along the rings
+lines_round : {ps : Parts} {lines : List (List ℤ)} {rings : List Ring} → AreLines ps lines → AreRings ps rings → outlines_of rings ≡ lines
+lines_round no_line no_ring = refl
+lines_round (one_line m r) (one_ring h q) = ap₂ ◌∷◌ (numbers_once h m) (lines_round r q)
+
+rings_round : {ps : Parts} {lines : List (List ℤ)} (rings : List Ring) → AreLines ps lines → outlines_of rings ≡ lines → AreRings ps rings
+rings_round [] no_line e = no_ring
+rings_round [] (one_line h r) e = absurd cc
+rings_round (ring ∷ rings) no_line e = absurd cc
+rings_round (ring ∷ rings) (one_line h r) e = let same = first_line e in one_ring (rw same.0 h) (rings_round rings r same.1)
+
+-- lines along the rings of no region
+pub region_unsound : {s : List Named} (p : ℕ) {ps : Parts} {lines : List (List ℤ)} → AreLines ps lines → IsRegionAlong lines None →
+    IsFirst s (node (polygon_op p) ps) (unsound (polygon_op p) ps)
 region_unsound p h denied =
     let have = lines_have h in
-    unsound_first have.1 have.2 (λ round. denied round.corners (one_line_round h round.rings) round.is_ring)
+    unsound_first have.1 have.2 (λ area. denied area.rings (lines_round h area.lines) area.is_region)
 
-pub region_drawn : {s : List Named} {p : ℕ} {ps : Parts} {zs : List ℤ} (ring : Ring) → AreLines ps (zs ∷ []) → coordinates_of (closed (corners_of ring)) ≡ zs →
-    Draws s (polygon_op p) ps (n.Area (place.Constant (shape.Area ring)))
-region_drawn ring (one_line h no_line) e = region ring (one_ring (rw e h) no_ring)
+pub region_drawn : {s : List Named} {p : ℕ} {ps : Parts} {lines : List (List ℤ)} (area : Region) → AreLines ps lines → IsRegionAlong lines (Some area) →
+    Draws s (polygon_op p) ps (n.Area (place.Constant (shape.Area area)))
+region_drawn area h e = region area (rings_round (region_rings area) h e)
+
+closed_once : (ps qs : List Point) → closed ps ≡ closed qs → ps ≡ qs
+closed_once [] [] e = refl
+closed_once [] (q ∷ qs) e = absurd cc
+closed_once (p ∷ ps) qs e = sym (closed_parts qs (p ∷ ps) p (sym e)).0
+
+-- two rings along one line are one
+pub outline_once : (a b : Ring) → outline_of a ≡ outline_of b → a ≡ b
+outline_once a b e = same_ring a b (closed_once (corners_of a) (corners_of b) (coordinates_once (closed (corners_of a)) (closed (corners_of b)) e))
+
+outlines_once : (rings others : List Ring) → outlines_of rings ≡ outlines_of others → rings ≡ others
+outlines_once [] [] e = refl
+outlines_once [] (b ∷ others) e = absurd cc
+outlines_once (a ∷ rings) [] e = absurd cc
+outlines_once (a ∷ rings) (b ∷ others) e =
+    let same = first_line e in ap₂ ◌∷◌ (outline_once a b same.0) (outlines_once rings others same.1)
+
+-- the region inside the rings along the lines
+pub region_found : (region : Option Region) (rings : Vec Ring Global) (lines : List (List ℤ)) → outlines_of rings.items ≡ lines →
+    MatchOption region (¬ IsRegion rings.items) (λ area. region_rings area ≡ rings.items) → IsRegionAlong lines region
+region_found None rings lines e h = λ all g. rw (outlines_once all rings.items (g ∙ sym e)) h
+region_found (Some area) rings lines e h = ap outlines_of h ∙ e
+
+-- no ring is along one of the lines
+pub rings_denied : (lines : List (List ℤ)) → ((rings : List Ring) → ¬ (outlines_of rings ≡ lines)) → IsRegionAlong lines None
+rings_denied lines denied = λ rings e. absurd (denied rings e)
+
+pub outlines_more : (rs : List Ring) (r : Ring) (lines : List (List ℤ)) → outlines_of (rs ++ r ∷ []) ++ lines ≡ outlines_of rs ++ (outline_of r ∷ lines)
+outlines_more [] r lines = refl
+outlines_more (q ∷ qs) r lines = ap (λ more. outline_of q ∷ more) (outlines_more qs r lines)
+
+head_ring : (all : List Ring) {zs : List ℤ} {lines : List (List ℤ)} → outlines_of all ≡ zs ∷ lines → (ring : Ring) × (outline_of ring ≡ zs)
+head_ring [] e = absurd cc
+head_ring (r ∷ rs) e = (r, (first_line e).0)
+
+-- the lines before a line are along rings, and so is it
+pub is_ring_behind : (before all : List Ring) {zs : List ℤ} (lines : List (List ℤ)) → outlines_of all ≡ outlines_of before ++ (zs ∷ lines) → (ring : Ring) × (outline_of ring ≡ zs)
+is_ring_behind [] all lines e = head_ring all e
+is_ring_behind (r ∷ rs) [] lines e = absurd cc
+is_ring_behind (r ∷ rs) (q ∷ qs) lines e = is_ring_behind rs qs lines (first_line e).1
+
+pub lines_from : (ls : List (Vec Position Global)) (i : ℕ) (l : Vec Position Global) → i < length ls → l ≡ get_or ls i l →
+    lines_of (drop i ls) ≡ positions_of l.items ∷ lines_of (drop (i + 1) ls)
+lines_from ls i l within is = ap lines_of (drop-cons ls i l within) ∙ rw (add-one, ← is)
 
 -- ---- the walk along a line
 
@@ -272,29 +329,3 @@ pub ring_found : (o : Option Ring) (points : List Point) (zs : List ℤ) → coo
     MatchOption o ((corners : List Point) → coordinates_of (closed corners) ≡ zs → ¬ IsRing corners) (λ ring. coordinates_of (closed (corners_of ring)) ≡ zs)
 ring_found None points zs p h = λ corners e. h corners (coordinates_once (closed corners) points (e ∙ sym p))
 ring_found (Some ring) points zs p h = ap coordinates_of h ∙ p
-
-one_of_one : (ls : List (Vec Position Global)) (zs : List ℤ) → lines_of ls ≡ zs ∷ [] → length ls ≡ 1
-one_of_one [] zs e = absurd cc
-one_of_one (l ∷ []) zs e = omega arith
-one_of_one (l ∷ (k ∷ ks)) zs e = absurd cc
-
-single : (ls : List (Vec Position Global)) (d : Vec Position Global) → length ls ≡ 1 → lines_of ls ≡ positions_of (get_or ls 0 d).items ∷ []
-single [] d e = absurd (omega arith)
-single (l ∷ []) d e = refl
-single (l ∷ (k ∷ ks)) d e = absurd (omega arith)
-
--- the only line
-pub only_line : (ls : List (Vec Position Global)) (line : List Position) (l d : Vec Position Global) → length ls ≡ 1 → l ≡ get_or ls 0 d → line ≡ l.items → lines_of ls ≡ positions_of line ∷ []
-only_line ls line l d e f g = rw (g, f) (single ls d e)
-
--- several lines, or none
-pub not_single : {s : List Named} (p : ℕ) {ps : Parts} (ls : List (Vec Position Global)) → AreLines ps (lines_of ls) → ¬ (length ls ≡ 1) → IsFirst s (node (polygon_op p) ps) (unsound (polygon_op p) ps)
-not_single p ls h denied = region_unsound p h (λ corners e ring. denied (one_of_one ls (coordinates_of (closed corners)) e))
-
-same_line : {zs ws : List ℤ} → zs ∷ [] ≡ ws ∷ [] → zs ≡ ws
-same_line e = cc
-
--- one line, round no ring
-pub no_region : {s : List Named} (p : ℕ) {ps : Parts} {zs : List ℤ} → AreLines ps (zs ∷ []) → ((corners : List Point) → coordinates_of (closed corners) ≡ zs → ¬ IsRing corners) →
-    IsFirst s (node (polygon_op p) ps) (unsound (polygon_op p) ps)
-no_region p h denied = region_unsound p h (λ corners e. denied corners (same_line (sym e)))

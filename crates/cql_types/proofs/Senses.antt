@@ -10,7 +10,8 @@ use Rattle.cad_day.specs.Days.{number_of}
 use Rattle.cad_schema.specs.declared.property.PropertyKind.{PropertyKind}
 use Rattle.cad_schema.specs.Attributes.{Named}
 use Rattle.cad_shape.specs.Boxes.{IsExtent}
-use Rattle.cad_shape.specs.Rings.{same_ring}
+use Rattle.cad_shape.specs.declared.ring.Ring.{Ring}
+use Rattle.cad_shape.specs.RegionRings.{same_region}
 use Rattle.cad_shape.specs.declared.boxes.Bounds.{Bounds}
 use Rattle.cad_shape.specs.declared.point.Point.{Point}
 use Rattle.cad_shape.specs.declared.shape.Shape.TheVariants as shape
@@ -50,10 +51,10 @@ use Rattle.cql_types.specs.Fits.{whole_fits, text_fits, day_fits, flag_fits}
 use Rattle.cql_types.specs.Kinds as kind
 use Rattle.cql_types.specs.Kinds.{Kind, is_whole, is_text, is_day, is_flag}
 use Rattle.cql_types.specs.Laws.{HasOneFilter}
-use Rattle.cql_types.specs.Literals.{AreRings, one_ring, no_ring, closed}
+use Rattle.cql_types.specs.Literals.{AreRings, one_ring, no_ring}
 use Rattle.cql_types.specs.Means as m
 use Rattle.cql_types.specs.Means.{kind_of, whole_of, text_of, pattern_of, day_of, flag_of, span_of, shape_of, any_of, condition_of, Are, no_term, one_term, AreSteps, property_node, IsLeaf, IsNegatedIf, as_it_is, negated, Makes, IsEnd, open_text, day_text, day_name, Draws, Means, Mean, leaf_means, node_means, literal_means, no_more, one_more}
-use Rattle.cql_types.proofs.LiteralLemmas.{numbers_once, point_same, coordinates_once, closed_parts}
+use Rattle.cql_types.proofs.LiteralLemmas.{numbers_once, point_same, outline_once}
 use Rattle.cql_types.proofs.Terms.{is_true}
 
 -- ---- what a node is, without where it lies in memory
@@ -431,18 +432,9 @@ same_box a b e f g h =
     (λ w v. ap₂ (λ (w : IsExtent a.x_min a.x_max) (v : IsExtent a.y_min a.y_max). record { x_min = a.x_min; y_min = a.y_min; x_max = a.x_max; y_max = a.y_max; width = w; height = v })
     (extent_prop a.x_min a.x_max a.width w) (extent_prop a.y_min a.y_max a.height v)) w v) w v) w v) b.width b.height
 
-closed_once : (ps qs : List Point) → closed ps ≡ closed qs → ps ≡ qs
-closed_once [] [] e = refl
-closed_once [] (q ∷ qs) e = absurd cc
-closed_once (p ∷ ps) qs e = sym (closed_parts qs (p ∷ ps) p (sym e)).0
-
-rings_once : {ps : Parts} {a b : List (List Point)} → AreRings ps a → AreRings ps b → a ≡ b
+rings_once : {ps : Parts} {a b : List Ring} → AreRings ps a → AreRings ps b → a ≡ b
 rings_once no_ring no_ring = refl
-rings_once (one_ring {corners = a} h r) (one_ring {corners = b} k q) =
-    ap₂ ◌∷◌ (closed_once a b (coordinates_once (closed a) (closed b) (numbers_once h k))) (rings_once r q)
-
-one_list : {a b : List Point} → a ∷ [] ≡ b ∷ [] → a ≡ b
-one_list e = cc
+rings_once (one_ring {ring = a} h r) (one_ring {ring = b} k q) = ap₂ ◌∷◌ (outline_once a b (numbers_once h k)) (rings_once r q)
 
 same_drawn : {s : List Named} {op : Op} {ps : Parts} {x y : Node} → Draws s op ps x → Draws s op ps y → Matches x y
 same_drawn (m.interval e f h) (m.interval g i k) =
@@ -451,7 +443,7 @@ same_drawn (m.point a h) (m.point b k) =
     let same = two_equal (numbers_once h k) in
     record { senses = ap (λ (p : Point). sense (n.Spot (place.Constant (shape.Spot p)))) (point_same a b same.0 same.1) }
 same_drawn (m.region a h) (m.region b k) =
-    record { senses = ap (λ r. sense (n.Area (place.Constant (shape.Area r)))) (same_ring a b (one_list (rings_once h k))) }
+    record { senses = ap (λ r. sense (n.Area (place.Constant (shape.Area r)))) (same_region a b (rings_once h k)) }
 same_drawn (m.box a h i j) (m.box b k o q) =
     let same = four_same (numbers_once h k) in
     record { senses = ap (λ (d : Bounds). sense (n.Frame (place.Constant (shape.Frame d)))) (same_box a b same.0 same.1 same.2 same.3) }

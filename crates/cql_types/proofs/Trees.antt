@@ -16,11 +16,10 @@ use Rattle.cql_tree.specs.declared.tree.Factor.{Factor}
 use Rattle.cql_tree.specs.declared.tree.Ring.{Ring}
 use Rattle.cql_tree.specs.declared.tree.Term.{Term}
 use Rattle.cql_tree.specs.Syntax.{Syntax, Parts, leaf, node, part, none, parts_of, name_leaf, text_leaf, truth_leaf, day_leaf, or_op, and_op, not_op, compare_op, like_op, between_op, in_op, is_null_op, sum_op, product_op, casei_op, date_op, interval_op, point_op, polygon_op, bbox_op, spatial_op, temporal_op}
-use Rattle.cql_tree.specs.Views.{syntax_of, parts_in, terms_in, additions_in, factors_in, multiplications_in, syntaxes_of, terms_of, additions_of, factors_of, multiplications_of, number_of, numbers_of, bound_of, rings_of}
+use Rattle.cql_tree.specs.Views.{syntax_of, syntaxes_of, terms_of, additions_of, factors_of, multiplications_of, number_of, numbers_of, bound_of, rings_of}
 use Rattle.cql_tree.specs.Rows.{vec_parts, vec_terms, vec_additions, vec_factors, vec_multiplications}
 use Rattle.cql_tree.specs.declared.tree.Number.{Number}
-use Rattle.cql_tree.specs.declared.tree.Tree.{Tree, Row_of-Tree, end_of-Tree, more_of-Tree, items-the_row-Tree, items_hidden-the_row-Tree-0, Row_of-Term, end_of-Term, more_of-Term, items-the_row-Term, items_hidden-the_row-Term-1, Row_of-Factor, end_of-Factor, more_of-Factor, items-the_row-Factor, items_hidden-the_row-Factor-2}
-use Rattle.cql_tree.specs.declared.tree.Tree.TheBlock.{hidden-the_row-Tree-0, hidden-the_row-Term-1, hidden-the_row-Factor-2}
+use Rattle.cql_tree.specs.declared.tree.Tree.{Tree}
 use Rattle.cql_tree.specs.declared.tree.Tree.TheVariants.{Name, Text, Truth, Or, And, Not, Compare, Like, Between, In, IsNull, Sum, Product, Casei, Date, Interval, Point, Polygon, Bbox, Spatial, Temporal}
 use Rattle.cql_tree.specs.declared.tree.Tree.TheVariants as tree
 

@@ -1,10 +1,12 @@
 -- What the numbers and the texts of a literal are those of (OGC 21-065r2, requirements classes Basic Spatial Functions: spatial literals, and Temporal Functions: INTERVAL; the limits: own profile).
-use Rattle.std.specs.Prelude.{◌≡◌, ℕ, ℤ, ◌<ℤ◌, Bool, false, List, [], ◌∷◌, ◌++◌, Option, Some, None, Ok}
+use Rattle.std.specs.Prelude.{◌≡◌, ℕ, ℤ, ◌<ℤ◌, Bool, false, List, [], ◌∷◌, ◌++◌, Option, None, Ok}
 use Rattle.cad_day.specs.DayTexts.{day_named}
 use Rattle.cad_day.specs.Intervals.{are_turned as is_turned}
 use Rattle.cad_shape.specs.declared.point.Point.{Point}
 use Rattle.cad_shape.specs.Coordinates.{IsCoordinate}
-use Rattle.cad_shape.specs.Outlines.{IsRing}
+use Rattle.cad_shape.specs.declared.ring.Ring.{Ring}
+use Rattle.cad_shape.specs.Rings.{corners_of}
+use Rattle.cad_shape.specs.Polygons.{IsRegion}
 use Rattle.cql_tree.specs.Syntax.{Syntax, Parts, none, part, leaf, node, number_leaf, bound_leaf, ring_op}
 use Rattle.cql_types.specs.Numbers.{written}
 
@@ -44,17 +46,21 @@ abbrev pub closed : List Point → List Point
 closed [] = []
 closed (p ∷ ps) = (p ∷ ps) ++ (p ∷ [])
 
--- the parts are lines through the corners of rings
-pub data AreRings : Parts → List (List Point) → Type 0 where
-  no_ring : AreRings none []
-  one_ring : {ps ts : Parts} {corners : List Point} {rings : List (List Point)} → AreNumbers ps (coordinates_of (closed corners)) → AreRings ts rings →
-      AreRings (part (node ring_op ps) ts) (corners ∷ rings)
+-- the numbers of the closed line along a ring
+abbrev pub outline_of : Ring → List ℤ
+outline_of ring = coordinates_of (closed (corners_of ring))
 
--- POLYGON, of one ring
+-- the parts are lines along the rings
+pub data AreRings : Parts → List Ring → Type 0 where
+  no_ring : AreRings none []
+  one_ring : {ps ts : Parts} {ring : Ring} {rings : List Ring} → AreNumbers ps (outline_of ring) → AreRings ts rings →
+      AreRings (part (node ring_op ps) ts) (ring ∷ rings)
+
+-- POLYGON: lines along the rings of a region, its exterior boundary first
 pub record IsPolygon (ps : Parts) : Type 0 where
-  pub corners : List Point
-  pub rings : AreRings ps (corners ∷ [])
-  pub is_ring : IsRing corners
+  pub rings : List Ring
+  pub lines : AreRings ps rings
+  pub is_region : IsRegion rings
 
 -- the day of a literal end of an INTERVAL
 abbrev pub day_at : Syntax → Option ℤ

@@ -12,9 +12,9 @@ use Rattle.cad_schema.specs.Attributes.{Named}
 use Rattle.cad_schema.specs.Schema.{find}
 use Rattle.cad_shape.specs.declared.point.Point.{Point}
 use Rattle.cad_shape.specs.declared.boxes.Bounds.{Bounds}
-use Rattle.cad_shape.specs.declared.ring.Ring.{Ring}
+use Rattle.cad_shape.specs.declared.polygon.Region.{Region}
 use Rattle.cad_shape.specs.declared.shape.Shape.TheVariants as shape
-use Rattle.cad_shape.specs.Rings.{corners_of}
+use Rattle.cad_shape.specs.RegionRings.{rings_of}
 use Rattle.cql_lexer.specs.declared.token.Comparison.{Comparison}
 use Rattle.cql_lexer.specs.declared.token.SpatialRelation.{SpatialRelation}
 use Rattle.cql_tree.specs.declared.tree.Addition.{Addition}
@@ -220,7 +220,7 @@ pub data Draws (s : List Named) : Op → Parts → Node → Type 0 where
   interval : {p : ℕ} {t u : Syntax} {from to : EndTerm} → IsEnd s t from → IsEnd s u to → are_turned (part t (part u none)) ≡ false →
       Draws s (interval_op p) (part t (part u none)) (n.Span (span.Interval from to))
   point : {p : ℕ} {ps : Parts} (at : Point) → AreNumbers ps (at.x ∷ at.y ∷ []) → Draws s (point_op p) ps (n.Spot (place.Constant (shape.Spot at)))
-  region : {p : ℕ} {ps : Parts} (ring : Ring) → AreRings ps (corners_of ring ∷ []) → Draws s (polygon_op p) ps (n.Area (place.Constant (shape.Area ring)))
+  region : {p : ℕ} {ps : Parts} (area : Region) → AreRings ps (rings_of area) → Draws s (polygon_op p) ps (n.Area (place.Constant (shape.Area area)))
   box : {p : ℕ} {ps : Parts} (bounds : Bounds) → AreNumbers ps (bounds.x_min ∷ bounds.y_min ∷ bounds.x_max ∷ bounds.y_max ∷ []) →
       bounds.x_min <ℤ bounds.x_max → bounds.y_min <ℤ bounds.y_max → Draws s (bbox_op p) ps (n.Frame (place.Constant (shape.Frame bounds)))
 

@@ -1,11 +1,15 @@
 -- What is read of the parts of a literal.
-use Rattle.std.specs.Prelude.{◌≡◌, ◌<ℤ◌, ℕ, ℤ, false, List, [], ◌∷◌, Option, Some, None, Result, Ok, Err, MatchResult, Vec, map, string_bytes}
+use Rattle.std.specs.Prelude.{◌≡◌, ◌<ℤ◌, ℕ, ℤ, false, List, [], ◌∷◌, Option, Some, None, Result, Ok, Err, MatchResult, MatchOption, Vec, map, string_bytes}
 use Rattle.std.specs.declared.alloc.Global.{Global}
 use Rattle.cad_day.specs.Days.{number_of}
 use Rattle.cad_schema.specs.declared.property.PropertyKind.{PropertyKind}
 use Rattle.cad_schema.specs.declared.property.PropertyKind.TheVariants as property
 use Rattle.cad_schema.specs.Attributes.{Named}
 use Rattle.cad_shape.specs.Coordinates.{IsCoordinate}
+use Rattle.cad_shape.specs.declared.ring.Ring.{Ring as Outline}
+use Rattle.cad_shape.specs.declared.polygon.Region.{Region}
+use Rattle.cad_shape.specs.Polygons.{IsRegion}
+use Rattle.cad_shape.specs.RegionRings.{rings_of as region_rings}
 use Rattle.cql_tree.specs.declared.tree.Number.{Number}
 use Rattle.cql_tree.specs.declared.tree.Corner.{Corner}
 use Rattle.cql_tree.specs.declared.tree.Ring.{Ring}
@@ -18,7 +22,7 @@ use Rattle.cql_types.specs.declared.filter.EndTerm.{EndTerm}
 use Rattle.cql_types.specs.declared.filter.EndTerm.TheVariants as end
 use Rattle.cql_types.specs.declared.literal.Position.{Position}
 use Rattle.cql_types.specs.Kinds.{Kind, is_end, Has}
-use Rattle.cql_types.specs.Literals.{AreNumbers}
+use Rattle.cql_types.specs.Literals.{AreNumbers, outline_of}
 use Rattle.cql_types.specs.Means.{IsEnd}
 use Rattle.cql_types.specs.Numbers.{written}
 use Rattle.cql_types.specs.Contract.{ForFault, IsFirst, IsFirstIn}
@@ -68,6 +72,15 @@ pub data AreLines : Parts → List (List ℤ) → Type 0 where
 
 abbrev pub lines_of : List (Vec Position Global) → List (List ℤ)
 lines_of lines = map (λ line. positions_of line.items) lines
+
+-- the numbers of the line along each ring
+abbrev pub outlines_of : List Outline → List (List ℤ)
+outlines_of rings = map outline_of rings
+
+-- the region inside rings along the lines, or no region is
+abbrev pub IsRegionAlong : List (List ℤ) → Option Region → Type 0
+IsRegionAlong lines region = MatchOption region ((rings : List Outline) → outlines_of rings ≡ lines → ¬ IsRegion rings)
+    (λ area. outlines_of (region_rings area) ≡ lines)
 
 abbrev pub ReadsLines : List Ring → Result (Vec (Vec Position Global) Global) TypeFault → Type 0
 ReadsLines rs r = MatchResult r (λ lines. AreLines (parts_of (rings_of rs)) (lines_of lines.items)) (ForFault (IsFirstNumber (parts_of (rings_of rs))))

@@ -20,7 +20,7 @@ pub enum Misuse {
     NotWhole,
     /// The number is outside of 64 bits.
     NumberTooLarge,
-    /// The numbers of a point, a ring or a box are those of none.
+    /// The numbers of a point, a region or a box are those of none.
     BadShape,
     /// The last day of an interval lies before the first.
     EndsTurned,

@@ -5,14 +5,17 @@ ghost use Rattle.cad_day.specs.Days.{number_of};
 ghost use Rattle.cad_schema.specs.Schema.{schema_of};
 ghost use Rattle.cad_shape.specs.Coordinates.{IsCoordinate};
 ghost use Rattle.cad_shape.specs.Outlines.{IsRing};
+ghost use Rattle.cad_shape.specs.Polygons.{IsRegion};
+ghost use Rattle.cad_shape.specs.RegionRings.{rings_of as region_rings};
 ghost use Rattle.cad_shape.specs.Rings.{corners_of};
 ghost use Rattle.cad_shape.specs.declared.point.Point.{Point};
+ghost use Rattle.cad_shape.specs.declared.ring.Ring.{Ring};
 ghost use Rattle.cql_tree.specs.Syntax.{leaf, node, part, parts_of, none, place_of, name_leaf, bound_leaf, interval_op, point_op, bbox_op, polygon_op};
 ghost use Rattle.cql_tree.specs.Views.{bound_of, numbers_of, rings_of};
-ghost use Rattle.cql_types.specs.Literals.{coordinates_of, closed};
+ghost use Rattle.cql_types.specs.Literals.{coordinates_of, closed, outline_of};
 ghost use Rattle.cad_day.specs.Intervals.{are_turned as is_turned};
 ghost use Rattle.cql_types.specs.Contract.{Judges};
-ghost use Rattle.cql_types.specs.Reading.{ReadsEnd, ReadsNumber, ReadsPosition, ReadsLine, ReadsLines, positions_of, property_end, end_day, IsFrame};
+ghost use Rattle.cql_types.specs.Reading.{ReadsEnd, ReadsNumber, ReadsPosition, ReadsLine, ReadsLines, IsRegionAlong, positions_of, lines_of, outlines_of, property_end, end_day, IsFrame};
 
 use crate::collect::wrong_kind;
 use crate::fault::{Misuse, TypeFault};
@@ -22,7 +25,7 @@ use crate::leaf::at;
 use crate::number::whole_number;
 use cad_day::Day;
 use cad_schema::{Collection, PropertyKind, find_property};
-use cad_shape::{Bounds, Point, Ring, Shape};
+use cad_shape::{Bounds, Point, Region, Ring, Shape};
 use cql_tree::{Bound, Corner, Number};
 use std::alloc::{AllocError, Global};
 
@@ -205,14 +208,11 @@ pub fn polygon(
     ensures { Judges (schema_of collection) (node (polygon_op place) (parts_of (rings_of rings.now))) result }
 {
     let lines = read_lines(alloc, rings)?;
-    if lines.len() != 1 {
-        return Err(at(place, Misuse::BadShape));
-    }
-    let ring = ring_along(alloc, &lines[0])?;
-    let Some(ring) = ring else {
+    let region = region_along(alloc, &lines)?;
+    let Some(region) = region else {
         return Err(at(place, Misuse::BadShape));
     };
-    let node = Node::Area(ShapeTerm::Constant(Shape::Area(ring)));
+    let node = Node::Area(ShapeTerm::Constant(Shape::Area(region)));
     Ok(Judged { place, node })
 }
 
@@ -236,10 +236,47 @@ fn read_line(alloc: Global, corners: &[Corner]) -> Result<Vec<Position>, TypeFau
     Ok(line)
 }
 
+// The region inside the rings along these lines, the exterior boundary first, if there is one.
+fn region_along(alloc: Global, lines: &[Vec<Position>]) -> Result<Option<Region>, AllocError>
+    ensures { IfOk result (λ region. IsRegionAlong (lines_of lines.now) region) }
+{
+    let rings = rings_along(alloc, lines)?;
+    let Some(rings) = rings else {
+        return Ok(None);
+    };
+    Ok(region_inside(rings))
+}
+
+// The region inside these rings, the exterior boundary first, if they bound one.
+#[tactic(auto, using(cad_shape::specs::RegionRings::no_region))]
+fn region_inside(rings: Vec<Ring>) -> Option<Region>
+    ensures { MatchOption result (¬ IsRegion rings.items) (λ region. region_rings region ≡ rings.items) }
+{
+    match Region::new(rings) {
+        Ok(region) => Some(region),
+        Err(_) => None,
+    }
+}
+
+// The rings along these lines, if each is one.
+fn rings_along(alloc: Global, lines: &[Vec<Position>]) -> Result<Option<Vec<Ring>>, AllocError>
+    ensures { IfOk result (λ rings. MatchOption rings ((all : List Ring) → ¬ (outlines_of all ≡ lines_of lines.now))
+        (λ rings. outlines_of rings.items ≡ lines_of lines.now)) }
+{
+    let mut rings = Vec::new(alloc);
+    for line in lines {
+        let Some(ring) = ring_along(alloc, line)? else {
+            return Ok(None);
+        };
+        rings.push(ring)?;
+    }
+    Ok(Some(rings))
+}
+
 // The ring along a line that ends where it begins.
 fn ring_along(alloc: Global, line: &[Position]) -> Result<Option<Ring>, AllocError>
     ensures { IfOk result (λ ring. MatchOption ring ((corners : List Point) → coordinates_of (closed corners) ≡ positions_of line.now → ¬ IsRing corners)
-        (λ ring. coordinates_of (closed (corners_of ring)) ≡ positions_of line.now)) }
+        (λ ring. outline_of ring ≡ positions_of line.now)) }
 {
     let points = points_along(alloc, line)?;
     let Some(points) = points else {

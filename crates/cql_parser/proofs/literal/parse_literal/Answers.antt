@@ -1,8 +1,9 @@
 use Rattle.std.proofs.Common.{[], refl}
 use Rattle.cql_lexer.specs.Mark.{marks, word, name, text}
 use Rattle.cql_lexer.specs.declared.token.Keyword.TheVariants.{Date, Interval, Point, Polygon, Bbox}
-use Rattle.cql_tree.specs.Syntax.{date_op, interval_op, point_op, polygon_op, bbox_op}
-use Rattle.cql_parser.specs.Machine.{as_primary, after_sign, want_primary, want_slots, have_primary, date_slots, interval_slots, point_slots, polygon_slots, bbox_slots}
+use Rattle.cql_tree.specs.Syntax.{date_op, interval_op, point_op, bbox_op}
+use Rattle.cql_parser.specs.Machine.{as_primary, after_sign, want_primary, want_slots, have_primary, date_slots, interval_slots, point_slots, bbox_slots}
+use Rattle.cql_parser.specs.Descent.{want_rings}
 use Rattle.cql_parser.proofs.Turns.{goes_at, truth_goes, number_stays, primary_sign_goes, primary_stops, parses_from}
 use Rattle.cql_parser.proofs.literal.parse_literal.Goals as goal
 
@@ -63,9 +64,9 @@ returns-in-Point-clause-parses c =
 pub returns-in-Polygon-clause-parses : goal.returns-in-Polygon-clause-parses
 returns-in-Polygon-clause-parses c =
     λ h.
-    parses_from want_primary (want_slots polygon_slots (polygon_op c.in-Polygon.place) []) have_primary have_primary
+    parses_from want_primary (want_rings c.in-Polygon.place) have_primary have_primary
     (marks c.args.tokens.now) (marks c.in-Polygon.after.now) c.parse_polygon.result (λ k. k)
-    (λ k. goes_at (want_primary k) (want_slots polygon_slots (polygon_op c.in-Polygon.place) [] k) _ (word Polygon) _ _ refl c.in-Polygon.ensures.starts)
+    (λ k. goes_at (want_primary k) (want_rings c.in-Polygon.place k) _ (word Polygon) _ _ refl c.in-Polygon.ensures.starts)
     (λ k s zs. refl) c.parse_polygon.ensures.parses
 
 pub returns-in-Bbox-clause-parses : goal.returns-in-Bbox-clause-parses

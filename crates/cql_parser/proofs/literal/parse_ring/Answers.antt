@@ -1,9 +1,9 @@
-use Rattle.std.proofs.Common.{◌∙◌, arith}
+use Rattle.std.proofs.Common.{[], refl, ◌∙◌, arith}
 use Rattle.std.proofs.lemmas.Result.{err_from_is_err_and}
 use Rattle.cql_lexer.specs.Mark.{marks}
 use Rattle.cql_parser.specs.Machine.{open_slot}
 use Rattle.cql_parser.specs.Descent.{want_here, want_corner, want_ring}
-use Rattle.cql_parser.proofs.Turns.{ring_begins, ring_first, ring_next, corner_goes, ring_closes, ring_stops, first_corner, ring_open, corner_of, numbers_push, stops_from}
+use Rattle.cql_parser.proofs.Turns.{corner_goes, ring_closes, ring_stops, ring_open, corner_of, numbers_push, stops_from}
 use Rattle.cql_parser.proofs.literal.parse_ring.Goals as goal
 
 pub returns-in_err-after-clause-parses : goal.returns-in_err-after-clause-parses
@@ -12,21 +12,23 @@ returns-in_err-after-clause-parses c =
     rw (p.1, p.2)
     (stops_from want_ring (want_here open_slot) (marks c.args.tokens.now) _ c.in_err-after.field-0.0
     (λ k. ring_open k)
-    (λ k. ring_begins k _) c.in_err-after.ensures.passes)
+    (λ k. refl) c.in_err-after.ensures.passes)
 
 pub returns-in_err-first-clause-parses : goal.returns-in_err-first-clause-parses
 returns-in_err-first-clause-parses c =
     let p = err_from_is_err_and c.from_residual-in_err-first.result c.from_residual-in_err-first.ensures.1 in
     rw (p.1, p.2)
     (stops_from want_ring want_corner (marks c.args.tokens.now) _ c.in_err-first.field-0.0
-    (λ k. first_corner k)
-    (λ k. ring_begins k _ ∙ (c.in_ok-after.ensures.passes (ring_open k) ∙ ring_first k _)) c.in_err-first.ensures.takes)
+    (λ k. corner_of [] k)
+    (λ k. c.in_ok-after.ensures.passes (ring_open k)) c.in_err-first.ensures.takes)
 
 pub loop-after-init : goal.loop-after-init
 loop-after-init c =
     record {
       shorter = omega (arith, c.in_ok-after.ensures.shorter, c.in_ok-first.ensures.shorter);
-      reads = λ k. rw (c.in_ok-push.ensures.items, c.new-corners.ensures.items) ((ring_begins k _ ∙ (c.in_ok-after.ensures.passes (ring_open k) ∙ ring_first k _)) ∙ (c.in_ok-first.ensures.takes (first_corner k) ∙ ring_next k _ _ _));
+      reads = λ k.
+          rw (c.in_ok-push.ensures.items, c.new-corners.ensures.items)
+          (c.in_ok-after.ensures.passes (ring_open k) ∙ c.in_ok-first.ensures.takes (corner_of [] k));
     }
 
 pub returns-in_err-corner-clause-parses : goal.returns-in_err-corner-clause-parses
@@ -43,7 +45,7 @@ loop-after-preserved c =
       shorter = omega (arith, c.in-Some.ensures.shorter, c.in_ok-corner.ensures.shorter, c.loop-after.invariant.shorter);
       reads = λ k.
           rw (c.in_ok-push-2.ensures.items, numbers_push c.loop-after.corners.items _)
-          ((c.loop-after.invariant.reads k ∙ corner_goes k _ _ _ c.in-Some.ensures.found) ∙ (c.in_ok-corner.ensures.takes (corner_of _ k) ∙ ring_next k _ _ _));
+          (c.loop-after.invariant.reads k ∙ (corner_goes k _ _ _ c.in-Some.ensures.found ∙ c.in_ok-corner.ensures.takes (corner_of _ k)));
     }
 
 pub returns-in-Some-after_close-clause-parses : goal.returns-in-Some-after_close-clause-parses
