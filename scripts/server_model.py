@@ -17,13 +17,14 @@ from urllib.parse import quote_plus, unquote_to_bytes
 
 import filter_model
 from filter_meaning import asked_days, meets, related, shape_of, span, truth
-from filter_model import COMMON, SCHEMAS, day_of, is_ring, tree_of
+from filter_model import SCHEMAS, day_of, tree_of
 
 # Digits without end are read as numbers.
 sys.set_int_max_str_digits(0)
 
 FRONT = 32768
-CLASSES = {"parcels": "parcel", "rights": "right", "restrictions": "restriction", "units": "unit", "parties": "party"}
+CLASSES = {"parcels": "parcel", "rights": "right", "restrictions": "restriction", "units": "unit", "parties": "party",
+           "responsibilities": "responsibility"}
 ROUTES = [("landing", r"/"), ("collections", r"/collections"), ("collection", r"/collections/([^/]+)"),
           ("queryables", r"/collections/([^/]+)/queryables"), ("items", r"/collections/([^/]+)/items"),
           ("item", r"/collections/([^/]+)/items/([^/]+)")]
@@ -125,6 +126,11 @@ def named_on(versions, object_, day):
     return None
 
 
+def rings_of(version):
+    """The rings of a parcel's shape, its outline first, or None where it has none."""
+    return [version["shape"]] + (version.get("holes") or []) if version.get("shape") else None
+
+
 def features(versions, collection):
     """The features: the identifier, values as replies write them by name, and values as filters ask them."""
     for it in versions:
@@ -132,7 +138,7 @@ def features(versions, collection):
             continue
         share = it.get("share") or [None, None]
         told = {"object": it["object"], "number": it["number"], "begin": it["first"], "end": it["last"],
-                "label": it.get("label"), "area": it.get("area"), "geometry": it.get("shape"),
+                "label": it.get("label"), "area": it.get("area"), "geometry": rings_of(it),
                 "reference_point": it.get("spot"), "unit": it.get("unit"), "type": it.get("code"), "name": it.get("name"),
                 "share_num": share[0], "share_den": share[1], "party": it.get("party"),
                 "party_required": it.get("required")}
@@ -146,9 +152,11 @@ def asked_values(told):
     values = dict(told)
     values["begin"], values["end"] = day_of(told["begin"]), day_of(told["end"]) if told["end"] else None
     values["lifespan"] = span(values["begin"], values["end"])
-    for name, make in (("geometry", lambda it: [tuple(corner) for corner in it]), ("reference_point", tuple)):
-        if name in told:
-            values[name] = shape_of(make(told[name])) if told[name] is not None else None
+    if told.get("geometry"):
+        outline, *holes = [[tuple(corner) for corner in ring] for ring in told["geometry"]]
+        values["geometry"] = shape_of(outline, holes)
+    if told.get("reference_point"):
+        values["reference_point"] = shape_of(tuple(told["reference_point"]))
     return values
 
 
@@ -159,8 +167,8 @@ def link(href, rel):
 
 
 def geometry_of(told):
-    corners = told.get("geometry")
-    return corners and {"coordinates": [corners + corners[:1]], "type": "Polygon"}
+    rings = told.get("geometry")
+    return rings and {"coordinates": [ring + ring[:1] for ring in rings], "type": "Polygon"}
 
 
 def feature_tree(identifier, told):
