@@ -5,6 +5,8 @@ pub mod CommandLemmas
 pub mod OneValue
 pub mod OneCommand
 pub mod OrderLemmas
+pub mod ClassLemmas
+pub mod PlainLemmas
 pub mod SaidLemmas
 pub mod TextLemmas
 pub mod WrittenLemmas

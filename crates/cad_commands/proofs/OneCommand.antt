@@ -1,12 +1,11 @@
 -- An object says one command alone.
-use Rattle.std.proofs.Common.{◌≡◌, ℕ, List, codes, bytes_eq, if◌then◌else◌, refl, sym, ap, ◌∙◌}
+use Rattle.std.proofs.Common.{◌≡◌, ℕ, List, codes, sym, ap, ◌∙◌}
 use Rattle.serde_json.specs.Data.{Data, Members, member, no_members}
 use Rattle.serde_json.specs.Data as json
 use Rattle.cad_day.specs.declared.day.Day.{Day}
 use Rattle.cad_versions.specs.declared.object_id.ObjectId.{ObjectId}
 use Rattle.cad_versions.specs.declared.body.Body.{Body}
 use Rattle.cad_versions.specs.declared.body.Class.{Class}
-use Rattle.cad_versions.specs.declared.body.Class.TheVariants as class
 use Rattle.cad_versions.specs.declared.command.Command.{Command}
 use Rattle.cad_versions.specs.declared.command.Command.TheVariants as command
 use Rattle.cad_commands.specs.declared.operation.Operation.{Operation}
@@ -18,23 +17,9 @@ use Rattle.cad_versions.specs.BodyParts.{parts_of}
 use Rattle.cad_versions.specs.BodyLemmas.{same_body}
 use Rattle.cad_commands.specs.Bodies.{class_name, SaysParts, SaysBody}
 use Rattle.cad_commands.specs.Commands.{IsOperationOf, SaysOneBody, SaysBeginning, SaysEnd, SaysCommand, Says}
+use Rattle.cad_commands.proofs.ClassLemmas.{one_class}
 use Rattle.cad_commands.proofs.ValueLemmas.{point_said}
 use Rattle.cad_commands.proofs.OneValue.{may_have_one, has_one, one_whole, one_flag, one_object, one_words, one_day, one_share, one_ring, one_operation}
-
--- the class of a name
-abbrev class_named : List ℕ → Class
-class_named name =
-    if bytes_eq name (codes "party") then class.Party else (if bytes_eq name (codes "unit") then class.Unit else (if bytes_eq name (codes "parcel") then class.Parcel else (if bytes_eq name (codes "right") then class.Right else class.Restriction)))
-
-named : (class : Class) → class_named (class_name class) ≡ class
-named class.Party = refl
-named class.Unit = refl
-named class.Parcel = refl
-named class.Right = refl
-named class.Restriction = refl
-
-one_class : (a b : Class) → class_name a ≡ class_name b → a ≡ b
-one_class a b e = sym (named a) ∙ ap class_named e ∙ named b
 
 pub one_parts : (ms : Members) (p q : BodyParts) → SaysParts ms p → SaysParts ms q → p ≡ q
 one_parts ms p q s t =

@@ -17,6 +17,7 @@ class_name class.Unit = codes "unit"
 class_name class.Parcel = codes "parcel"
 class_name class.Right = codes "right"
 class_name class.Restriction = codes "restriction"
+class_name class.Responsibility = codes "responsibility"
 
 -- the members that an object of each class may have (ISO 19152:2012, attributes of the classes)
 abbrev pub members_of : Class → List (List ℕ)
@@ -25,6 +26,7 @@ members_of class.Unit = codes "name" ∷ []
 members_of class.Parcel = codes "unit" ∷ codes "label" ∷ codes "area" ∷ codes "shape" ∷ codes "spot" ∷ []
 members_of class.Right = codes "unit" ∷ codes "party" ∷ codes "code" ∷ codes "share" ∷ []
 members_of class.Restriction = codes "unit" ∷ codes "party" ∷ codes "code" ∷ codes "share" ∷ codes "required" ∷ []
+members_of class.Responsibility = codes "unit" ∷ codes "party" ∷ codes "code" ∷ codes "share" ∷ []
 
 -- each member says the part of its name; where it is missing or null, that part is not there
 pub record SaysParts (ms : Members) (parts : BodyParts) : Type 0 where

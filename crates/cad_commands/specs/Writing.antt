@@ -62,14 +62,19 @@ or_null json_of (Some x) = json_of x
 
 -- ---- objects
 
+-- of a right and of a responsibility
+abbrev pub right_members : ObjectId → Option ObjectId → Words → Option Share → Members
+right_members unit party code share =
+    member (codes "code") (words_json code) (member (codes "party") (or_null object_json party) (member (codes "share") (or_null share_json share) (member (codes "unit") (object_json unit) no_members)))
+
 abbrev pub body_members : Body → Members
 body_members (body.Party name code) = member (codes "code") (words_json code) (member (codes "name") (or_null words_json name) no_members)
 body_members (body.Unit name) = member (codes "name") (or_null words_json name) no_members
 body_members (body.Parcel unit label area shape spot) =
     member (codes "area") (or_null whole_json area) (member (codes "label") (words_json label) (member (codes "shape") (or_null ring_json shape)
     (member (codes "spot") (or_null point_json spot) (member (codes "unit") (object_json unit) no_members))))
-body_members (body.Right unit party code share) =
-    member (codes "code") (words_json code) (member (codes "party") (or_null object_json party) (member (codes "share") (or_null share_json share) (member (codes "unit") (object_json unit) no_members)))
+body_members (body.Right unit party code share) = right_members unit party code share
+body_members (body.Responsibility unit party code share) = right_members unit party code share
 body_members (body.Restriction unit party code share required) =
     member (codes "code") (words_json code) (member (codes "party") (or_null object_json party) (member (codes "required") (or_null json.boolean required)
     (member (codes "share") (or_null share_json share) (member (codes "unit") (object_json unit) no_members))))

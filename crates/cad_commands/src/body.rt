@@ -32,6 +32,7 @@ fn class_named(name: &str) -> Option<Class>
         "parcel" => Some(Class::Parcel),
         "right" => Some(Class::Right),
         "restriction" => Some(Class::Restriction),
+        "responsibility" => Some(Class::Responsibility),
         _ => None,
     }
 }
@@ -44,7 +45,7 @@ fn members_of(class: Class) -> &'static [&'static str]
         Class::Party => &["name", "code"],
         Class::Unit => &["name"],
         Class::Parcel => &["unit", "label", "area", "shape", "spot"],
-        Class::Right => &["unit", "party", "code", "share"],
+        Class::Right | Class::Responsibility => &["unit", "party", "code", "share"],
         Class::Restriction => &["unit", "party", "code", "share", "required"],
     }
 }

@@ -16,7 +16,7 @@ use Rattle.cad_versions.specs.Versions.{history}
 use Rattle.cad_schema.specs.declared.attribute.Attribute.{Attribute}
 use Rattle.cad_schema.specs.declared.attribute.Attribute.TheVariants as attribute
 use Rattle.cad_schema.specs.declared.collection.Collection.{Collection}
-use Rattle.cad_schema.specs.declared.collection.Collection.TheVariants.{Parcels, Rights, Restrictions, Units, Parties}
+use Rattle.cad_schema.specs.declared.collection.Collection.TheVariants.{Parcels, Rights, Restrictions, Units, Parties, Responsibilities}
 use Rattle.cad_schema.specs.Attributes.{attributes_of}
 use Rattle.cad_feature.specs.Features.{Item}
 use Rattle.cad_feature.specs.Lifespans.{holds_on}
@@ -29,6 +29,7 @@ class_for Rights = class.Right
 class_for Restrictions = class.Restriction
 class_for Units = class.Unit
 class_for Parties = class.Party
+class_for Responsibilities = class.Responsibility
 
 abbrev pub is_in : Collection → VersionedObject → Bool
 is_in collection v = class_number (class_of v.body) == class_number (class_for collection)

@@ -21,6 +21,7 @@ fn class(collection: Collection) -> Class
         Collection::Restrictions => Class::Restriction,
         Collection::Units => Class::Unit,
         Collection::Parties => Class::Party,
+        Collection::Responsibilities => Class::Responsibility,
     }
 }
 

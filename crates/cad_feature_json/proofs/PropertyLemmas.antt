@@ -9,8 +9,8 @@ use Rattle.serde_json.specs.Find.{get_member}
 use Rattle.serde_json.proofs.Views.{get_member-put, get_member-put_other}
 use Rattle.cad_feature.specs.Values.{Datum}
 use Rattle.cad_schema.specs.declared.collection.Collection.{Collection}
-use Rattle.cad_schema.specs.declared.collection.Collection.TheVariants.{Parcels, Rights, Restrictions, Units, Parties}
 use Rattle.cad_schema.specs.Attributes.{Named}
+use Rattle.cad_schema.specs.NameLemmas.{each_passes}
 use Rattle.cad_schema.specs.Schema.{schema_of}
 use Rattle.cad_feature.specs.Features.{FitSchema}
 use Rattle.cad_feature_json.specs.Values.{value_data, named_values, is_property, with_property, value_named}
@@ -25,11 +25,7 @@ abbrev pub names_of : List Named → List (List ℕ)
 names_of schema = map (λ p. p.0) schema
 
 pub schema_apart : (c : Collection) → are_apart (names_of (schema_of c)) ≡ true
-schema_apart Parcels = refl
-schema_apart Rights = refl
-schema_apart Restrictions = refl
-schema_apart Units = refl
-schema_apart Parties = refl
+schema_apart c = each_passes (λ c. are_apart (names_of (schema_of c))) refl c
 
 first_true : (a b : Bool) → (not a && b) ≡ true → a ≡ false
 first_true true b h = absurd cc

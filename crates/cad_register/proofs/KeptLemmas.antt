@@ -6,12 +6,14 @@ use Rattle.sqlite_typed.specs.Columns.{or_null}
 use Rattle.sqlite_value.specs.Order.{Row}
 use Rattle.cad_tables.specs.VersionRow.{cells_of}
 use Rattle.cad_versions.specs.Class.{class_of}
-use Rattle.cad_shape.specs.declared.ring.Ring.{Ring}
+use Rattle.cad_shape.specs.declared.polygon.Region.{Region}
 use Rattle.cad_versions.specs.BodyParts.{parts_of, area_in, shape_in}
 use Rattle.cad_versions.specs.BodyLemmas.{same_body, same_class}
 use Rattle.cad_versions.specs.VersionedObject.{VersionedObject, IsVersion}
 use Rattle.cad_versions.specs.Entries.{Entry, entered_at}
-use Rattle.cad_register.specs.Rows.{line_of, bytes_of_ring}
+use Rattle.cad_versions.specs.SameLemmas.{written_shape}
+use Rattle.cad_versions.specs.ShapeBytes.{shape_bytes}
+use Rattle.cad_register.specs.Rows.{line_of}
 use Rattle.cad_register.specs.Parts.{HasShape}
 use Rattle.cad_register.specs.Kept.{IsRowOf}
 use Rattle.cad_register.proofs.PartLemmas.{parts_same, counts_same, days_same, day_cell, object_cell, count_cell}
@@ -32,9 +34,9 @@ entry_same row e f h k =
     let said = same_body v.body w.body class parts in
     λ i. record { version = record { object = object i; number = number i; first = first i; last = last i; body = said i }; entered = entered i; closed = closed i }
 
-shape_written : (shape : Option Ring) → HasShape (or_null Blob (option_map bytes_of_ring shape)) shape
+shape_written : (shape : Option Region) → HasShape (or_null Blob (option_map shape_bytes shape)) shape
 shape_written None = refl
-shape_written (Some ring) = (bytes_of_ring ring, refl, refl)
+shape_written (Some region) = (shape_bytes region, refl, written_shape region)
 
 -- what is written of a new version stands for it
 pub row_written : (revision : ℕ) (v : VersionedObject) → IsVersion v → revision < 2 ^ 32 → ForSome (area_in v.body) (λ n. n < 2 ^ 32) → IsRowOf (cells_of (line_of (entered_at revision v))) (entered_at revision v)

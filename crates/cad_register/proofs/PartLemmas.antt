@@ -7,7 +7,7 @@ use Rattle.sqlite_typed.specs.Columns.{or_null}
 use Rattle.cad_day.specs.declared.day.Day.{Day}
 use Rattle.cad_day.specs.Days.{number_of}
 use Rattle.cad_shape.specs.declared.point.Point.{Point}
-use Rattle.cad_shape.specs.declared.ring.Ring.{Ring}
+use Rattle.cad_shape.specs.declared.polygon.Region.{Region}
 use Rattle.cad_versions.specs.declared.object_id.ObjectId.{ObjectId}
 use Rattle.cad_versions.specs.declared.words.Words.{Words}
 use Rattle.cad_versions.specs.declared.share.Share.{Share}
@@ -92,10 +92,10 @@ spots_same (Some p) None e f = absurd (number_some (x_of p) e)
 spots_same (Some p) (Some q) e f = ap Some (same_point p q (number_cell _ _ e) (number_cell _ _ f))
 
 -- the bytes of a shape are of one shape, in whatever form
-shapes_same : (v : Value) (a b : Option Ring) → HasShape v a → HasShape v b → a ≡ b
+shapes_same : (v : Value) (a b : Option Region) → HasShape v a → HasShape v b → a ≡ b
 shapes_same v None None h k = refl
-shapes_same v None (Some ring) h k = absurd (blob_some k.0 (sym k.1 ∙ h))
-shapes_same v (Some ring) None h k = absurd (blob_some h.0 (sym h.1 ∙ k))
+shapes_same v None (Some region) h k = absurd (blob_some k.0 (sym k.1 ∙ h))
+shapes_same v (Some region) None h k = absurd (blob_some h.0 (sym h.1 ∙ k))
 shapes_same v (Some one) (Some other) h k = ap Some (one_shape k.0 one other (subst (λ bytes. IsShapeOf bytes one) (blob_same h.0 k.0 (sym h.1 ∙ k.1)) h.2) k.2)
 
 pub parts_same : (row : Row) (f g : BodyParts) → HasParts row f → HasParts row g → f ≡ g

@@ -3,7 +3,7 @@ use Rattle.std.proofs.Common.{◌≡◌, ℕ, List, Err, Option, Some, None, opt
 use Rattle.sqlite_value.specs.declared.value.Value.{Value}
 use Rattle.sqlite_value.specs.declared.value.Value.TheVariants.{Text, Blob}
 use Rattle.sqlite_typed.specs.Columns.{or_null}
-use Rattle.cad_shape.specs.declared.ring.Ring.{Ring}
+use Rattle.cad_shape.specs.declared.polygon.Region.{Region}
 use Rattle.cad_versions.specs.declared.words.Words.{Words}
 use Rattle.cad_versions.specs.Texts.{bytes_of}
 use Rattle.cad_versions.specs.ShapeBytes.{IsShapeOf}
@@ -22,6 +22,6 @@ pub no_words : (bytes : List ℕ) (v : Value) → Text bytes ≡ v → ((words :
 no_words bytes v is none None e = absurd cc
 no_words bytes v is none (Some words) e = none words cc
 
-pub no_shape : (bytes : List ℕ) (v : Value) → Blob bytes ≡ v → ((ring : Ring) → ¬ IsShapeOf bytes ring) → (o : Option Ring) → ¬ HasShape v o
+pub no_shape : (bytes : List ℕ) (v : Value) → Blob bytes ≡ v → ((region : Region) → ¬ IsShapeOf bytes region) → (o : Option Region) → ¬ HasShape v o
 no_shape bytes v is none None e = absurd cc
-no_shape bytes v is none (Some ring) e = none ring (subst (λ t. IsShapeOf t ring) (sym (blob_same bytes e.0 (is ∙ e.1))) e.2)
+no_shape bytes v is none (Some region) e = none region (subst (λ t. IsShapeOf t region) (sym (blob_same bytes e.0 (is ∙ e.1))) e.2)

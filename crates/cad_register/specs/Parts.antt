@@ -5,7 +5,7 @@ use Rattle.sqlite_value.specs.declared.value.Value.{Value}
 use Rattle.sqlite_value.specs.declared.value.Value.TheVariants.{Null, Int, Text, Blob}
 use Rattle.sqlite_value.specs.Order.{Row, column}
 use Rattle.sqlite_typed.specs.Columns.{or_null}
-use Rattle.cad_shape.specs.declared.ring.Ring.{Ring}
+use Rattle.cad_shape.specs.declared.polygon.Region.{Region}
 use Rattle.cad_versions.specs.declared.body_parts.BodyParts.{BodyParts}
 use Rattle.cad_versions.specs.Objects.{object_number}
 use Rattle.cad_versions.specs.Texts.{bytes_of}
@@ -13,10 +13,10 @@ use Rattle.cad_versions.specs.ShapeBytes.{IsShapeOf}
 use Rattle.cad_versions.specs.Fractions.{num_of, den_of}
 use Rattle.cad_register.specs.Rows.{flag_number, x_of, y_of}
 
--- NULL where there is no shape, else bytes that stand for it, in any form that shapes are stored in
-abbrev pub HasShape : Value → Option Ring → Type 0
+-- NULL where there is no shape, else bytes that stand for it, in either form that shapes are stored in
+abbrev pub HasShape : Value → Option Region → Type 0
 HasShape cell None = cell ≡ Null
-HasShape cell (Some ring) = (bytes : List ℕ) × (cell ≡ Blob bytes) × IsShapeOf bytes ring
+HasShape cell (Some region) = (bytes : List ℕ) × (cell ≡ Blob bytes) × IsShapeOf bytes region
 
 -- the row has these parts of a body in its columns
 pub record HasParts (row : Row) (parts : BodyParts) : Type 0 where

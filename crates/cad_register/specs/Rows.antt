@@ -3,8 +3,6 @@ use Rattle.std.specs.Prelude.{Vec, ℕ, ℤ, Bool, true, false, List, option_map
 use Rattle.std.specs.Global.{Global}
 use Rattle.cad_day.specs.Days.{number_of}
 use Rattle.cad_shape.specs.declared.point.Point.{Point}
-use Rattle.cad_shape.specs.declared.ring.Ring.{Ring}
-use Rattle.cad_shape.specs.Rings.{corners_of}
 use Rattle.cad_tables.specs.VersionRow.{VersionRow}
 use Rattle.cad_versions.specs.Objects.{object_number}
 use Rattle.cad_versions.specs.Texts.{bytes_of}
@@ -23,9 +21,6 @@ x_of point = point.x
 
 abbrev pub y_of : Point → ℤ
 y_of point = point.y
-
-abbrev pub bytes_of_ring : Ring → List ℕ
-bytes_of_ring ring = shape_bytes (corners_of ring)
 
 -- the row that is written for an entry; rows of earlier forms may stand beside it
 abbrev pub line_of : Entry → VersionRow
@@ -48,7 +43,7 @@ line_of entry = record {
   required = option_map flag_number (required_in entry.version.body);
   spot_x = option_map x_of (spot_in entry.version.body);
   spot_y = option_map y_of (spot_in entry.version.body);
-  shape = option_map bytes_of_ring (shape_in entry.version.body);
+  shape = option_map shape_bytes (shape_in entry.version.body);
 }
 
 abbrev pub items_of : Vec ℕ Global → List ℕ

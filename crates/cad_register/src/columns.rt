@@ -17,7 +17,7 @@ ghost use Rattle.cad_register.specs.Parts.{HasShape};
 ghost use Rattle.cad_register.specs.Rows.{flag_number, x_of, y_of};
 
 use cad_day::Day;
-use cad_shape::{Point, Ring};
+use cad_shape::{Point, Region};
 use cad_versions::{Class, ObjectId, Share, Words, read_shape};
 use sqlite::Row;
 use sqlite::types::ValueRef;
@@ -182,14 +182,14 @@ pub(crate) fn flag_at(row: &Row, at: usize) -> Result<Option<bool>, ReadFault>
     }
 }
 
-pub(crate) fn shape_at(alloc: Global, row: &Row, at: usize) -> Result<Option<Ring>, ReadFault>
+pub(crate) fn shape_at(alloc: Global, row: &Row, at: usize) -> Result<Option<Region>, ReadFault>
     ensures { Reads result
-        (λ ring. HasShape (column row.now at) ring) }
+        (λ shape. HasShape (column row.now at) shape) }
 {
     match cell(row, at) {
         ValueRef::Null => Ok(None),
         ValueRef::Blob(bytes) => match read_shape(alloc, bytes)? {
-            Some(ring) => Ok(Some(ring)),
+            Some(region) => Ok(Some(region)),
             None => Err(ReadFault::Damaged),
         },
         _ => Err(ReadFault::Damaged),

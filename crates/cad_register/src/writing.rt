@@ -6,7 +6,8 @@ ghost use Rattle.sqlite.specs.Values.{bound};
 ghost use Rattle.cad_tables.specs.VersionRow.{cells_of};
 ghost use Rattle.cad_versions.specs.BodyParts.{shape_in};
 ghost use Rattle.cad_versions.specs.Entries.{entered_at};
-ghost use Rattle.cad_register.specs.Rows.{bytes_of_ring, items_of, line_of};
+ghost use Rattle.cad_versions.specs.ShapeBytes.{shape_bytes};
+ghost use Rattle.cad_register.specs.Rows.{items_of, line_of};
 
 use crate::cells::{
     bytes_or_null, count_cell, count_or_null, day_cell, day_or_null, den_or_null, flag_or_null,
@@ -23,7 +24,7 @@ pub(crate) struct NewEntry {
     version: Version,
     entered: u32,
     shape: Option<Vec<u8>>,
-    ghost spelt: { option_map items_of shape ≡ option_map bytes_of_ring (shape_in version.body) },
+    ghost spelt: { option_map items_of shape ≡ option_map shape_bytes (shape_in version.body) },
 }
 
 impl NewEntry {
@@ -34,7 +35,7 @@ impl NewEntry {
         ensures { IfOk result (IsNew version entered) }
     {
         let shape = match version.body.shape() {
-            Some(ring) => Some(write_shape(alloc, ring)?),
+            Some(region) => Some(write_shape(alloc, region)?),
             None => None,
         };
         Ok(NewEntry {

@@ -25,6 +25,8 @@ pub data Attributes : Type 0 where
   a_right : ℕ → Option ℕ → List ℕ → Option (ℕ × ℕ) → Attributes
   -- unit, party, code, share, and whether a party is required
   a_restriction : ℕ → Option ℕ → List ℕ → Option (ℕ × ℕ) → Option Bool → Attributes
+  -- unit, party, code, share
+  a_responsibility : ℕ → Option ℕ → List ℕ → Option (ℕ × ℕ) → Attributes
 
 -- the object, the first or the last day, and what the new version says
 pub data Instruction : Type 0 where
@@ -76,6 +78,8 @@ attributes_of (body.Right unit party code share) =
     a_right (object_number unit) (option_map object_number party) (bytes_of code) (option_map parts_of share)
 attributes_of (body.Restriction unit party code share required) =
     a_restriction (object_number unit) (option_map object_number party) (bytes_of code) (option_map parts_of share) required
+attributes_of (body.Responsibility unit party code share) =
+    a_responsibility (object_number unit) (option_map object_number party) (bytes_of code) (option_map parts_of share)
 
 abbrev pub instruction_of : Command → Instruction
 instruction_of (command.Enter object first body) = to_enter (object_number object) (number_of first) (attributes_of body)

@@ -1,2 +1,1 @@
-mod CollectionLemmas
 mod PropertyLemmas

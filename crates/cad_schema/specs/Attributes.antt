@@ -3,7 +3,7 @@ use Rattle.std.specs.Prelude.{ℕ, List, [], ◌∷◌, codes}
 use Rattle.cad_schema.specs.declared.attribute.Attribute.{Attribute}
 use Rattle.cad_schema.specs.declared.attribute.Attribute.TheVariants as attribute
 use Rattle.cad_schema.specs.declared.collection.Collection.{Collection}
-use Rattle.cad_schema.specs.declared.collection.Collection.TheVariants.{Parcels, Rights, Restrictions, Units, Parties}
+use Rattle.cad_schema.specs.declared.collection.Collection.TheVariants.{Parcels, Rights, Restrictions, Units, Parties, Responsibilities}
 use Rattle.cad_schema.specs.declared.property.Property.{Property}
 use Rattle.cad_schema.specs.declared.property.PropertyKind.{PropertyKind}
 use Rattle.cad_schema.specs.declared.property.PropertyKind.TheVariants.{Text, Whole, Flag, Day, Span, Spot, Area}
@@ -40,7 +40,7 @@ named attribute.PartyRequired = (codes "party_required", Flag)
 abbrev pub and_lifespan : List Attribute → List Attribute
 and_lifespan more = attribute.Object ∷ attribute.Number ∷ attribute.Begin ∷ attribute.End ∷ attribute.Lifespan ∷ more
 
--- of a right and of a restriction
+-- of a right, a responsibility and a restriction
 abbrev pub and_right : List Attribute → List Attribute
 and_right more =
     attribute.Type ∷ attribute.ShareNum ∷ attribute.ShareDen ∷ attribute.Unit ∷ attribute.UnitName ∷ attribute.Party ∷ attribute.PartyName ∷ more
@@ -53,3 +53,4 @@ attributes_of Rights = and_lifespan (and_right [])
 attributes_of Restrictions = and_lifespan (and_right (attribute.PartyRequired ∷ []))
 attributes_of Units = and_lifespan (attribute.Name ∷ [])
 attributes_of Parties = and_lifespan (attribute.Name ∷ attribute.Type ∷ [])
+attributes_of Responsibilities = and_lifespan (and_right [])

@@ -2,11 +2,11 @@
 use Rattle.std.specs.Prelude.{◌≡◌, ℕ, List, [], ◌∷◌, find, codes, Option, Some}
 use Rattle.std.specs.Str.{bytes_eq}
 use Rattle.cad_schema.specs.declared.collection.Collection.{Collection}
-use Rattle.cad_schema.specs.declared.collection.Collection.TheVariants.{Parcels, Rights, Restrictions, Units, Parties}
+use Rattle.cad_schema.specs.declared.collection.Collection.TheVariants.{Parcels, Rights, Restrictions, Units, Parties, Responsibilities}
 
 -- the collections, in the order in which they are listed; `laws` says that each is
 abbrev pub collections : List Collection
-collections = Parcels ∷ Rights ∷ Restrictions ∷ Units ∷ Parties ∷ []
+collections = Parcels ∷ Rights ∷ Restrictions ∷ Units ∷ Parties ∷ Responsibilities ∷ []
 
 abbrev pub name_of : Collection → List ℕ
 name_of Parcels = codes "parcels"
@@ -14,6 +14,7 @@ name_of Rights = codes "rights"
 name_of Restrictions = codes "restrictions"
 name_of Units = codes "units"
 name_of Parties = codes "parties"
+name_of Responsibilities = codes "responsibilities"
 
 -- the collection of this name, if there is one
 abbrev pub collection_named : List ℕ → Option Collection

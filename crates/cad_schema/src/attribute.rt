@@ -15,7 +15,7 @@ pub enum Attribute {
     Lifespan,
     /// The name of a party or a unit.
     Name,
-    /// The code that says of what type a party, a right or a restriction is.
+    /// The code that says of what type an object of its class is.
     Type,
     /// The name of a parcel in the register's maps.
     Label,

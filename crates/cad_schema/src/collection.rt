@@ -13,6 +13,8 @@ pub enum Collection {
     Units,
     /// Those of parties.
     Parties,
+    /// Those of responsibilities.
+    Responsibilities,
 }
 
 impl Collection {
@@ -20,12 +22,13 @@ impl Collection {
     ghost use Rattle.cad_schema.specs.Collections.{name_of, collection_named};
 
     /// The collections, in the order in which they are listed.
-    pub const ALL: [Collection; 5] = [
+    pub const ALL: [Collection; 6] = [
         Collection::Parcels,
         Collection::Rights,
         Collection::Restrictions,
         Collection::Units,
         Collection::Parties,
+        Collection::Responsibilities,
     ];
 
     /// The collection's name in paths.
@@ -38,6 +41,7 @@ impl Collection {
             Collection::Restrictions => "restrictions",
             Collection::Units => "units",
             Collection::Parties => "parties",
+            Collection::Responsibilities => "responsibilities",
         }
     }
 

@@ -59,7 +59,7 @@ pub fn schema(collection: Collection) -> &'static [Property]
 {
     match collection {
         Collection::Parcels => &PARCELS,
-        Collection::Rights => &RIGHTS,
+        Collection::Rights | Collection::Responsibilities => &RIGHTS,
         Collection::Restrictions => &RESTRICTIONS,
         Collection::Units => &UNITS,
         Collection::Parties => &PARTIES,

@@ -2,7 +2,7 @@
 use Rattle.std.specs.Prelude.{◌≡◌, ℕ, List, refl}
 use Rattle.cad_versions.specs.VersionedObject.{VersionedObject}
 use Rattle.cad_schema.specs.declared.collection.Collection.{Collection}
-use Rattle.cad_schema.specs.declared.collection.Collection.TheVariants.{Parcels, Rights, Restrictions, Units, Parties}
+use Rattle.cad_schema.specs.declared.collection.Collection.TheVariants.{Parcels, Rights, Restrictions, Units, Parties, Responsibilities}
 use Rattle.cad_feature.specs.Features.{Item}
 use Rattle.cad_feature.specs.Flatten.{features_in}
 
@@ -14,6 +14,7 @@ pub record RevisionFeatures : Type 0 where
   pub restrictions : List Item
   pub units : List Item
   pub parties : List Item
+  pub responsibilities : List Item
 
 abbrev pub features_at : RevisionFeatures → Collection → List Item
 features_at s Parcels = s.parcels
@@ -21,6 +22,7 @@ features_at s Rights = s.rights
 features_at s Restrictions = s.restrictions
 features_at s Units = s.units
 features_at s Parties = s.parties
+features_at s Responsibilities = s.responsibilities
 
 -- the same, of the features that are told for each collection
 abbrev pub told_by : ℕ → (Collection → List Item) → RevisionFeatures
@@ -31,6 +33,7 @@ told_by revision told = record {
   restrictions = told Restrictions;
   units = told Units;
   parties = told Parties;
+  responsibilities = told Responsibilities;
 }
 
 pub told_at : (revision : ℕ) (told : Collection → List Item) (c : Collection) → features_at (told_by revision told) c ≡ told c
@@ -39,6 +42,7 @@ told_at revision told Rights = refl
 told_at revision told Restrictions = refl
 told_at revision told Units = refl
 told_at revision told Parties = refl
+told_at revision told Responsibilities = refl
 
 -- what has these features for each collection is one value
 pub is_told : (s : RevisionFeatures) (revision : ℕ) (told : Collection → List Item) → s.revision ≡ revision → ((c : Collection) → features_at s c ≡ told c) → s ≡ told_by revision told
@@ -49,6 +53,7 @@ is_told s revision told e same = λ i. record {
   restrictions = same Restrictions i;
   units = same Units i;
   parties = same Parties i;
+  responsibilities = same Responsibilities i;
 }
 
 -- it holds the features of these versions, which are those at the revision

@@ -20,10 +20,11 @@ pub struct Snapshot {
     restrictions: Layer,
     units: Layer,
     parties: Layer,
+    responsibilities: Layer,
 }
 
 impl Model for Snapshot {
-    ghost use Rattle.cad_schema.specs.declared.collection.Collection.TheVariants.{Parcels, Rights, Restrictions, Units, Parties};
+    ghost use Rattle.cad_schema.specs.declared.collection.Collection.TheVariants.{Parcels, Rights, Restrictions, Units, Parties, Responsibilities};
     ghost use Rattle.cad_feature.specs.Features.{AreFeaturesOf};
     ghost use Rattle.cad_snapshot.specs.Snapshots.{RevisionFeatures};
 
@@ -36,6 +37,7 @@ impl Model for Snapshot {
       restrictions = s.restrictions.features.items;
       units = s.units.features.items;
       parties = s.parties.features.items;
+      responsibilities = s.responsibilities.features.items;
     } };
 
     ghost invariant = { λ s.
@@ -43,7 +45,8 @@ impl Model for Snapshot {
         × AreFeaturesOf Rights s.rights.features.items
         × AreFeaturesOf Restrictions s.restrictions.features.items
         × AreFeaturesOf Units s.units.features.items
-        × AreFeaturesOf Parties s.parties.features.items };
+        × AreFeaturesOf Parties s.parties.features.items
+        × AreFeaturesOf Responsibilities s.responsibilities.features.items };
 }
 
 impl Snapshot {
@@ -64,6 +67,7 @@ impl Snapshot {
         let restrictions = Layer::build(alloc, versions, Collection::Restrictions)?;
         let units = Layer::build(alloc, versions, Collection::Units)?;
         let parties = Layer::build(alloc, versions, Collection::Parties)?;
+        let responsibilities = Layer::build(alloc, versions, Collection::Responsibilities)?;
         Ok(Snapshot {
             revision,
             parcels,
@@ -71,6 +75,7 @@ impl Snapshot {
             restrictions,
             units,
             parties,
+            responsibilities,
         })
     }
 
@@ -106,6 +111,7 @@ impl Snapshot {
             Collection::Restrictions => &self.restrictions,
             Collection::Units => &self.units,
             Collection::Parties => &self.parties,
+            Collection::Responsibilities => &self.responsibilities,
         }
     }
 }

@@ -14,6 +14,7 @@ same_class class.Unit class.Unit e = refl
 same_class class.Parcel class.Parcel e = refl
 same_class class.Right class.Right e = refl
 same_class class.Restriction class.Restriction e = refl
+same_class class.Responsibility class.Responsibility e = refl
 same_class a b e = absurd (omega arith)
 
 pub same_body : (a b : Body) → class_of a ≡ class_of b → parts_of a ≡ parts_of b → a ≡ b
@@ -22,4 +23,5 @@ same_body (body.Unit n) (body.Unit m) e f = let name : n ≡ m = ap (λ (r : Bod
 same_body (body.Parcel u l a s p) (body.Parcel v m b t q) e f = let unit : Some u ≡ Some v = ap (λ (r : BodyParts). r.unit) f in let label : Some l ≡ Some m = ap (λ (r : BodyParts). r.label) f in let area : a ≡ b = ap (λ (r : BodyParts). r.area) f in let shape : s ≡ t = ap (λ (r : BodyParts). r.shape) f in let spot : p ≡ q = ap (λ (r : BodyParts). r.spot) f in cc
 same_body (body.Right u p c s) (body.Right v q d t) e f = let unit : Some u ≡ Some v = ap (λ (r : BodyParts). r.unit) f in let party : p ≡ q = ap (λ (r : BodyParts). r.party) f in let code : Some c ≡ Some d = ap (λ (r : BodyParts). r.code) f in let share : s ≡ t = ap (λ (r : BodyParts). r.share) f in cc
 same_body (body.Restriction u p c s w) (body.Restriction v q d t x) e f = let unit : Some u ≡ Some v = ap (λ (r : BodyParts). r.unit) f in let party : p ≡ q = ap (λ (r : BodyParts). r.party) f in let code : Some c ≡ Some d = ap (λ (r : BodyParts). r.code) f in let share : s ≡ t = ap (λ (r : BodyParts). r.share) f in let required : w ≡ x = ap (λ (r : BodyParts). r.required) f in cc
+same_body (body.Responsibility u p c s) (body.Responsibility v q d t) e f = let unit : Some u ≡ Some v = ap (λ (r : BodyParts). r.unit) f in let party : p ≡ q = ap (λ (r : BodyParts). r.party) f in let code : Some c ≡ Some d = ap (λ (r : BodyParts). r.code) f in let share : s ≡ t = ap (λ (r : BodyParts). r.share) f in cc
 same_body a b e f = absurd cc

@@ -2,7 +2,7 @@
 use Rattle.std.specs.Prelude.{◌≡◌, ℕ, Bool, Option, Some, None}
 use Rattle.std.specs.Option.{option_copied}
 use Rattle.cad_shape.specs.declared.point.Point.{Point}
-use Rattle.cad_shape.specs.declared.ring.Ring.{Ring}
+use Rattle.cad_shape.specs.declared.polygon.Region.{Region}
 use Rattle.cad_versions.specs.declared.object_id.ObjectId.{ObjectId}
 use Rattle.cad_versions.specs.declared.words.Words.{Words}
 use Rattle.cad_versions.specs.declared.share.Share.{Share}
@@ -22,6 +22,7 @@ parts_of (body.Unit n) = record no_parts { name = n }
 parts_of (body.Parcel u l a r p) = record no_parts { unit = Some u; label = Some l; area = a; shape = r; spot = p }
 parts_of (body.Right u p c s) = record no_parts { unit = Some u; party = p; code = Some c; share = s }
 parts_of (body.Restriction u p c s q) = record no_parts { unit = Some u; party = p; code = Some c; share = s; required = q }
+parts_of (body.Responsibility u p c s) = record no_parts { unit = Some u; party = p; code = Some c; share = s }
 
 -- the body is of this class, and has these parts and no others
 abbrev pub IsMadeOf : Class → BodyParts → Body → Type 0
@@ -49,7 +50,7 @@ pub record IsNoParcel (parts : BodyParts) : Type 0 where
   pub spot : parts.spot ≡ None
   pub shape : parts.shape ≡ None
 
--- none of the parts that rights and restrictions alone have
+-- none of the parts that rights, restrictions and responsibilities alone have
 pub record IsNoRight (parts : BodyParts) : Type 0 where
   pub party : parts.party ≡ None
   pub share : parts.share ≡ None
@@ -82,5 +83,5 @@ required_in b = (parts_of b).required
 abbrev pub spot_in : Body → Option Point
 spot_in b = (parts_of b).spot
 
-abbrev pub shape_in : Body → Option Ring
+abbrev pub shape_in : Body → Option Region
 shape_in b = (parts_of b).shape

@@ -1,4 +1,4 @@
--- The classes of the register's objects (ISO 19152:2012, LA_Party, LA_BAUnit, LA_SpatialUnit, LA_Right, LA_Restriction).
+-- The classes of the register's objects (ISO 19152:2012, LA_Party, LA_BAUnit, LA_SpatialUnit, LA_Right, LA_Restriction, LA_Responsibility).
 use Rattle.std.specs.Prelude.{ℕ, ℤ, pos, Option, Some, None, if◌then◌else◌}
 use Rattle.std.specs.Ordering.{int_eq}
 use Rattle.cad_versions.specs.declared.body.Body.{Body}
@@ -12,6 +12,7 @@ class_of (body.Unit name) = class.Unit
 class_of (body.Parcel unit label area shape spot) = class.Parcel
 class_of (body.Right unit party code share) = class.Right
 class_of (body.Restriction unit party code share required) = class.Restriction
+class_of (body.Responsibility unit party code share) = class.Responsibility
 
 -- the number of a class in the stored table (own profile)
 abbrev pub class_number : Class → ℕ
@@ -20,10 +21,12 @@ class_number class.Unit = 2
 class_number class.Parcel = 3
 class_number class.Right = 4
 class_number class.Restriction = 5
+class_number class.Responsibility = 6
 
 abbrev pub is_number_of : ℤ → Class → Option Class → Option Class
 is_number_of number class others = if int_eq number (pos (class_number class)) then Some class else others
 
 abbrev pub class_numbered : ℤ → Option Class
 class_numbered number =
-    is_number_of number class.Party (is_number_of number class.Unit (is_number_of number class.Parcel (is_number_of number class.Right (is_number_of number class.Restriction None))))
+    is_number_of number class.Party (is_number_of number class.Unit (is_number_of number class.Parcel
+    (is_number_of number class.Right (is_number_of number class.Restriction (is_number_of number class.Responsibility None)))))

@@ -1,6 +1,6 @@
 -- What holds of every register (ISO 19152:2012, VersionedObject).
 use Rattle.std.specs.Prelude.{◌≡◌, ℕ, ◌≤◌, List, [], ◌++◌, length, map}
-use Rattle.cad_shape.specs.declared.ring.Ring.{Ring}
+use Rattle.cad_shape.specs.declared.polygon.Region.{Region}
 use Rattle.cad_versions.specs.declared.object_id.ObjectId.{ObjectId}
 use Rattle.cad_versions.specs.declared.command.Command.{Command}
 use Rattle.cad_versions.specs.Versions.{history, versions}
@@ -24,4 +24,4 @@ RevisionsAreSeen = (commands : List Command) (revision : ℕ) → revision ≤ l
     → map (seen_at revision) (entries_listed revision (entries_of commands)) ≡ as_of revision commands
 
 abbrev pub BytesAreOfOneShape : Type 0
-BytesAreOfOneShape = (bytes : List ℕ) (one other : Ring) → IsShapeOf bytes one → IsShapeOf bytes other → one ≡ other
+BytesAreOfOneShape = (bytes : List ℕ) (one other : Region) → IsShapeOf bytes one → IsShapeOf bytes other → one ≡ other

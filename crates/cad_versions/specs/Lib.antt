@@ -27,6 +27,7 @@ pub mod ClosingLemmas
 pub mod EntryLemmas
 pub mod OrderLemmas
 pub mod ShapeLemmas
+pub mod RingLemmas
 pub mod SameLemmas
 pub mod BodyLemmas
 pub mod AcceptedLemmas

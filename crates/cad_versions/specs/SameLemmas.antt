@@ -1,5 +1,6 @@
 -- Values of the same ordinary fields are one value, since their facts have one proof each.
-use Rattle.std.proofs.Common.{◌≡◌, ℕ, ◌≤◌, ℤ, false, ◌==◌, List, length, sym, ap, ap₂, ◌∙◌, subst}
+use Rattle.std.proofs.Common.{◌≡◌, ℕ, ◌≤◌, ℤ, false, ◌==◌, List, [], ◌∷◌, ◌++◌, length, inl, inr, refl, sym, ap, ap₂, ◌∙◌, subst, arith}
+use Rattle.std.specs.Int.{to_be_bytes, w16}
 use Rattle.std.specs.Coded.{le_prop, Coded-set, coded_bool}
 use Rattle.std.specs.List.{list_any}
 use Rattle.std.specs.Prelude.{IsUtf8}
@@ -7,16 +8,17 @@ use lib.Dec.{T_prop}
 use Rattle.cad_day.specs.declared.day.Day.{Day}
 use Rattle.cad_day.specs.DayNumbers.{IsDayNumber}
 use Rattle.cad_day.specs.Days.{number_of}
-use Rattle.cad_shape.specs.declared.ring.Ring.{Ring}
-use Rattle.cad_shape.specs.Rings.{corners_of, same_ring}
+use Rattle.cad_shape.specs.declared.polygon.Region.{Region}
+use Rattle.cad_shape.specs.RegionRings.{rings_of, same_region}
 use Rattle.cad_versions.specs.declared.object_id.ObjectId.{ObjectId}
 use Rattle.cad_versions.specs.declared.words.Words.{Words}
 use Rattle.cad_versions.specs.declared.share.Share.{Share}
 use Rattle.cad_versions.specs.Objects.{object_number}
 use Rattle.cad_versions.specs.Texts.{bytes_of}
 use Rattle.cad_versions.specs.Fractions.{num_of, den_of}
-use Rattle.cad_versions.specs.ShapeBytes.{shape_bytes, IsShapeOf}
-use Rattle.cad_versions.specs.ShapeLemmas.{shapes_same}
+use Rattle.cad_versions.specs.ShapeBytes.{rings_bytes, counted_rings_bytes, shape_bytes, IsOneRingOf, IsShapeOf}
+use Rattle.cad_versions.specs.ShapeLemmas.{back_same}
+use Rattle.cad_versions.specs.RingLemmas.{same_front_ring, rings_same}
 
 pub same_object : (a b : ObjectId) → object_number a ≡ object_number b → a ≡ b
 same_object a b e =
@@ -49,8 +51,22 @@ same_words a b e =
     (ap₂ (λ (p : 1 ≤ length a.spelling) (q : length a.spelling ≤ 200). (p, q)) (le_prop a.some p) (le_prop a.few q))
     (ap₂ (λ (r : list_any (λ b. b == 0) a.spelling ≡ false) (s : ∥ IsUtf8 a.spelling ∥₁). (r, s)) (text_prop a.spelling a.printable r) (squash₁ a.utf8 s))) b.some b.few b.printable b.utf8
 
-pub same_shape : (a b : Ring) → shape_bytes (corners_of a) ≡ shape_bytes (corners_of b) → a ≡ b
-same_shape a b e = same_ring a b (shapes_same (corners_of a) (corners_of b) a.not_too_many b.not_too_many e)
+counted_same : (a b : Region) → counted_rings_bytes (rings_of a) ≡ counted_rings_bytes (rings_of b) → a ≡ b
+counted_same a b e =
+    same_region a b (rings_same (rings_of a) (rings_of b) (back_same (to_be_bytes w16 (length (rings_of a))) (to_be_bytes w16 (length (rings_of b))) (rings_bytes (rings_of a)) (rings_bytes (rings_of b)) refl e))
 
-pub one_shape : (bytes : List ℕ) (a b : Ring) → IsShapeOf bytes a → IsShapeOf bytes b → a ≡ b
-one_shape bytes a b stands also = same_shape a b (sym stands ∙ also)
+alone_same : (bytes : List ℕ) (a b : Region) → IsOneRingOf bytes a → IsOneRingOf bytes b → a ≡ b
+alone_same bytes a b s t =
+    let rings : s.0 ≡ t.0 = (same_front_ring s.0 t.0 [] [] (ap (λ l. l ++ []) (sym s.2 ∙ t.2))).0 in
+    same_region a b (s.1 ∙ ap (λ ring. ring ∷ []) rings ∙ sym t.1)
+
+pub one_shape : (bytes : List ℕ) (a b : Region) → IsShapeOf bytes a → IsShapeOf bytes b → a ≡ b
+one_shape [] a b s t = absurd s
+one_shape (form ∷ bytes) a b (inl s) (inl t) = alone_same bytes a b s.1 t.1
+one_shape (form ∷ bytes) a b (inr s) (inr t) = counted_same a b (sym s.1 ∙ t.1)
+one_shape (form ∷ bytes) a b (inl s) (inr t) = absurd (omega (arith, s.0, t.0))
+one_shape (form ∷ bytes) a b (inr s) (inl t) = absurd (omega (arith, s.0, t.0))
+
+-- what is written stands for the shape
+pub written_shape : (region : Region) → IsShapeOf (shape_bytes region) region
+written_shape region = inr (refl, refl)

@@ -1,5 +1,5 @@
--- Shapes are read as they were written.
-use Rattle.std.proofs.Common.{◌≡◌, ◌≢◌, ℕ, ◌+◌, ◌<◌, ◌≤◌, ◌^◌, ℤ, zero, suc, List, [], ◌∷◌, ◌++◌, length, take, drop, get_or, refl, sym, ap, ap₂, ◌∙◌, subst, arith, append_assoc, append-nil, FitsSigned, to_z-of_z, length-append}
+-- Corners are read as they were written.
+use Rattle.std.proofs.Common.{◌≡◌, ◌≢◌, ℕ, ◌+◌, ◌<◌, ◌^◌, ℤ, zero, suc, List, [], ◌∷◌, ◌++◌, length, take, drop, get_or, refl, sym, ap, ap₂, ◌∙◌, subst, arith, append_assoc, append-nil, FitsSigned, to_z-of_z, length-append}
 use lib.Dec.{T_prop}
 use Rattle.std.proofs.lemmas.Int.{ints, of_z-to_z}
 use Rattle.std.proofs.lemmas.Nat.{be_bytes_8, from_be_bytes-to_be_bytes_8, from_be_bytes-to_be_bytes_2}
@@ -8,7 +8,7 @@ use Rattle.std.proofs.Math.Seq.{take-append_seam, drop-append_seam, take-nil}
 use Rattle.std.specs.Int.{to_be_bytes, from_be_bytes, cast_unsigned, cast_signed, w16, w64}
 use Rattle.cad_shape.specs.declared.point.Point.{Point}
 use Rattle.cad_shape.specs.Coordinates.{IsCoordinate}
-use Rattle.cad_versions.specs.ShapeBytes.{coordinate_bytes, corner_bytes, corners_bytes, shape_bytes}
+use Rattle.cad_versions.specs.ShapeBytes.{coordinate_bytes, corner_bytes, corners_bytes}
 
 pub length-coordinate_bytes : (n : ℤ) → length (coordinate_bytes n) ≡ 8
 unfolding coordinate_bytes
@@ -128,14 +128,7 @@ corner_taken xs corner bytes rest more is here =
 pub corner_is_long : (corner : Point) (rest more : List ℕ) → rest ≡ corner_bytes corner ++ more → length more < length rest
 corner_is_long corner rest more e = omega (arith, ap length e ∙ length-append (corner_bytes corner) more, length-corner_bytes corner)
 
-count_same : (m n : ℕ) (us vs : List ℕ) → m < 2 ^ 16 → n < 2 ^ 16 → to_be_bytes w16 m ++ us ≡ to_be_bytes w16 n ++ vs → (m ≡ n) × (us ≡ vs)
+pub count_same : (m n : ℕ) (us vs : List ℕ) → m < 2 ^ 16 → n < 2 ^ 16 → to_be_bytes w16 m ++ us ≡ to_be_bytes w16 n ++ vs → (m ≡ n) × (us ≡ vs)
 count_same m n us vs hm hn e =
     let same : to_be_bytes w16 m ≡ to_be_bytes w16 n = front_same (to_be_bytes w16 m) (to_be_bytes w16 n) us vs refl e in
     (sym (from_be_bytes-to_be_bytes_2 m hm) ∙ ap (from_be_bytes w16) same ∙ from_be_bytes-to_be_bytes_2 n hn, back_same (to_be_bytes w16 m) (to_be_bytes w16 n) us vs refl e)
-
--- shapes of one spelling have the same corners
-pub shape_parts : (count : ℕ) (rest : List ℕ) (corners : List Point) → count < 2 ^ 16 → length corners ≤ 1000 → 1 ∷ (to_be_bytes w16 count ++ rest) ≡ shape_bytes corners → (count ≡ length corners) × (rest ≡ corners_bytes corners)
-shape_parts count rest corners small few e = count_same count (length corners) rest (corners_bytes corners) small (omega arith) cc
-
-pub shapes_same : (xs ys : List Point) → length xs ≤ 1000 → length ys ≤ 1000 → shape_bytes xs ≡ shape_bytes ys → xs ≡ ys
-shapes_same xs ys few small e = corners_same xs ys (shape_parts (length xs) (corners_bytes xs) ys (omega arith) small e).1

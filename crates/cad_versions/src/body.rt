@@ -6,7 +6,7 @@ ghost use Rattle.cad_versions.specs.Class.{class_of, class_number, class_numbere
 use crate::object_id::ObjectId;
 use crate::share::Share;
 use crate::words::Words;
-use cad_shape::{Point, Ring};
+use cad_shape::{Point, Region};
 
 /// What a version says of its object, by the object's class.
 #[derive(Debug, Drop)]
@@ -24,11 +24,11 @@ pub enum Body {
     Parcel {
         unit: ObjectId,
         label: Words,
-        /// In whole square metres. It is told with the parcel, and not worked out from the outline.
+        /// In whole square metres. It is told with the parcel, and not worked out from the shape.
         area: Option<u32>,
-        /// The outline.
-        shape: Option<Ring>,
-        /// A reference point. It may stand without an outline, and may lie anywhere.
+        /// The region inside an outline and outside holes.
+        shape: Option<Region>,
+        /// A reference point. It may stand without a shape, and may lie anywhere.
         spot: Option<Point>,
     },
     /// LA_Right on a unit. The code says what kind of right it is.
@@ -46,6 +46,13 @@ pub enum Body {
         share: Option<Share>,
         required: Option<bool>,
     },
+    /// LA_Responsibility for a unit. The code says what is to be done.
+    Responsibility {
+        unit: ObjectId,
+        party: Option<ObjectId>,
+        code: Words,
+        share: Option<Share>,
+    },
 }
 
 /// The class of an object, which all its versions have.
@@ -61,6 +68,8 @@ pub enum Class {
     Right,
     /// A restriction of a unit.
     Restriction,
+    /// A responsibility for a unit.
+    Responsibility,
 }
 
 impl Body {
@@ -74,6 +83,7 @@ impl Body {
             Body::Parcel { .. } => Class::Parcel,
             Body::Right { .. } => Class::Right,
             Body::Restriction { .. } => Class::Restriction,
+            Body::Responsibility { .. } => Class::Responsibility,
         }
     }
 }
@@ -89,6 +99,7 @@ impl Class {
             Class::Parcel => 3,
             Class::Right => 4,
             Class::Restriction => 5,
+            Class::Responsibility => 6,
         }
     }
 
@@ -102,6 +113,7 @@ impl Class {
             3 => Some(Class::Parcel),
             4 => Some(Class::Right),
             5 => Some(Class::Restriction),
+            6 => Some(Class::Responsibility),
             _ => None,
         }
     }

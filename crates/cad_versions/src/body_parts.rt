@@ -10,31 +10,31 @@ use crate::body::{Body, Class};
 use crate::object_id::ObjectId;
 use crate::share::Share;
 use crate::words::Words;
-use cad_shape::{Point, Ring};
+use cad_shape::{Point, Region};
 
 /// The parts of a body, each where its class has it.
 #[derive(Debug, Drop)]
 pub struct BodyParts {
     /// The name of a party or a unit.
     pub name: Option<Words>,
-    /// The kind of a party, a right or a restriction.
+    /// The kind of a party, a right, a restriction or a responsibility.
     pub code: Option<Words>,
     /// The label of a parcel.
     pub label: Option<Words>,
     /// The area of a parcel, in square metres.
     pub area: Option<u32>,
-    /// The unit that a parcel, a right or a restriction is of.
+    /// The unit that a parcel, a right, a restriction or a responsibility is of.
     pub unit: Option<ObjectId>,
-    /// The party that a right or a restriction is of.
+    /// The party that a right, a restriction or a responsibility is of.
     pub party: Option<ObjectId>,
-    /// The share of a right or a restriction.
+    /// The share of a right, a restriction or a responsibility.
     pub share: Option<Share>,
     /// Whether a restriction says that a party is required.
     pub required: Option<bool>,
     /// The reference point of a parcel.
     pub spot: Option<Point>,
-    /// The outline of a parcel.
-    pub shape: Option<Ring>,
+    /// The region of a parcel.
+    pub shape: Option<Region>,
 }
 
 /// The same parts, lent by a body.
@@ -42,24 +42,24 @@ pub struct BodyParts {
 pub struct LentParts<'a> {
     /// The name of a party or a unit.
     pub name: Option<&'a Words>,
-    /// The kind of a party, a right or a restriction.
+    /// The kind of a party, a right, a restriction or a responsibility.
     pub code: Option<&'a Words>,
     /// The label of a parcel.
     pub label: Option<&'a Words>,
     /// The area of a parcel, in square metres.
     pub area: Option<u32>,
-    /// The unit that a parcel, a right or a restriction is of.
+    /// The unit that a parcel, a right, a restriction or a responsibility is of.
     pub unit: Option<ObjectId>,
-    /// The party that a right or a restriction is of.
+    /// The party that a right, a restriction or a responsibility is of.
     pub party: Option<ObjectId>,
-    /// The share of a right or a restriction.
+    /// The share of a right, a restriction or a responsibility.
     pub share: Option<Share>,
     /// Whether a restriction says that a party is required.
     pub required: Option<bool>,
     /// The reference point of a parcel.
     pub spot: Option<Point>,
-    /// The outline of a parcel.
-    pub shape: Option<&'a Ring>,
+    /// The region of a parcel.
+    pub shape: Option<&'a Region>,
 }
 
 /// A body that has none.
@@ -131,6 +131,18 @@ impl Body {
                 required: *required,
                 ..NO_PARTS
             },
+            Body::Responsibility {
+                unit,
+                party,
+                code,
+                share,
+            } => LentParts {
+                unit: Some(*unit),
+                party: *party,
+                code: Some(code),
+                share: *share,
+                ..NO_PARTS
+            },
         }
     }
 
@@ -144,17 +156,18 @@ impl Body {
             Class::Parcel => parts.into_parcel(),
             Class::Right => parts.into_right(),
             Class::Restriction => parts.into_restriction(),
+            Class::Responsibility => parts.into_responsibility(),
         }
     }
 
-    /// The unit that a parcel, a right or a restriction is of.
+    /// The unit that a parcel, a right, a restriction or a responsibility is of.
     pub fn unit(&self) -> Option<ObjectId>
         ensures { result ≡ unit_named self.now }
     {
         self.parts().unit
     }
 
-    /// The party that a right or a restriction is of.
+    /// The party that a right, a restriction or a responsibility is of.
     pub fn party(&self) -> Option<ObjectId>
         ensures { result ≡ party_named self.now }
     {
@@ -168,7 +181,7 @@ impl Body {
         self.parts().name
     }
 
-    /// The kind of a party, a right or a restriction.
+    /// The kind of a party, a right, a restriction or a responsibility.
     pub fn code(&self) -> Option<&Words>
         ensures { option_copied result ≡ code_in self.now }
     {
@@ -189,7 +202,7 @@ impl Body {
         self.parts().area
     }
 
-    /// The share of a right or a restriction.
+    /// The share of a right, a restriction or a responsibility.
     pub fn share(&self) -> Option<Share>
         ensures { result ≡ share_in self.now }
     {
@@ -210,8 +223,8 @@ impl Body {
         self.parts().spot
     }
 
-    /// The outline of a parcel.
-    pub fn shape(&self) -> Option<&Ring>
+    /// The region of a parcel.
+    pub fn shape(&self) -> Option<&Region>
         ensures { option_copied result ≡ shape_in self.now }
     {
         self.parts().shape
@@ -281,6 +294,15 @@ impl BodyParts {
         }
         restriction(self.unit, self.party, self.code, self.share, self.required)
     }
+
+    fn into_responsibility(self) -> Option<Body>
+        ensures { MatchOption result ((b : BodyOfVersion) → ¬ IsMadeOf Class.Responsibility self b) (IsMadeOf Class.Responsibility self) }
+    {
+        if !(self.is_no_parcel() && self.name.is_none() && self.required.is_none()) {
+            return None;
+        }
+        responsibility(self.unit, self.party, self.code, self.share)
+    }
 }
 
 /// A party of these parts, where those that it has to have are there.
@@ -296,7 +318,7 @@ fn parcel(
     unit: Option<ObjectId>,
     label: Option<Words>,
     area: Option<u32>,
-    shape: Option<Ring>,
+    shape: Option<Region>,
     spot: Option<Point>,
 ) -> Option<Body>
     ensures { MatchOption result ((b : BodyOfVersion) → ¬ IsMadeOf Class.Parcel (record no_parts { unit = unit; label = label; area = area; shape = shape; spot = spot }) b) (IsMadeOf Class.Parcel (record no_parts { unit = unit; label = label; area = area; shape = shape; spot = spot })) }
@@ -349,5 +371,24 @@ fn restriction(
         code,
         share,
         required,
+    })
+}
+
+/// A responsibility of these parts, where those that it has to have are there.
+fn responsibility(
+    unit: Option<ObjectId>,
+    party: Option<ObjectId>,
+    code: Option<Words>,
+    share: Option<Share>,
+) -> Option<Body>
+    ensures { MatchOption result ((b : BodyOfVersion) → ¬ IsMadeOf Class.Responsibility (record no_parts { unit = unit; party = party; code = code; share = share }) b) (IsMadeOf Class.Responsibility (record no_parts { unit = unit; party = party; code = code; share = share })) }
+{
+    let unit = unit?;
+    let code = code?;
+    Some(Body::Responsibility {
+        unit,
+        party,
+        code,
+        share,
     })
 }

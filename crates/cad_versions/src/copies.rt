@@ -7,7 +7,7 @@ ghost use Rattle.cad_versions.specs.BodyParts.{lent};
 use crate::body::Body;
 use crate::body_parts::{BodyParts, LentParts};
 use crate::words::Words;
-use cad_shape::Ring;
+use cad_shape::Region;
 use std::alloc::{AllocError, Global};
 
 fn copy_words(alloc: Global, words: Option<&Words>) -> Result<Option<Words>, AllocError>
@@ -22,13 +22,13 @@ fn copy_words(alloc: Global, words: Option<&Words>) -> Result<Option<Words>, All
     }
 }
 
-fn copy_shape(alloc: Global, shape: Option<&Ring>) -> Result<Option<Ring>, AllocError>
+fn copy_shape(alloc: Global, shape: Option<&Region>) -> Result<Option<Region>, AllocError>
     ensures { IfOk result (λ copy. copy ≡ option_copied shape.entry) }
 {
     match shape {
         None => Ok(None),
-        Some(ring) => {
-            let copy = ring.copy(alloc)?;
+        Some(region) => {
+            let copy = region.copy(alloc)?;
             Ok(Some(copy))
         }
     }

@@ -1,7 +1,7 @@
 //! The versions of a land register: what the register keeps, and how commands change it.
 //!
 //! - `ObjectId`, `Words`, `Share`: values that cannot hold what the register must not.
-//! - `Body`, `Class`, `Version`: one version of a party, a basic administrative unit, a parcel, a right or a restriction.
+//! - `Body`, `Class`, `Version`: one version of an object, what it says, and the class of the object.
 //! - `BodyParts`, `LentParts`: what a body says, part by part, whatever its class.
 //! - `Command`, `RegisterFault`: what the land office asks for, and why it is refused.
 //! - `MOST_NUMBER`, `MOST_VERSIONS`: how large numbers may be, and how many versions there may be.
@@ -28,6 +28,7 @@ pub mod laws;
 mod ledger;
 mod limits;
 mod object_id;
+mod ring_bytes;
 mod shape_bytes;
 mod share;
 mod version;

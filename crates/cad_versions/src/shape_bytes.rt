@@ -1,135 +1,118 @@
 //! Shapes as they are stored.
 
-ghost use Rattle.std.specs.Prelude.{◌≡◌, ◌≢◌, ◌<◌, ◌^◌, ◌++◌, ◌∷◌, ℕ, List, length, MatchOption, IfOk, OnOk, FitsSigned};
-ghost use Rattle.std.specs.Int.{to_be_bytes, w16, w64};
-ghost use Rattle.cad_shape.specs.declared.point.Point.{Point as Corner};
+ghost use Rattle.std.specs.Prelude.{◌≡◌, ◌≢◌, ◌∷◌, List, MatchOption, IfOk};
+ghost use Rattle.std.specs.Int.{to_be_bytes, w16};
 ghost use Rattle.cad_shape.specs.declared.ring.Ring.{Ring as RingOfCorners};
-ghost use Rattle.cad_shape.specs.Outlines.{IsRing};
-ghost use Rattle.cad_shape.specs.Rings.{corners_of};
-ghost use Rattle.cad_versions.specs.ShapeBytes.{coordinate_bytes, corner_bytes, corners_bytes, shape_bytes, IsShapeOf};
+ghost use Rattle.cad_shape.specs.declared.polygon.Region.{Region as RegionOfRings};
+ghost use Rattle.cad_shape.specs.Polygons.{IsRegion};
+ghost use Rattle.cad_shape.specs.RegionRings.{rings_of};
+ghost use Rattle.cad_versions.specs.ShapeBytes.{rings_bytes, shape_bytes, IsOneRingOf, AreRingsOf, IsShapeOf};
 
-use cad_shape::{Point, Ring};
+use crate::ring_bytes::{first_count, first_ring, push_ring};
+use cad_shape::{Region, Ring};
 use std::alloc::{AllocError, Global};
 
-// The form of one ring.
+// The form of one ring, which is read alone.
 const ONE_RING: u8 = 1;
 
-/// Writes a number behind the others.
-#[tactic(auto, unfolding(crate::specs::ShapeBytes::coordinate_bytes))]
-fn push_coordinate(bytes: &mut Vec<u8>, coordinate: i64) -> Result<(), AllocError>
-    ensures { OnOk result (bytes.new.items ≡ bytes.old.items ++ coordinate_bytes coordinate) }
-{
-    bytes.extend_from_slice(&coordinate.to_be_bytes())
-}
+// The form of an outer ring and holes.
+const RINGS: u8 = 2;
 
-fn push_corner(bytes: &mut Vec<u8>, corner: Point) -> Result<(), AllocError>
-    ensures { OnOk result (bytes.new.items ≡ bytes.old.items ++ corner_bytes corner) }
-{
-    push_coordinate(bytes, corner.x)?;
-    push_coordinate(bytes, corner.y)?;
-    Ok(())
-}
-
-/// The form and the number of corners.
+/// The form and the number of rings.
 fn shape_front(alloc: Global, count: u16) -> Result<Vec<u8>, AllocError>
-    ensures { IfOk result (λ bytes. bytes.items ≡ 1 ∷ to_be_bytes w16 count) }
+    ensures { IfOk result (λ bytes. bytes.items ≡ 2 ∷ to_be_bytes w16 count) }
 {
     let mut bytes = Vec::new(alloc);
-    bytes.push(ONE_RING)?;
+    bytes.push(RINGS)?;
     bytes.extend_from_slice(&count.to_be_bytes())?;
     Ok(bytes)
 }
 
-/// The bytes under which a shape is stored: 1, the number of corners in two bytes, then x and y of each in eight bytes of two's complement, all big-endian.
-pub fn write_shape(alloc: Global, ring: &Ring) -> Result<Vec<u8>, AllocError>
-    ensures { IfOk result (λ bytes. bytes.items ≡ shape_bytes (corners_of ring.now)) }
+/// The bytes under which a shape is stored: 2, the number of rings in two bytes, then each ring as the number of its corners in two bytes and x and y of each corner in eight bytes of two's complement, all big-endian.
+pub fn write_shape(alloc: Global, region: &Region) -> Result<Vec<u8>, AllocError>
+    ensures { IfOk result (λ bytes. bytes.items ≡ shape_bytes region.now) }
 {
-    let corners = ring.corners();
-    let mut bytes = shape_front(alloc, corners.len() as u16)?;
-    for corner in corners {
-        push_corner(&mut bytes, *corner)?;
+    let rings = region.rings();
+    let mut bytes = shape_front(alloc, rings.len() as u16)?;
+    for ring in rings {
+        push_ring(&mut bytes, ring)?;
     }
     Ok(bytes)
 }
 
-/// The number at the front, and the bytes behind it.
-fn first_coordinate(bytes: &[u8]) -> Option<(i64, &[u8])>
-    ensures { MatchOption result (length bytes.now < 8) (λ found.
-        (bytes.now ≡ coordinate_bytes found.0 ++ found.1.now) × FitsSigned w64 found.0) }
+/// All rings, if the bytes are rings one after the other.
+fn all_rings(alloc: Global, bytes: &[u8]) -> Result<Option<Vec<Ring>>, AllocError>
+    ensures { IfOk result (λ found. MatchOption found ((rings : List RingOfCorners) →
+        bytes.now ≢ rings_bytes rings) (λ rings. bytes.now ≡ rings_bytes rings.items)) }
 {
-    let (coordinate, rest) = bytes.split_first_chunk::<8>()?;
-    let bits = u64::from_be_bytes(*coordinate);
-    Some((bits.cast_signed(), rest))
-}
-
-/// The corner at the front, and the bytes behind it.
-fn first_corner(bytes: &[u8]) -> Option<(Point, &[u8])>
-    ensures { MatchOption result ((corner : Corner) (rest : List ℕ) →
-        bytes.now ≢ corner_bytes corner ++ rest)
-        (λ found. bytes.now ≡ corner_bytes found.0 ++ found.1.now) }
-{
-    let (x, rest) = first_coordinate(bytes)?;
-    let (y, rest) = first_coordinate(rest)?;
-    let corner = Point::new(x, y)?;
-    Some((corner, rest))
-}
-
-/// All corners, if the bytes are corners one after the other.
-fn all_corners(alloc: Global, bytes: &[u8]) -> Result<Option<Vec<Point>>, AllocError>
-    ensures { IfOk result (λ found. MatchOption found ((corners : List Corner) →
-        bytes.now ≢ corners_bytes corners) (λ corners. bytes.now ≡ corners_bytes corners.items)) }
-{
-    let mut corners = Vec::new(alloc);
+    let mut rings = Vec::new(alloc);
     let mut rest = bytes;
     while !rest.is_empty() {
-        let Some((corner, behind)) = first_corner(rest) else {
+        let Some((ring, behind)) = first_ring(alloc, rest)? else {
             return Ok(None);
         };
-        corners.push(corner)?;
+        rings.push(ring)?;
         rest = behind;
     }
-    Ok(Some(corners))
+    Ok(Some(rings))
 }
 
-/// The number of corners, and the bytes behind it, of a shape of one ring.
-fn counted_corners(bytes: &[u8]) -> Option<(usize, &[u8])>
-    ensures { MatchOption result ((count : ℕ) (rest : List ℕ) →
-        bytes.now ≢ 1 ∷ (to_be_bytes w16 count ++ rest)) (λ found.
-        (bytes.now ≡ 1 ∷ (to_be_bytes w16 found.0 ++ found.1.now)) × (found.0 < 2 ^ 16)) }
+/// The region of these rings, if they are those of one.
+fn region_of(rings: Vec<Ring>) -> Option<Region>
+    ensures { MatchOption result (¬ (IsRegion rings.items)) (λ region. rings_of region ≡ rings.items) }
 {
-    let [form, high, low, rest @ ..] = bytes else {
-        return None;
-    };
-    if *form != ONE_RING {
-        return None;
-    }
-    let count = u16::from_be_bytes([*high, *low]);
-    Some((usize::from(count), rest))
-}
-
-/// The ring through these corners, if they are those of one.
-fn ring_through(corners: Vec<Point>) -> Option<Ring>
-    ensures { MatchOption result (¬ (IsRing corners.items)) (λ ring. corners_of ring ≡ corners.items) }
-{
-    match Ring::new(corners) {
-        Ok(ring) => Some(ring),
+    match Region::new(rings) {
+        Ok(region) => Some(region),
         Err(_) => None,
     }
 }
 
-/// The shape that is stored under these bytes; `Ok(None)` where none is.
-pub fn read_shape(alloc: Global, bytes: &[u8]) -> Result<Option<Ring>, AllocError>
-    ensures { IfOk result (λ found. MatchOption found ((ring : RingOfCorners) →
-        ¬ IsShapeOf bytes.now ring) (λ ring. IsShapeOf bytes.now ring)) }
+/// The region of one ring, with nothing behind the ring.
+fn read_one_ring(alloc: Global, bytes: &[u8]) -> Result<Option<Region>, AllocError>
+    ensures { IfOk result (λ found. MatchOption found ((region : RegionOfRings) →
+        ¬ IsOneRingOf bytes.now region) (IsOneRingOf bytes.now)) }
 {
-    let Some((count, rest)) = counted_corners(bytes) else {
+    let Some((ring, behind)) = first_ring(alloc, bytes)? else {
         return Ok(None);
     };
-    let Some(corners) = all_corners(alloc, rest)? else {
-        return Ok(None);
-    };
-    if corners.as_slice().len() != count {
+    if !behind.is_empty() {
         return Ok(None);
     }
-    Ok(ring_through(corners))
+    let mut rings = Vec::new(alloc);
+    rings.push(ring)?;
+    Ok(region_of(rings))
+}
+
+/// The region of as many rings as are counted, with nothing behind them.
+fn read_rings(alloc: Global, bytes: &[u8]) -> Result<Option<Region>, AllocError>
+    ensures { IfOk result (λ found. MatchOption found ((region : RegionOfRings) →
+        ¬ AreRingsOf bytes.now region) (AreRingsOf bytes.now)) }
+{
+    let Some((count, rest)) = first_count(bytes) else {
+        return Ok(None);
+    };
+    let Some(rings) = all_rings(alloc, rest)? else {
+        return Ok(None);
+    };
+    if rings.as_slice().len() != count {
+        return Ok(None);
+    }
+    Ok(region_of(rings))
+}
+
+/// The shape that is stored under these bytes, in the form of today or in that of one ring; `Ok(None)` where none is.
+pub fn read_shape(alloc: Global, bytes: &[u8]) -> Result<Option<Region>, AllocError>
+    ensures { IfOk result (λ found. MatchOption found ((region : RegionOfRings) →
+        ¬ IsShapeOf bytes.now region) (IsShapeOf bytes.now)) }
+{
+    let Some((form, rest)) = bytes.split_first() else {
+        return Ok(None);
+    };
+    if *form == ONE_RING {
+        return read_one_ring(alloc, rest);
+    }
+    if *form == RINGS {
+        return read_rings(alloc, rest);
+    }
+    Ok(None)
 }

@@ -7,8 +7,8 @@ use Rattle.std.proofs.lemmas.Bool.Decides.{nat_tests}
 use Rattle.std.proofs.lemmas.List.Elements.{All-from_recursion}
 use Rattle.cad_versions.specs.ListLemmas.{all_weaker}
 use Rattle.cad_schema.specs.declared.collection.Collection.{Collection}
-use Rattle.cad_schema.specs.declared.collection.Collection.TheVariants.{Parcels, Rights, Restrictions, Units, Parties}
 use Rattle.cad_schema.specs.Collections.{name_of}
+use Rattle.cad_schema.specs.NameLemmas.{each_passes}
 use Rattle.cad_schema.specs.Schema.{schema_of}
 use Rattle.cql_types.specs.declared.filter.Filter.{Filter}
 use Rattle.cql_filter.specs.Filters.{IsAccepted}
@@ -42,28 +42,25 @@ lacks byte (x ∷ xs) h = let p = neither (x == byte) (list_any (is_byte byte) x
 other_byte : (b : ℕ) → (b == 47) ≡ false → b ≢ 47
 other_byte b e = grind (arith, nat_tests)
 
-is_segment : (name : List ℕ) → 0 < length name → list_any (is_byte 47) name ≡ false → IsSegment name
-is_segment name some h = record {
-  some = some;
-  no_slash = All-from_recursion (λ b. b ≢ 47) name (all_weaker (λ b. (b == 47) ≡ false) (λ b. b ≢ 47) other_byte name (lacks 47 name h));
-}
+lacks_not : (byte : ℕ) (xs : List ℕ) → not (list_any (is_byte byte) xs) ≡ true → AllByRecursion (λ b. (b == byte) ≡ false) xs
+lacks_not byte xs h = lacks byte xs (turned (list_any (is_byte byte) xs) h)
+  where
+    turned : (b : Bool) → not b ≡ true → b ≡ false
+    turned true h = absurd (true≢false (sym h))
+    turned false h = refl
+
+is_longer : (xs : List ℕ) → not (is_nil xs) ≡ true → 0 < length xs
+is_longer [] h = absurd (true≢false (sym h))
+is_longer (x ∷ xs) h = omega arith
 
 named : (c : Collection) → IsSegment (name_of c)
-named Parcels = is_segment (codes "parcels") (omega arith) refl
-named Rights = is_segment (codes "rights") (omega arith) refl
-named Restrictions = is_segment (codes "restrictions") (omega arith) refl
-named Units = is_segment (codes "units") (omega arith) refl
-named Parties = is_segment (codes "parties") (omega arith) refl
-
-no_mark : (text : List ℕ) → list_any (is_byte 63) text ≡ false → IsPath text
-no_mark text h = All-from_recursion (λ b. (b == 63) ≡ false) text (lacks 63 text h)
+named c = record {
+  some = is_longer (name_of c) (each_passes (λ c. not (is_nil (name_of c))) refl c);
+  no_slash = All-from_recursion (λ b. b ≢ 47) (name_of c) (all_weaker (λ b. (b == 47) ≡ false) (λ b. b ≢ 47) other_byte (name_of c) (lacks_not 47 (name_of c) (each_passes (λ c. not (list_any (is_byte 47) (name_of c))) refl c)));
+}
 
 pub is_path : (c : Collection) → IsPath (items_path c)
-is_path Parcels = no_mark (items_path Parcels) refl
-is_path Rights = no_mark (items_path Rights) refl
-is_path Restrictions = no_mark (items_path Restrictions) refl
-is_path Units = no_mark (items_path Units) refl
-is_path Parties = no_mark (items_path Parties) refl
+is_path c = All-from_recursion (λ b. (b == 63) ≡ false) (items_path c) (lacks_not 63 (items_path c) (each_passes (λ c. not (list_any (is_byte 63) (items_path c))) refl c))
 
 -- ---- what is wanted
 

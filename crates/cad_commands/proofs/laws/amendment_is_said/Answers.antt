@@ -1,5 +1,4 @@
-use Rattle.cad_commands.proofs.SaidLemmas.{amend_said}
-use Rattle.cad_commands.proofs.WrittenLemmas.{amend_written}
+use Rattle.cad_commands.proofs.WrittenLemmas.{amend_said, amend_written}
 use Rattle.cad_commands.proofs.laws.amendment_is_said.Goals as goal
 
 pub returns : goal.returns

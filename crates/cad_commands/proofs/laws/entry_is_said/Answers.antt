@@ -1,5 +1,4 @@
-use Rattle.cad_commands.proofs.SaidLemmas.{enter_said}
-use Rattle.cad_commands.proofs.WrittenLemmas.{enter_written}
+use Rattle.cad_commands.proofs.WrittenLemmas.{enter_said, enter_written}
 use Rattle.cad_commands.proofs.laws.entry_is_said.Goals as goal
 
 pub returns : goal.returns

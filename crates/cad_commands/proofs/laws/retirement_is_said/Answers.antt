@@ -1,5 +1,4 @@
-use Rattle.cad_commands.proofs.SaidLemmas.{retire_said}
-use Rattle.cad_commands.proofs.WrittenLemmas.{retire_written}
+use Rattle.cad_commands.proofs.WrittenLemmas.{retire_said, retire_written}
 use Rattle.cad_commands.proofs.laws.retirement_is_said.Goals as goal
 
 pub returns : goal.returns

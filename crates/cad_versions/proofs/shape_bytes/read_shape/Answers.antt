@@ -1,33 +1,22 @@
-use Rattle.std.proofs.Common.{◌≡◌, ℕ, ◌<◌, ◌^◌, ◌∷◌, ◌++◌, List, Option, Some, None, sym, ap, ap₂, ◌∙◌, subst, length}
-use Rattle.std.specs.Int.{to_be_bytes, w16}
+use Rattle.std.proofs.Common.{◌≡◌, ℕ, List, ◌∷◌, Option, Some, None, Result, Ok, Err, IfOk, inl, inr, sym, subst, arith}
 use Rattle.std.specs.Option.{MatchOption}
-use Rattle.cad_shape.specs.declared.point.Point.{Point}
-use Rattle.cad_shape.specs.declared.ring.Ring.{Ring}
-use Rattle.cad_shape.specs.Outlines.{IsRing}
-use Rattle.cad_shape.specs.Rings.{corners_of, ring_is}
-use Rattle.cad_versions.specs.ShapeBytes.{corners_bytes, IsShapeOf}
-use Rattle.cad_versions.specs.ShapeLemmas.{shape_parts, corners_same}
+use Rattle.cad_shape.specs.declared.polygon.Region.{Region}
+use Rattle.cad_versions.specs.ShapeBytes.{IsOneRingOf, IsShapeOf}
 use Rattle.cad_versions.proofs.shape_bytes.read_shape.Goals as goal
 
-pub returns-then-as_slice-count : goal.returns-then-as_slice-count
-returns-then-as_slice-count c ring e =
-    let found = c.in-Some-2.corners in
-    let held : c.in-Some.rest.now ≡ corners_bytes found.items = rw c.in-Some-2.is at c.in_ok-corners.ensures in
-    let parts = shape_parts c.in-Some.count c.in-Some.rest.now (corners_of ring) c.in-Some.ensures.1 ring.not_too_many (sym c.in-Some.ensures.0 ∙ e) in
-    let same = corners_same found.items (corners_of ring) (sym held ∙ parts.1) in
-    c.if-as_slice-count.true (ap length c.as_slice.ensures.value ∙ ap length same ∙ sym parts.0)
+abbrev IsReadAs : {E : Type 0} → (Region → Type 0) → Result (Option Region) E → Type 0
+IsReadAs Is result = IfOk result (λ found. MatchOption found ((region : Region) → ¬ Is region) Is)
 
--- a list of corners of the stored count is a ring, or no ring is stored
-read : (found : Option Ring) (corners : List Point) (bytes rest : List ℕ) (count : ℕ) → bytes ≡ 1 ∷ (to_be_bytes w16 count ++ rest) → count < 2 ^ 16 → rest ≡ corners_bytes corners → length corners ≡ count
-    → MatchOption found (¬ (IsRing corners)) (λ ring. corners_of ring ≡ corners) → MatchOption found ((ring : Ring) → ¬ IsShapeOf bytes ring) (λ ring. IsShapeOf bytes ring)
-read (Some ring) corners bytes rest count e small held counted h =
-    e ∙ ap₂ (λ n xs. 1 ∷ (to_be_bytes w16 n ++ xs)) (sym counted ∙ ap length (sym h)) (held ∙ ap corners_bytes (sym h))
-read None corners bytes rest count e small held counted h = λ ring f.
-    let parts = shape_parts count rest (corners_of ring) small ring.not_too_many (sym e ∙ f) in
-    h (subst IsRing (sym (corners_same corners (corners_of ring) (sym held ∙ parts.1))) (ring_is ring))
+-- behind the byte 1 stands one ring, or no shape is stored
+read : {E : Type 0} (form : ℕ) (rest : List ℕ) (result : Result (Option Region) E) → form ≡ 1 → IsReadAs (IsOneRingOf rest) result → IsReadAs (IsShapeOf (form ∷ rest)) result
+read form rest (Ok (Some region)) one h = inl (one, h)
+read form rest (Ok None) one h = neither
+  where
+    neither : (region : Region) → IsShapeOf (form ∷ rest) region → ⊥
+    neither region (inl ring) = h region ring.1
+    neither region (inr rings) = absurd (omega (arith, one, rings.0))
+read form rest (Err e) one h = h
 
-pub returns : goal.returns
-returns c =
-    let found = c.in-Some-2.corners in
-    let held : c.in-Some.rest.now ≡ corners_bytes found.items = rw c.in-Some-2.is at c.in_ok-corners.ensures in
-    read c.ring_through.result found.items c.args.bytes.now c.in-Some.rest.now c.in-Some.count c.in-Some.ensures.0 c.in-Some.ensures.1 held (sym (ap length c.as_slice.ensures.value) ∙ c.if-as_slice-count.false) c.ring_through.ensures
+pub returns-then-form-eq-ONE_RING : goal.returns-then-form-eq-ONE_RING
+returns-then-form-eq-ONE_RING c =
+    subst (λ bytes. IsReadAs (IsShapeOf bytes) c.read_one_ring.result) (sym c.in-Some.ensures.cases.0) (read c.in-Some.form.now c.in-Some.rest.now c.read_one_ring.result c.if-form-eq-ONE_RING.true c.read_one_ring.ensures)

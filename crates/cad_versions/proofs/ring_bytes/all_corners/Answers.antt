@@ -1,6 +1,6 @@
 use Rattle.std.proofs.Common.{◌≡◌, ◌==◌, ap, length, true}
 use Rattle.cad_versions.specs.ShapeLemmas.{no_corners, corner_taken, corner_is_long}
-use Rattle.cad_versions.proofs.shape_bytes.all_corners.Goals as goal
+use Rattle.cad_versions.proofs.ring_bytes.all_corners.Goals as goal
 
 pub returns-in_default : goal.returns-in_default
 returns-in_default c corners e =

@@ -1,0 +1,125 @@
+-- The JSON values that are made of values are written as JSON texts, and nest no deeper than two.
+use Rattle.std.proofs.Common.{ℕ, ◌^◌, ◌<◌, ◌≤◌, ℤ, pos, negsuc, Bool, List, [], ◌∷◌, Option, Some, None, IsUtf8, refl, arith}
+use Rattle.std.specs.Option.{ForSome}
+use Rattle.std.specs.Str.{IsAscii}
+use Rattle.std.proofs.lemmas.Str.{IsUtf8-from_ascii, IsUtf8-had}
+use Rattle.std.proofs.lemmas.Str.Ascii.{IsAscii-cons, IsAscii-nil}
+use Rattle.std.proofs.lemmas.Fmt.{IsAscii-decimal, IsAscii-signed}
+use Rattle.json.proofs.Printed.Decimals.{IsNumber-decimal, IsNumber-signed_decimal}
+use Rattle.serde_json.specs.Data.{Data, depth, items_depth}
+use Rattle.serde_json.specs.Data as json
+use Rattle.serde_json.proofs.Numbers.{number_of-decimal, number_of-negative}
+use Rattle.cad_day.specs.declared.day.Day.{Day}
+use Rattle.cad_day.specs.DayTexts.{digit, date_text}
+use Rattle.cad_shape.specs.declared.point.Point.{Point}
+use Rattle.cad_shape.specs.declared.ring.Ring.{Ring}
+use Rattle.cad_shape.specs.Coordinates.{IsCoordinate}
+use Rattle.cad_shape.specs.Rings.{corners_of}
+use Rattle.cad_versions.specs.declared.object_id.ObjectId.{ObjectId}
+use Rattle.cad_versions.specs.declared.share.Share.{Share}
+use Rattle.cad_versions.specs.declared.words.Words.{Words}
+use Rattle.cad_commands.specs.Writing.{whole_json, integer_json, object_json, words_json, share_json, point_json, points_json, ring_json, day_json, or_null}
+use Rattle.cad_commands.proofs.TextLemmas.{IsPlain, ArePlain}
+
+-- ---- values
+
+abbrev AreBelow128 : List ℕ → Type 0
+AreBelow128 [] = Unit {0}
+AreBelow128 (x ∷ xs) = (x < 128) × AreBelow128 xs
+
+below_128_ascii : (xs : List ℕ) → AreBelow128 xs → IsAscii xs
+below_128_ascii [] h = IsAscii-nil
+below_128_ascii (x ∷ xs) h = IsAscii-cons x xs h.0 (below_128_ascii xs h.1)
+
+digit_below : (weight n : ℕ) → digit weight n < 128
+digit_below weight n = omega arith
+
+date_plain : (year month date : ℕ) → IsUtf8 (date_text year month date)
+date_plain year month date =
+    let dash : 45 < 128 = omega arith in
+    IsUtf8-from_ascii (date_text year month date) (below_128_ascii (date_text year month date) (
+      digit_below 1000 year,
+      (
+        digit_below 100 year,
+        (
+          digit_below 10 year,
+          (
+            digit_below 1 year,
+            (dash, (digit_below 10 month, (digit_below 1 month, (dash, (digit_below 10 date, (digit_below 1 date, tt)))))),
+          ),
+        ),
+      ),
+    ))
+
+pub day_plain : (day : Day) → IsPlain (day_json day)
+day_plain day = date_plain _ _ _
+
+pub words_plain : (words : Words) → IsPlain (words_json words)
+words_plain words = IsUtf8-had words.spelling words.utf8
+
+pub whole_plain : (n : ℕ) → n < 2 ^ 64 → IsPlain (whole_json n)
+whole_plain n h = record { whole = refl; reads = number_of-decimal n h; shape = IsNumber-decimal n h; utf8 = IsUtf8-from_ascii _ (IsAscii-decimal n h) }
+
+pub object_plain : (object : ObjectId) → IsPlain (object_json object)
+object_plain object = whole_plain object.number (omega (arith, object.small))
+
+integer_plain : (n : ℤ) → IsCoordinate n → IsPlain (integer_json n)
+integer_plain (pos n) h = whole_plain n (small n h)
+  where
+    small : (n : ℕ) → IsCoordinate (pos n) → n < 2 ^ 64
+    small n h = grind (arith, h.0, h.1)
+integer_plain (negsuc n) h =
+    let fits : n < 2 ^ 63 = small n h in
+    record { whole = refl; reads = number_of-negative n fits; shape = IsNumber-signed_decimal (negsuc n) fits; utf8 = IsUtf8-from_ascii _ (IsAscii-signed (negsuc n) fits) }
+  where
+    small : (n : ℕ) → IsCoordinate (negsuc n) → n < 2 ^ 63
+    small n h = grind (arith, h.0, h.1)
+
+pub point_plain : (point : Point) → IsPlain (point_json point)
+point_plain point = (integer_plain point.x point.x_in_range, (integer_plain point.y point.y_in_range, tt))
+
+pub points_plain : (points : List Point) → ArePlain (points_json points)
+points_plain [] = tt
+points_plain (point ∷ points) = (point_plain point, points_plain points)
+
+pub share_plain : (share : Share) → IsPlain (share_json share)
+share_plain share = (whole_plain share.num (omega (arith, share.within, share.small)), (whole_plain share.den (omega (arith, share.small)), tt))
+
+pub any_plain : {X : Type 0} (json_of : X → Data) → ((x : X) → IsPlain (json_of x)) → (o : Option X) → IsPlain (or_null json_of o)
+any_plain json_of plain None = tt
+any_plain json_of plain (Some x) = plain x
+
+pub area_plain : (o : Option ℕ) → ForSome o (λ n. n < 2 ^ 32) → IsPlain (or_null whole_json o)
+area_plain None small = tt
+area_plain (Some n) small = whole_plain n (omega (arith, small n refl))
+
+-- ---- how deep they nest
+
+points_depth : (points : List Point) → items_depth (points_json points) ≤ 1
+points_depth [] = omega arith
+points_depth (point ∷ points) = omega (arith, points_depth points)
+
+any_depth : {X : Type 0} (json_of : X → Data) (n : ℕ) → ((x : X) → depth (json_of x) ≤ n) → (o : Option X) → depth (or_null json_of o) ≤ n
+any_depth json_of n low None = omega arith
+any_depth json_of n low (Some x) = low x
+
+pub area_depth : (o : Option ℕ) → depth (or_null whole_json o) ≤ 2
+area_depth o = any_depth whole_json 2 (λ n. omega arith) o
+
+pub party_depth : (o : Option ObjectId) → depth (or_null object_json o) ≤ 2
+party_depth o = any_depth object_json 2 (λ object. omega arith) o
+
+pub share_depth : (o : Option Share) → depth (or_null share_json o) ≤ 2
+share_depth o = any_depth share_json 2 (λ share. omega arith) o
+
+pub shape_depth : (o : Option Ring) → depth (or_null ring_json o) ≤ 2
+shape_depth o = any_depth ring_json 2 (λ ring. omega (arith, points_depth (corners_of ring))) o
+
+pub spot_depth : (o : Option Point) → depth (or_null point_json o) ≤ 2
+spot_depth o = any_depth point_json 2 (λ point. omega arith) o
+
+pub words_depth : (o : Option Words) → depth (or_null words_json o) ≤ 2
+words_depth o = any_depth words_json 2 (λ words. omega arith) o
+
+pub flag_depth : (o : Option Bool) → depth (or_null json.boolean o) ≤ 2
+flag_depth o = any_depth json.boolean 2 (λ flag. omega arith) o
