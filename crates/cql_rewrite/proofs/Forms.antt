@@ -154,10 +154,10 @@ all_stepped p now rest steps so_far = sym (and_true (list_all p now)) ∙ ap (λ
 pub added_always : (x : Item) (n : Normal) (b : Bool) → n ≡ Constant true → b ≡ (b && meets x n)
 added_always x n b e = sym (ap (λ m. b && m) (ap (meets x) e ∙ meets_Constant x true) ∙ and_true b)
 
-or_false : (a : Bool) → (a || false) ≡ a
+pub or_false : (a : Bool) → (a || false) ≡ a
 or_false a = grind arith
 
-or_assoc : (a b c : Bool) → ((a || b) || c) ≡ (a || (b || c))
+pub or_assoc : (a b c : Bool) → ((a || b) || c) ≡ (a || (b || c))
 or_assoc a b c = grind arith
 
 pub added_never : (x : Item) (n : Normal) (b : Bool) → n ≡ Constant false → b ≡ (b || meets x n)

@@ -167,7 +167,7 @@ only_one t [] n h e = absurd (omega arith)
 only_one t (m ∷ []) n h e = rw e (least_only t m)
 only_one t (m ∷ k ∷ ns) n h e = absurd (omega arith)
 
-drop_over : {X : Type 0} (xs : List X) (i : ℕ) → length xs ≤ i → drop i xs ≡ []
+pub drop_over : {X : Type 0} (xs : List X) (i : ℕ) → length xs ≤ i → drop i xs ≡ []
 drop_over [] zero h = refl
 drop_over [] (suc i) h = refl
 drop_over (x ∷ xs) zero h = absurd (omega arith)

@@ -7,22 +7,11 @@ use Rattle.cql_types.specs.declared.filter.Filter.{Filter}
 use Rattle.cql_rewrite.specs.declared.form.Normal.{Normal}
 use Rattle.cql_rewrite.specs.Costs.{any_equal, bound, bound_on, count_in, count_of, every, IsCounted, least, least_of_some, total}
 use Rattle.cql_rewrite.specs.Meets.{Written, meets}
-use Rattle.cql_rewrite.proofs.Least.{count_alike, least_of_some_more, least_under}
-
-or_assoc : (a b c : Bool) → ((a || b) || c) ≡ (a || (b || c))
-or_assoc a b c = grind arith
-
-or_none : (a : Bool) → (a || false) ≡ a
-or_none a = grind arith
+use Rattle.cql_rewrite.proofs.Forms.{or_assoc, or_false}
+use Rattle.cql_rewrite.proofs.Least.{count_alike, drop_over, least_under}
 
 drop_next : {X : Type 0} (xs : List X) (i : ℕ) (x : X) → suc i ≤ length xs → x ≡ get_or xs i x → drop i xs ≡ x ∷ drop (i + 1) xs
 drop_next xs i x h e = rw (add-one, drop-cons xs i x, ← e) refl
-
-drop_over : {X : Type 0} (xs : List X) (i : ℕ) → length xs ≤ i → drop i xs ≡ []
-drop_over [] zero h = refl
-drop_over [] (suc i) h = refl
-drop_over (x ∷ xs) zero h = absurd (omega arith)
-drop_over (x ∷ xs) (suc i) h = drop_over xs i (omega arith)
 
 module _ {T : Type 0} (equal : Item → T → T → Sides) (a : T) where
   pub any_next : (x : Item) (forms new : List Normal) (n : Normal) (item : T) (items : List T) (i : ℕ) {whole : Bool} → suc i ≤ length items → item ≡ get_or items i item → list_any (meets x) new ≡ (list_any (meets x) forms || meets x n) → meets x n ≡ (equal x a item).yes →
@@ -37,7 +26,7 @@ module _ {T : Type 0} (equal : Item → T → T → Sides) (a : T) where
 
   pub any_done : (x : Item) (forms : List Normal) (items : List T) (i : ℕ) {whole : Bool} → length items ≤ i → (list_any (meets x) forms || any_equal equal x a (drop i items)) ≡ whole → list_any (meets x) forms ≡ whole
   any_done x forms items i h so_far =
-      sym (or_none (list_any (meets x) forms)) ∙ sym (ap (λ l. list_any (meets x) forms || any_equal equal x a l) (drop_over items i h)) ∙ so_far
+      sym (or_false (list_any (meets x) forms)) ∙ sym (ap (λ l. list_any (meets x) forms || any_equal equal x a l) (drop_over items i h)) ∙ so_far
 
   -- one equality costs no more than how many have the item's value
   pub one_costs : (t : List Written) (n : Normal) (item : T) → IsCounted n → ((x : Item) → meets x n ≡ (equal x a item).yes) → least t n ≤ count_of t equal a item

@@ -1,8 +1,15 @@
-use Rattle.std.proofs.Common.{filter, take, nat_lt, length, ap, ◌∙◌, sym, rules}
+use Rattle.std.proofs.Common.{All, filter, take, nat_lt, length, ap, ◌∙◌, subst, sym, rules}
+use Rattle.std.proofs.lemmas.List.Elements.{All-filter}
+use Rattle.cql_rewrite.specs.Meets.{HoldsCharacters}
 use Rattle.cad_answer.specs.Answers.{asked_of, answers}
 use Rattle.cad_answer.specs.Slices.{after_of, is_later}
 use Rattle.cad_answer.proofs.PageLemmas.{last_rows, none_left, full_rows, one_left}
 use Rattle.cad_answer.proofs.scan.page.Goals as goal
+
+pub is_answer-requires : goal.is_answer-requires
+is_answer-requires c =
+    let all : All HoldsCharacters c.features_after-feature-items.result.now = rw c.features_after-feature-items.ensures (All-filter (is_later (after_of c.args.question)) HoldsCharacters c.args.features.now c.requires.written) in
+    subst HoldsCharacters (sym c.feature-item.is) (all c.loop-feature.feature-index c.feature-item.result c.loop-feature-test.true)
 
 pub returns-clause-rows : goal.returns-clause-rows
 returns-clause-rows c =
