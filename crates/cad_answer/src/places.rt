@@ -44,7 +44,7 @@ impl Places {
     {
         match value_at(feature, self.geometry)? {
             Value::Spot(point) => Some(ShapeRef::Spot(*point)),
-            Value::Area(ring) => Some(ShapeRef::Area(ring)),
+            Value::Area(region) => Some(ShapeRef::Area(region)),
             _ => None,
         }
     }

@@ -72,7 +72,7 @@ inside low end r (a_flag b) s = refl
 inside low end r (a_day day) s = refl
 inside low end r (a_span days) s = refl
 inside low end r (a_spot p) s = refl
-inside low end r (an_area ring) s = refl
+inside low end r (an_area region) s = refl
 
 -- where only parts for any number follow the front, the texts that begin with it are those that are like the pattern
 pub exactly_like : (pattern low : List ℕ) (end : Option (List ℕ)) (exact : Bool) → IsLikeRange pattern low end exact → exact ≡ true → (text : Option (List ℕ)) → begins_in low text ≡ is_liked text pattern

@@ -102,7 +102,7 @@ known_whole by (a_flag f) n = refl
 known_whole by (a_day day) n = refl
 known_whole by (a_span days) n = refl
 known_whole by (a_spot p) n = refl
-known_whole by (an_area ring) n = refl
+known_whole by (an_area region) n = refl
 
 pub known_text : (by : Comparison) (d : Datum) (s : List ℕ) → told (option_map (stands by) (order_of d (a_text s))) ≡ compared (texts by) (text_in d) (Some s)
 known_text by null n = refl
@@ -112,7 +112,7 @@ known_text by (a_flag f) n = refl
 known_text by (a_day day) n = refl
 known_text by (a_span days) n = refl
 known_text by (a_spot p) n = refl
-known_text by (an_area ring) n = refl
+known_text by (an_area region) n = refl
 
 pub known_day : (by : Comparison) (d : Datum) (e : Day) → told (option_map (stands by) (order_of d (a_day e))) ≡ compared (days by) (day_in d) (Some e)
 known_day by null n = refl
@@ -122,7 +122,7 @@ known_day by (a_flag f) n = refl
 known_day by (a_day day) n = refl
 known_day by (a_span days) n = refl
 known_day by (a_spot p) n = refl
-known_day by (an_area ring) n = refl
+known_day by (an_area region) n = refl
 
 -- a null operand
 pub null_right : {A : Type 0} (test : A → A → Bool) (a : Option A) → told None ≡ compared test a None
@@ -200,7 +200,7 @@ plain_between (a_flag f) a b = refl
 plain_between (a_day day) a b = refl
 plain_between (a_span days) a b = refl
 plain_between (a_spot p) a b = refl
-plain_between (an_area ring) a b = refl
+plain_between (an_area region) a b = refl
 
 pub between_costs : (side : Bool) (t : List Written) (n : Normal) (f : Filter) (a low high : WholeTerm) → f ≡ filter.Between a low high →
     ((x : Written) → meets x.item n ≡ in_side side x.item f) → (side ≡ true → is_plain_between a low high ≡ true → IsCounted n) → least t n ≤ bound_on side t f

@@ -21,7 +21,7 @@ of_kind k (a_flag b) t h e = absurd cc
 of_kind k (a_day day) t h e = absurd cc
 of_kind k (a_span days) t h e = absurd cc
 of_kind k (a_spot p) t h e = absurd cc
-of_kind k (an_area ring) t h e = absurd cc
+of_kind k (an_area region) t h e = absurd cc
 
 all_of_kind : (ps : List Named) (ds : List Datum) → FitSchema ps ds → (i : ℕ) (t : List ℕ) → text_in (get_or ds i null) ≡ Some t → all_scalars t ≡ true
 all_of_kind ps [] h i t e = absurd cc

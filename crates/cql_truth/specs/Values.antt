@@ -85,7 +85,7 @@ span_value x (span.Interval from to) = both interval_of (end_value x from) (end_
 
 abbrev pub shape_in : Datum → Option Shape
 shape_in (a_spot p) = Some (shape.Spot p)
-shape_in (an_area ring) = Some (shape.Area ring)
+shape_in (an_area region) = Some (shape.Area region)
 shape_in _ = None
 
 abbrev pub shape_value : Item → ShapeTerm → Option Shape

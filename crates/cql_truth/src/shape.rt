@@ -19,7 +19,7 @@ fn shape_in(value: &Value) -> Option<ShapeRef<'_>>
 {
     match value {
         Value::Spot(point) => Some(ShapeRef::Spot(*point)),
-        Value::Area(ring) => Some(ShapeRef::Area(ring)),
+        Value::Area(region) => Some(ShapeRef::Area(region)),
         _ => None,
     }
 }
