@@ -4,7 +4,6 @@ use Rattle.std.specs.Option.{ForSome}
 use Rattle.json.proofs.Printed.Utf8.{IsUtf8-are_ascii}
 use Rattle.serde_json.specs.Data.{Data, member, no_members, members_depth}
 use Rattle.serde_json.specs.Data as json
-use Rattle.cad_shape.specs.Rings.{corners_of}
 use Rattle.cad_versions.specs.declared.object_id.ObjectId.{ObjectId}
 use Rattle.cad_versions.specs.declared.share.Share.{Share}
 use Rattle.cad_versions.specs.declared.words.Words.{Words}
@@ -17,10 +16,10 @@ use Rattle.cad_versions.specs.Class.{class_of}
 use Rattle.cad_commands.specs.Bodies.{class_name, SaysBody}
 use Rattle.cad_commands.specs.Commands.{names_beside}
 use Rattle.cad_commands.specs.Members.{HasOneOther}
-use Rattle.cad_commands.specs.Values.{IsFlagOf, IsPointOf, IsRingOf}
-use Rattle.cad_commands.specs.Writing.{right_members, object_json, words_json, share_json, point_json, ring_json, body_members}
-use Rattle.cad_commands.proofs.PlainLemmas.{words_plain, object_plain, point_plain, points_plain, share_plain, any_plain, area_plain, area_depth, party_depth, share_depth, shape_depth, spot_depth, words_depth, flag_depth}
-use Rattle.cad_commands.proofs.SaidLemmas.{any_said, any_words, any_object, any_share, any_area, point_said, ring_said}
+use Rattle.cad_commands.specs.Values.{IsFlagOf, IsPointOf}
+use Rattle.cad_commands.specs.Writing.{right_members, outline_json, holes_json, object_json, words_json, share_json, point_json, ring_json, body_members}
+use Rattle.cad_commands.proofs.PlainLemmas.{words_plain, object_plain, point_plain, outline_plain, holes_plain, share_plain, any_plain, area_plain, area_depth, party_depth, share_depth, outline_depth, holes_depth, spot_depth, words_depth, flag_depth}
+use Rattle.cad_commands.proofs.SaidLemmas.{any_said, any_words, any_object, any_share, any_area, point_said, shape_said}
 use Rattle.cad_commands.proofs.TextLemmas.{HasPlain, puts}
 
 -- ---- names
@@ -49,7 +48,7 @@ body_said (body.Party name code) small = (refl, record { area = tt; unit = tt; p
 body_said (body.Unit name) small = (refl, record { area = tt; unit = tt; party = tt; share = tt; required = tt; spot = tt; name = any_words name; code = tt; label = tt; shape = tt }, refl)
 body_said (body.Parcel unit label area shape spot) small = (
   refl,
-  record { area = any_area area small; unit = refl; party = tt; share = tt; required = tt; spot = any_said IsPointOf point_json point_said spot; name = tt; code = tt; label = refl; shape = any_said IsRingOf ring_json ring_said shape },
+  record { area = any_area area small; unit = refl; party = tt; share = tt; required = tt; spot = any_said IsPointOf point_json point_said spot; name = tt; code = tt; label = refl; shape = shape_said shape },
   refl,
 )
 body_said (body.Right unit party code share) small = (refl, record { area = tt; unit = refl; party = any_object party; share = any_share share; required = tt; spot = tt; name = tt; code = refl; label = tt; shape = tt }, refl)
@@ -95,11 +94,15 @@ body_plain (body.Parcel unit label area shape spot) small = (
   area_plain area small,
   (
     IsUtf8-are_ascii _ refl,
-    words_plain label,
+    any_plain holes_json holes_plain shape,
     (
       IsUtf8-are_ascii _ refl,
-      any_plain ring_json (λ ring. points_plain (corners_of ring)) shape,
-      (IsUtf8-are_ascii _ refl, any_plain point_json point_plain spot, (IsUtf8-are_ascii _ refl, object_plain unit, tt)),
+      words_plain label,
+      (
+        IsUtf8-are_ascii _ refl,
+        any_plain outline_json outline_plain shape,
+        (IsUtf8-are_ascii _ refl, any_plain point_json point_plain spot, (IsUtf8-are_ascii _ refl, object_plain unit, tt)),
+      ),
     ),
   ),
 )
@@ -145,10 +148,10 @@ beginning_ascends class.Right operation first whose inner = refl
 beginning_ascends class.Restriction operation first whose inner = refl
 beginning_ascends class.Responsibility operation first whose inner = refl
 
-pub body_depth : (b : Body) → members_depth (body_members b) ≤ 2
+pub body_depth : (b : Body) → members_depth (body_members b) ≤ 3
 body_depth (body.Party name code) = omega (arith, words_depth name)
 body_depth (body.Unit name) = omega (arith, words_depth name)
-body_depth (body.Parcel unit label area shape spot) = omega (arith, area_depth area, shape_depth shape, spot_depth spot)
+body_depth (body.Parcel unit label area shape spot) = omega (arith, area_depth area, holes_depth shape, outline_depth shape, spot_depth spot)
 body_depth (body.Right unit party code share) = omega (arith, party_depth party, share_depth share)
 body_depth (body.Responsibility unit party code share) = omega (arith, party_depth party, share_depth share)
 body_depth (body.Restriction unit party code share required) = omega (arith, party_depth party, share_depth share, flag_depth required)

@@ -8,5 +8,6 @@ pub mod OrderLemmas
 pub mod ClassLemmas
 pub mod PlainLemmas
 pub mod SaidLemmas
+pub mod ShapeLemmas
 pub mod TextLemmas
 pub mod WrittenLemmas

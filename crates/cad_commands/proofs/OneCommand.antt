@@ -10,16 +10,17 @@ use Rattle.cad_versions.specs.declared.command.Command.{Command}
 use Rattle.cad_versions.specs.declared.command.Command.TheVariants as command
 use Rattle.cad_commands.specs.declared.operation.Operation.{Operation}
 use Rattle.cad_commands.specs.declared.operation.Operation.TheVariants.{Enter, Amend, Retire}
-use Rattle.cad_commands.specs.Members.{Has}
-use Rattle.cad_commands.specs.Values.{IsWholeOf, IsObjectOf, IsDayOf, IsWordsOf, IsFlagOf, IsShareOf, IsPointOf, IsRingOf}
+use Rattle.cad_commands.specs.Members.{Has, member_in}
+use Rattle.cad_commands.specs.Values.{IsWholeOf, IsObjectOf, IsDayOf, IsWordsOf, IsFlagOf, IsShareOf, IsPointOf}
 use Rattle.cad_versions.specs.declared.body_parts.BodyParts.{BodyParts}
 use Rattle.cad_versions.specs.BodyParts.{parts_of}
 use Rattle.cad_versions.specs.BodyLemmas.{same_body}
 use Rattle.cad_commands.specs.Bodies.{class_name, SaysParts, SaysBody}
 use Rattle.cad_commands.specs.Commands.{IsOperationOf, SaysOneBody, SaysBeginning, SaysEnd, SaysCommand, Says}
 use Rattle.cad_commands.proofs.ClassLemmas.{one_class}
+use Rattle.cad_commands.proofs.ShapeLemmas.{one_shape}
 use Rattle.cad_commands.proofs.ValueLemmas.{point_said}
-use Rattle.cad_commands.proofs.OneValue.{may_have_one, has_one, one_whole, one_flag, one_object, one_words, one_day, one_share, one_ring, one_operation}
+use Rattle.cad_commands.proofs.OneValue.{may_have_one, has_one, one_whole, one_flag, one_object, one_words, one_day, one_share, one_operation}
 
 pub one_parts : (ms : Members) (p q : BodyParts) → SaysParts ms p → SaysParts ms q → p ≡ q
 one_parts ms p q s t =
@@ -32,7 +33,7 @@ one_parts ms p q s t =
     let share = may_have_one IsShareOf one_share (codes "share") ms p.share q.share s.share t.share in
     let required = may_have_one IsFlagOf one_flag (codes "required") ms p.required q.required s.required t.required in
     let spot = may_have_one IsPointOf point_said (codes "spot") ms p.spot q.spot s.spot t.spot in
-    let shape = may_have_one IsRingOf one_ring (codes "shape") ms p.shape q.shape s.shape t.shape in
+    let shape = one_shape (member_in (codes "shape") ms) (member_in (codes "holes") ms) p.shape q.shape s.shape t.shape in
     λ i. record { name = name i; code = code i; label = label i; area = area i; unit = unit i; party = party i; share = share i; required = required i; spot = spot i; shape = shape i }
 
 one_body : (ms : Members) (class : Class) (a b : Body) → SaysBody ms class a → SaysBody ms class b → a ≡ b

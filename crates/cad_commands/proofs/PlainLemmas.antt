@@ -1,4 +1,4 @@
--- The JSON values that are made of values are written as JSON texts, and nest no deeper than two.
+-- The JSON values that are made of values are written as JSON texts, and nest no deeper than three.
 use Rattle.std.proofs.Common.{ℕ, ◌^◌, ◌<◌, ◌≤◌, ℤ, pos, negsuc, Bool, List, [], ◌∷◌, Option, Some, None, IsUtf8, refl, arith}
 use Rattle.std.specs.Option.{ForSome}
 use Rattle.std.specs.Str.{IsAscii}
@@ -14,11 +14,13 @@ use Rattle.cad_day.specs.DayTexts.{digit, date_text}
 use Rattle.cad_shape.specs.declared.point.Point.{Point}
 use Rattle.cad_shape.specs.declared.ring.Ring.{Ring}
 use Rattle.cad_shape.specs.Coordinates.{IsCoordinate}
+use Rattle.cad_shape.specs.declared.polygon.Region.{Region}
 use Rattle.cad_shape.specs.Rings.{corners_of}
+use Rattle.cad_shape.specs.RegionRings.{rings_of}
 use Rattle.cad_versions.specs.declared.object_id.ObjectId.{ObjectId}
 use Rattle.cad_versions.specs.declared.share.Share.{Share}
 use Rattle.cad_versions.specs.declared.words.Words.{Words}
-use Rattle.cad_commands.specs.Writing.{whole_json, integer_json, object_json, words_json, share_json, point_json, points_json, ring_json, day_json, or_null}
+use Rattle.cad_commands.specs.Writing.{whole_json, integer_json, object_json, words_json, share_json, point_json, points_json, ring_json, rings_json, outline_in, holes_in, outline_json, holes_json, day_json, or_null}
 use Rattle.cad_commands.proofs.TextLemmas.{IsPlain, ArePlain}
 
 -- ---- values
@@ -78,9 +80,27 @@ integer_plain (negsuc n) h =
 pub point_plain : (point : Point) → IsPlain (point_json point)
 point_plain point = (integer_plain point.x point.x_in_range, (integer_plain point.y point.y_in_range, tt))
 
-pub points_plain : (points : List Point) → ArePlain (points_json points)
+points_plain : (points : List Point) → ArePlain (points_json points)
 points_plain [] = tt
 points_plain (point ∷ points) = (point_plain point, points_plain points)
+
+rings_plain : (rings : List Ring) → ArePlain (rings_json rings)
+rings_plain [] = tt
+rings_plain (ring ∷ rings) = (points_plain (corners_of ring), rings_plain rings)
+
+outline_in_plain : (rings : List Ring) → IsPlain (outline_in rings)
+outline_in_plain [] = tt
+outline_in_plain (outer ∷ holes) = points_plain (corners_of outer)
+
+holes_in_plain : (rings : List Ring) → IsPlain (holes_in rings)
+holes_in_plain [] = tt
+holes_in_plain (outer ∷ holes) = rings_plain holes
+
+pub outline_plain : (region : Region) → IsPlain (outline_json region)
+outline_plain region = outline_in_plain (rings_of region)
+
+pub holes_plain : (region : Region) → IsPlain (holes_json region)
+holes_plain region = holes_in_plain (rings_of region)
 
 pub share_plain : (share : Share) → IsPlain (share_json share)
 share_plain share = (whole_plain share.num (omega (arith, share.within, share.small)), (whole_plain share.den (omega (arith, share.small)), tt))
@@ -112,8 +132,26 @@ party_depth o = any_depth object_json 2 (λ object. omega arith) o
 pub share_depth : (o : Option Share) → depth (or_null share_json o) ≤ 2
 share_depth o = any_depth share_json 2 (λ share. omega arith) o
 
-pub shape_depth : (o : Option Ring) → depth (or_null ring_json o) ≤ 2
-shape_depth o = any_depth ring_json 2 (λ ring. omega (arith, points_depth (corners_of ring))) o
+ring_depth : (ring : Ring) → depth (ring_json ring) ≤ 2
+ring_depth ring = omega (arith, points_depth (corners_of ring))
+
+rings_depth : (rings : List Ring) → items_depth (rings_json rings) ≤ 2
+rings_depth [] = omega arith
+rings_depth (ring ∷ rings) = omega (arith, ring_depth ring, rings_depth rings)
+
+outline_in_depth : (rings : List Ring) → depth (outline_in rings) ≤ 2
+outline_in_depth [] = omega arith
+outline_in_depth (outer ∷ holes) = ring_depth outer
+
+holes_in_depth : (rings : List Ring) → depth (holes_in rings) ≤ 3
+holes_in_depth [] = omega arith
+holes_in_depth (outer ∷ holes) = omega (arith, rings_depth holes)
+
+pub outline_depth : (o : Option Region) → depth (or_null outline_json o) ≤ 2
+outline_depth o = any_depth outline_json 2 (λ region. outline_in_depth (rings_of region)) o
+
+pub holes_depth : (o : Option Region) → depth (or_null holes_json o) ≤ 3
+holes_depth o = any_depth holes_json 3 (λ region. holes_in_depth (rings_of region)) o
 
 pub spot_depth : (o : Option Point) → depth (or_null point_json o) ≤ 2
 spot_depth o = any_depth point_json 2 (λ point. omega arith) o

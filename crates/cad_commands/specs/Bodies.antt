@@ -1,14 +1,15 @@
 -- Bodies of versions as JSON objects, by class (own profile).
-use Rattle.std.specs.Prelude.{◌≡◌, ℕ, List, [], ◌∷◌, codes}
+use Rattle.std.specs.Prelude.{◌≡◌, ℕ, List, [], ◌∷◌, codes, Option}
 use Rattle.serde_json.specs.Data.{Members}
+use Rattle.cad_shape.specs.declared.polygon.Region.{Region}
 use Rattle.cad_versions.specs.declared.body.Body.{Body}
 use Rattle.cad_versions.specs.declared.body.Class.{Class}
 use Rattle.cad_versions.specs.declared.body.Class.TheVariants as class
 use Rattle.cad_versions.specs.declared.body_parts.BodyParts.{BodyParts}
 use Rattle.cad_versions.specs.Class.{class_of}
 use Rattle.cad_versions.specs.BodyParts.{parts_of}
-use Rattle.cad_commands.specs.Members.{MayHave, AreOnly}
-use Rattle.cad_commands.specs.Values.{IsWholeOf, IsObjectOf, IsWordsOf, IsFlagOf, IsShareOf, IsPointOf, IsRingOf}
+use Rattle.cad_commands.specs.Members.{MayHave, AreOnly, member_in}
+use Rattle.cad_commands.specs.Values.{IsWholeOf, IsObjectOf, IsWordsOf, IsFlagOf, IsShareOf, IsPointOf, IsShapeOf}
 
 -- the name under which a command has the body of a class
 abbrev pub class_name : Class → List ℕ
@@ -23,12 +24,16 @@ class_name class.Responsibility = codes "responsibility"
 abbrev pub members_of : Class → List (List ℕ)
 members_of class.Party = codes "name" ∷ codes "code" ∷ []
 members_of class.Unit = codes "name" ∷ []
-members_of class.Parcel = codes "unit" ∷ codes "label" ∷ codes "area" ∷ codes "shape" ∷ codes "spot" ∷ []
+members_of class.Parcel = codes "unit" ∷ codes "label" ∷ codes "area" ∷ codes "shape" ∷ codes "holes" ∷ codes "spot" ∷ []
 members_of class.Right = codes "unit" ∷ codes "party" ∷ codes "code" ∷ codes "share" ∷ []
 members_of class.Restriction = codes "unit" ∷ codes "party" ∷ codes "code" ∷ codes "share" ∷ codes "required" ∷ []
 members_of class.Responsibility = codes "unit" ∷ codes "party" ∷ codes "code" ∷ codes "share" ∷ []
 
--- each member says the part of its name; where it is missing or null, that part is not there
+-- the members `shape` and `holes` say the shape
+abbrev pub SaysShape : Members → Option Region → Type 0
+SaysShape ms shape = IsShapeOf (member_in (codes "shape") ms) (member_in (codes "holes") ms) shape
+
+-- each member says the part of its name, and `holes` what lies inside the shape; where it is missing or null, that part is not there
 pub record SaysParts (ms : Members) (parts : BodyParts) : Type 0 where
   pub area : MayHave IsWholeOf (codes "area") ms parts.area
   pub unit : MayHave IsObjectOf (codes "unit") ms parts.unit
@@ -39,7 +44,7 @@ pub record SaysParts (ms : Members) (parts : BodyParts) : Type 0 where
   pub name : MayHave IsWordsOf (codes "name") ms parts.name
   pub code : MayHave IsWordsOf (codes "code") ms parts.code
   pub label : MayHave IsWordsOf (codes "label") ms parts.label
-  pub shape : MayHave IsRingOf (codes "shape") ms parts.shape
+  pub shape : SaysShape ms parts.shape
 
 -- the object says the parts of a body of the class, and has no members but those of the class
 unfoldable pub SaysBody : Members → Class → Body → Type 0

@@ -1,5 +1,5 @@
 -- Which values a command's members say (own profile). What a value may be, its type holds.
-use Rattle.std.specs.Prelude.{◌≡◌, ℕ, ℤ, ◌^◌, ◌<◌, Bool, List, [], ◌∷◌, Option, Some}
+use Rattle.std.specs.Prelude.{◌≡◌, ℕ, ℤ, ◌^◌, ◌<◌, Bool, List, [], ◌∷◌, Option, Some, None}
 use Rattle.std.specs.Option.{option_and_then}
 use Rattle.serde_json.specs.Data.{Data, Items, no_items, item}
 use Rattle.serde_json.specs.Find.{as_bool, as_number, as_u64, as_i64, as_str, as_array}
@@ -8,7 +8,9 @@ use Rattle.cad_day.specs.Days.{number_of}
 use Rattle.cad_day.specs.DayTexts.{day_named}
 use Rattle.cad_shape.specs.declared.point.Point.{Point}
 use Rattle.cad_shape.specs.declared.ring.Ring.{Ring}
+use Rattle.cad_shape.specs.declared.polygon.Region.{Region}
 use Rattle.cad_shape.specs.Rings.{corners_of}
+use Rattle.cad_shape.specs.RegionRings.{rings_of}
 use Rattle.cad_versions.specs.declared.object_id.ObjectId.{ObjectId}
 use Rattle.cad_versions.specs.declared.share.Share.{Share}
 use Rattle.cad_versions.specs.declared.words.Words.{Words}
@@ -63,3 +65,34 @@ ArePointsOf (item d ds) (point ∷ points) = IsPointOf d point × ArePointsOf ds
 abbrev pub IsRingOf : Data → Ring → Type 0
 IsRingOf d ring =
     (ds : Items) × (as_array d ≡ Some ds) × ArePointsOf ds (corners_of ring)
+
+abbrev pub AreRingsOf : Items → List Ring → Type 0
+AreRingsOf no_items [] = Unit {0}
+AreRingsOf no_items (ring ∷ rings) = ⊥
+AreRingsOf (item d ds) [] = ⊥
+AreRingsOf (item d ds) (ring ∷ rings) = IsRingOf d ring × AreRingsOf ds rings
+
+-- holes, as the list of their rings
+abbrev pub AreHolesOf : Data → List Ring → Type 0
+AreHolesOf d holes = (ds : Items) × (as_array d ≡ Some ds) × AreRingsOf ds holes
+
+-- where no holes are told there are none
+abbrev pub MayHaveHoles : Option Data → List Ring → Type 0
+MayHaveHoles None holes = holes ≡ []
+MayHaveHoles (Some d) holes = AreHolesOf d holes
+
+-- the rings of holes that were read, if any were
+abbrev pub holes_listed : Option (List Ring) → List Ring
+holes_listed None = []
+holes_listed (Some holes) = holes
+
+-- a region, as its exterior boundary and its holes
+abbrev pub IsRegionOf : Data → Option Data → Region → Type 0
+IsRegionOf outline d region =
+    (outer : Ring) × (holes : List Ring) × (rings_of region ≡ outer ∷ holes) × IsRingOf outline outer × MayHaveHoles d holes
+
+-- a shape, where an outline is told; holes without one are no shape, and neither is none
+abbrev pub IsShapeOf : Option Data → Option Data → Option Region → Type 0
+IsShapeOf None None None = Unit {0}
+IsShapeOf (Some outline) holes (Some region) = IsRegionOf outline holes region
+IsShapeOf outline holes shape = ⊥

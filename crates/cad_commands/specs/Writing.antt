@@ -9,7 +9,9 @@ use Rattle.cad_day.specs.Days.{number_of}
 use Rattle.cad_day.specs.DayTexts.{day_text}
 use Rattle.cad_shape.specs.declared.point.Point.{Point}
 use Rattle.cad_shape.specs.declared.ring.Ring.{Ring}
+use Rattle.cad_shape.specs.declared.polygon.Region.{Region}
 use Rattle.cad_shape.specs.Rings.{corners_of}
+use Rattle.cad_shape.specs.RegionRings.{rings_of}
 use Rattle.cad_versions.specs.declared.object_id.ObjectId.{ObjectId}
 use Rattle.cad_versions.specs.declared.share.Share.{Share}
 use Rattle.cad_versions.specs.declared.words.Words.{Words}
@@ -56,6 +58,26 @@ points_json (point ∷ points) = item (point_json point) (points_json points)
 abbrev pub ring_json : Ring → Data
 ring_json ring = json.array (points_json (corners_of ring))
 
+abbrev pub rings_json : List Ring → Items
+rings_json [] = no_items
+rings_json (ring ∷ rings) = item (ring_json ring) (rings_json rings)
+
+abbrev pub outline_in : List Ring → Data
+outline_in [] = json.null
+outline_in (outer ∷ holes) = ring_json outer
+
+abbrev pub holes_in : List Ring → Data
+holes_in [] = json.null
+holes_in (outer ∷ holes) = json.array (rings_json holes)
+
+-- the exterior boundary of a region
+abbrev pub outline_json : Region → Data
+outline_json region = outline_in (rings_of region)
+
+-- its holes, in a list that may be empty
+abbrev pub holes_json : Region → Data
+holes_json region = holes_in (rings_of region)
+
 abbrev pub or_null : {X : Type 0} → (X → Data) → Option X → Data
 or_null json_of None = json.null
 or_null json_of (Some x) = json_of x
@@ -71,8 +93,8 @@ abbrev pub body_members : Body → Members
 body_members (body.Party name code) = member (codes "code") (words_json code) (member (codes "name") (or_null words_json name) no_members)
 body_members (body.Unit name) = member (codes "name") (or_null words_json name) no_members
 body_members (body.Parcel unit label area shape spot) =
-    member (codes "area") (or_null whole_json area) (member (codes "label") (words_json label) (member (codes "shape") (or_null ring_json shape)
-    (member (codes "spot") (or_null point_json spot) (member (codes "unit") (object_json unit) no_members))))
+    member (codes "area") (or_null whole_json area) (member (codes "holes") (or_null holes_json shape) (member (codes "label") (words_json label)
+    (member (codes "shape") (or_null outline_json shape) (member (codes "spot") (or_null point_json spot) (member (codes "unit") (object_json unit) no_members)))))
 body_members (body.Right unit party code share) = right_members unit party code share
 body_members (body.Responsibility unit party code share) = right_members unit party code share
 body_members (body.Restriction unit party code share required) =

@@ -9,6 +9,7 @@ ghost use Rattle.cad_commands.specs.Reading.{IsRead};
 
 use crate::command_error::CommandError;
 use crate::members::Members;
+use crate::outline::shape;
 use cad_versions::{Body, BodyParts, Class};
 use std::alloc::Global;
 
@@ -44,7 +45,7 @@ fn members_of(class: Class) -> &'static [&'static str]
     match class {
         Class::Party => &["name", "code"],
         Class::Unit => &["name"],
-        Class::Parcel => &["unit", "label", "area", "shape", "spot"],
+        Class::Parcel => &["unit", "label", "area", "shape", "holes", "spot"],
         Class::Right | Class::Responsibility => &["unit", "party", "code", "share"],
         Class::Restriction => &["unit", "party", "code", "share", "required"],
     }
@@ -63,7 +64,7 @@ fn parts(alloc: Global, members: &Members) -> Result<BodyParts, CommandError>
     let name = members.optional(alloc, "name")?;
     let code = members.optional(alloc, "code")?;
     let label = members.optional(alloc, "label")?;
-    let shape = members.optional(alloc, "shape")?;
+    let shape = shape(alloc, members)?;
     Ok(BodyParts {
         name,
         code,

@@ -2,7 +2,8 @@
 
 use cad_day::Day;
 use cad_register::{Body, Command, ObjectId, Register, RegisterFault, Revision, Share, Words};
-use cad_shape::{Point, Ring};
+use cad_shape::{Point, Region, Ring};
+use cad_versions::{read_shape, write_shape};
 use sqlite::{Alter, Connection};
 use std::alloc::Global;
 use std::test::Fail;
@@ -69,12 +70,21 @@ fn ring(alloc: Global, corners: &[(i64, i64)]) -> Result<Ring, Fail> {
     Ok(Ring::new(points).ok().ok_or("ring")?)
 }
 
+/// The region of these rings, the outer one first.
+fn region(alloc: Global, outlines: &[&[(i64, i64)]]) -> Result<Region, Fail> {
+    let mut rings = Vec::new(alloc);
+    for corners in outlines {
+        rings.push(ring(alloc, corners)?)?;
+    }
+    Ok(Region::new(rings).ok().ok_or("region")?)
+}
+
 fn parcel(
     alloc: Global,
     unit: u32,
     label: &str,
     area: Option<u32>,
-    shape: Option<Ring>,
+    shape: Option<Region>,
 ) -> Result<Body, Fail> {
     Ok(Body::Parcel {
         unit: object(unit)?,
@@ -184,19 +194,19 @@ fn refuses_and_lists(rt: HostRuntime) -> Result<(), Fail> {
     Ok(())
 }
 
-fn first_square(alloc: Global) -> Result<Ring, Fail> {
-    ring(alloc, &[(0, 0), (20000, 0), (20000, 20000), (0, 20000)])
+fn first_square(alloc: Global) -> Result<Region, Fail> {
+    region(alloc, &[&[(0, 0), (20000, 0), (20000, 20000), (0, 20000)]])
 }
 
-fn second_square(alloc: Global) -> Result<Ring, Fail> {
-    ring(
+fn second_square(alloc: Global) -> Result<Region, Fail> {
+    region(
         alloc,
-        &[(20000, 0), (40000, 0), (40000, 20000), (20000, 20000)],
+        &[&[(20000, 0), (40000, 0), (40000, 20000), (20000, 20000)]],
     )
 }
 
-fn triangle(alloc: Global) -> Result<Ring, Fail> {
-    ring(alloc, &[(0, 30000), (30000, 30000), (0, 60000)])
+fn triangle(alloc: Global) -> Result<Region, Fail> {
+    region(alloc, &[&[(0, 30000), (30000, 30000), (0, 60000)]])
 }
 
 fn mill(alloc: Global) -> Result<Body, Fail> {
@@ -263,6 +273,15 @@ fn sample(alloc: Global, at: u32) -> Result<Command, Fail> {
     }
 }
 
+/// How many corners the rings have together.
+fn corners_of(region: &Region) -> usize {
+    let mut count = 0usize;
+    for ring in region.rings() {
+        count = count.saturating_add(ring.corners().len());
+    }
+    count
+}
+
 /// What a body says, in words.
 fn said(alloc: Global, body: &Body) -> Result<String, Fail> {
     let name = body.name().map_or("-", |name| name.as_str());
@@ -271,7 +290,7 @@ fn said(alloc: Global, body: &Body) -> Result<String, Fail> {
     let unit = body.unit().map_or(0, |unit| unit.number());
     let party = body.party().map_or(0, |party| party.number());
     let parts = body.share().map_or(0, |share| share.den());
-    let corners = body.shape().map_or(0, |ring| ring.corners().len());
+    let corners = body.shape().map_or(0, |region| corners_of(region));
     let area = body.area();
     let required = body.required();
     Ok(format!(in alloc;
@@ -366,8 +385,8 @@ fn told_after(alloc: Global, change: &str) -> Result<Option<RegisterFault>, Fail
     Ok(register.as_of(10).err())
 }
 
-// Shapes as bytes: their form, the number of corners, and each corner's x and y. The first is the triangle of object 3.
-const CHANGES: [(&str, Option<(i64, i64)>); 11] = [
+// Shapes as bytes: their form, then the number of corners and each corner's x and y. The first is the triangle of object 3, in the form of one ring.
+const CHANGES: [(&str, Option<(i64, i64)>); 22] = [
     (
         "UPDATE version SET shape = X'01000300000000000000000000000000007530000000000000753000000000000075300000000000000000000000000000EA60' WHERE object = 3",
         None,
@@ -381,6 +400,51 @@ const CHANGES: [(&str, Option<(i64, i64)>); 11] = [
     (
         "UPDATE version SET shape = X'01000300000000000000000000000000000000000000000000000A000000000000000A00000000000000140000000000000014' WHERE object = 3",
         Some((3, 1)),
+    ),
+    // Two rings in the form of one.
+    (
+        "UPDATE version SET shape = X'01000300000000000000000000000000007530000000000000753000000000000075300000000000000000000000000000EA600003000000000000138800000000000088B8000000000000177000000000000088B800000000000013880000000000008CA0' WHERE object = 3",
+        Some((3, 1)),
+    ),
+    // The form of an outer ring and holes: without holes, with one, with one outside, with one ring less than is told, with a byte behind.
+    (
+        "UPDATE version SET shape = X'020001000300000000000000000000000000007530000000000000753000000000000075300000000000000000000000000000EA60' WHERE object = 3",
+        None,
+    ),
+    (
+        "UPDATE version SET shape = X'020002000300000000000000000000000000007530000000000000753000000000000075300000000000000000000000000000EA600003000000000000138800000000000088B8000000000000177000000000000088B800000000000013880000000000008CA0' WHERE object = 3",
+        None,
+    ),
+    (
+        "UPDATE version SET shape = X'020002000300000000000000000000000000007530000000000000753000000000000075300000000000000000000000000000EA600003000000000000C35000000000000088B8000000000000EA6000000000000088B8000000000000C3500000000000008CA0' WHERE object = 3",
+        Some((3, 1)),
+    ),
+    (
+        "UPDATE version SET shape = X'020003000300000000000000000000000000007530000000000000753000000000000075300000000000000000000000000000EA600003000000000000138800000000000088B8000000000000177000000000000088B800000000000013880000000000008CA0' WHERE object = 3",
+        Some((3, 1)),
+    ),
+    (
+        "UPDATE version SET shape = X'020002000300000000000000000000000000007530000000000000753000000000000075300000000000000000000000000000EA600003000000000000138800000000000088B8000000000000177000000000000088B800000000000013880000000000008CA000' WHERE object = 3",
+        Some((3, 1)),
+    ),
+    // No ring, and a form that is none.
+    (
+        "UPDATE version SET shape = X'020000' WHERE object = 3",
+        Some((3, 1)),
+    ),
+    (
+        "UPDATE version SET shape = X'030001000300000000000000000000000000007530000000000000753000000000000075300000000000000000000000000000EA60' WHERE object = 3",
+        Some((3, 1)),
+    ),
+    // A right is stored as a responsibility is; a restriction is not, where it says whether a party is required.
+    ("UPDATE version SET class = 6 WHERE object = 30", None),
+    (
+        "UPDATE version SET class = 6 WHERE object = 31",
+        Some((31, 1)),
+    ),
+    (
+        "UPDATE version SET class = 7 WHERE object = 30",
+        Some((30, 1)),
     ),
     (
         "UPDATE version SET shape = X'' WHERE object = 3",
@@ -425,5 +489,71 @@ fn a_damaged_row_is_named(rt: HostRuntime) -> Result<(), Fail> {
         let named = row.map(|(object, number)| RegisterFault::Damaged { object, number });
         assert_eq!(rt; told, named);
     }
+    Ok(())
+}
+
+/// The square of object 5, and the hole in it.
+fn holed(alloc: Global) -> Result<Region, Fail> {
+    region(
+        alloc,
+        &[
+            &[(50000, 0), (80000, 0), (80000, 30000), (50000, 30000)],
+            &[
+                (60000, 10000),
+                (70000, 10000),
+                (70000, 20000),
+                (60000, 20000),
+            ],
+        ],
+    )
+}
+
+#[test]
+fn a_hole_is_stored_behind_the_outer_ring(rt: HostRuntime) -> Result<(), Fail> {
+    let alloc = rt.alloc();
+    let bytes = write_shape(alloc, &holed(alloc)?)?;
+    assert_eq!(rt; bytes.len(), 135);
+    assert!(rt; bytes.as_slice().starts_with(&[2, 0, 2, 0, 4]));
+    let read = read_shape(alloc, bytes.as_slice())?.ok_or("read")?;
+    assert_eq!(rt; read.rings().len(), 2);
+    assert_eq!(rt; corners_of(&read), 8);
+    Ok(())
+}
+
+#[test]
+fn holes_and_responsibilities_are_kept(rt: HostRuntime) -> Result<(), Fail> {
+    let alloc = rt.alloc();
+    let connection = in_memory(alloc).ok_or("in memory")?;
+    let mut register = created(alloc, connection).ok_or("created")?;
+    fill(alloc, &mut register)?;
+    let parcel = parcel(alloc, 10, "H", None, Some(holed(alloc)?))?;
+    assert_eq!(rt; applied(&mut register, enter(5, Y2010, parcel)?), Ok(11));
+    let maintenance = Body::Responsibility {
+        unit: object(11)?,
+        party: None,
+        code: words(alloc, "maintenance")?,
+        share: None,
+    };
+    assert_eq!(rt;
+        applied(&mut register, enter(32, Y2006, maintenance)?),
+        Ok(12)
+    );
+    let mut again = Register::open(alloc, register.release())
+        .ok()
+        .ok_or("opened")?;
+    let Ok(versions) = again.as_of(12) else {
+        return Err("listed")?;
+    };
+    let mut text = String::new(alloc);
+    for version in &versions {
+        if version.object.number() == 5 || version.object.number() == 32 {
+            text.push_str(said(alloc, &version.body)?.as_str())?;
+            text.push_str(";")?;
+        }
+    }
+    assert_eq!(rt;
+        text.as_str(),
+        "- - H 10 0 0 8 None None;- maintenance - 11 0 0 0 None None;"
+    );
     Ok(())
 }

@@ -1,1 +1,2 @@
 pub mod FillingLemmas
+pub mod RingLemmas

@@ -2,7 +2,9 @@
 use Rattle.std.specs.Prelude.{ℕ, ℤ, Bool, List, map, Option, option_map}
 use Rattle.cad_shape.specs.declared.point.Point.{Point}
 use Rattle.cad_shape.specs.declared.ring.Ring.{Ring}
+use Rattle.cad_shape.specs.declared.polygon.Region.{Region}
 use Rattle.cad_shape.specs.Rings.{corners_of}
+use Rattle.cad_shape.specs.RegionRings.{rings_of}
 use Rattle.cad_day.specs.Days.{number_of}
 use Rattle.cad_versions.specs.declared.share.Share.{Share}
 use Rattle.cad_versions.specs.declared.body.Body.{Body}
@@ -19,8 +21,8 @@ pub data Attributes : Type 0 where
   a_party : Option (List ℕ) → List ℕ → Attributes
   -- name
   a_unit : Option (List ℕ) → Attributes
-  -- unit, label, area, corners, spot
-  a_parcel : ℕ → List ℕ → Option ℕ → Option (List (ℤ × ℤ)) → Option (ℤ × ℤ) → Attributes
+  -- unit, label, area, the corners of each ring, spot
+  a_parcel : ℕ → List ℕ → Option ℕ → Option (List (List (ℤ × ℤ))) → Option (ℤ × ℤ) → Attributes
   -- unit, party, code, share
   a_right : ℕ → Option ℕ → List ℕ → Option (ℕ × ℕ) → Attributes
   -- unit, party, code, share, and whether a party is required
@@ -41,7 +43,7 @@ party = a_party
 abbrev pub unit : Option (List ℕ) → Attributes
 unit = a_unit
 
-abbrev pub parcel : ℕ → List ℕ → Option ℕ → Option (List (ℤ × ℤ)) → Option (ℤ × ℤ) → Attributes
+abbrev pub parcel : ℕ → List ℕ → Option ℕ → Option (List (List (ℤ × ℤ))) → Option (ℤ × ℤ) → Attributes
 parcel = a_parcel
 
 abbrev pub right : ℕ → Option ℕ → List ℕ → Option (ℕ × ℕ) → Attributes
@@ -66,6 +68,10 @@ coordinates_of p = (p.x, p.y)
 abbrev pub outline_of : Ring → List (ℤ × ℤ)
 outline_of ring = map coordinates_of (corners_of ring)
 
+-- the outlines of a region, that of the exterior boundary first
+abbrev pub outlines_of : Region → List (List (ℤ × ℤ))
+outlines_of region = map outline_of (rings_of region)
+
 abbrev pub parts_of : Share → ℕ × ℕ
 parts_of s = (num_of s, den_of s)
 
@@ -73,7 +79,7 @@ abbrev pub attributes_of : Body → Attributes
 attributes_of (body.Party name code) = a_party (option_map bytes_of name) (bytes_of code)
 attributes_of (body.Unit name) = a_unit (option_map bytes_of name)
 attributes_of (body.Parcel unit label area shape spot) =
-    a_parcel (object_number unit) (bytes_of label) area (option_map outline_of shape) (option_map coordinates_of spot)
+    a_parcel (object_number unit) (bytes_of label) area (option_map outlines_of shape) (option_map coordinates_of spot)
 attributes_of (body.Right unit party code share) =
     a_right (object_number unit) (option_map object_number party) (bytes_of code) (option_map parts_of share)
 attributes_of (body.Restriction unit party code share required) =

@@ -21,13 +21,13 @@ abbrev pub ana : Attributes
 ana = a_party (Some (encode_utf8_all (codes "Ana Straße"))) (codes "naturalPerson")
 
 abbrev pub first_parcel : ℕ → Attributes
-first_parcel area = a_parcel 10 (codes "A-1") (Some area) (Some (square_at 0)) None
+first_parcel area = a_parcel 10 (codes "A-1") (Some area) (Some (square_at 0 ∷ [])) None
 
 abbrev pub second_parcel : Attributes
-second_parcel = a_parcel 10 (codes "A-2") None (Some (square_at 20000)) None
+second_parcel = a_parcel 10 (codes "A-2") None (Some (square_at 20000 ∷ [])) None
 
 abbrev pub third_parcel : Attributes
-third_parcel = a_parcel 11 (codes "b-7") (Some 900) (Some (corner 0 30000 ∷ corner 30000 30000 ∷ corner 0 60000 ∷ [])) None
+third_parcel = a_parcel 11 (codes "b-7") (Some 900) (Some ((corner 0 30000 ∷ corner 30000 30000 ∷ corner 0 60000 ∷ []) ∷ [])) None
 
 abbrev pub fourth_parcel : Attributes
 fourth_parcel = a_parcel 11 (codes "C%1") (Some 0) None None

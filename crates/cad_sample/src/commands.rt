@@ -1,15 +1,14 @@
 //! What the ten commands say.
 
-ghost use Rattle.std.specs.Prelude.{◌≡◌, map, Some, None, is_some, option_map, IsTrue, IfOk};
+ghost use Rattle.std.specs.Prelude.{◌≡◌, Some, None, is_some, option_map, IsTrue, IfOk};
 ghost use Rattle.cad_day.specs.DayTexts.{day_named};
-ghost use Rattle.cad_shape.specs.Rings.{corners_of};
 ghost use Rattle.cad_versions.specs.Objects.{IsObjectNumber};
 ghost use Rattle.cad_versions.specs.Texts.{AreWords};
-ghost use Rattle.cad_sample.specs.Instructions.{a_parcel, to_enter, to_amend, attributes_of, instruction_of, coordinates_of};
+ghost use Rattle.cad_sample.specs.Instructions.{a_parcel, to_enter, to_amend, attributes_of, instruction_of, outlines_of};
 ghost use Rattle.cad_sample.specs.Sample.{AreSample, ana, first_parcel as first, second_parcel as second, third_parcel as third, fourth_parcel as fourth, ownership, no_building};
 
-use crate::values::{day, object_id, ring, words};
-use cad_shape::Ring;
+use crate::values::{day, object_id, region, words};
+use cad_shape::Region;
 use cad_versions::{Body, Command, Share};
 use std::alloc::{AllocError, Global};
 
@@ -45,7 +44,7 @@ fn first_parcel(alloc: Global, area: u32) -> Result<Body, AllocError>
     ensures { IfOk result (λ body. attributes_of body ≡ first area) }
 {
     let corners = [(0, 0), (20_000, 0), (20_000, 20_000), (0, 20_000)];
-    let shape = Some(ring(alloc, &corners)?);
+    let shape = Some(region(alloc, &corners)?);
     parcel(alloc, 10, "A-1", Some(area), shape)
 }
 
@@ -53,7 +52,7 @@ fn second_parcel(alloc: Global) -> Result<Body, AllocError>
     ensures { IfOk result (λ body. attributes_of body ≡ second) }
 {
     let corners = [(20_000, 0), (40_000, 0), (40_000, 20_000), (20_000, 20_000)];
-    let shape = Some(ring(alloc, &corners)?);
+    let shape = Some(region(alloc, &corners)?);
     parcel(alloc, 10, "A-2", None, shape)
 }
 
@@ -61,7 +60,7 @@ fn third_parcel(alloc: Global) -> Result<Body, AllocError>
     ensures { IfOk result (λ body. attributes_of body ≡ third) }
 {
     let corners = [(0, 30_000), (30_000, 30_000), (0, 60_000)];
-    let shape = Some(ring(alloc, &corners)?);
+    let shape = Some(region(alloc, &corners)?);
     parcel(alloc, 11, "b-7", Some(900), shape)
 }
 
@@ -123,11 +122,11 @@ fn parcel(
     unit: u32,
     label: &str,
     area: Option<u32>,
-    shape: Option<Ring>,
+    shape: Option<Region>,
 ) -> Result<Body, AllocError>
     requires unit { IsObjectNumber unit }
     requires label { AreWords label.now }
-    ensures { IfOk result (λ body. attributes_of body ≡ a_parcel unit label.now area (option_map (λ ring. map coordinates_of (corners_of ring)) shape) None) }
+    ensures { IfOk result (λ body. attributes_of body ≡ a_parcel unit label.now area (option_map outlines_of shape) None) }
 {
     Ok(Body::Parcel {
         unit: object_id(unit),

@@ -1,17 +1,17 @@
 //! Numbers, days, texts and rings that are written out in the code.
 
-ghost use Rattle.std.specs.Prelude.{◌≡◌, map, Some, is_some, IsTrue, IfOk};
+ghost use Rattle.std.specs.Prelude.{◌≡◌, ◌∷◌, [], map, Some, is_some, IsTrue, IfOk};
 ghost use Rattle.cad_day.specs.Days.{number_of};
 ghost use Rattle.cad_day.specs.DayTexts.{day_named};
 ghost use Rattle.cad_shape.specs.PlainRings.{is_plain_ring};
 ghost use Rattle.cad_shape.specs.Rings.{corners_of};
 ghost use Rattle.cad_versions.specs.Objects.{IsObjectNumber, object_number};
 ghost use Rattle.cad_versions.specs.Texts.{AreWords, bytes_of};
-ghost use Rattle.cad_sample.specs.Instructions.{coordinates_of};
+ghost use Rattle.cad_sample.specs.Instructions.{coordinates_of, outlines_of};
 
 use cad_day::Day;
 use cad_shape::laws::plain_rings_are_rings;
-use cad_shape::{Point, Ring};
+use cad_shape::{Point, Region, Ring};
 use cad_versions::{ObjectId, Words};
 use std::alloc::{AllocError, Global};
 
@@ -39,7 +39,7 @@ pub(crate) fn words(alloc: Global, text: &str) -> Result<Words, AllocError>
     }
 }
 
-pub(crate) fn ring(alloc: Global, corners: &[(i32, i32)]) -> Result<Ring, AllocError>
+fn ring(alloc: Global, corners: &[(i32, i32)]) -> Result<Ring, AllocError>
     requires { IsTrue (is_plain_ring corners.now) }
     ensures { IfOk result (λ ring. map coordinates_of (corners_of ring) ≡ corners.now) }
 {
@@ -47,6 +47,20 @@ pub(crate) fn ring(alloc: Global, corners: &[(i32, i32)]) -> Result<Ring, AllocE
     plain_rings_are_rings();
     match Ring::new(corners) {
         Ok(ring) => Ok(ring),
+        Err(_) => unreachable!(),
+    }
+}
+
+/// The region inside these corners.
+pub(crate) fn region(alloc: Global, corners: &[(i32, i32)]) -> Result<Region, AllocError>
+    requires { IsTrue (is_plain_ring corners.now) }
+    ensures { IfOk result (λ region. outlines_of region ≡ corners.now ∷ []) }
+{
+    let ring = ring(alloc, corners)?;
+    let mut rings = Vec::new(alloc);
+    rings.push(ring)?;
+    match Region::new(rings) {
+        Ok(region) => Ok(region),
         Err(_) => unreachable!(),
     }
 }

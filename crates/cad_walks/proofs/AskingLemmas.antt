@@ -1,5 +1,5 @@
 -- What a request for a page asks for, and that it is read.
-use Rattle.std.proofs.Common.{◌≡◌, ◌≢◌, ℕ, ◌≤◌, ◌<◌, ◌==◌, Bool, true, false, cond, ◌||◌, List, [], ◌∷◌, length, Option, Some, None, Result, refl, sym, ap, subst, ◌∙◌, arith, true≢false}
+use Rattle.std.proofs.Common.{◌≡◌, ◌≢◌, ℕ, ◌≤◌, ◌<◌, ◌==◌, Bool, true, false, not, cond, ◌||◌, List, [], ◌∷◌, length, Option, Some, None, Result, refl, sym, ap, subst, ◌∙◌, arith, true≢false}
 use Rattle.std.specs.Prelude.{codes, min, unwrap_or, IfSome}
 use Rattle.std.specs.Option.{option_and_then}
 use Rattle.std.specs.List.{AllByRecursion, list_any}
@@ -49,13 +49,13 @@ lacks_not byte xs h = lacks byte xs (turned (list_any (is_byte byte) xs) h)
     turned true h = absurd (true≢false (sym h))
     turned false h = refl
 
-is_longer : (xs : List ℕ) → not (is_nil xs) ≡ true → 0 < length xs
+is_longer : (xs : List ℕ) → not (length xs == 0) ≡ true → 0 < length xs
 is_longer [] h = absurd (true≢false (sym h))
 is_longer (x ∷ xs) h = omega arith
 
 named : (c : Collection) → IsSegment (name_of c)
 named c = record {
-  some = is_longer (name_of c) (each_passes (λ c. not (is_nil (name_of c))) refl c);
+  some = is_longer (name_of c) (each_passes (λ c. not (length (name_of c) == 0)) refl c);
   no_slash = All-from_recursion (λ b. b ≢ 47) (name_of c) (all_weaker (λ b. (b == 47) ≡ false) (λ b. b ≢ 47) other_byte (name_of c) (lacks_not 47 (name_of c) (each_passes (λ c. not (list_any (is_byte 47) (name_of c))) refl c)));
 }
 
