@@ -1,6 +1,6 @@
 -- Which features are looked at where a box is asked for (own profile): those whose bounds touch more than 64 cells, and those whose bounds touch a cell that the box touches.
 use Rattle.std.specs.Prelude.{ℕ, Bool, false, ◌||◌, [], ◌∷◌, Option, Some, None}
-use Rattle.cad_shape.specs.Rings.{corners_of}
+use Rattle.cad_shape.specs.RegionRings.{region_corners}
 use Rattle.cad_feature.specs.Features.{Item, datum_at}
 use Rattle.cad_feature.specs.Values.{Datum, null, a_text, a_whole, a_flag, a_day, a_span, a_spot, an_area}
 use Rattle.cad_cells.specs.Blocks.{Block, block_around, is_wide, share_a_cell}
@@ -14,7 +14,7 @@ block_in (a_flag b) = None
 block_in (a_day day) = None
 block_in (a_span days) = None
 block_in (a_spot p) = Some (block_around (p ∷ []))
-block_in (an_area ring) = Some (block_around (corners_of ring))
+block_in (an_area region) = Some (block_around (region_corners region))
 
 -- a shape with these cells is looked at where those are asked for
 abbrev pub is_candidate : Block → Option Block → Bool

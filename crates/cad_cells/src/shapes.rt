@@ -15,7 +15,7 @@ pub fn bounds_of(value: &Value) -> Option<Bounds>
 {
     match value {
         Value::Spot(point) => Some(Bounds::at(*point)),
-        Value::Area(ring) => Some(ring.bounds()),
+        Value::Area(region) => Some(region.bounds()),
         _ => None,
     }
 }

@@ -5,7 +5,7 @@ use Rattle.std.specs.Str.{all_scalars}
 use Rattle.cad_day.specs.declared.day.Day.{Day}
 use Rattle.cad_day.specs.declared.interval.Interval.{Interval}
 use Rattle.cad_shape.specs.declared.point.Point.{Point}
-use Rattle.cad_shape.specs.declared.ring.Ring.{Ring}
+use Rattle.cad_shape.specs.declared.polygon.Region.{Region}
 use Rattle.cad_feature.specs.declared.value.Value.{Value}
 use Rattle.cad_feature.specs.declared.value.Value.TheVariants as value
 use Rattle.cad_schema.specs.declared.property.PropertyKind.{PropertyKind}
@@ -20,7 +20,7 @@ pub data Datum : Type 0 where
   a_day : Day → Datum
   a_span : Interval → Datum
   a_spot : Point → Datum
-  an_area : Ring → Datum
+  an_area : Region → Datum
 
 abbrev pub datum_of : Value → Datum
 datum_of value.Null = null
@@ -30,7 +30,7 @@ datum_of (value.Flag b) = a_flag b
 datum_of (value.Day day) = a_day day
 datum_of (value.Span days) = a_span days
 datum_of (value.Spot point) = a_spot point
-datum_of (value.Area ring) = an_area ring
+datum_of (value.Area region) = an_area region
 
 -- of the kind, or no value; texts hold characters alone (Unicode scalar values), and whole numbers have 64 bits
 abbrev pub IsOfKind : PropertyKind → Datum → Type 0
@@ -41,7 +41,7 @@ IsOfKind k (a_flag b) = k ≡ kind.Flag
 IsOfKind k (a_day day) = k ≡ kind.Day
 IsOfKind k (a_span days) = k ≡ kind.Span
 IsOfKind k (a_spot point) = k ≡ kind.Spot
-IsOfKind k (an_area ring) = k ≡ kind.Area
+IsOfKind k (an_area region) = k ≡ kind.Area
 
 -- the value is seen as this one, of this kind
 abbrev pub Shows : PropertyKind → Datum → Value → Type 0

@@ -1,7 +1,7 @@
 //! Values of properties.
 
 use cad_day::{Day, Interval};
-use cad_shape::{Point, Ring};
+use cad_shape::{Point, Region};
 
 /// A value of one property.
 #[derive(Debug, Drop)]
@@ -20,6 +20,6 @@ pub enum Value {
     Span(Interval),
     /// A point of the register's plane.
     Spot(Point),
-    /// A region of the register's plane, by the ring around it.
-    Area(Ring),
+    /// A region of the register's plane.
+    Area(Region),
 }

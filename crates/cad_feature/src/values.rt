@@ -13,7 +13,7 @@ use crate::Value;
 use crate::joining::joined_name;
 use cad_day::{Day, Interval};
 use cad_schema::Attribute;
-use cad_shape::{Point, Ring};
+use cad_shape::{Point, Region};
 use cad_versions::{Version, Words};
 use std::alloc::{AllocError, Global};
 
@@ -74,14 +74,14 @@ fn spot(point: Option<Point>) -> Value
     }
 }
 
-fn region(alloc: Global, ring: Option<&Ring>) -> Result<Value, AllocError>
-    ensures { IfOk result (Shows kind.Area (or_null an_area (option_copied ring.entry))) }
+fn region(alloc: Global, region: Option<&Region>) -> Result<Value, AllocError>
+    ensures { IfOk result (Shows kind.Area (or_null an_area (option_copied region.entry))) }
 {
-    match ring {
+    match region {
         None => Ok(Value::Null),
-        Some(ring) => {
-            let ring = ring.copy(alloc)?;
-            Ok(Value::Area(ring))
+        Some(region) => {
+            let region = region.copy(alloc)?;
+            Ok(Value::Area(region))
         }
     }
 }

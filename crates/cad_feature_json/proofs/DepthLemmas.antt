@@ -9,10 +9,12 @@ use Rattle.cad_shape.specs.declared.point.Point.{Point}
 use Rattle.cad_feature.specs.Values.{Datum}
 use Rattle.cad_feature.specs.Values as datum
 use Rattle.cad_feature.specs.Features.{Item}
+use Rattle.cad_shape.specs.declared.ring.Ring.{Ring}
 use Rattle.cad_shape.specs.Rings.{corners_of}
+use Rattle.cad_shape.specs.RegionRings.{rings_of}
 use Rattle.cad_schema.specs.declared.collection.Collection.{Collection}
 use Rattle.cad_schema.specs.Schema.{schema_of}
-use Rattle.cad_feature_json.specs.Shapes.{corner_data, closed, polygon_data}
+use Rattle.cad_feature_json.specs.Shapes.{corner_data, closed, ring_data, polygon_data}
 use Rattle.cad_feature_json.specs.Values.{value_data, with_property, is_property, named_values, value_named}
 use Rattle.cad_feature_json.specs.Tree.{feature_data, features_data}
 
@@ -23,8 +25,11 @@ items_low f n low (x ∷ xs) = omega (arith, low x, items_low f n low xs)
 corner_low : (p : Point) → depth (corner_data p) ≤ 1
 corner_low p = omega arith
 
-polygon_low : (corners : List Point) → depth (polygon_data corners) ≤ 4
-polygon_low corners = omega (arith, items_low corner_data 1 corner_low (closed corners))
+ring_low : (r : Ring) → depth (ring_data r) ≤ 2
+ring_low r = omega (arith, items_low corner_data 1 corner_low (closed (corners_of r)))
+
+polygon_low : (rings : List Ring) → depth (polygon_data rings) ≤ 4
+polygon_low rings = omega (arith, items_low ring_data 2 ring_low rings)
 
 value_low : (v : Datum) → depth (value_data v) ≤ 4
 value_low datum.null = omega arith
@@ -34,7 +39,7 @@ value_low (datum.a_flag b) = omega arith
 value_low (datum.a_day s) = omega arith
 value_low (datum.a_span s) = omega arith
 value_low (datum.a_spot p) = omega arith
-value_low (datum.an_area r) = polygon_low (corners_of r)
+value_low (datum.an_area r) = polygon_low (rings_of r)
 
 match_low : (o : Ordering) (a b c : Members) (n : ℕ) → members_depth a ≤ n → members_depth b ≤ n → members_depth c ≤ n → members_depth (match_ordering o a b c) ≤ n
 match_low Less a b c n p q r = p

@@ -12,10 +12,12 @@ use Rattle.cad_shape.specs.declared.point.Point.{Point}
 use Rattle.cad_feature.specs.Values.{Datum}
 use Rattle.cad_feature.specs.Values as datum
 use Rattle.cad_feature.specs.Features.{Item}
+use Rattle.cad_shape.specs.declared.ring.Ring.{Ring}
 use Rattle.cad_shape.specs.Rings.{corners_of}
+use Rattle.cad_shape.specs.RegionRings.{rings_of}
 use Rattle.cad_schema.specs.declared.collection.Collection.{Collection}
 use Rattle.cad_schema.specs.Schema.{schema_of}
-use Rattle.cad_feature_json.specs.Shapes.{corner_data, closed, polygon_data}
+use Rattle.cad_feature_json.specs.Shapes.{corner_data, closed, ring_data, polygon_data}
 use Rattle.cad_feature_json.specs.Values.{value_data, with_property, is_property, named_values, value_named}
 use Rattle.cad_feature_json.specs.Tree.{feature_data, features_data}
 
@@ -30,8 +32,11 @@ items_no_float : {A : Type 0} (f : A → Data) → ((x : A) → has_float (f x) 
 items_no_float f none [] = refl
 items_no_float f none (x ∷ xs) = or_from (has_float (f x)) _ (none x) (items_no_float f none xs)
 
-polygon_no_float : (corners : List Point) → has_float (polygon_data corners) ≡ false
-polygon_no_float corners = rw (items_no_float corner_data corner_no_float (closed corners)) refl
+ring_no_float : (r : Ring) → has_float (ring_data r) ≡ false
+ring_no_float r = items_no_float corner_data corner_no_float (closed (corners_of r))
+
+polygon_no_float : (rings : List Ring) → has_float (polygon_data rings) ≡ false
+polygon_no_float rings = rw (items_no_float ring_data ring_no_float rings) refl
 
 value_no_float : (v : Datum) → has_float (value_data v) ≡ false
 value_no_float datum.null = refl
@@ -41,7 +46,7 @@ value_no_float (datum.a_flag b) = refl
 value_no_float (datum.a_day s) = refl
 value_no_float (datum.a_span s) = refl
 value_no_float (datum.a_spot p) = rw (corner_no_float p) refl
-value_no_float (datum.an_area r) = polygon_no_float (corners_of r)
+value_no_float (datum.an_area r) = polygon_no_float (rings_of r)
 
 match_no_float : (o : Ordering) (a b c : Members) → members_have_float a ≡ false → members_have_float b ≡ false → members_have_float c ≡ false → members_have_float (match_ordering o a b c) ≡ false
 match_no_float Less a b c p q r = p

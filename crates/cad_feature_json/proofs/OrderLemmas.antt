@@ -9,10 +9,12 @@ use Rattle.cad_shape.specs.declared.point.Point.{Point}
 use Rattle.cad_feature.specs.Values.{Datum}
 use Rattle.cad_feature.specs.Values as datum
 use Rattle.cad_feature.specs.Features.{Item}
+use Rattle.cad_shape.specs.declared.ring.Ring.{Ring}
 use Rattle.cad_shape.specs.Rings.{corners_of}
+use Rattle.cad_shape.specs.RegionRings.{rings_of}
 use Rattle.cad_schema.specs.declared.collection.Collection.{Collection}
 use Rattle.cad_schema.specs.Schema.{schema_of}
-use Rattle.cad_feature_json.specs.Shapes.{corner_data, closed, polygon_data}
+use Rattle.cad_feature_json.specs.Shapes.{corner_data, closed, ring_data, polygon_data}
 use Rattle.cad_feature_json.specs.Values.{value_data, with_property, is_property, named_values, value_named}
 use Rattle.cad_feature_json.specs.Tree.{feature_data, features_data}
 use Rattle.cad_feature_json.specs.Order.{IsBeforeFirst, IsInOrder, AreItemsInOrder, AreMembersInOrder}
@@ -24,8 +26,11 @@ items_in_order f each (x ∷ xs) = (each x, items_in_order f each xs)
 corner_in_order : (p : Point) → IsInOrder (corner_data p)
 corner_in_order p = (tt, (tt, tt))
 
-polygon_in_order : (corners : List Point) → IsInOrder (polygon_data corners)
-polygon_in_order corners = (refl, (items_in_order corner_data corner_in_order (closed corners), tt), (tt, tt, tt))
+ring_in_order : (r : Ring) → IsInOrder (ring_data r)
+ring_in_order r = items_in_order corner_data corner_in_order (closed (corners_of r))
+
+polygon_in_order : (rings : List Ring) → IsInOrder (polygon_data rings)
+polygon_in_order rings = (refl, items_in_order ring_data ring_in_order rings, (tt, tt, tt))
 
 value_in_order : (v : Datum) → IsInOrder (value_data v)
 value_in_order datum.null = tt
@@ -35,7 +40,7 @@ value_in_order (datum.a_flag b) = tt
 value_in_order (datum.a_day s) = tt
 value_in_order (datum.a_span s) = tt
 value_in_order (datum.a_spot p) = (refl, corner_in_order p, (tt, tt, tt))
-value_in_order (datum.an_area r) = polygon_in_order (corners_of r)
+value_in_order (datum.an_area r) = polygon_in_order (rings_of r)
 
 -- a name before a new one and before the first is before the first with the new one
 before_put : (l k : List ℕ) (d : Data) (ms : Members) → slice_cmp nat_cmp l k ≡ Less → IsBeforeFirst l ms → IsBeforeFirst l (put k d ms)

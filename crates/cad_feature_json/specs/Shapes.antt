@@ -4,6 +4,8 @@ use Rattle.serde_json.specs.Data.{Data, number, string, array, object, member, n
 use Rattle.serde_json.specs.View.{items_of}
 use Rattle.serde_json.specs.Find.{of_integer}
 use Rattle.cad_shape.specs.declared.point.Point.{Point}
+use Rattle.cad_shape.specs.declared.ring.Ring.{Ring}
+use Rattle.cad_shape.specs.Rings.{corners_of}
 
 -- a position: x and then y (RFC 7946, section 3.1.1)
 abbrev pub corner_data : Point → Data
@@ -13,10 +15,13 @@ corner_data p = array (item (number (of_integer p.x)) (item (number (of_integer 
 abbrev pub closed : List Point → List Point
 closed corners = corners ++ take 1 corners
 
--- a region: a polygon of one ring (RFC 7946, section 3.1.6)
-abbrev pub polygon_data : List Point → Data
-polygon_data corners =
-    object (member (codes "coordinates") (array (item (array (items_of (map corner_data (closed corners)))) no_items))
+abbrev pub ring_data : Ring → Data
+ring_data ring = array (items_of (map corner_data (closed (corners_of ring))))
+
+-- a region: a polygon of its exterior ring and then its interior ones (RFC 7946, section 3.1.6)
+abbrev pub polygon_data : List Ring → Data
+polygon_data rings =
+    object (member (codes "coordinates") (array (items_of (map ring_data rings)))
     (member (codes "type") (string (codes "Polygon")) no_members))
 
 -- a point (RFC 7946, section 3.1.2)

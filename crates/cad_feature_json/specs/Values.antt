@@ -4,7 +4,7 @@ use Rattle.serde_json.specs.Data.{Data, null as nothing, boolean, number, string
 use Rattle.serde_json.specs.Find.{of_integer}
 use Rattle.cad_day.specs.Days.{number_of}
 use Rattle.cad_day.specs.DayTexts.{day_text}
-use Rattle.cad_shape.specs.Rings.{corners_of}
+use Rattle.cad_shape.specs.RegionRings.{rings_of}
 use Rattle.cad_schema.specs.Attributes.{Named}
 use Rattle.cad_feature.specs.Values.{Datum, null, a_text, a_whole, a_flag, a_day, a_span, a_spot, an_area}
 use Rattle.cad_feature_json.specs.Shapes.{polygon_data, spot_data}
@@ -18,7 +18,7 @@ value_data (a_flag b) = boolean b
 value_data (a_day day) = string (day_text (number_of day))
 value_data (a_span days) = nothing
 value_data (a_spot point) = spot_data point
-value_data (an_area ring) = polygon_data (corners_of ring)
+value_data (an_area region) = polygon_data (rings_of region)
 
 -- the values under the names of the schema (own profile: one for each property, in its order)
 abbrev pub named_values : List Named → List Datum → List (List ℕ × Datum)

@@ -3,9 +3,9 @@
 ghost use Rattle.std.specs.Prelude.{◌≡◌, IfOk, map};
 ghost use Rattle.serde_json.specs.Data.{array};
 ghost use Rattle.serde_json.specs.View.{view, items_of};
-ghost use Rattle.cad_feature_json.specs.Shapes.{corner_data, closed, polygon_data, spot_data};
+ghost use Rattle.cad_feature_json.specs.Shapes.{corner_data, closed, ring_data, polygon_data, spot_data};
 
-use cad_shape::Point;
+use cad_shape::{Point, Ring};
 use serde_json::{Value as Json, json};
 use std::alloc::{AllocError, Global};
 
@@ -17,12 +17,22 @@ pub(crate) fn spot_json(alloc: Global, spot: Point) -> Result<Json, AllocError>
     json!(in alloc; {"coordinates": place, "type": "Point"})
 }
 
-/// A region by its corners, as GeoJSON's `Polygon` of one ring is shaped.
-pub(crate) fn polygon_json(alloc: Global, corners: &[Point]) -> Result<Json, AllocError>
-    ensures { IfOk result (λ json. view json ≡ polygon_data corners.now) }
+/// A region by its rings, as GeoJSON's `Polygon` is shaped.
+pub(crate) fn polygon_json(alloc: Global, rings: &[Ring]) -> Result<Json, AllocError>
+    ensures { IfOk result (λ json. view json ≡ polygon_data rings.now) }
 {
-    let ring = ring_json(alloc, corners)?;
-    json!(in alloc; {"coordinates": [ring], "type": "Polygon"})
+    let rings = rings_json(alloc, rings)?;
+    json!(in alloc; {"coordinates": rings, "type": "Polygon"})
+}
+
+fn rings_json(alloc: Global, rings: &[Ring]) -> Result<Json, AllocError>
+    ensures { IfOk result (λ json. view json ≡ array (items_of (map ring_data rings.now))) }
+{
+    let mut list = Vec::with_capacity(alloc, rings.len())?;
+    for ring in rings {
+        list.push(ring_json(alloc, ring.corners())?)?;
+    }
+    Ok(Json::Array(list))
 }
 
 // the corners, and the first again

@@ -83,6 +83,6 @@ fn value_json(alloc: Global, value: &Value) -> Result<Json, AllocError>
         Value::Flag(flag) => Ok(Json::Bool(*flag)),
         Value::Day(day) => day_json(alloc, *day),
         Value::Spot(spot) => spot_json(alloc, *spot),
-        Value::Area(ring) => polygon_json(alloc, ring.corners()),
+        Value::Area(region) => polygon_json(alloc, region.rings()),
     }
 }

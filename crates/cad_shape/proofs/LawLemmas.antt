@@ -1,5 +1,5 @@
 -- What the laws of regions and shapes stand on.
-use Rattle.std.proofs.Common.{◌≡◌, ◌↔◌, ℕ, ◌%◌, ◌<◌, if◌then◌else◌, inl, inr, ⊎_elim, ℤ, pos, ◌≤ℤ◌, List, [], ◌∷◌, ◌++◌, length, refl, sym, ap, ap₂, ◌∙◌, subst, arith}
+use Rattle.std.proofs.Common.{◌≡◌, ◌↔◌, ℕ, ◌+◌, ◌%◌, ◌<◌, if◌then◌else◌, inl, inr, ⊎_elim, ℤ, pos, ◌≤ℤ◌, List, [], ◌∷◌, ◌++◌, length, refl, sym, ap, ap₂, ◌∙◌, subst, arith, length-append}
 use Rattle.std.specs.List.{All, AllByRecursion}
 use mathlib.Core.List.{reverse}
 use Rattle.std.proofs.lemmas.List.{reverse-append, reverse-reverse}
@@ -13,23 +13,26 @@ use Rattle.cad_shape.specs.Regions.{IsOnEdge, IsOnSome, crossings, passes, IsInR
 use Rattle.cad_shape.specs.Crossings.{IsFirstCrossing}
 use Rattle.cad_shape.specs.Boxes.{IsExtent}
 use Rattle.cad_shape.specs.Rings.{corners_of, IsRingFault}
+use Rattle.cad_shape.specs.Polygons.{rings_corners, rings_edges}
 use lib.Dec.{T_prop}
 use Rattle.cad_shape.specs.declared.ring.Ring.{Ring}
 use Rattle.cad_shape.specs.declared.polygon.RegionFault.{RegionFault}
 use Rattle.cad_shape.specs.declared.polygon.RegionFault.TheVariants as region
 use Rattle.cad_shape.specs.Polygons.{AreFew, IsFirstOutside}
-use Rattle.cad_shape.specs.RegionRings.{IsRegionFault}
+use Rattle.cad_shape.specs.RegionRings.{rings_of, region_corners, region_edges, IsRegionFault}
 use Rattle.cad_shape.specs.declared.ring.RingFault.{RingFault}
 use Rattle.cad_shape.specs.declared.ring.RingFault.TheVariants.{TooFew, TooMany, Crosses, Flat}
-use Rattle.cad_shape.specs.Shapes.{shape_corners, IsIn, SomeIn, RegionsMeet, Meets, IsWithin}
+use Rattle.cad_shape.specs.Shapes.{shape_corners, shape_edges, IsIn, SomeIn, RegionsMeet, Meets, IsWithin}
 use Rattle.cad_shape.specs.declared.point.Point.{Point}
 use Rattle.cad_shape.specs.declared.boxes.Bounds.{Bounds}
 use Rattle.cad_shape.specs.declared.shape.Shape.{Shape}
 use Rattle.cad_shape.specs.declared.shape.Shape.TheVariants.{Spot, Frame, Area}
 use Rattle.cad_shape.proofs.Signs.{sums}
-use Rattle.cad_shape.proofs.SharedPoints.{on_turned, meet_exchanged, at_second}
+use Rattle.cad_shape.proofs.SharedPoints.{on_turned, meet_exchanged}
 use Rattle.cad_shape.proofs.Heights.{passes_up, passes_down, passes_over, passes_under}
-use Rattle.cad_shape.proofs.Walks.{any_unpushed, any_mapped, crossings-push, region_pushed, walk-push}
+use Rattle.cad_shape.proofs.Walks.{any_pushed, any_split, crossings-append, any_unpushed, any_mapped, any_before, any_after, crossings-push, walk-push}
+use Rattle.cad_shape.proofs.Overlaps.{all_append}
+use Rattle.cad_shape.proofs.RingCorners.{all_mapped, corners_on}
 use Rattle.cad_shape.proofs.ShapeLemmas.{frame_least}
 
 -- ---- the corners of a ring may begin anywhere
@@ -41,12 +44,45 @@ end_push p r (q ∷ qs) = end_push q r qs
 turned_edges : (p q : Point) (qs : List Point) → edges_of (q ∷ (qs ++ p ∷ [])) ≡ walk q (qs ++ p ∷ []) ++ record { from = p; to = q } ∷ []
 turned_edges p q qs = walk-push q q (qs ++ p ∷ []) ∙ ap (λ e. walk q (qs ++ p ∷ []) ++ record { from = e; to = q } ∷ []) (end_push q p qs)
 
-pub turned_region : (t p : Point) (qs : List Point) → IsInRegion t (edges_of (p ∷ qs)) ↔ IsInRegion t (edges_of (qs ++ p ∷ []))
-turned_region t p [] = (λ h. h, λ h. h)
-turned_region t p (q ∷ qs) =
+-- two lists of edges on which a point lies alike, and which cross its height as often right of it
+abbrev pub AreAlike : Point → List Edge → List Edge → Type 0
+AreAlike t es fs = (IsOnSome t es ↔ IsOnSome t fs) × (crossings t es ≡ crossings t fs)
+
+alike_region : (t : Point) (es fs : List Edge) → AreAlike t es fs → IsInRegion t es ↔ IsInRegion t fs
+alike_region t es fs a = (
+  λ h. ⊎_elim (λ k. inl (a.0.0 k)) (λ k. inr (sym (ap (λ n. n % 2) a.1) ∙ k)) h,
+  λ h. ⊎_elim (λ k. inl (a.0.1 k)) (λ k. inr (ap (λ n. n % 2) a.1 ∙ k)) h,
+)
+
+alike_joined : (t : Point) (es fs gs : List Edge) → AreAlike t es fs → AreAlike t fs gs → AreAlike t es gs
+alike_joined t es fs gs a b = ((λ h. b.0.0 (a.0.0 h), λ h. a.0.1 (b.0.1 h)), a.1 ∙ b.1)
+
+on_around : (t : Point) (es fs before after : List Edge) → (IsOnSome t es → IsOnSome t fs) → IsOnSome t (before ++ es ++ after) → IsOnSome t (before ++ fs ++ after)
+on_around t es fs before after f h =
+    let P = λ (e : Edge). IsOnEdge t e.from e.to in
+    ⊎_elim
+    (λ k. any_before P (before ++ fs) after (⊎_elim (any_before P before fs) (λ m. any_after P before fs (f m)) (any_split P before es k)))
+    (λ k. any_after P (before ++ fs) after k)
+    (any_split P (before ++ es) after h)
+
+alike_around : (t : Point) (es fs before after : List Edge) → AreAlike t es fs → IsInRegion t (before ++ es ++ after) ↔ IsInRegion t (before ++ fs ++ after)
+alike_around t es fs before after a =
+    let e = crossings-append t (before ++ es) after ∙ ap (λ n. n + crossings t after) (crossings-append t before es) in
+    let f = crossings-append t (before ++ fs) after ∙ ap (λ n. n + crossings t after) (crossings-append t before fs) in
+    let k = a.1 in
+    alike_region t (before ++ es ++ after) (before ++ fs ++ after) ((on_around t es fs before after a.0.0, on_around t fs es before after a.0.1), omega (arith, e, f, k))
+
+turned_alike : (t p : Point) (qs : List Point) → AreAlike t (edges_of (p ∷ qs)) (edges_of (qs ++ p ∷ []))
+turned_alike t p [] = ((λ h. h, λ h. h), refl)
+turned_alike t p (q ∷ qs) =
     let e = turned_edges p q qs in
-    let h = region_pushed t (walk q (qs ++ p ∷ [])) (record { from = p; to = q }) in
-    (λ k. subst (IsInRegion t) (sym e) (h.0 k), λ k. h.1 (subst (IsInRegion t) e k))
+    let P = λ (d : Edge). IsOnEdge t d.from d.to in
+    let es = walk q (qs ++ p ∷ []) in
+    let first : Edge = record { from = p; to = q } in
+    subst (λ fs. AreAlike t (first ∷ es) fs) (sym e) ((any_pushed P es first, any_unpushed P es first), sym (crossings-push t es first))
+
+pub turned_region : (t p : Point) (qs : List Point) (before after : List Edge) → IsInRegion t (before ++ edges_of (p ∷ qs) ++ after) ↔ IsInRegion t (before ++ edges_of (qs ++ p ∷ []) ++ after)
+turned_region t p qs before after = alike_around t (edges_of (p ∷ qs)) (edges_of (qs ++ p ∷ [])) before after (turned_alike t p qs)
 
 -- ---- the corners of a ring may stand in the other order
 passes_turned : (t p q : Point) → passes t p q ≡ passes t q p
@@ -80,18 +116,23 @@ on_some_turned t p r (q ∷ qs) h = ⊎_elim
     (λ k. inr (on_some_turned t p q qs k))
     (any_unpushed (λ (e : Edge). IsOnEdge t e.from e.to) (walk p (reverse qs ++ q ∷ [])) (record { from = q; to = r }) (subst (IsOnSome t) (turned_walk p q r qs) h))
 
-walk_region_turned : (t p r : Point) (qs : List Point) → IsInRegion t (walk p (reverse qs ++ r ∷ [])) → IsInRegion t (walk r (qs ++ p ∷ []))
-walk_region_turned t p r qs (inl h) = inl (on_some_turned t p r qs h)
-walk_region_turned t p r qs (inr h) = inr (sym (ap (λ n. n % 2) (crossings_turned t p r qs)) ∙ h)
+walk_alike : (t p r : Point) (qs : List Point) → AreAlike t (walk p (reverse qs ++ r ∷ [])) (walk r (qs ++ p ∷ []))
+walk_alike t p r qs = (
+  (on_some_turned t p r qs, λ h. on_some_turned t r p (reverse qs) (subst (λ cs. IsOnSome t (walk r (cs ++ p ∷ []))) (sym (reverse-reverse qs)) h)),
+  crossings_turned t p r qs,
+)
 
-pub order_region : (t : Point) (cs : List Point) → IsInRegion t (edges_of cs) ↔ IsInRegion t (edges_of (reverse cs))
-order_region t [] = (λ h. h, λ h. h)
-order_region t (p ∷ qs) =
-    let e = reverse-append (p ∷ []) qs in
-    let h = turned_region t p (reverse qs) in (
-      λ k. subst (λ cs. IsInRegion t (edges_of cs)) (sym e) (h.0 (walk_region_turned t p p (reverse qs) (subst (λ cs. IsInRegion t (walk p (cs ++ p ∷ []))) (sym (reverse-reverse qs)) k))),
-      λ k. walk_region_turned t p p qs (h.1 (subst (λ cs. IsInRegion t (edges_of cs)) e k)),
-    )
+order_alike : (t : Point) (cs : List Point) → AreAlike t (edges_of (reverse cs)) (edges_of cs)
+order_alike t [] = ((λ h. h, λ h. h), refl)
+order_alike t (p ∷ qs) =
+    let a = turned_alike t p (reverse qs) in
+    subst (λ cs. AreAlike t (edges_of cs) (edges_of (p ∷ qs))) (sym (reverse-append (p ∷ []) qs))
+    (alike_joined t _ _ _ ((a.0.1, a.0.0), sym a.1) (walk_alike t p p qs))
+
+pub order_region : (t : Point) (cs : List Point) (before after : List Edge) → IsInRegion t (before ++ edges_of cs ++ after) ↔ IsInRegion t (before ++ edges_of (reverse cs) ++ after)
+order_region t cs before after =
+    let h = alike_around t (edges_of (reverse cs)) (edges_of cs) before after (order_alike t cs) in
+    (h.1, h.0)
 
 -- ---- meeting is symmetric
 meets_both : (p q : Point) (es : List Edge) (fs : List Edge) → MeetsSome p q fs → SomeMeet fs (record { from = p; to = q } ∷ es)
@@ -103,51 +144,46 @@ some_meet_turned (e ∷ es) fs (inl h) = meets_both e.from e.to es fs h
 some_meet_turned (e ∷ es) fs (inr h) =
     any_mapped (λ (f : Edge). MeetsSome f.from f.to es) (λ (f : Edge). MeetsSome f.from f.to (e ∷ es)) (λ f m. inr m) fs (some_meet_turned es fs h)
 
-regions_turned : (a b : Shape) (cs ds : List Point) → RegionsMeet a cs b ds → RegionsMeet b ds a cs
-regions_turned a b cs ds (inl h) = inl (some_meet_turned (edges_of cs) (edges_of ds) h)
-regions_turned a b cs ds (inr (inl h)) = inr (inr h)
-regions_turned a b cs ds (inr (inr h)) = inr (inl h)
+regions_turned : (a b : Shape) → RegionsMeet a b → RegionsMeet b a
+regions_turned a b (inl h) = inl (some_meet_turned (shape_edges a) (shape_edges b) h)
+regions_turned a b (inr (inl h)) = inr (inr h)
+regions_turned a b (inr (inr h)) = inr (inl h)
 
 pub meets_turned : (a b : Shape) → Meets a b → Meets b a
 meets_turned (Spot p) (Spot q) h = (sym h.0, sym h.1)
 meets_turned (Spot p) (Frame g) h = h
 meets_turned (Spot p) (Area s) h = h
 meets_turned (Frame f) (Spot q) h = h
-meets_turned (Frame f) (Frame g) h = regions_turned (Frame f) (Frame g) (frame_corners f) (frame_corners g) h
-meets_turned (Frame f) (Area s) h = regions_turned (Frame f) (Area s) (frame_corners f) (corners_of s) h
+meets_turned (Frame f) (Frame g) h = regions_turned (Frame f) (Frame g) h
+meets_turned (Frame f) (Area s) h = regions_turned (Frame f) (Area s) h
 meets_turned (Area r) (Spot q) h = h
-meets_turned (Area r) (Frame g) h = regions_turned (Area r) (Frame g) (corners_of r) (frame_corners g) h
-meets_turned (Area r) (Area s) h = regions_turned (Area r) (Area s) (corners_of r) (corners_of s) h
+meets_turned (Area r) (Frame g) h = regions_turned (Area r) (Frame g) h
+meets_turned (Area r) (Area s) h = regions_turned (Area r) (Area s) h
 
--- ---- the corners of a ring lie on its edges
-all_mapped : {X : Type 0} (P Q : X → Type 0) → ((x : X) → P x → Q x) → (xs : List X) → AllByRecursion P xs → AllByRecursion Q xs
-all_mapped P Q f [] h = tt
-all_mapped P Q f (x ∷ xs) h = (f x h.0, all_mapped P Q f xs h.1)
-
-ends_on : (p : Point) (qs : List Point) → AllByRecursion (λ (c : Point). IsOnSome c (walk p qs)) qs
-ends_on p [] = tt
-ends_on p (q ∷ qs) = (inl (at_second p q), all_mapped (λ (c : Point). IsOnSome c (walk q qs)) (λ (c : Point). IsOnSome c (walk p (q ∷ qs))) (λ c h. inr h) qs (ends_on q qs))
-
-all_unpushed : {X : Type 0} (P : X → Type 0) (xs : List X) (x : X) → AllByRecursion P (xs ++ x ∷ []) → AllByRecursion P (x ∷ xs)
-all_unpushed P [] x h = h
-all_unpushed P (y ∷ ys) x h = let k = all_unpushed P ys x h.1 in (k.0, (h.0, k.1))
-
-pub ring_corners_in : (cs : List Point) → All (λ (c : Point). IsInRegion c (edges_of cs)) cs
-ring_corners_in [] = All-nil (λ (c : Point). IsInRegion c [])
-ring_corners_in (p ∷ qs) =
-    All-from_recursion (λ (c : Point). IsInRegion c (edges_of (p ∷ qs))) (p ∷ qs)
-    (all_mapped (λ (c : Point). IsOnSome c (edges_of (p ∷ qs))) (λ (c : Point). IsInRegion c (edges_of (p ∷ qs))) (λ c h. inl h) (p ∷ qs)
-    (all_unpushed (λ (c : Point). IsOnSome c (edges_of (p ∷ qs))) qs p (ends_on p (qs ++ p ∷ []))))
+-- ---- the corners of a shape lie in it
+rings_corners_on : (rings : List Ring) → AllByRecursion (λ (c : Point). IsOnSome c (rings_edges rings)) (rings_corners rings)
+rings_corners_on [] = tt
+rings_corners_on (r ∷ rs) =
+    let es = edges_of (corners_of r) in
+    let fs = rings_edges rs in
+    all_append (λ (c : Point). IsOnSome c (es ++ fs)) (corners_of r) (rings_corners rs)
+    (all_mapped (λ (c : Point). IsOnSome c es) (λ (c : Point). IsOnSome c (es ++ fs)) (λ c h. any_before (λ (e : Edge). IsOnEdge c e.from e.to) es fs h) (corners_of r) (corners_on (corners_of r)))
+    (all_mapped (λ (c : Point). IsOnSome c fs) (λ (c : Point). IsOnSome c (es ++ fs)) (λ c h. any_after (λ (e : Edge). IsOnEdge c e.from e.to) es fs h) (rings_corners rs) (rings_corners_on rs))
 
 pub corners_in : (shape : Shape) → All (λ corner. IsIn corner shape) (shape_corners shape)
 corners_in (Spot p) = All-cons (λ (c : Point). IsIn c (Spot p)) p [] (refl, refl) (All-nil (λ (c : Point). IsIn c (Spot p)))
 corners_in (Frame b) = (frame_least b).holds
-corners_in (Area ring) = ring_corners_in (corners_of ring)
+corners_in (Area region) = All-from_recursion (λ (c : Point). IsInRegion c (region_edges region)) (region_corners region)
+    (all_mapped (λ (c : Point). IsOnSome c (region_edges region)) (λ (c : Point). IsInRegion c (region_edges region)) (λ c h. inl h) (region_corners region) (rings_corners_on (rings_of region)))
 
 -- ---- a shape within another meets it
 some_framed : (g : Bounds) (cs : List Point) → 0 < length cs → All (IsHeld g) cs → SomeIn cs (Frame g)
 some_framed g [] h k = absurd (omega arith)
 some_framed g (c ∷ cs) h k = inl (All-head (IsHeld g) c cs k)
+
+some_corners : (rings : List Ring) → 0 < length rings → 0 < length (rings_corners rings)
+some_corners [] h = absurd (omega arith)
+some_corners (r ∷ rs) h = let e = r.enough in omega (arith, length-append (corners_of r) (rings_corners rs))
 
 pub within_meets : (a b : Shape) → IsWithin a b → Meets a b
 within_meets (Spot p) b h = h.0
@@ -155,7 +191,7 @@ within_meets (Frame f) (Spot q) h = absurd h
 within_meets (Frame f) (Frame g) h = inr (inl (some_framed g (frame_corners f) (omega arith) h))
 within_meets (Frame f) (Area s) h = absurd h
 within_meets (Area r) (Spot q) h = absurd h
-within_meets (Area r) (Frame g) h = let e = r.enough in inr (inl (some_framed g (corners_of r) (omega arith) h))
+within_meets (Area r) (Frame g) h = inr (inl (some_framed g (region_corners r) (some_corners (rings_of r) r.some) h))
 within_meets (Area r) (Area s) h = absurd h
 
 -- ---- one least box

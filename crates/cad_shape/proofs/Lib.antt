@@ -7,10 +7,14 @@ pub mod LeastBoxes
 pub mod Walks
 pub mod Heights
 pub mod Inside
+pub mod LocationLemmas
 pub mod Overlaps
+pub mod RingCorners
+pub mod RestOfRings
+pub mod RegionLemmas
 pub mod ShapeLemmas
 pub mod Neighbours
 pub mod LawLemmas
 pub mod PlainRingLemmas
-pub mod RegionLemmas
-mod TestLemmas
+pub mod TestLemmas
+pub mod HoleLemmas

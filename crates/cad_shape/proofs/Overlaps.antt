@@ -1,5 +1,5 @@
 -- Segments that meet lie in boxes that overlap.
-use Rattle.std.proofs.Common.{◌⊎◌, ℤ, pos, ◌-ℤ◌, ◌*ℤ◌, ◌≤ℤ◌, ◌<ℤ◌, inl, inr, ⊎_elim, List, [], ◌∷◌, arith}
+use Rattle.std.proofs.Common.{◌⊎◌, ℤ, pos, ◌-ℤ◌, ◌*ℤ◌, ◌≤ℤ◌, ◌<ℤ◌, inl, inr, ⊎_elim, List, [], ◌∷◌, ◌++◌, arith}
 use Rattle.std.specs.List.{All, AllByRecursion}
 use Rattle.std.proofs.lemmas.Int.{by_lt_z}
 use Rattle.std.proofs.lemmas.List.Elements.{recursion_from_All}
@@ -9,6 +9,9 @@ use Rattle.cad_shape.specs.Edges.{Edge, walk, edges_of, end_of}
 use Rattle.cad_shape.specs.Regions.{MeetsSome, SomeMeet}
 use Rattle.cad_shape.specs.declared.point.Point.{Point}
 use Rattle.cad_shape.specs.declared.boxes.Bounds.{Bounds}
+use Rattle.cad_shape.specs.declared.ring.Ring.{Ring}
+use Rattle.cad_shape.specs.Polygons.{rings_corners, rings_edges}
+use Rattle.cad_shape.specs.Rings.{corners_of}
 use Rattle.cad_shape.proofs.Signs.{sums, times, times-gap, times_below}
 use Rattle.cad_shape.proofs.Walks.{any_unpushed, opened}
 use Rattle.cad_shape.proofs.SharedPoints.{meet_exchanged}
@@ -78,28 +81,43 @@ ring_missed b p q n (c ∷ cs) h m =
     walk_missed b p q n (end_of c cs) (c ∷ cs) (end_held b c cs k.0 k.1) k
     (opened (MeetsSome p q) (λ es e. any_unpushed (λ (f : Edge). Meet p q f.from f.to) es e) c cs m)
 
-walk_overlap : (a b : Bounds) (p q : Point) → IsHeld a p → IsHeld a q → (r : Point) (ss : List Point) → IsHeld b r → AllByRecursion (IsHeld b) ss → MeetsSome p q (walk r ss) → Overlap a b
-walk_overlap a b p q hp hq r [] hr k m = absurd m
-walk_overlap a b p q hp hq r (s ∷ ss) hr k (inl m) = meet_overlap a b p q r s hp hq hr k.0 m
-walk_overlap a b p q hp hq r (s ∷ ss) hr k (inr m) = walk_overlap a b p q hp hq s ss k.0 k.1 m
+-- ---- edges with both ends in a box
+abbrev pub AreHeld : Bounds → List Edge → Type 0
+AreHeld b es = AllByRecursion (λ (e : Edge). IsHeld b e.from × IsHeld b e.to) es
 
--- a segment in one box that meets a ring in another
-ring_overlap : (a b : Bounds) (p q : Point) → IsHeld a p → IsHeld a q → (cs : List Point) → All (IsHeld b) cs → MeetsSome p q (edges_of cs) → Overlap a b
-ring_overlap a b p q hp hq [] h m = absurd m
-ring_overlap a b p q hp hq (c ∷ cs) h m =
-    let k = recursion_from_All (IsHeld b) (c ∷ cs) h in
-    walk_overlap a b p q hp hq (end_of c cs) (c ∷ cs) (end_held b c cs k.0 k.1) k
-    (opened (MeetsSome p q) (λ es e. any_unpushed (λ (f : Edge). Meet p q f.from f.to) es e) c cs m)
+walk_edges_held : (b : Bounds) (p : Point) (qs : List Point) → IsHeld b p → AllByRecursion (IsHeld b) qs → AreHeld b (walk p qs)
+walk_edges_held b p [] h k = tt
+walk_edges_held b p (q ∷ qs) h k = ((h, k.0), walk_edges_held b q qs k.0 k.1)
 
-walks_overlap : (a b : Bounds) (p : Point) (qs : List Point) → IsHeld a p → AllByRecursion (IsHeld a) qs → (cs : List Point) → All (IsHeld b) cs → SomeMeet (walk p qs) (edges_of cs) → Overlap a b
-walks_overlap a b p [] hp k cs h m = absurd m
-walks_overlap a b p (q ∷ qs) hp k cs h (inl m) = ring_overlap a b p q hp k.0 cs h m
-walks_overlap a b p (q ∷ qs) hp k cs h (inr m) = walks_overlap a b q qs k.0 k.1 cs h m
+pub all_append : {X : Type 0} (P : X → Type 0) (xs ys : List X) → AllByRecursion P xs → AllByRecursion P ys → AllByRecursion P (xs ++ ys)
+all_append P [] ys h k = k
+all_append P (x ∷ xs) ys h k = (h.0, all_append P xs ys h.1 k)
 
--- two rings, each in its box
-pub rings_overlap : (a b : Bounds) (cs ds : List Point) → All (IsHeld a) cs → All (IsHeld b) ds → SomeMeet (edges_of cs) (edges_of ds) → Overlap a b
-rings_overlap a b [] ds h k m = absurd m
-rings_overlap a b (c ∷ cs) ds h k m =
-    let l = recursion_from_All (IsHeld a) (c ∷ cs) h in
-    walks_overlap a b (end_of c cs) (c ∷ cs) (end_held a c cs l.0 l.1) l ds k
-    (opened (λ es. SomeMeet es (edges_of ds)) (λ es e. any_unpushed (λ (f : Edge). MeetsSome f.from f.to (edges_of ds)) es e) c cs m)
+pub edges_held : (b : Bounds) (cs : List Point) → AllByRecursion (IsHeld b) cs → AreHeld b (edges_of cs)
+edges_held b [] h = tt
+edges_held b (p ∷ qs) h = walk_edges_held b p (qs ++ p ∷ []) h.0 (all_append (IsHeld b) qs (p ∷ []) h.1 (h.0, tt))
+
+pub all_before : {X : Type 0} (P : X → Type 0) (xs ys : List X) → AllByRecursion P (xs ++ ys) → AllByRecursion P xs
+all_before P [] ys h = tt
+all_before P (x ∷ xs) ys h = (h.0, all_before P xs ys h.1)
+
+pub all_after : {X : Type 0} (P : X → Type 0) (xs ys : List X) → AllByRecursion P (xs ++ ys) → AllByRecursion P ys
+all_after P [] ys h = h
+all_after P (x ∷ xs) ys h = all_after P xs ys h.1
+
+pub rings_edges_held : (b : Bounds) (rings : List Ring) → AllByRecursion (IsHeld b) (rings_corners rings) → AreHeld b (rings_edges rings)
+rings_edges_held b [] h = tt
+rings_edges_held b (r ∷ rs) h = all_append (λ (e : Edge). IsHeld b e.from × IsHeld b e.to) (edges_of (corners_of r)) (rings_edges rs)
+    (edges_held b (corners_of r) (all_before (IsHeld b) (corners_of r) (rings_corners rs) h))
+    (rings_edges_held b rs (all_after (IsHeld b) (corners_of r) (rings_corners rs) h))
+
+edge_overlaps : (a b : Bounds) (p q : Point) → IsHeld a p → IsHeld a q → (fs : List Edge) → AreHeld b fs → MeetsSome p q fs → Overlap a b
+edge_overlaps a b p q hp hq [] k m = absurd m
+edge_overlaps a b p q hp hq (f ∷ fs) k (inl m) = meet_overlap a b p q f.from f.to hp hq k.0.0 k.0.1 m
+edge_overlaps a b p q hp hq (f ∷ fs) k (inr m) = edge_overlaps a b p q hp hq fs k.1 m
+
+-- edges in one box that meet edges in another
+pub edges_overlap : (a b : Bounds) (es fs : List Edge) → AreHeld a es → AreHeld b fs → SomeMeet es fs → Overlap a b
+edges_overlap a b [] fs h k m = absurd m
+edges_overlap a b (e ∷ es) fs h k (inl m) = edge_overlaps a b e.from e.to h.0.0 h.0.1 fs k m
+edges_overlap a b (e ∷ es) fs h k (inr m) = edges_overlap a b es fs h.1 k m

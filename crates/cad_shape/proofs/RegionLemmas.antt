@@ -1,5 +1,5 @@
 -- Rings of a region.
-use Rattle.std.proofs.Common.{◌≡◌, ◌↔◌, ℕ, suc, ◌+◌, ◌<◌, ℤ, ◌≤ℤ◌, inl, inr, ⊎_elim, List, [], ◌∷◌, ◌++◌, length, get_or, drop, sym, ap, ◌∙◌, subst, arith}
+use Rattle.std.proofs.Common.{◌≡◌, ◌↔◌, ℕ, suc, ◌+◌, ◌%◌, ◌<◌, ℤ, ◌≤ℤ◌, inl, inr, ⊎_elim, List, [], ◌∷◌, ◌++◌, length, get_or, drop, sym, ap, ◌∙◌, subst, arith}
 use Rattle.std.specs.List.{All, AllByRecursion}
 use Rattle.std.proofs.lemmas.Int.{by_lt_z}
 use Rattle.std.proofs.lemmas.List.{get_or-map, at_drop_more}
@@ -7,14 +7,17 @@ use Rattle.std.proofs.lemmas.List.Elements.{All-from_recursion, recursion_from_A
 use Rattle.cad_shape.specs.declared.point.Point.{Point}
 use Rattle.cad_shape.specs.declared.boxes.Bounds.{Bounds}
 use Rattle.cad_shape.specs.declared.ring.Ring.{Ring}
-use Rattle.cad_shape.specs.Edges.{edges_of}
+use Rattle.cad_shape.specs.Edges.{Edge, AnyOf, edges_of}
 use Rattle.cad_shape.specs.Frames.{IsHeld, IsLeastBounds}
-use Rattle.cad_shape.specs.Polygons.{rings_corners, ring_at, ReachesOut, IsOutside, NoneOutside}
-use Rattle.cad_shape.specs.Regions.{IsInRegion}
+use Rattle.cad_shape.specs.Polygons.{rings_corners, rings_edges, ring_at, ReachesOut, IsOutside, NoneOutside}
+use Rattle.cad_shape.specs.Regions.{IsOnEdge, IsOnSome, crossings, IsInRegion}
 use Rattle.cad_shape.specs.Rings.{corners_of}
+use Rattle.std.proofs.lemmas.Bool.{cases_lt}
 use Rattle.cad_shape.proofs.Signs.{sums}
+use Rattle.cad_shape.proofs.Walks.{any_split, crossings-append}
 use Rattle.cad_shape.proofs.Inside.{in_bounds}
-use Rattle.cad_shape.proofs.LawLemmas.{ring_corners_in}
+use Rattle.cad_shape.proofs.Overlaps.{all_before, all_after}
+use Rattle.cad_shape.proofs.RingCorners.{all_mapped, corners_on}
 
 -- ring i, by its place in the list
 pub ring_is_at : (rings : List Ring) (i : ℕ) (r : Ring) → i < length rings → r ≡ get_or rings i r → ring_at rings i ≡ corners_of r
@@ -39,7 +42,7 @@ none_out outer (c ∷ cs) h (inr m) = none_out outer cs h.1 m
 pub outer_inside : (rings : List Ring) → ¬ (IsOutside rings 0)
 outer_inside rings =
     let cs = ring_at rings 0 in
-    none_out cs cs (recursion_from_All (λ (c : Point). IsInRegion c (edges_of cs)) cs (ring_corners_in cs))
+    none_out cs cs (all_mapped (λ (c : Point). IsOnSome c (edges_of cs)) (λ (c : Point). IsInRegion c (edges_of cs)) (λ c h. inl h) cs (corners_on cs))
 
 -- a corner that lies in the region
 pub in_step : (outer corners : List Point) (i : ℕ) (c : Point) → i < length corners → c ≡ get_or corners i c → IsInRegion c (edges_of outer) → ReachesOut outer (drop i corners) ↔ ReachesOut outer (drop (i + 1) corners)
@@ -70,16 +73,35 @@ holes_held b outer (r ∷ rs) h n = All-append (IsHeld b) (corners_of r) (rings_
     (All-from_recursion (IsHeld b) (corners_of r) (hole_held b outer (corners_of r) h (n 0 (omega arith))))
     (holes_held b outer rs h (λ i k. n (suc i) (omega arith)))
 
-front_held : (b : Bounds) (ps qs : List Point) → AllByRecursion (IsHeld b) (ps ++ qs) → AllByRecursion (IsHeld b) ps
-front_held b [] qs h = tt
-front_held b (p ∷ ps) qs h = (h.0, front_held b ps qs h.1)
-
 outer_held : (b : Bounds) (rings : List Ring) → All (IsHeld b) (rings_corners rings) → All (IsHeld b) (ring_at rings 0)
 outer_held b [] h = All-nil (IsHeld b)
-outer_held b (r ∷ rs) h = All-from_recursion (IsHeld b) (corners_of r) (front_held b (corners_of r) (rings_corners rs) (recursion_from_All (IsHeld b) (corners_of r ++ rings_corners rs) h))
+outer_held b (r ∷ rs) h = All-from_recursion (IsHeld b) (corners_of r) (all_before (IsHeld b) (corners_of r) (rings_corners rs) (recursion_from_All (IsHeld b) (corners_of r ++ rings_corners rs) h))
 
 pub all_held : (b : Bounds) (rings : List Ring) → NoneOutside rings → IsLeastBounds b (ring_at rings 0) → IsLeastBounds b (rings_corners rings)
 all_held b rings n l = record {
   holds = holes_held b (ring_at rings 0) rings l.holds n;
   least = λ other h. l.least other (outer_held other rings h);
 }
+
+-- ---- a point in a region lies in the region of some ring
+pub in_some : (t : Point) (rings : List Ring) → IsInRegion t (rings_edges rings) → AnyOf (λ (r : Ring). IsInRegion t (edges_of (corners_of r))) rings
+in_some t [] (inl h) = absurd h
+in_some t [] (inr h) = absurd (omega arith)
+in_some t (r ∷ rs) (inl h) = ⊎_elim
+    (λ k. inl (inl k))
+    (λ k. inr (in_some t rs (inl k)))
+    (any_split (λ (e : Edge). IsOnEdge t e.from e.to) (edges_of (corners_of r)) (rings_edges rs) h)
+in_some t (r ∷ rs) (inr h) =
+    let e = crossings-append t (edges_of (corners_of r)) (rings_edges rs) in
+    ⊎_elim
+    (λ k. inr (in_some t rs (inr (omega arith))))
+    (λ k. inl (inr (omega arith)))
+    (cases_lt (crossings t (edges_of (corners_of r)) % 2) 1)
+
+some_ring_held : (b : Bounds) (t : Point) (rings : List Ring) → AllByRecursion (IsHeld b) (rings_corners rings) → AnyOf (λ (r : Ring). IsInRegion t (edges_of (corners_of r))) rings → IsHeld b t
+some_ring_held b t [] h k = absurd k
+some_ring_held b t (r ∷ rs) h (inl k) = in_bounds b t (corners_of r) (All-from_recursion (IsHeld b) (corners_of r) (all_before (IsHeld b) (corners_of r) (rings_corners rs) h)) k
+some_ring_held b t (r ∷ rs) h (inr k) = some_ring_held b t rs (all_after (IsHeld b) (corners_of r) (rings_corners rs) h) k
+
+pub in_rings_held : (b : Bounds) (t : Point) (rings : List Ring) → All (IsHeld b) (rings_corners rings) → IsInRegion t (rings_edges rings) → IsHeld b t
+in_rings_held b t rings h k = some_ring_held b t rings (recursion_from_All (IsHeld b) (rings_corners rings) h) (in_some t rings k)

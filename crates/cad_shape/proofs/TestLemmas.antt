@@ -9,12 +9,12 @@ use Rattle.cad_shape.specs.declared.point.Point.{Point}
 use Rattle.cad_shape.specs.declared.boxes.Bounds.{Bounds}
 use Rattle.cad_shape.specs.declared.shape.Shape.{Shape}
 use Rattle.cad_shape.specs.declared.shape.Shape.TheVariants.{Spot, Frame, Area}
-use Rattle.cad_shape.specs.Edges.{Edge, AnyOf, edges_of}
-use Rattle.cad_shape.specs.Frames.{IsHeld, frame_corners}
+use Rattle.cad_shape.specs.Edges.{Edge, AnyOf}
+use Rattle.cad_shape.specs.Frames.{IsHeld}
 use Rattle.cad_shape.specs.Regions.{IsOnSome, IsInRegion, SomeMeet}
-use Rattle.cad_shape.specs.Rings.{corners_of}
+use Rattle.cad_shape.specs.RegionRings.{region_edges}
 use Rattle.cad_shape.specs.Segments.{IsBetween, IsOn, Meet, turn, Straddle, AllBelow, Apart}
-use Rattle.cad_shape.specs.Shapes.{shape_edges, IsIn, SomeIn, RegionsMeet, RegionMeets, Meets, AreFramed, IsWithin, is_judged}
+use Rattle.cad_shape.specs.Shapes.{shape_corners, shape_edges, IsIn, SomeIn, RegionsMeet, RegionMeets, Meets, AreFramed, IsWithin, is_judged}
 use Rattle.cad_shape.specs.Tests as test
 use Rattle.cad_shape.proofs.SharedPoints.{reaches, apart_never, meets_only}
 
@@ -57,7 +57,7 @@ on p q x y w = Decides-like _ (λ h. record { line = h.0; in_x = h.1.0; in_y = h
 on_some : (t : Point) (edges : List Edge) → Decides (test.is_on_some t edges) (IsOnSome t edges)
 on_some t edges = some_passes _ _ (λ e. on e.from e.to t.x t.y (pos 1)) edges
 
-region : (t : Point) (edges : List Edge) → Decides (test.is_in_region t edges) (IsInRegion t edges)
+pub region : (t : Point) (edges : List Edge) → Decides (test.is_in_region t edges) (IsInRegion t edges)
 region t edges = Decides-or _ _ (on_some t edges) (Decides-eqb _ 1)
 
 held : (bounds : Bounds) (p : Point) → Decides (test.is_held bounds p) (IsHeld bounds p)
@@ -66,7 +66,7 @@ held bounds p = Decides-and _ _ (Decides-and _ _ (at_most _ _) (at_most _ _)) (D
 lies_in : (t : Point) (shape : Shape) → Decides (test.is_in t shape) (IsIn t shape)
 lies_in t (Spot p) = Decides-and _ _ (Decides-int_eq t.x p.x) (Decides-int_eq t.y p.y)
 lies_in t (Frame bounds) = held bounds t
-lies_in t (Area ring) = region t (edges_of (corners_of ring))
+lies_in t (Area shape) = region t (region_edges shape)
 
 some_in : (points : List Point) (shape : Shape) → Decides (list_any (λ p. test.is_in p shape) points) (SomeIn points shape)
 some_in points shape = some_passes _ _ (λ p. lies_in p shape) points
@@ -74,28 +74,28 @@ some_in points shape = some_passes _ _ (λ p. lies_in p shape) points
 edges_meet : (a b : List Edge) → Decides (test.some_meet a b) (SomeMeet a b)
 edges_meet a b = some_passes _ _ (λ e. some_passes _ _ (λ f. segments e.from e.to f.from f.to) b) a
 
-regions : (a : Shape) (cs : List Point) (b : Shape) (ds : List Point) → Decides (test.regions_meet a cs b ds) (RegionsMeet a cs b ds)
-regions a cs b ds = Decides-or _ _ (edges_meet (edges_of cs) (edges_of ds)) (Decides-or _ _ (some_in cs b) (some_in ds a))
+regions : (a b : Shape) → Decides (test.regions_meet a b) (RegionsMeet a b)
+regions a b = Decides-or _ _ (edges_meet (shape_edges a) (shape_edges b)) (Decides-or _ _ (some_in (shape_corners a) b) (some_in (shape_corners b) a))
 
-region_and : (a : Shape) (cs : List Point) (b : Shape) → Decides (test.region_meets a cs b) (RegionMeets a cs b)
-region_and a cs (Spot q) = lies_in q a
-region_and a cs (Frame g) = regions a cs (Frame g) (frame_corners g)
-region_and a cs (Area s) = regions a cs (Area s) (corners_of s)
+region_and : (a b : Shape) → Decides (test.region_meets a b) (RegionMeets a b)
+region_and a (Spot q) = lies_in q a
+region_and a (Frame g) = regions a (Frame g)
+region_and a (Area s) = regions a (Area s)
 
 pub meeting : (a b : Shape) → Decides (test.shapes_meet a b) (Meets a b)
 meeting (Spot p) b = lies_in p b
-meeting (Frame f) b = region_and (Frame f) (frame_corners f) b
-meeting (Area r) b = region_and (Area r) (corners_of r) b
+meeting (Frame f) b = region_and (Frame f) b
+meeting (Area r) b = region_and (Area r) b
 
 framed : (corners : List Point) (b : Shape) → Decides (test.are_framed corners b) (AreFramed corners b)
 framed corners (Spot p) = (λ h. absurd cc, λ h. absurd h)
 framed corners (Frame bounds) = Decides-by_and (test.is_held bounds) (IsHeld bounds) (list_all (test.is_held bounds)) (held bounds) refl (λ _ _. refl) corners
-framed corners (Area ring) = (λ h. absurd cc, λ h. absurd h)
+framed corners (Area shape) = (λ h. absurd cc, λ h. absurd h)
 
 pub lying_within : (a b : Shape) → Decides (test.shape_within a b) (IsWithin a b)
 lying_within (Spot p) b = Decides-and _ _ (lies_in p b) (Decides-not _ (on_some p (shape_edges b)))
-lying_within (Frame f) b = framed (frame_corners f) b
-lying_within (Area r) b = framed (corners_of r) b
+lying_within (Frame f) b = framed (shape_corners (Frame f)) b
+lying_within (Area r) b = framed (shape_corners (Area r)) b
 
 -- ---- what the calls say
 

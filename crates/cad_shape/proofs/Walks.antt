@@ -1,5 +1,5 @@
 -- Walks round rings, and their edges.
-use Rattle.std.proofs.Common.{◌↔◌, IsTrue, Bool, ℕ, zero, suc, ◌+◌, ◌-◌, ◌≡◌, ◌<◌, ◌%◌, inl, inr, ⊎_elim, pos, List, [], ◌∷◌, ◌++◌, length, get_or, refl, sym, ap, ◌∙◌, subst, arith, length-append}
+use Rattle.std.proofs.Common.{◌↔◌, IsTrue, Bool, ℕ, zero, suc, ◌+◌, ◌-◌, ◌≡◌, ◌<◌, ◌%◌, ◌⊎◌, inl, inr, ⊎_elim, pos, List, [], ◌∷◌, ◌++◌, length, get_or, refl, sym, ap, ◌∙◌, subst, arith, length-append}
 use Rattle.std.proofs.lemmas.List.{get_or_append_left, get_or_push}
 use Rattle.cad_shape.specs.Segments.{IsBetween, turn}
 use Rattle.cad_shape.specs.Edges.{Edge, AnyOf, walk, edges_of, end_of}
@@ -36,10 +36,29 @@ any_mapped P Q f [] h = absurd h
 any_mapped P Q f (x ∷ xs) (inl h) = inl (f x h)
 any_mapped P Q f (x ∷ xs) (inr h) = inr (any_mapped P Q f xs h)
 
+pub any_split : {X : Type 0} (P : X → Type 0) (xs ys : List X) → AnyOf P (xs ++ ys) → AnyOf P xs ⊎ AnyOf P ys
+any_split P [] ys h = inr h
+any_split P (x ∷ xs) ys (inl h) = inl (inl h)
+any_split P (x ∷ xs) ys (inr h) = ⊎_elim (λ k. inl (inr k)) (λ k. inr k) (any_split P xs ys h)
+
+pub any_before : {X : Type 0} (P : X → Type 0) (xs ys : List X) → AnyOf P xs → AnyOf P (xs ++ ys)
+any_before P [] ys h = absurd h
+any_before P (x ∷ xs) ys (inl h) = inl h
+any_before P (x ∷ xs) ys (inr h) = inr (any_before P xs ys h)
+
+pub any_after : {X : Type 0} (P : X → Type 0) (xs ys : List X) → AnyOf P ys → AnyOf P (xs ++ ys)
+any_after P [] ys h = h
+any_after P (x ∷ xs) ys h = inr (any_after P xs ys h)
+
 -- ---- an edge more at the end counts as one at the front
 pub crossings-push : (t : Point) (es : List Edge) (e : Edge) → crossings t (es ++ e ∷ []) ≡ crossings t (e ∷ es)
 crossings-push t [] e = refl
 crossings-push t (d ∷ es) e = let h = crossings-push t es e in omega (arith, h)
+
+-- and edges of two lists as those of each
+pub crossings-append : (t : Point) (es fs : List Edge) → crossings t (es ++ fs) ≡ crossings t es + crossings t fs
+crossings-append t [] fs = omega arith
+crossings-append t (e ∷ es) fs = let h = crossings-append t es fs in omega (arith, h)
 
 pub area-push : (es : List Edge) (e : Edge) → doubled_area (es ++ e ∷ []) ≡ doubled_area (e ∷ es)
 area-push [] e = refl
@@ -85,6 +104,11 @@ round P f b [] d h e k = absurd (omega arith)
 round P f b (p ∷ qs) d h e k =
     let m : IsTrue b ↔ P (walk (end_of p qs) (p ∷ qs)) = subst (λ (z : Point). IsTrue b ↔ P (walk z (p ∷ qs))) (last_is p qs d e) k in
     (λ t. closed P (λ es d. (f es d).0) p qs (m.0 t), λ t. m.1 (opened P (λ es d. (f es d).1) p qs t))
+
+-- the same without a test
+pub round_from : (P : List Edge → Type 0) → ((es : List Edge) (e : Edge) → P (e ∷ es) → P (es ++ e ∷ [])) → (cs : List Point) (d : Point) → 0 < length cs → d ≡ get_or cs (length cs - 1) d → P (walk d cs) → P (edges_of cs)
+round_from P f [] d h e k = absurd (omega arith)
+round_from P f (p ∷ qs) d h e k = closed P f p qs (subst (λ (z : Point). P (walk z (p ∷ qs))) (last_is p qs d e) k)
 
 pub area_round : (cs : List Point) (d : Point) → 0 < length cs → d ≡ get_or cs (length cs - 1) d → doubled_area (walk d cs) ≡ doubled_area (edges_of cs)
 area_round [] d h e = absurd (omega arith)

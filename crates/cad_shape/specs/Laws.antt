@@ -1,5 +1,5 @@
 -- What holds of shapes, beyond what each call says.
-use Rattle.std.specs.Prelude.{◌≡◌, ◌↔◌, IsTrue, List, [], ◌∷◌, ◌++◌, map, All}
+use Rattle.std.specs.Prelude.{◌+◌, ◌%◌, ◌≡◌, ◌↔◌, IsTrue, List, [], ◌∷◌, ◌++◌, map, All}
 use mathlib.Core.List.{reverse}
 use Rattle.cad_shape.specs.declared.point.Point.{Point}
 use Rattle.cad_shape.specs.declared.boxes.Bounds.{Bounds}
@@ -8,14 +8,15 @@ use Rattle.cad_shape.specs.declared.ring.RingFault.{RingFault}
 use Rattle.cad_shape.specs.declared.polygon.Region.{Region}
 use Rattle.cad_shape.specs.declared.polygon.RegionFault.{RegionFault}
 use Rattle.cad_shape.specs.declared.shape.Shape.{Shape}
-use Rattle.cad_shape.specs.Edges.{edges_of}
+use Rattle.cad_shape.specs.Edges.{Edge, AnyOf, edges_of}
 use Rattle.cad_shape.specs.Frames.{IsHeld, Overlap, IsLeastBounds}
 use Rattle.cad_shape.specs.Outlines.{IsRing}
 use Rattle.cad_shape.specs.PlainRings.{coordinates, is_plain_ring}
-use Rattle.cad_shape.specs.Polygons.{IsRegion}
-use Rattle.cad_shape.specs.RegionRings.{rings_of, IsRegionFault}
-use Rattle.cad_shape.specs.Regions.{CrossesRight, passes, IsInRegion}
+use Rattle.cad_shape.specs.Polygons.{rings_edges, IsRegion}
+use Rattle.cad_shape.specs.RegionRings.{rings_of, region_edges, IsRegionFault}
+use Rattle.cad_shape.specs.Regions.{CrossesRight, passes, crossings, IsOnSome, IsInRegion}
 use Rattle.cad_shape.specs.Rings.{corners_of, IsRingFault}
+use Rattle.cad_shape.specs.Insides.{rings_around, IsInsideRing, IsInNone}
 use Rattle.cad_shape.specs.Segments.{Meet}
 use Rattle.cad_shape.specs.Shapes.{shape_corners, IsIn, Meets, IsWithin}
 use Rattle.cad_shape.specs.Tests.{shapes_meet, shape_within}
@@ -28,13 +29,35 @@ SegmentsMeetEitherWay = (p q r s : Point) → Meet p q r s → Meet r s p q × M
 abbrev pub CountedEdgesCross : Type 0
 CountedEdgesCross = (t p q : Point) → IsTrue (passes t p q) ↔ CrossesRight t p q
 
--- a ring that begins with another of its corners has the same region
+-- a region is the same if a ring of it, between other edges, begins with another of its corners
 abbrev pub TurningKeepsRegions : Type 0
-TurningKeepsRegions = (t p : Point) (qs : List Point) → IsInRegion t (edges_of (p ∷ qs)) ↔ IsInRegion t (edges_of (qs ++ p ∷ []))
+TurningKeepsRegions = (t p : Point) (qs : List Point) (before after : List Edge) → IsInRegion t (before ++ edges_of (p ∷ qs) ++ after) ↔ IsInRegion t (before ++ edges_of (qs ++ p ∷ []) ++ after)
 
--- a ring whose corners stand in the other order has the same region
+-- and if the corners of a ring of it stand in the other order
 abbrev pub OrderKeepsRegions : Type 0
-OrderKeepsRegions = (t : Point) (corners : List Point) → IsInRegion t (edges_of corners) ↔ IsInRegion t (edges_of (reverse corners))
+OrderKeepsRegions = (t : Point) (corners : List Point) (before after : List Edge) → IsInRegion t (before ++ edges_of corners ++ after) ↔ IsInRegion t (before ++ edges_of (reverse corners) ++ after)
+
+-- the edges of all rings cross as often as those of each together
+abbrev pub CrossingsAddUp : Type 0
+CrossingsAddUp = (t : Point) (ring : Ring) (rings : List Ring) → crossings t (rings_edges (ring ∷ rings)) ≡ crossings t (edges_of (corners_of ring)) + crossings t (rings_edges rings)
+
+-- a region without holes is that of its ring
+abbrev pub OneRingIsTheRegion : Type 0
+OneRingIsTheRegion = (t : Point) (region : Region) (ring : Ring) → rings_of region ≡ ring ∷ [] → IsInRegion t (region_edges region) ↔ IsInRegion t (edges_of (corners_of ring))
+
+-- a point on an edge of some ring lies in the region
+abbrev pub EdgesAreTakenIn : Type 0
+EdgesAreTakenIn = (t : Point) (region : Region) → AnyOf (λ ring. IsOnSome t (edges_of (corners_of ring))) (rings_of region) → IsInRegion t (region_edges region)
+
+-- a point on no edge lies in a region exactly where an odd number of the rings have it in their regions
+abbrev pub OddlyManyRingsHold : Type 0
+OddlyManyRingsHold = (t : Point) (region : Region) → ¬ (IsOnSome t (region_edges region)) → IsInRegion t (region_edges region) ↔ (rings_around t (rings_of region) % 2 ≡ 1)
+
+-- a point inside the outer ring and one hole, and in no other hole, does not lie in the region
+abbrev pub HolesAreLeftOut : Type 0
+HolesAreLeftOut =
+    (t : Point) (region : Region) (outer hole : Ring) (before after : List Ring) → rings_of region ≡ outer ∷ (before ++ hole ∷ after)
+    → IsInsideRing t outer → IsInsideRing t hole → IsInNone t before → IsInNone t after → ¬ (IsInRegion t (region_edges region))
 
 -- corners that the plain test takes are a ring: so a ring that is written out is made without a fault
 abbrev pub PlainRingsAreRings : Type 0

@@ -4,6 +4,7 @@ pub mod Frames
 pub mod Segments
 pub mod Edges
 pub mod Regions
+pub mod Locations
 pub mod Areas
 pub mod Crossings
 pub mod Outlines
@@ -11,6 +12,7 @@ pub mod Rings
 pub mod Polygons
 pub mod RegionRings
 pub mod Shapes
-pub mod Laws
 pub mod PlainRings
 pub mod Tests
+pub mod Insides
+pub mod Laws

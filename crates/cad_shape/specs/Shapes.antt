@@ -8,25 +8,25 @@ use Rattle.cad_shape.specs.declared.shape.ShapeRef.TheVariants as lent
 use Rattle.cad_shape.specs.Edges.{Edge, AnyOf, edges_of}
 use Rattle.cad_shape.specs.Frames.{IsHeld, frame_corners}
 use Rattle.cad_shape.specs.Regions.{IsOnSome, IsInRegion, SomeMeet}
-use Rattle.cad_shape.specs.Rings.{corners_of}
+use Rattle.cad_shape.specs.RegionRings.{region_corners, region_edges}
 
 -- the shape that is lent
 abbrev pub lent_shape : ShapeRef → Shape
 lent_shape (lent.Spot p) = Spot p
 lent_shape (lent.Frame bounds) = Frame bounds
-lent_shape (lent.Area ring) = Area ring.now
+lent_shape (lent.Area region) = Area region.now
 
--- the corners of a shape
+-- the corners of a shape, those of holes too
 abbrev pub shape_corners : Shape → List Point
 shape_corners (Spot p) = p ∷ []
 shape_corners (Frame bounds) = frame_corners bounds
-shape_corners (Area ring) = corners_of ring
+shape_corners (Area region) = region_corners region
 
--- the edges of a shape; those of a flat frame may have no length
+-- the edges of a shape, those of holes too; those of a flat frame may have no length
 abbrev pub shape_edges : Shape → List Edge
 shape_edges (Spot p) = []
 shape_edges (Frame bounds) = edges_of (frame_corners bounds)
-shape_edges (Area ring) = edges_of (corners_of ring)
+shape_edges (Area region) = region_edges region
 
 abbrev pub IsSamePoint : Point → Point → Type 0
 IsSamePoint p q = (p.x ≡ q.x) × (p.y ≡ q.y)
@@ -35,27 +35,27 @@ IsSamePoint p q = (p.x ≡ q.x) × (p.y ≡ q.y)
 abbrev pub IsIn : Point → Shape → Type 0
 IsIn t (Spot p) = IsSamePoint t p
 IsIn t (Frame bounds) = IsHeld bounds t
-IsIn t (Area ring) = IsInRegion t (edges_of (corners_of ring))
+IsIn t (Area region) = IsInRegion t (region_edges region)
 
 -- some of the points lies in the shape
 abbrev pub SomeIn : List Point → Shape → Type 0
 SomeIn points shape = AnyOf (λ p. IsIn p shape) points
 
--- some edges of the two regions with these corners share a point, or a corner of one lies in the other
-abbrev pub RegionsMeet : Shape → List Point → Shape → List Point → Type 0
-RegionsMeet a cs b ds = SomeMeet (edges_of cs) (edges_of ds) ⊎ (SomeIn cs b ⊎ SomeIn ds a)
+-- some edges of the two regions share a point, or a corner of one lies in the other
+abbrev pub RegionsMeet : Shape → Shape → Type 0
+RegionsMeet a b = SomeMeet (shape_edges a) (shape_edges b) ⊎ (SomeIn (shape_corners a) b ⊎ SomeIn (shape_corners b) a)
 
--- the region a with these corners meets b
-abbrev pub RegionMeets : Shape → List Point → Shape → Type 0
-RegionMeets a cs (Spot q) = IsIn q a
-RegionMeets a cs (Frame g) = RegionsMeet a cs (Frame g) (frame_corners g)
-RegionMeets a cs (Area s) = RegionsMeet a cs (Area s) (corners_of s)
+-- the region a meets b
+abbrev pub RegionMeets : Shape → Shape → Type 0
+RegionMeets a (Spot q) = IsIn q a
+RegionMeets a (Frame g) = RegionsMeet a (Frame g)
+RegionMeets a (Area s) = RegionsMeet a (Area s)
 
 -- the two shapes meet: a point lies in the other shape, or of two regions some edges share a point, or a corner of one lies in the other
 abbrev pub Meets : Shape → Shape → Type 0
 Meets (Spot p) b = IsIn p b
-Meets (Frame f) b = RegionMeets (Frame f) (frame_corners f) b
-Meets (Area r) b = RegionMeets (Area r) (corners_of r) b
+Meets (Frame f) b = RegionMeets (Frame f) b
+Meets (Area r) b = RegionMeets (Area r) b
 
 -- t lies in the shape and on no edge of it
 abbrev pub IsInside : Point → Shape → Type 0
@@ -65,18 +65,18 @@ IsInside t shape = IsIn t shape × ¬ (IsOnSome t (shape_edges shape))
 abbrev pub AreFramed : List Point → Shape → Type 0
 AreFramed corners (Spot p) = ⊥
 AreFramed corners (Frame bounds) = All (IsHeld bounds) corners
-AreFramed corners (Area ring) = ⊥
+AreFramed corners (Area region) = ⊥
 
 -- the first shape lies within the second: a point inside it, a region in a frame that holds all its corners
 abbrev pub IsWithin : Shape → Shape → Type 0
 IsWithin (Spot p) b = IsInside p b
-IsWithin (Frame f) b = AreFramed (frame_corners f) b
-IsWithin (Area r) b = AreFramed (corners_of r) b
+IsWithin (Frame f) b = AreFramed (shape_corners (Frame f)) b
+IsWithin (Area r) b = AreFramed (shape_corners (Area r)) b
 
 abbrev pub is_frame : Shape → Bool
 is_frame (Spot p) = false
 is_frame (Frame bounds) = true
-is_frame (Area ring) = false
+is_frame (Area region) = false
 
 -- whether it is asked for one shape to lie within another: a point in any, a region in a frame alone
 abbrev pub is_judged : Shape → Shape → Bool

@@ -6,12 +6,11 @@ use Rattle.cad_shape.specs.declared.point.Point.{Point}
 use Rattle.cad_shape.specs.declared.boxes.Bounds.{Bounds}
 use Rattle.cad_shape.specs.declared.shape.Shape.{Shape}
 use Rattle.cad_shape.specs.declared.shape.Shape.TheVariants.{Spot, Frame, Area}
-use Rattle.cad_shape.specs.Edges.{Edge, edges_of}
-use Rattle.cad_shape.specs.Frames.{frame_corners}
+use Rattle.cad_shape.specs.Edges.{Edge}
 use Rattle.cad_shape.specs.Regions.{crossings}
-use Rattle.cad_shape.specs.Rings.{corners_of}
+use Rattle.cad_shape.specs.RegionRings.{region_edges}
 use Rattle.cad_shape.specs.Segments.{turn}
-use Rattle.cad_shape.specs.Shapes.{shape_edges, is_judged}
+use Rattle.cad_shape.specs.Shapes.{shape_corners, shape_edges, is_judged}
 
 -- ---- segments
 
@@ -61,7 +60,7 @@ is_held bounds p = (int_le bounds.x_min p.x && int_le p.x bounds.x_max) && (int_
 abbrev pub is_in : Point → Shape → Bool
 is_in t (Spot p) = int_eq t.x p.x && int_eq t.y p.y
 is_in t (Frame bounds) = is_held bounds t
-is_in t (Area ring) = is_in_region t (edges_of (corners_of ring))
+is_in t (Area region) = is_in_region t (region_edges region)
 
 -- ---- shapes
 
@@ -70,33 +69,33 @@ abbrev pub some_meet : List Edge → List Edge → Bool
 some_meet a b = list_any (λ e. list_any (λ f. segments_meet e.from e.to f.from f.to) b) a
 
 -- `RegionsMeet`
-abbrev pub regions_meet : Shape → List Point → Shape → List Point → Bool
-regions_meet a cs b ds =
-    some_meet (edges_of cs) (edges_of ds) || (list_any (λ p. is_in p b) cs || list_any (λ p. is_in p a) ds)
+abbrev pub regions_meet : Shape → Shape → Bool
+regions_meet a b =
+    some_meet (shape_edges a) (shape_edges b) || (list_any (λ p. is_in p b) (shape_corners a) || list_any (λ p. is_in p a) (shape_corners b))
 
 -- `RegionMeets`
-abbrev pub region_meets : Shape → List Point → Shape → Bool
-region_meets a cs (Spot q) = is_in q a
-region_meets a cs (Frame g) = regions_meet a cs (Frame g) (frame_corners g)
-region_meets a cs (Area s) = regions_meet a cs (Area s) (corners_of s)
+abbrev pub region_meets : Shape → Shape → Bool
+region_meets a (Spot q) = is_in q a
+region_meets a (Frame g) = regions_meet a (Frame g)
+region_meets a (Area s) = regions_meet a (Area s)
 
 -- `Meets`: the two shapes share a point
 abbrev pub shapes_meet : Shape → Shape → Bool
 shapes_meet (Spot p) b = is_in p b
-shapes_meet (Frame f) b = region_meets (Frame f) (frame_corners f) b
-shapes_meet (Area r) b = region_meets (Area r) (corners_of r) b
+shapes_meet (Frame f) b = region_meets (Frame f) b
+shapes_meet (Area r) b = region_meets (Area r) b
 
 -- `AreFramed`
 abbrev pub are_framed : List Point → Shape → Bool
 are_framed corners (Spot p) = false
 are_framed corners (Frame bounds) = list_all (is_held bounds) corners
-are_framed corners (Area ring) = false
+are_framed corners (Area region) = false
 
 -- `IsWithin`: the first shape lies within the second
 abbrev pub shape_within : Shape → Shape → Bool
 shape_within (Spot p) b = is_in p b && not (is_on_some p (shape_edges b))
-shape_within (Frame f) b = are_framed (frame_corners f) b
-shape_within (Area r) b = are_framed (corners_of r) b
+shape_within (Frame f) b = are_framed (shape_corners (Frame f)) b
+shape_within (Area r) b = are_framed (shape_corners (Area r)) b
 
 -- the same where it is judged: a point in any shape, a region in a frame alone
 abbrev pub within : Shape → Shape → Option Bool

@@ -1,6 +1,7 @@
 //! Laws of segments, regions and shapes, each proved for the definitions that the contracts cite. Nothing runs here.
 
 ghost use Rattle.cad_shape.specs.Laws.{SegmentsMeetEitherWay, CountedEdgesCross, TurningKeepsRegions, OrderKeepsRegions};
+ghost use Rattle.cad_shape.specs.Laws.{CrossingsAddUp, OneRingIsTheRegion, EdgesAreTakenIn, OddlyManyRingsHold, HolesAreLeftOut};
 ghost use Rattle.cad_shape.specs.Laws.{OneFaultAlone, CornersMakeTheRing, OneRegionFaultAlone, RingsMakeTheRegion, OneLeastBox, MeetingIsSymmetric, CornersLieInside};
 ghost use Rattle.cad_shape.specs.Laws.{BoundsHoldTheShape, BoundsOverlap, PlainRingsAreRings, WithinMeets, TestsTell};
 
@@ -14,14 +15,39 @@ pub fn counted_edges_cross()
     ensures { CountedEdgesCross }
 {}
 
-/// A ring that begins with another of its corners has the same region.
+/// A region is the same if a ring of it begins with another of its corners.
 pub fn turning_keeps_regions()
     ensures { TurningKeepsRegions }
 {}
 
-/// A ring whose corners stand in the other order has the same region.
+/// A region is the same if the corners of a ring of it stand in the other order.
 pub fn order_keeps_regions()
     ensures { OrderKeepsRegions }
+{}
+
+/// The edges of all rings cross a point's height as often as those of each together.
+pub fn crossings_add_up()
+    ensures { CrossingsAddUp }
+{}
+
+/// A region without holes is that of its ring.
+pub fn one_ring_is_the_region()
+    ensures { OneRingIsTheRegion }
+{}
+
+/// A point on an edge of some ring, that of a hole too, lies in the region.
+pub fn edges_are_taken_in()
+    ensures { EdgesAreTakenIn }
+{}
+
+/// A point on no edge lies in a region exactly where an odd number of the rings have it in their regions.
+pub fn oddly_many_rings_hold()
+    ensures { OddlyManyRingsHold }
+{}
+
+/// A point inside the outer ring and one hole, and in no other hole, does not lie in the region.
+pub fn holes_are_left_out()
+    ensures { HolesAreLeftOut }
 {}
 
 /// Corners that the plain test takes are a ring, so that a ring which is written out is made without a fault.

@@ -4,7 +4,7 @@ ghost use Rattle.std.specs.Prelude.{◌≡◌, ◌↔◌, ◌<◌, ◌≤◌, Is
 ghost use Rattle.cad_shape.specs.Polygons.{rings_corners, AreFew, ReachesOut, NoneOutside, IsFirstOutside};
 ghost use Rattle.cad_shape.specs.Rings.{corners_of};
 
-use crate::relation::in_region;
+use crate::location::in_ring;
 use crate::{Bounds, Ring};
 use std::alloc::{AllocError, Global};
 use std::marker::Model;
@@ -101,7 +101,7 @@ impl Region {
         ensures outer { IsLeastBounds result (outer_corners self.now) }
         ensures all { IsLeastBounds result (region_corners self.now) }
     {
-        self.rings.as_slice()[0].bounds()
+        self.rings()[0].bounds()
     }
 
     /// The same region once more.
@@ -136,7 +136,7 @@ fn reaches_out(outer: &Ring, ring: &Ring) -> bool
     ensures { IsTrue result ↔ ReachesOut (corners_of outer.now) (corners_of ring.now) }
 {
     for corner in ring.corners() {
-        if !in_region(*corner, outer) {
+        if !in_ring(*corner, outer) {
             return true;
         }
     }

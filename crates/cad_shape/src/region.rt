@@ -1,11 +1,13 @@
-//! Regions inside rings.
+//! Points and the edges of a ring.
 
 ghost use Rattle.std.specs.Prelude.{◌≡◌, ◌↔◌, ◌<◌, IsTrue, length};
 ghost use Rattle.cad_shape.specs.Segments.{IsBetween};
 ghost use Rattle.cad_shape.specs.Edges.{walk, edges_of};
-ghost use Rattle.cad_shape.specs.Regions.{IsOnEdge, IsOnSome, CrossesRight, rises, passes, IsInRegion};
+ghost use Rattle.cad_shape.specs.Regions.{IsOnEdge, IsOnSome, CrossesRight, rises, passes};
+ghost use Rattle.cad_shape.specs.Locations.{IsLocation};
 
 use crate::Point;
+use crate::location::Location;
 use crate::segment::turn_at;
 
 fn is_between(a: i64, b: i64, n: i64) -> bool
@@ -72,28 +74,28 @@ pub(crate) fn is_on_ring(point: Point, corners: &[Point]) -> bool
     is_on_walk(point, corners[corners.len() - 1], corners)
 }
 
-// The same, or an odd number of the walk's edges cross the point's height right of it.
-fn is_within_walk(point: Point, start: Point, corners: &[Point]) -> bool
-    ensures { IsTrue result ↔ IsInRegion point (walk start corners.now) }
+// Where the point lies by the edges of the walk from `start` through the corners in order.
+fn location_by_walk(point: Point, start: Point, corners: &[Point]) -> Location
+    ensures { IsLocation point (walk start corners.now) result }
 {
     let mut from = start;
     let mut crossed: usize = 0;
     for corner in corners {
         if is_on_edge(point, from, *corner) {
-            return true;
+            return Location::Boundary;
         }
         if crosses_right(point, from, *corner) {
             crossed += 1;
         }
         from = *corner;
     }
-    crossed % 2 == 1
+    Location::of_crossings(crossed)
 }
 
-// Whether the point lies in the region of the ring through these corners, its edge taken in.
-pub(crate) fn is_within_ring(point: Point, corners: &[Point]) -> bool
+// Where the point lies by the ring through these corners.
+pub(crate) fn location_by_corners(point: Point, corners: &[Point]) -> Location
     requires { 0 < length corners.now }
-    ensures { IsTrue result ↔ IsInRegion point (edges_of corners.now) }
+    ensures { IsLocation point (edges_of corners.now) result }
 {
-    is_within_walk(point, corners[corners.len() - 1], corners)
+    location_by_walk(point, corners[corners.len() - 1], corners)
 }

@@ -1,25 +1,16 @@
 //! Whether two shapes meet, and whether one lies within another.
 
-ghost use Rattle.std.specs.Prelude.{◌≡◌, ◌↔◌, ◌<◌, IsTrue, IfSome, is_some, length};
-ghost use Rattle.std.specs.List.{All};
-ghost use Rattle.cad_shape.specs.Edges.{edges_of};
-ghost use Rattle.cad_shape.specs.Frames.{IsHeld, IsLeastBounds};
-ghost use Rattle.cad_shape.specs.Regions.{IsInRegion, SomeMeet};
-ghost use Rattle.cad_shape.specs.Rings.{corners_of};
-ghost use Rattle.cad_shape.specs.Shapes.{shape_corners, shape_edges, IsSamePoint, IsIn, SomeIn, RegionsMeet, RegionMeets, Meets};
+ghost use Rattle.std.specs.Prelude.{◌≡◌, ◌↔◌, IsTrue, IfSome, is_some};
+ghost use Rattle.cad_shape.specs.Frames.{IsLeastBounds};
+ghost use Rattle.cad_shape.specs.Polygons.{rings_corners};
+ghost use Rattle.cad_shape.specs.Shapes.{shape_corners, IsSamePoint, IsIn, SomeIn, RegionsMeet, RegionMeets, Meets};
 ghost use Rattle.cad_shape.specs.Shapes.{IsInside, AreFramed, IsWithin, is_frame, is_judged, lent_shape};
 ghost use Rattle.cad_shape.specs.Tests.{shapes_meet, within as within_test};
 
-use crate::meeting::rings_meet;
-use crate::region::{is_on_ring, is_within_ring};
+use crate::location::{in_region, location_by_region};
+use crate::meeting::edges_meet;
+use crate::region::is_on_ring;
 use crate::{Bounds, Point, Ring, Shape, ShapeRef};
-
-/// Whether the point lies in the region inside the ring, its edges taken in.
-pub fn in_region(point: Point, ring: &Ring) -> bool
-    ensures { IsTrue result ↔ IsInRegion point (edges_of (corners_of ring.now)) }
-{
-    ring.bounds().holds(point) && is_within_ring(point, ring.corners())
-}
 
 fn is_same_point(p: Point, q: Point) -> bool
     ensures { IsTrue result ↔ IsSamePoint p q }
@@ -34,7 +25,7 @@ fn is_in(point: Point, shape: ShapeRef) -> bool
     match shape {
         ShapeRef::Spot(spot) => is_same_point(point, spot),
         ShapeRef::Frame(bounds) => bounds.holds(point),
-        ShapeRef::Area(ring) => in_region(point, ring),
+        ShapeRef::Area(region) => in_region(point, region),
     }
 }
 
@@ -49,25 +40,42 @@ fn some_in(points: &[Point], shape: ShapeRef) -> bool
     false
 }
 
-// Whether two regions with these corners meet.
-fn outlines_meet(a: ShapeRef, corners: &[Point], b: ShapeRef, ring: &[Point]) -> bool
-    requires corners_some { 0 < length corners.now }
-    requires some { 0 < length ring.now }
-    requires outline { ring.now ≡ shape_corners (lent_shape b) }
-    ensures { IsTrue result ↔ RegionsMeet (lent_shape a.entry) corners.now (lent_shape b.entry) ring.now }
+fn some_ring_in(rings: &[Ring], shape: ShapeRef) -> bool
+    ensures { IsTrue result ↔ SomeIn (rings_corners rings.now) (lent_shape shape.entry) }
 {
-    rings_meet(corners, b.bounds(), ring) || some_in(corners, b) || some_in(ring, a)
+    for ring in rings {
+        if some_in(ring.corners(), shape) {
+            return true;
+        }
+    }
+    false
 }
 
-// Whether a region with these corners meets the region `b`.
-fn meets_outline(a: ShapeRef, corners: &[Point], b: ShapeRef) -> bool
-    requires { 0 < length corners.now }
-    ensures { IsTrue result ↔ RegionMeets (lent_shape a.entry) corners.now (lent_shape b.entry) }
+// Whether some corner of the first lies in the second.
+fn some_corner_in(a: ShapeRef, b: ShapeRef) -> bool
+    ensures { IsTrue result ↔ SomeIn (shape_corners (lent_shape a.entry)) (lent_shape b.entry) }
+{
+    match a {
+        ShapeRef::Spot(point) => is_in(point, b),
+        ShapeRef::Frame(frame) => some_in(&frame.corners(), b),
+        ShapeRef::Area(region) => some_ring_in(region.rings(), b),
+    }
+}
+
+fn regions_meet(a: ShapeRef, b: ShapeRef) -> bool
+    ensures { IsTrue result ↔ RegionsMeet (lent_shape a.entry) (lent_shape b.entry) }
+{
+    edges_meet(a, b) || some_corner_in(a, b) || some_corner_in(b, a)
+}
+
+// Whether the region `a` meets the shape `b`.
+fn region_meets(a: ShapeRef, b: ShapeRef) -> bool
+    ensures { IsTrue result ↔ RegionMeets (lent_shape a.entry) (lent_shape b.entry) }
 {
     match b {
         ShapeRef::Spot(point) => is_in(point, a),
-        ShapeRef::Frame(frame) => outlines_meet(a, corners, b, &frame.corners()),
-        ShapeRef::Area(ring) => outlines_meet(a, corners, b, ring.corners()),
+        ShapeRef::Frame(_) => regions_meet(a, b),
+        ShapeRef::Area(_) => regions_meet(a, b),
     }
 }
 
@@ -77,8 +85,8 @@ fn meets_closely(a: ShapeRef, b: ShapeRef) -> bool
 {
     match a {
         ShapeRef::Spot(point) => is_in(point, b),
-        ShapeRef::Frame(frame) => meets_outline(a, &frame.corners(), b),
-        ShapeRef::Area(ring) => meets_outline(a, ring.corners(), b),
+        ShapeRef::Frame(_) => region_meets(a, b),
+        ShapeRef::Area(_) => region_meets(a, b),
     }
 }
 
@@ -89,7 +97,7 @@ fn is_inside(point: Point, shape: ShapeRef) -> bool
     match shape {
         ShapeRef::Spot(spot) => is_same_point(point, spot),
         ShapeRef::Frame(frame) => frame.holds(point) && !is_on_ring(point, &frame.corners()),
-        ShapeRef::Area(ring) => in_region(point, ring) && !is_on_ring(point, ring.corners()),
+        ShapeRef::Area(region) => location_by_region(point, region).is_interior(),
     }
 }
 
@@ -125,14 +133,14 @@ fn lent_within(a: ShapeRef, b: ShapeRef) -> Option<bool>
 }
 
 impl ShapeRef<'_> {
-    /// The least box that holds the shape: that of a ring's corners, of a point alone.
+    /// The least box that holds the shape: that of a region's exterior boundary, of a point alone.
     pub fn bounds(self) -> Bounds
         ensures { IsLeastBounds result (shape_corners (lent_shape self.entry)) }
     {
         match self {
             ShapeRef::Spot(point) => Bounds::at(point),
             ShapeRef::Frame(bounds) => bounds,
-            ShapeRef::Area(ring) => ring.bounds(),
+            ShapeRef::Area(region) => region.bounds(),
         }
     }
 
@@ -154,7 +162,7 @@ impl ShapeRef<'_> {
     }
 }
 
-/// The least box that holds the shape: that of a ring's corners, of a point alone.
+/// The least box that holds the shape: that of a region's exterior boundary, of a point alone.
 pub fn bounds(shape: &Shape) -> Bounds
     ensures { IsLeastBounds result (shape_corners shape.now) }
 {

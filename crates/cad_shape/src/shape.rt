@@ -3,28 +3,28 @@
 ghost use Rattle.std.specs.Prelude.{◌≡◌};
 ghost use Rattle.cad_shape.specs.Shapes.{lent_shape};
 
-use crate::{Bounds, Point, Ring};
+use crate::{Bounds, Point, Region};
 
-/// A point, a closed box or the region inside a ring, its boundary taken in.
+/// A point, a closed box or a region, its boundary taken in.
 #[derive(Debug, Drop)]
 pub enum Shape {
     /// A point alone.
     Spot(Point),
     /// A closed box, which may be flat.
     Frame(Bounds),
-    /// The region inside a ring.
-    Area(Ring),
+    /// A region with its holes.
+    Area(Region),
 }
 
-/// A shape whose ring, where it has one, is lent: so a ring that stands elsewhere is judged without a copy.
+/// A shape whose region, where it has one, is lent: so a region that stands elsewhere is judged without a copy.
 #[derive(Clone, Copy, Debug)]
 pub enum ShapeRef<'a> {
     /// A point alone.
     Spot(Point),
     /// A closed box, which may be flat.
     Frame(Bounds),
-    /// The region inside a ring.
-    Area(&'a Ring),
+    /// A region with its holes.
+    Area(&'a Region),
 }
 
 impl Shape {
@@ -35,7 +35,7 @@ impl Shape {
         match self {
             Shape::Spot(point) => ShapeRef::Spot(*point),
             Shape::Frame(bounds) => ShapeRef::Frame(*bounds),
-            Shape::Area(ring) => ShapeRef::Area(ring),
+            Shape::Area(region) => ShapeRef::Area(region),
         }
     }
 }

@@ -1,7 +1,7 @@
 //! What some calls take.
 
 use anyhow::{Result, bail};
-use cad_shape::{Point, Ring, Shape, in_region, meets};
+use cad_shape::{Point, Region, Ring, Shape, in_region, meets};
 use std::alloc::Global;
 use std::time::Instant;
 
@@ -39,6 +39,16 @@ fn ring(corners: Vec<Point>) -> Result<Ring> {
     match Ring::new(corners) {
         Ok(ring) => Ok(ring),
         Err((fault, _corners)) => bail!("{fault}"),
+    }
+}
+
+// The region of the ring through these corners, without holes.
+fn region(alloc: Global, corners: Vec<Point>) -> Result<Region> {
+    let mut rings = Vec::new(alloc);
+    rings.push(ring(corners)?)?;
+    match Region::new(rings) {
+        Ok(region) => Ok(region),
+        Err((fault, _rings)) => bail!("{fault}"),
     }
 }
 
@@ -85,18 +95,19 @@ fn tell_meeting(
 fn four(alloc: Global, east: i64) -> Result<Vec<Shape>> {
     let mut shapes = Vec::new(alloc);
     for i in 0..4i64 {
-        shapes.push(Shape::Area(ring(slope(alloc, 100, east.saturating_add(i))?)?))?;
+        let corners = slope(alloc, 100, east.saturating_add(i))?;
+        shapes.push(Shape::Area(region(alloc, corners)?))?;
     }
     Ok(shapes)
 }
 
 fn tell_points(rt: &HostRuntime) -> Result<()> {
-    let ring = ring(slope(rt.alloc(), 1000, 0)?)?;
+    let region = region(rt.alloc(), slope(rt.alloc(), 1000, 0)?)?;
     let mut inside = 0u32;
     let start = Instant::now(rt)?;
     for x in 0..1000i64 {
         if let Some(point) = Point::new(x, 1000) {
-            inside = inside.wrapping_add(u32::from(in_region(point, &ring)));
+            inside = inside.wrapping_add(u32::from(in_region(point, &region)));
         }
     }
     let spent = start.elapsed(rt)?.as_nanos();

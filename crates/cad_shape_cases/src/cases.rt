@@ -1,7 +1,8 @@
 //! Lines with cases, and their answers.
 
 use cad_shape::{
-    Bounds, Point, Ring, RingFault, Shape, bounds, in_region, meets, segments_meet, within,
+    Bounds, Point, Region, RegionFault, Ring, RingFault, Shape, bounds, in_region, meets,
+    segments_meet, within,
 };
 use std::alloc::{AllocError, Global};
 
@@ -29,6 +30,28 @@ fn ring(alloc: Global, text: &str) -> Result<Option<Ring>, AllocError> {
     Ok(Ring::new(corners).ok())
 }
 
+// The rings of these parts, if each is one; no part at all is no ring.
+fn rings(alloc: Global, text: &str) -> Result<Option<Vec<Ring>>, AllocError> {
+    let mut rings = Vec::new(alloc);
+    if text.is_empty() {
+        return Ok(Some(rings));
+    }
+    for part in text.split(';') {
+        let Some(ring) = ring(alloc, part)? else {
+            return Ok(None);
+        };
+        rings.push(ring)?;
+    }
+    Ok(Some(rings))
+}
+
+fn region(alloc: Global, text: &str) -> Result<Option<Region>, AllocError> {
+    let Some(rings) = rings(alloc, text)? else {
+        return Ok(None);
+    };
+    Ok(Region::new(rings).ok())
+}
+
 fn frame(text: &str) -> Option<Shape> {
     let (least, greatest) = text.split_once(' ')?;
     let least = point(least)?;
@@ -44,7 +67,7 @@ fn shape(alloc: Global, text: &str) -> Result<Option<Shape>, AllocError> {
     match kind {
         "spot" => Ok(point(rest).map(Shape::Spot)),
         "frame" => Ok(frame(rest)),
-        "area" => Ok(ring(alloc, rest)?.map(Shape::Area)),
+        "area" => Ok(region(alloc, rest)?.map(Shape::Area)),
         _ => Ok(None),
     }
 }
@@ -72,6 +95,37 @@ fn ring_answer(alloc: Global, text: &str) -> Result<Option<String>, AllocError> 
     }
 }
 
+fn same_rings(first: &[Ring], second: &[Ring]) -> bool {
+    first.len() == second.len()
+        && first
+            .iter()
+            .zip(second)
+            .all(|(a, b)| a.corners() == b.corners())
+}
+
+fn region_fault_text(alloc: Global, fault: RegionFault) -> Result<String, AllocError> {
+    match fault {
+        RegionFault::Outside { ring } => {
+            format!(in alloc; "{} {} {ring}", fault.number(), fault.name())
+        }
+        _ => format!(in alloc; "{} {}", fault.number(), fault.name()),
+    }
+}
+
+fn region_answer(alloc: Global, text: &str) -> Result<Option<String>, AllocError> {
+    let Some(rings) = rings(alloc, text)? else {
+        return Ok(None);
+    };
+    match Region::new(rings) {
+        Ok(region) => {
+            let copy = region.copy(alloc)?;
+            let same = same_rings(copy.rings(), region.rings());
+            Ok(Some(String::from_str(alloc, if same { "ok" } else { "copied wrongly" })?))
+        }
+        Err((fault, _rings)) => Ok(Some(region_fault_text(alloc, fault)?)),
+    }
+}
+
 fn segments_answer(alloc: Global, text: &str) -> Result<Option<String>, AllocError> {
     let Some(ends) = points(alloc, text)? else {
         return Ok(None);
@@ -90,10 +144,10 @@ fn inside_answer(alloc: Global, text: &str) -> Result<Option<String>, AllocError
     let Some(point) = point(first) else {
         return Ok(None);
     };
-    let Some(ring) = ring(alloc, rest)? else {
+    let Some(region) = region(alloc, rest)? else {
         return Ok(None);
     };
-    let answer = format!(in alloc; "{}", in_region(point, &ring))?;
+    let answer = format!(in alloc; "{}", in_region(point, &region))?;
     Ok(Some(answer))
 }
 
@@ -132,6 +186,7 @@ pub(crate) fn put_answer(alloc: Global, line: &str, answer: &mut String) -> Resu
     let (question, rest) = line.split_once(' ').unwrap_or((line, ""));
     let found = match question {
         "ring" => ring_answer(alloc, rest)?,
+        "region" => region_answer(alloc, rest)?,
         "segments" => segments_answer(alloc, rest)?,
         "inside" => inside_answer(alloc, rest)?,
         "bounds" => bounds_answer(alloc, rest)?,

@@ -8,11 +8,11 @@ use Rattle.cad_shape.proofs.polygon.Region.bounds.Goals as goal
 pub returns-clause-outer : goal.returns-clause-outer
 returns-clause-outer c =
     let region = c.args.self.now in
-    let e = ring_is_at (rings_of region) 0 c.index-as_slice-0.result region.some cc in
+    let e = ring_is_at (rings_of region) 0 c.index-rings-0.result region.some cc in
     subst (λ (cs : List Point). IsLeastBounds c.bounds.result cs) (sym e) c.bounds.ensures
 
 pub returns-clause-all : goal.returns-clause-all
 returns-clause-all c =
     let region = c.args.self.now in
-    let e = ring_is_at (rings_of region) 0 c.index-as_slice-0.result region.some cc in
+    let e = ring_is_at (rings_of region) 0 c.index-rings-0.result region.some cc in
     all_held c.bounds.result (rings_of region) region.inside (subst (λ (cs : List Point). IsLeastBounds c.bounds.result cs) (sym e) c.bounds.ensures)

@@ -1,7 +1,7 @@
 use Rattle.std.proofs.Common.{◌≡◌, ◌↔◌, ◌+◌, ◌≤◌, drop}
 use Rattle.cad_shape.specs.Edges.{walk}
 use Rattle.cad_shape.specs.Regions.{crossings, IsOnSome}
-use Rattle.cad_shape.proofs.region.is_within_walk.Given as goal
+use Rattle.cad_shape.proofs.region.location_by_walk.Given as goal
 
 abbrev pub invariant-loop-corner : goal.invariant-loop-corner
 invariant-loop-corner l =
