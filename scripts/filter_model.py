@@ -27,6 +27,7 @@ SCHEMAS = {
     "restrictions": {**COMMON, **RIGHT, "party_required": "Flag"},
     "units": {**COMMON, "name": "Text"},
     "parties": {**COMMON, "name": "Text", "type": "Text"},
+    "responsibilities": {**COMMON, **RIGHT},
 }
 
 

@@ -23,7 +23,8 @@ from filter_model import COMMON, SCHEMAS, day_of, is_ring, tree_of
 sys.set_int_max_str_digits(0)
 
 FRONT = 32768
-CLASSES = {"parcels": "parcel", "rights": "right", "restrictions": "restriction", "units": "unit", "parties": "party"}
+CLASSES = {"parcels": "parcel", "rights": "right", "restrictions": "restriction", "units": "unit", "parties": "party",
+           "responsibilities": "responsibility"}
 ROUTES = [("landing", r"/"), ("collections", r"/collections"), ("collection", r"/collections/([^/]+)"),
           ("queryables", r"/collections/([^/]+)/queryables"), ("items", r"/collections/([^/]+)/items"),
           ("item", r"/collections/([^/]+)/items/([^/]+)")]
