@@ -15,7 +15,7 @@ use std::alloc::{AllocError, Global};
 
 // The question, with the condition that its filter comes to.
 fn question<'a>(ask: &Ask, condition: Option<Condition<'a>>) -> Question<'a>
-    requires { option_map (λ c. c.filter.now) condition.entry ≡ ask.now.filter }
+    requires { option_map (λ c. c.filter.now) condition ≡ ask.now.filter }
     ensures asked { asked_of result ≡ restrictions ask.now }
     ensures after { after_of result ≡ beginning ask.now }
     ensures limit { result.limit ≡ ask.now.selection.limit }
@@ -40,7 +40,7 @@ fn page_where<'a>(
     snapshot: &'a Snapshot,
     condition: Option<Condition>,
 ) -> Result<Page<'a>, AllocError>
-    requires { option_map (λ c. c.filter.now) condition.entry ≡ ask.now.filter }
+    requires { option_map (λ c. c.filter.now) condition ≡ ask.now.filter }
     ensures rows { IfOk result (λ page. rows_of page ≡ rows_in ask.now snapshot.now) }
     ensures more { IfOk result (λ page. page.more ≡ is_more_in ask.now snapshot.now) }
     ensures features { IfOk result (λ page. All (IsFeatureOf ask.now.collection) (rows_of page)) }
