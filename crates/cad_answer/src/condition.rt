@@ -9,10 +9,10 @@ use cql_types::Filter;
 
 /// A filter, and its normal form, by which features are tested.
 #[derive(Clone, Copy)]
-pub struct Condition<'a> {
+pub struct Condition<'a, 'f> {
     /// The filter.
-    pub filter: &'a Filter,
+    pub filter: &'f Filter,
     /// Its normal form.
-    pub normal: &'a Normal<'a>,
+    pub normal: &'a Normal<'f>,
     pub ghost stands: { (x : Written) → meets x.item normal.now ≡ yes filter.now x.item },
 }

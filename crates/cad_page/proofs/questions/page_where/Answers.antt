@@ -4,6 +4,9 @@ use Rattle.cad_answer.specs.Slices.{after_of}
 use Rattle.cad_page.proofs.PageLemmas.{all_rows}
 use Rattle.cad_page.proofs.questions.page_where.Goals as goal
 
+pub page-requires-clause-written : goal.page-requires-clause-written
+page-requires-clause-written c = λ k d h. c.features_are_written.ensures _ (c.features-features.ensures.listed.each k d h)
+
 pub returns-clause-features : goal.returns-clause-features
 returns-clause-features c =
     let question = c.question.result in
