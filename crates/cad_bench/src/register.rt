@@ -8,7 +8,7 @@ ghost use Rattle.cad_versions.specs.VersionedObject.{IsVersion};
 
 use anyhow::{Context, Result, anyhow, bail};
 use cad_day::{Day, Interval};
-use cad_shape::{Point, Ring};
+use cad_shape::{Point, Region, Ring};
 use cad_versions::{Body, MOST_NUMBER, ObjectId, Version, Words};
 use std::alloc::Global;
 
@@ -56,7 +56,10 @@ fn parcel(alloc: Global, unit: u32) -> Result<Body> {
     for (x, y) in [(0, 0), (20_000, 0), (20_000, 20_000), (0, 20_000)] {
         corners.push(Point::new(x, y).context("a point")?)?;
     }
-    let shape = Ring::new(corners).ok().context("a ring")?;
+    let ring = Ring::new(corners).ok().context("a ring")?;
+    let mut rings = Vec::with_capacity(alloc, 1)?;
+    rings.push(ring)?;
+    let shape = Region::new(rings).ok().context("a region")?;
     Ok(Body::Parcel {
         unit: ObjectId::new(unit).context("a unit")?,
         label: words(alloc, "A-1")?,

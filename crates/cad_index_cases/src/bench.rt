@@ -1,11 +1,12 @@
 //! What the indexes of 100,000 parcels take.
 
 use crate::parcels::{Parcel, bare, features};
-use anyhow::{Context, Result, bail};
+use crate::values::region;
+use anyhow::{Context, Result};
 use cad_feature::{Edge, Scalar};
 use cad_index::{Grid, Indexes, Ordered};
 use cad_schema::{Collection, find_property};
-use cad_shape::{Bounds, Point, Ring};
+use cad_shape::{Bounds, Point, Region};
 use std::alloc::Global;
 use std::time::Instant;
 
@@ -22,16 +23,13 @@ const CORNERS: [(i64, i64); 6] = [
 ];
 
 // The L with this lowest corner.
-fn outline(alloc: Global, x: i64, y: i64) -> Result<Ring> {
+fn outline(alloc: Global, x: i64, y: i64) -> Result<Region> {
     let mut corners = Vec::new(alloc);
     for (dx, dy) in CORNERS {
         let corner = Point::new(x.saturating_add(dx), y.saturating_add(dy)).context("a point")?;
         corners.push(corner)?;
     }
-    match Ring::new(corners) {
-        Ok(ring) => Ok(ring),
-        Err(_) => bail!("no ring"),
-    }
+    region(alloc, corners)?.context("a region")
 }
 
 // Parcels of six corners, 1,000 in a row of 20 kilometres; their areas are their numbers in another order.

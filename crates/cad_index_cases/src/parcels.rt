@@ -13,7 +13,7 @@ use anyhow::{Context, Result, bail};
 use cad_day::Day;
 use cad_feature::{Feature, flatten};
 use cad_schema::Collection;
-use cad_shape::{Point, Ring};
+use cad_shape::{Point, Region};
 use cad_versions::{Body, ObjectId, Version, Words};
 use std::alloc::Global;
 
@@ -24,7 +24,7 @@ pub struct Parcel {
     pub last: Option<Day>,
     pub label: String,
     pub area: Option<u32>,
-    pub shape: Option<Ring>,
+    pub shape: Option<Region>,
     pub spot: Option<Point>,
 }
 

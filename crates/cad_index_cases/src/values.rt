@@ -3,7 +3,7 @@
 use cad_day::Day;
 use cad_feature::{Edge, Scalar};
 use cad_schema::PropertyKind;
-use cad_shape::{Bounds, Point, Ring};
+use cad_shape::{Bounds, Point, Region, Ring};
 use std::alloc::{AllocError, Global};
 
 /// A point, `X,Y`.
@@ -25,13 +25,23 @@ pub fn bounds(word: &str) -> Option<Bounds> {
     )
 }
 
+/// The region inside these corners, if they are those of a ring.
+pub fn region(alloc: Global, corners: Vec<Point>) -> Result<Option<Region>, AllocError> {
+    let Some(ring) = Ring::new(corners).ok() else {
+        return Ok(None);
+    };
+    let mut rings = Vec::with_capacity(alloc, 1)?;
+    rings.push(ring)?;
+    Ok(Region::new(rings).ok())
+}
+
 /// The rectangle of a box that is not flat.
-pub fn rectangle(alloc: Global, word: &str) -> Result<Option<Ring>, AllocError> {
+pub fn rectangle(alloc: Global, word: &str) -> Result<Option<Region>, AllocError> {
     match bounds(word) {
         None => Ok(None),
         Some(bounds) => {
             let corners = Vec::from_array(alloc, bounds.corners())?;
-            Ok(Ring::new(corners).ok())
+            region(alloc, corners)
         }
     }
 }

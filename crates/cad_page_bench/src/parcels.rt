@@ -7,7 +7,7 @@ ghost use Rattle.cad_versions.specs.VersionedObject.{IsVersion};
 
 use anyhow::{Context, Result, bail};
 use cad_day::Day;
-use cad_shape::{Point, Ring};
+use cad_shape::{Point, Region, Ring};
 use cad_versions::{Body, ObjectId, Version, Words};
 use std::alloc::Global;
 
@@ -34,6 +34,16 @@ fn outline(alloc: Global, x: i64, y: i64) -> Result<Ring> {
     }
 }
 
+/// The region of the ring, without holes.
+fn region(alloc: Global, ring: Ring) -> Result<Region> {
+    let mut rings = Vec::with_capacity(alloc, 1)?;
+    rings.push(ring)?;
+    match Region::new(rings) {
+        Ok(region) => Ok(region),
+        Err(_) => bail!("no region"),
+    }
+}
+
 /// The parcel with that number, whose area is its number.
 fn parcel(alloc: Global, number: u32) -> Result<Version>
     ensures number { IfOk result (λ version. object_number version.object ≡ number) }
@@ -47,7 +57,8 @@ fn parcel(alloc: Global, number: u32) -> Result<Version>
         bail!("no words");
     };
     let place = i64::from(number);
-    let shape = outline(alloc, place % 1000 * 20_000, place / 1000 * 20_000)?;
+    let outline = outline(alloc, place % 1000 * 20_000, place / 1000 * 20_000)?;
+    let shape = region(alloc, outline)?;
     Ok(Version {
         object,
         number: 1,

@@ -4,6 +4,7 @@ pub mod Turns
 pub mod SharedPoints
 pub mod Fields
 pub mod LeastBoxes
+pub mod ExtremeLemmas
 pub mod Walks
 pub mod Heights
 pub mod Inside

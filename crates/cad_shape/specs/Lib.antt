@@ -7,6 +7,7 @@ pub mod Regions
 pub mod Locations
 pub mod Areas
 pub mod Crossings
+pub mod Extremes
 pub mod Outlines
 pub mod Rings
 pub mod Polygons

@@ -23,6 +23,7 @@
 mod area;
 mod boxes;
 mod crossing;
+mod extremes;
 pub mod laws;
 mod location;
 mod meeting;

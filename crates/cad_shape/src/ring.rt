@@ -7,28 +7,30 @@ ghost use Rattle.cad_shape.specs.Outlines.{HasArea};
 
 use crate::area::area_doubled;
 use crate::crossing::first_crossing;
+use crate::extremes::Extremes;
 use crate::{Bounds, Point};
 use std::alloc::{AllocError, Global};
 use std::marker::Model;
 use thiserror::Error;
 
-// The list of points, so that two rings of one list of corners are one value; the bounds are kept beside it.
+// The list of points, so that two rings of one list of corners are one value; where the least box touches it is kept
+// beside it.
 #[derive(Debug, Drop)]
 struct Corners {
     points: Vec<Point>,
-    bounds: Bounds,
+    extremes: Extremes,
 }
 
 impl Model for Corners {
     ghost use Rattle.std.specs.Prelude.{List};
     ghost use Rattle.cad_shape.specs.declared.point.Point.{Point};
-    ghost use Rattle.cad_shape.specs.Frames.{IsLeastBounds};
+    ghost use Rattle.cad_shape.specs.Extremes.{AreExtremes};
 
     ghost Value = { List Point };
 
     ghost view = { λ corners. corners.points.items };
 
-    ghost invariant = { λ corners. IsLeastBounds corners.bounds corners.points.items };
+    ghost invariant = { λ corners. AreExtremes corners.points.items corners.extremes };
 }
 
 /// A closed line through 3 to 1,000 corners, the first of which is not repeated at the end. It holds an area, and no
@@ -60,15 +62,16 @@ pub enum RingFault {
 }
 
 impl Corners {
-    ghost use Rattle.std.specs.Prelude.{◌≡◌, ◌<◌, length, IfOk};
+    ghost use Rattle.std.specs.Prelude.{◌≡◌, ◌<◌, ◌≤◌, length, IfOk};
     ghost use Rattle.cad_shape.specs.Frames.{IsLeastBounds};
 
     fn new(points: Vec<Point>) -> Corners
-        requires { 0 < length points.items }
+        requires some { 0 < length points.items }
+        requires few { length points.items ≤ 1000 }
         ensures { result ≡ points.items }
     {
-        let bounds = Bounds::around(points.as_slice());
-        Corners { points, bounds }
+        let extremes = Extremes::of(points.as_slice());
+        Corners { points, extremes }
     }
 
     fn as_slice(&self) -> &[Point]
@@ -80,15 +83,15 @@ impl Corners {
     fn bounds(&self) -> Bounds
         ensures { IsLeastBounds result self.now }
     {
-        self.bounds
+        self.extremes.bounds(self.points.as_slice())
     }
 
     fn copy(&self, alloc: Global) -> Result<Corners, AllocError>
         ensures { IfOk result (λ copy. copy ≡ self.now) }
     {
         let points = Vec::from_slice(alloc, self.points.as_slice())?;
-        let bounds = self.bounds;
-        Ok(Corners { points, bounds })
+        let extremes = self.extremes;
+        Ok(Corners { points, extremes })
     }
 }
 
