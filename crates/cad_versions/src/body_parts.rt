@@ -1,6 +1,6 @@
 //! A body by its ten parts: taken apart in one place, and made again by its class in one other.
 
-ghost use Rattle.std.specs.Prelude.{◌≡◌, ◌↔◌, IsTrue, IfOk, MatchOption};
+ghost use Rattle.std.specs.Prelude.{◌≡◌, ◌↔◌, IsTrue, IfOk, MatchOption, Some};
 ghost use Rattle.std.specs.Option.{option_copied};
 ghost use Rattle.cad_versions.specs.declared.body.Body.{Body as BodyOfVersion};
 ghost use Rattle.cad_versions.specs.BodyParts.{IsMadeOf, IsNoParcel, IsNoRight, lent, no_parts, parts_of};
@@ -76,6 +76,24 @@ const NO_PARTS: LentParts<'static> = LentParts {
     shape: None,
 };
 
+/// The parts that a right has, and with it a restriction and a responsibility.
+fn right_parts(
+    unit: ObjectId,
+    party: Option<ObjectId>,
+    code: &Words,
+    share: Option<Share>,
+) -> LentParts<'_>
+    ensures { lent result ≡ record no_parts { unit = Some unit; party = party; code = Some code.now; share = share } }
+{
+    LentParts {
+        unit: Some(unit),
+        party,
+        code: Some(code),
+        share,
+        ..NO_PARTS
+    }
+}
+
 impl Body {
     /// The parts of the body.
     pub fn parts(&self) -> LentParts<'_>
@@ -110,13 +128,7 @@ impl Body {
                 party,
                 code,
                 share,
-            } => LentParts {
-                unit: Some(*unit),
-                party: *party,
-                code: Some(code),
-                share: *share,
-                ..NO_PARTS
-            },
+            } => right_parts(*unit, *party, code, *share),
             Body::Restriction {
                 unit,
                 party,
@@ -124,25 +136,15 @@ impl Body {
                 share,
                 required,
             } => LentParts {
-                unit: Some(*unit),
-                party: *party,
-                code: Some(code),
-                share: *share,
                 required: *required,
-                ..NO_PARTS
+                ..right_parts(*unit, *party, code, *share)
             },
             Body::Responsibility {
                 unit,
                 party,
                 code,
                 share,
-            } => LentParts {
-                unit: Some(*unit),
-                party: *party,
-                code: Some(code),
-                share: *share,
-                ..NO_PARTS
-            },
+            } => right_parts(*unit, *party, code, *share),
         }
     }
 
