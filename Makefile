@@ -25,6 +25,7 @@ test: cases
 	scripts/chain
 	$(RT) ci
 	scripts/check_office
+	scripts/check_old_register
 	scripts/check_serve
 
 # Every crate, over what earlier checks kept.
@@ -53,9 +54,10 @@ bench: sample
 register-file: sample
 	scripts/check_register_file
 
-# Runs `cadastre office` on a new file, a standing one and foreign ones, and `cadastre ask` over them.
+# Runs `cadastre office` on a new file, a standing one, foreign ones and one that an older program wrote, and `cadastre ask` over them.
 office-file: sample
 	scripts/check_office
+	scripts/check_old_register
 
 # Runs `cadastre serve` on a file of the office, with clients, and with wrong arguments, files and addresses.
 serve-file: sample

@@ -41,7 +41,7 @@ def shape_of(value, holes=()):
 
 def features(collection):
     """The features of a collection: identifiers, and values by name."""
-    rows = {"parcels": PARCELS, "rights": RIGHTS, "restrictions": RESTRICTIONS, "units": UNITS, "parties": PARTIES}
+    rows = {"parcels": PARCELS, "rights": RIGHTS, "restrictions": RESTRICTIONS, "units": UNITS, "parties": PARTIES, "responsibilities": []}
     names = [it for it in SCHEMAS[collection] if it not in COMMON]
     for object_, number, begin, end, *more in rows[collection]:
         days = (day_of(begin), day_of(end) if end else None)

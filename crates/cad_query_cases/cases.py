@@ -109,7 +109,7 @@ def next_target(query, number, last):
     return "/items?" + written(kept + [("revision", number), ("after", last)])
 
 
-COLLECTIONS = ["parcels", "rights", "restrictions", "units", "parties"]
+COLLECTIONS = ["parcels", "rights", "restrictions", "units", "parties", "responsibilities"]
 LIFESPAN = {"object": "Whole", "number": "Whole", "begin": "Day", "end": "Day", "lifespan": "Span"}
 RIGHT = {"type": "Text", "share_num": "Whole", "share_den": "Whole", "unit": "Whole", "unit_name": "Text", "party": "Whole", "party_name": "Text"}
 PROPERTIES = {
@@ -118,6 +118,7 @@ PROPERTIES = {
     "restrictions": {**RIGHT, "party_required": "Flag"},
     "units": {"name": "Text"},
     "parties": {"name": "Text", "type": "Text"},
+    "responsibilities": RIGHT,
 }
 KINDS = {
     "Text": {"type": "string"}, "Whole": {"type": "integer"}, "Flag": {"type": "boolean"}, "Day": {"type": "string", "format": "date"},

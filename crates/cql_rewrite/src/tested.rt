@@ -56,7 +56,7 @@ fn is_liked_at(feature: &Feature, property: usize, pattern: &String) -> bool
 
 /// Whether the feature meets the form, or want of memory, which is taken for texts whose case is folded alone: a form
 /// without such a text is always answered.
-#[cycle(test)]
+#[cycle(tested)]
 pub fn test(alloc: Global, form: &Normal, feature: &Feature) -> Result<bool, AllocError>
     ensures said { IfOk result (λ b. b ≡ meets feature.now form.now) }
     ensures answers { folds form.now ≡ false → IsOk result }
@@ -75,7 +75,7 @@ pub fn test(alloc: Global, form: &Normal, feature: &Feature) -> Result<bool, All
     }
 }
 
-#[cycle(test)]
+#[cycle(tested)]
 fn meets_all(alloc: Global, parts: &[Normal], feature: &Feature) -> Result<bool, AllocError>
     ensures said { IfOk result (λ b. b ≡ list_all (meets feature.now) parts.now) }
     ensures answers { list_any folds parts.now ≡ false → IsOk result }
@@ -89,7 +89,7 @@ fn meets_all(alloc: Global, parts: &[Normal], feature: &Feature) -> Result<bool,
     Ok(true)
 }
 
-#[cycle(test)]
+#[cycle(tested)]
 fn meets_some(alloc: Global, parts: &[Normal], feature: &Feature) -> Result<bool, AllocError>
     ensures said { IfOk result (λ b. b ≡ list_any (meets feature.now) parts.now) }
     ensures answers { list_any folds parts.now ≡ false → IsOk result }

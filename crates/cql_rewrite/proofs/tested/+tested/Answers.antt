@@ -1,6 +1,6 @@
 use Rattle.std.proofs.lemmas.Bool.{false≢true}
 use Rattle.cql_rewrite.proofs.Forms.{meets_And, meets_Near, meets_Or, folds_And, folds_Or, no_part_folds}
-use Rattle.cql_rewrite.proofs.tested.+test.Goals as goal
+use Rattle.cql_rewrite.proofs.tested.+tested.Goals as goal
 
 pub test-returns-in-Near-clause-said : goal.test-returns-in-Near-clause-said
 test-returns-in-Near-clause-said m c = rw (c.in-Near.is, meets_Near) c.is_said-in-Near.ensures.said

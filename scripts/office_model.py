@@ -1,0 +1,229 @@
+#!/usr/bin/env python3
+"""A second reading of the land office's rules, in Python and not from the crates.
+
+It tells what the office answers to lines, over a ledger in memory that is empty at first, by docs/OFFICE.md. scripts/check_further_cases
+holds the stored answers of crates/office_cases against it.
+
+    scripts/office_model.py < LINES
+"""
+import json
+import sys
+
+from filter_model import day_of, is_ring
+
+# Digits without end are read as numbers.
+sys.set_int_max_str_digits(0)
+
+LINE = 65536
+FAULTS = {"NotACommand": 0, "KnownObject": 1, "UnknownObject": 2, "OtherClass": 3, "DayNotAfter": 4, "Retired": 5, "UnknownReference": 6}
+
+
+class NotACommand(Exception):
+    pass
+
+
+def need(holds):
+    if not holds:
+        raise NotACommand
+
+
+# ---- JSON, as its text is read: the last of two members of one name counts, and a number is whole where it is written so
+
+class Fraction:
+    """A number with a fraction, an exponent or a sign before 0."""
+
+
+def utf8(value):
+    """No text in the value has half a pair of surrogates."""
+    if isinstance(value, str):
+        value.encode("utf-8")
+    elif isinstance(value, list):
+        for part in value:
+            utf8(part)
+
+
+def members(pairs):
+    for name, value in pairs:
+        utf8(name)
+        utf8(value)
+    return dict(pairs)
+
+
+def read(line):
+    def constant(_):
+        raise ValueError
+
+    try:
+        return json.loads(line.decode("utf-8"), object_pairs_hook=members, parse_constant=constant, parse_float=lambda _: Fraction(),
+                          parse_int=lambda text: Fraction() if text == "-0" else int(text))
+    except (ValueError, RecursionError):
+        raise NotACommand from None
+
+
+# ---- values
+
+def whole(value, least, most):
+    need(type(value) is int and least <= value <= most)
+    return value
+
+
+def object_id(value):
+    return whole(value, 1, 2**31 - 1)
+
+
+def day(value):
+    found = day_of(value) if isinstance(value, str) else None
+    need(found)
+    return found
+
+
+def words(value):
+    need(isinstance(value, str) and 1 <= len(value.encode("utf-8")) <= 200 and "\0" not in value)
+    return value
+
+
+def flag(value):
+    need(isinstance(value, bool))
+    return value
+
+
+def pair(value):
+    need(isinstance(value, list) and len(value) == 2)
+    return value
+
+
+def share(value):
+    num, den = pair(value)
+    return whole(num, 1, whole(den, 1, 10**9)), den
+
+
+def point(value):
+    x, y = pair(value)
+    return whole(x, -10**11, 10**11), whole(y, -10**11, 10**11)
+
+
+def ring(value):
+    need(isinstance(value, list))
+    corners = [point(corner) for corner in value]
+    need(is_ring(corners))
+    return corners
+
+
+def edges(corners):
+    return zip(corners, corners[1:] + corners[:1])
+
+
+def turn(p, q, t):
+    return (q[0] - p[0]) * (t[1] - p[1]) - (q[1] - p[1]) * (t[0] - p[0])
+
+
+def is_in(t, corners):
+    """Whether the point is on the ring or inside it."""
+    crossed = 0
+    for p, q in edges(corners):
+        if turn(p, q, t) == 0 and min(p[0], q[0]) <= t[0] <= max(p[0], q[0]) and min(p[1], q[1]) <= t[1] <= max(p[1], q[1]):
+            return True
+        low, high = (p, q) if p[1] <= q[1] else (q, p)
+        if low[1] <= t[1] < high[1] and turn(low, high, t) > 0:
+            crossed += 1
+    return crossed % 2 == 1
+
+
+def region(outline, holes):
+    """An outer ring and the holes in it: 100 rings and 1,000 corners at most, and no corner of a hole outside the outer ring."""
+    outer = ring(outline)
+    need(holes is None or isinstance(holes, list))
+    rings = [outer] + [ring(it) for it in holes or []]
+    need(len(rings) <= 100 and sum(map(len, rings)) <= 1000)
+    need(all(is_in(corner, outer) for it in rings[1:] for corner in it))
+    return rings
+
+
+# ---- bodies: the members of each class, those that have to be there, and what each is read as
+
+RIGHT = {"unit": object_id, "party": object_id, "code": words, "share": share}
+BODIES = {
+    "party": ({"name": words, "code": words}, ["code"]),
+    "unit": ({"name": words}, []),
+    "parcel": ({"unit": object_id, "label": words, "area": lambda it: whole(it, 0, 2**32 - 1), "spot": point}, ["unit", "label"]),
+    "right": (RIGHT, ["unit", "code"]),
+    "restriction": ({**RIGHT, "required": flag}, ["unit", "code"]),
+    "responsibility": (RIGHT, ["unit", "code"]),
+}
+
+
+def body(name, value):
+    need(isinstance(value, dict))
+    readers, required = BODIES[name]
+    told = {member: it for member, it in value.items() if it is not None}
+    shaped = ["shape", "holes"] if name == "parcel" else []
+    need(set(value) <= {*readers, *shaped} and all(it in told for it in required))
+    said = {member: readers[member](it) for member, it in told.items() if member not in shaped}
+    if "shape" in told:
+        said["shape"] = region(told["shape"], told.get("holes"))
+    else:
+        need("holes" not in told)
+    return said
+
+
+def command(line):
+    told = read(line)
+    need(isinstance(told, dict) and told.get("do") in ("enter", "amend", "retire") and "object" in told)
+    number = object_id(told["object"])
+    if told["do"] == "retire":
+        need(set(told) == {"do", "object", "last"})
+        return "retire", number, day(told["last"]), None, None
+    others = set(told) - {"do", "object", "first"}
+    need("first" in told and len(others) == 1 and others <= set(BODIES))
+    name = others.pop()
+    return told["do"], number, day(told["first"]), name, body(name, told[name])
+
+
+# ---- the register: of each object its class, the first day of its open version, and whether one is open
+
+def refusal(register, do, number, at, name, said):
+    known = register.get(number)
+    if do == "enter":
+        if known:
+            return "KnownObject"
+    else:
+        if not known:
+            return "UnknownObject"
+        if do == "amend" and known["class"] != name:
+            return "OtherClass"
+        if known["since"] is None:
+            return "Retired"
+        if at < known["since"] or do == "amend" and at == known["since"]:
+            return "DayNotAfter %04d-%02d-%02d" % known["since"]
+    for member in ("unit", "party"):
+        named = (said or {}).get(member)
+        if named is not None and register.get(named, {}).get("class") != member:
+            return "UnknownReference"
+    return None
+
+
+def answers(text):
+    register, revision = {}, 0
+    for line in text.split(b"\n"):
+        if not line:
+            continue
+        try:
+            need(len(line) <= LINE)
+            do, number, at, name, said = command(line)
+            why = refusal(register, do, number, at, name, said)
+        except NotACommand:
+            why = "NotACommand"
+        if why:
+            yield f"refused {FAULTS[why.split()[0]]} {why}"
+            continue
+        revision += 1
+        if do == "retire":
+            register[number]["since"] = None
+        else:
+            register[number] = {"class": name, "since": at}
+        yield f"revision {revision}"
+
+
+if __name__ == "__main__":
+    for answer in answers(sys.stdin.buffer.read()):
+        print(answer)
