@@ -1,4 +1,4 @@
-//! Many sources as one tree, whose depth is the logarithm of how many they are.
+//! Many sources as one tree. It is built of pairs of pairs, so that it stays flat; no contract says how flat.
 
 ghost use Rattle.std.specs.Prelude.{◌≡◌, ◌≤◌, ◌<◌, ◌+◌, ◌*◌, ℕ, IfOk, length};
 ghost use Rattle.cad_rows.specs.Has.{has, has_any, has_all};
@@ -33,10 +33,7 @@ pub fn join_all<'a>(alloc: Global, sources: Vec<Source<'a>>) -> Result<Source<'a
     while sources.len() > 1 {
         sources = joined_pairs(alloc, sources)?;
     }
-    match sources.pop() {
-        None => Ok(Source::Empty),
-        Some(source) => Ok(source),
-    }
+    Ok(sources.pop().unwrap_or(Source::Empty))
 }
 
 /// Two by two, those of both.
