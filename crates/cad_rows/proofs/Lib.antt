@@ -1,0 +1,4 @@
+pub mod Advances
+pub mod Builds
+pub mod Takings
+pub mod ListedLemmas
