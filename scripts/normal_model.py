@@ -14,7 +14,7 @@ import sys
 import filter_meaning as meaning
 import filter_model as model
 
-FALSE = ("constant", False)
+FALSE, TRUE = ("constant", False), ("constant", True)
 ORDERED = ("whole", "text", "day")
 TURNED = {"=": "=", "<>": "<>", "<": ">", ">": "<", "<=": ">=", ">=": "<="}
 OPPOSITE = {"=": "<>", "<>": "=", "<": ">=", ">": "<=", "<=": ">", ">=": "<"}
@@ -79,10 +79,17 @@ def all_of(forms):
     parts = []
     for form in forms:
         for part in form[1] if form[0] == "and" else [form]:
-            parts = add(parts, part)
+            parts = parts if part == TRUE else add(parts, part)
     if FALSE in parts:
         return FALSE
-    return parts[0] if len(parts) == 1 else ("and", parts)
+    return TRUE if not parts else parts[0] if len(parts) == 1 else ("and", parts)
+
+
+def some_of(forms):
+    parts = [it for it in forms if it != FALSE]
+    if TRUE in parts:
+        return TRUE
+    return FALSE if not parts else parts[0] if len(parts) == 1 else ("or", parts)
 
 
 def end_of_front(front):
@@ -115,7 +122,7 @@ def between(left, low, high, side):
     forms = [compared(sign, left, it) for sign, it in zip(signs, (low, high))]
     if OTHER in forms:
         return OTHER
-    return all_of(forms) if side else ("or", forms)
+    return all_of(forms) if side else some_of(forms)
 
 
 def form_of(tree, side):
@@ -127,7 +134,7 @@ def form_of(tree, side):
         return form_of(parts[0], not side)
     if operator in ("and", "or"):
         forms = [form_of(it, side) for it in parts]
-        return all_of(forms) if (operator == "and") == side else ("or", forms)
+        return all_of(forms) if (operator == "and") == side else some_of(forms)
     if operator == "compare":
         return compared(extra if side else OPPOSITE[extra], *parts) if is_ordered(parts) else OTHER
     if operator in ("like", "between", "in"):
@@ -136,6 +143,9 @@ def form_of(tree, side):
         return liked(*parts) if side else OTHER
     if operator == "between":
         return between(*parts, side)
+    if operator == "in" and side and is_ordered(parts):
+        forms = [compared("=", parts[0], it) for it in parts[1:]]
+        return OTHER if OTHER in forms else some_of(forms)
     return OTHER
 
 
