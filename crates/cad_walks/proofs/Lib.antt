@@ -7,3 +7,4 @@ pub mod SortLemmas
 pub mod AcceptedLemmas
 pub mod WalkLemmas
 pub mod VisitLemmas
+pub mod RestartLemmas

@@ -30,13 +30,13 @@ use Rattle.cad_walks.specs.Laws.{WalksShowTheAnswer, RunsKeepAccepted, Connectio
 
 -- ---- lists that begin with others
 
-abbrev IsFront : {X : Type 0} → List X → List X → Type 0
+abbrev pub IsFront : {X : Type 0} → List X → List X → Type 0
 IsFront {X} xs ys = (more : List X) × (ys ≡ xs ++ more)
 
 front_self : {X : Type 0} (xs : List X) → IsFront xs xs
 front_self xs = ([], sym (append-nil xs))
 
-front_of_front : {X : Type 0} (xs ys zs : List X) → IsFront xs ys → IsFront ys zs → IsFront xs zs
+pub front_of_front : {X : Type 0} (xs ys zs : List X) → IsFront xs ys → IsFront ys zs → IsFront xs zs
 front_of_front {X} xs ys zs f g = (f.0 ++ g.0, g.1 ∙ ap (λ (l : List X). l ++ g.0) f.1 ∙ append_assoc xs f.0 g.0)
 
 -- of two that one list begins with, the shorter begins the longer
@@ -75,7 +75,7 @@ after_grows commands (Open c) answer = front_self commands
 after_grows commands (Bytes c piece) answer = front_self commands
 after_grows commands (Close c) answer = front_self commands
 
-run_grows : (events : List Event) (answers : List (Result Reply DeskFault)) (commands : List Command) → IsFront commands (in_force commands events answers)
+pub run_grows : (events : List Event) (answers : List (Result Reply DeskFault)) (commands : List Command) → IsFront commands (in_force commands events answers)
 run_grows [] answers commands = front_self commands
 run_grows (event ∷ events) [] commands = front_self commands
 run_grows (event ∷ events) (answer ∷ answers) commands =
@@ -205,11 +205,11 @@ told Replies of (head ∷ heads) last out e =
 
 -- ---- accepted commands
 
-accepted_then : (vs : List VersionedObject) (cs : List Command) (c : Command) → AreAccepted vs cs → refusal (fold after vs cs) c ≡ None → AreAccepted vs (cs ++ c ∷ [])
+pub accepted_then : (vs : List VersionedObject) (cs : List Command) (c : Command) → AreAccepted vs cs → refusal (fold after vs cs) c ≡ None → AreAccepted vs (cs ++ c ∷ [])
 accepted_then vs [] c all fine = (fine, tt)
 accepted_then vs (d ∷ cs) c all fine = (all.0, accepted_then (after vs d) cs c all.1 fine)
 
-accepted_front : (vs : List VersionedObject) (cs more : List Command) → AreAccepted vs (cs ++ more) → AreAccepted vs cs
+pub accepted_front : (vs : List VersionedObject) (cs more : List Command) → AreAccepted vs (cs ++ more) → AreAccepted vs cs
 accepted_front vs [] more all = tt
 accepted_front vs (c ∷ cs) more all = (all.0, accepted_front (after vs c) cs more all.1)
 
@@ -229,7 +229,7 @@ module _ (rules : Rules) where
   stepped commands old new (Close c) answer s all = all
   stepped commands old new (Office command) answer s all = entered commands old new command answer s all
 
-  run_accepts : (events : List Event) (answers : List (Result Reply DeskFault)) (commands : List Command) (old : Connections)
+  pub run_accepts : (events : List Event) (answers : List (Result Reply DeskFault)) (commands : List Command) (old : Connections)
       → RunOf rules commands old events answers → AreAccepted [] commands → AreAccepted [] (in_force commands events answers)
   run_accepts [] [] commands old run all = all
   run_accepts [] (answer ∷ answers) commands old run all = absurd run
@@ -239,7 +239,7 @@ module _ (rules : Rules) where
 
   -- ---- visits of a run
 
-  visit_before : (run : Run rules) (visit : Visit) → IsVisitIn rules run visit → IsFront visit.commands (in_force run.commands run.events run.answers)
+  pub visit_before : (run : Run rules) (visit : Visit) → IsVisitIn rules run visit → IsFront visit.commands (in_force run.commands run.events run.answers)
   visit_before run visit is =
       let last = in_force run.commands run.events run.answers in
       let pieces = opened_grows is.connection is.own run.events run.answers run.commands is.opened in
@@ -252,7 +252,7 @@ module _ (rules : Rules) where
   all_before run (visit ∷ visits) all = (visit_before run visit all.0, all_before run visits all.1)
 
 -- a client that follows links among them walks
-walks : (last : List Command) (visit : Visit) (visits : List Visit) → AllByRecursion (λ (v : Visit). IsFront v.commands last) (visit ∷ visits)
+pub walks : (last : List Command) (visit : Visit) (visits : List Visit) → AllByRecursion (λ (v : Visit). IsFront v.commands last) (visit ∷ visits)
     → IsNonDecreasingBy revision_at (visit ∷ visits) → GetsNext (visit ∷ visits) → IsWalk (visit ∷ visits)
 walks last visit [] before order links = links
 walks last visit (next ∷ visits) before order links =

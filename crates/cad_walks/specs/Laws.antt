@@ -1,5 +1,6 @@
 -- What holds of all walks.
 use Rattle.std.specs.Prelude.{◌≡◌, ℕ, ℤ, ◌≤◌, List, [], ◌∷◌, length, Option}
+use Rattle.cad_versions.specs.declared.command.Command.{Command}
 use Rattle.std.specs.List.{All, AllPairs}
 use Rattle.std.specs.List.Sorted.{IsNonDecreasingBy, IsStrictlySortedBy}
 use Rattle.cad_versions.specs.Refusals.{AreAccepted}
@@ -12,6 +13,7 @@ use Rattle.cad_desk.specs.Runs.{Exchange}
 use Rattle.cad_desk.specs.Laws.{Opens}
 use Rattle.cad_walks.specs.Walks.{Visit, AsksFor, revision_asked, snapshot_asked, IsWalk, pages_of, ShowTheAnswer}
 use Rattle.cad_walks.specs.Visits.{AreVisits, IsBefore, revision_at, Run, in_force, IsVisitIn, GetsNext}
+use Rattle.cad_walks.specs.Restarts.{AreStarts, in_force_after, OpensInOne, IsVisitInOne}
 
 -- the features that come after the one that is named stand on as many pages as their number asks for
 abbrev pub WalksHaveThatManyPages : Type 0
@@ -40,3 +42,23 @@ WalksInRunsShowTheAnswer rules =
     (run : Run rules) (visit : Visit) (visits : List Visit) (ask : Ask) → AreAccepted [] run.commands → All (IsVisitIn rules run) (visit ∷ visits)
     → IsNonDecreasingBy revision_at (visit ∷ visits) → AsksFor visit.request ask → revision_asked ask visit.commands ≤ length visit.commands
     → GetsNext (visit ∷ visits) → (pages : List (List Item)) × ShowTheAnswer ask (snapshot_asked ask visit.commands) (visit ∷ visits) pages
+
+-- ---- stopped and started anew
+
+-- where the commands at the first start were accepted, so were those in force after any number of starts
+abbrev pub RestartsKeepAccepted : Rules → Type 0
+RestartsKeepAccepted rules = (first : List Command) (runs : List (Run rules)) → AreStarts rules first runs → AreAccepted [] first → AreAccepted [] (in_force_after rules first runs)
+
+-- what goes out to a connection, between two starts, is a reply to each of its requests, one after the other, while the commands in force only grow
+abbrev pub ConnectionsAmongRestartsAreVisits : Rules → Type 0
+ConnectionsAmongRestartsAreVisits rules =
+    (first : List Command) (runs : List (Run rules)) (c : ℕ) (own : List Exchange) → AreStarts rules first runs → OpensInOne rules runs c own
+    → (visits : List Visit) × AreVisits rules own visits × AllPairs IsBefore visits
+
+-- over accepted commands, on any connection of any start, a client asks for a revision that was made and then follows each link next, never where fewer commands are in force than before: its pages, joined, are the whole answer of that revision, however often the server is stopped and started between them
+abbrev pub WalksAmongRestartsShowTheAnswer : Rules → Type 0
+WalksAmongRestartsShowTheAnswer rules =
+    (first : List Command) (runs : List (Run rules)) (visit : Visit) (visits : List Visit) (ask : Ask) → AreAccepted [] first → AreStarts rules first runs
+    → All (IsVisitInOne rules runs) (visit ∷ visits) → IsNonDecreasingBy revision_at (visit ∷ visits)
+    → AsksFor visit.request ask → revision_asked ask visit.commands ≤ length visit.commands → GetsNext (visit ∷ visits)
+    → (pages : List (List Item)) × ShowTheAnswer ask (snapshot_asked ask visit.commands) (visit ∷ visits) pages

@@ -1,4 +1,5 @@
 pub mod Walks
 pub mod Visits
+pub mod Restarts
 pub mod Registers
 pub mod Laws

@@ -2,8 +2,11 @@
 
 ghost use Rattle.cad_desk.specs.Desks.{rules_of};
 ghost use Rattle.cad_walks.specs.Laws.{
+  ConnectionsAmongRestartsAreVisits,
   ConnectionsAreVisits,
+  RestartsKeepAccepted,
   RunsKeepAccepted,
+  WalksAmongRestartsShowTheAnswer,
   WalksHaveThatManyPages,
   WalksInRunsShowTheAnswer,
   WalksShowTheAnswer,
@@ -69,4 +72,27 @@ pub fn walks_in_runs_show_the_answer<L: Ledger>()
 {
     walks_show_the_answer();
     runs_keep_accepted::<Server<L>>();
+}
+
+/// Where the commands that the first start of a server finds were accepted one after the other, so were those in force
+/// after any number of starts, also where a command was being entered at a stop.
+pub fn restarts_keep_accepted<R: Responder>()
+    ensures { RestartsKeepAccepted (rules_of R.Responder) }
+{}
+
+/// What goes out to a connection, from its opening on and until the server is stopped, is a reply to each of its requests,
+/// one after the other, while the commands in force only grow.
+pub fn connections_among_restarts_are_visits<L: Ledger>()
+    ensures { ConnectionsAmongRestartsAreVisits (rules_of ⟦<Server<L> as Responder>⟧) }
+{
+    connections_are_visits::<L>();
+}
+
+/// The pages of a walk, joined, are the whole answer of the revision that its first request asks for, on whichever
+/// connections its requests come, and however often the server is stopped and started between them.
+pub fn walks_among_restarts_show_the_answer<L: Ledger>()
+    ensures { WalksAmongRestartsShowTheAnswer (rules_of ⟦<Server<L> as Responder>⟧) }
+{
+    walks_show_the_answer();
+    restarts_keep_accepted::<Server<L>>();
 }

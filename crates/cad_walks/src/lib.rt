@@ -3,7 +3,7 @@
 //! - `laws`: the pages of a walk, joined, are the whole answer of the revision that its first request asks for, each
 //!   feature once and in the order of identifiers, on as many pages as their number asks for. It makes no difference
 //!   which commands the office enters between the requests. And that a client gets such a walk in any run of a desk
-//!   over the server, on whichever connections it asks
+//!   over the server, on whichever connections it asks, and however often the server is stopped and started meanwhile
 //! - `registers`: that the revisions of accepted commands are listings, and how many commands there can be
 //!
 //! The first six commands of a register enter unit 10 and the parcels 1 to 4, and amend parcel 1. A client asks for
