@@ -56,19 +56,31 @@ fn lines(alloc: Global, count: u32) -> Result<String, AllocError> {
     Ok(lines)
 }
 
-fn measured(rt: &HostRuntime, count: u32) -> Result<Spent> {
-    let lines = lines(rt.alloc(), count)?;
-    let mut ledger = PlainLedger::new(rt.alloc());
+/// How long the lines take.
+fn entering(rt: &HostRuntime, lines: &str, ledger: &mut PlainLedger) -> Result<Duration> {
     let mut out = Vec::new(rt.alloc());
     let start = Instant::now(rt)?;
     let mut reader = Cursor::new(lines.as_bytes());
-    let ended = office(rt.alloc(), &mut reader, &mut out, &mut ledger);
-    let entering = start.elapsed(rt)?;
+    let ended = office(rt.alloc(), &mut reader, &mut out, ledger);
+    let spent = start.elapsed(rt)?;
     ensure!(ended == Ok(true), "a line was refused");
+    Ok(spent)
+}
+
+/// How long the revision takes to read.
+fn reading(rt: &HostRuntime, ledger: &mut PlainLedger, revision: u32) -> Result<Duration> {
     let start = Instant::now(rt)?;
-    let read = ledger.as_of(u64::from(count)).is_ok();
-    let reading = start.elapsed(rt)?;
-    ensure!(read, "the last revision can't be read");
+    let is_read = ledger.as_of(u64::from(revision)).is_ok();
+    let spent = start.elapsed(rt)?;
+    ensure!(is_read, "the last revision can't be read");
+    Ok(spent)
+}
+
+fn measured(rt: &HostRuntime, count: u32) -> Result<Spent> {
+    let lines = lines(rt.alloc(), count)?;
+    let mut ledger = PlainLedger::new(rt.alloc());
+    let entering = entering(rt, lines.as_str(), &mut ledger)?;
+    let reading = reading(rt, &mut ledger, count)?;
     Ok(Spent { entering, reading })
 }
 

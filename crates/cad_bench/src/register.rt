@@ -50,19 +50,28 @@ fn named(alloc: Global, name: &str) -> Result<Body> {
     Ok(Body::Unit { name: Some(name) })
 }
 
-/// A square of twenty metres.
-fn parcel(alloc: Global, unit: u32) -> Result<Body> {
+fn ring(alloc: Global) -> Result<Ring> {
     let mut corners = Vec::new(alloc);
     for (x, y) in [(0, 0), (20_000, 0), (20_000, 20_000), (0, 20_000)] {
         corners.push(Point::new(x, y).context("a point")?)?;
     }
-    let ring = Ring::new(corners).ok().context("a ring")?;
+    Ring::new(corners).ok().context("a ring")
+}
+
+/// A square of twenty metres.
+fn square(alloc: Global) -> Result<Region> {
     let mut rings = Vec::with_capacity(alloc, 1)?;
-    rings.push(ring)?;
-    let shape = Region::new(rings).ok().context("a region")?;
+    rings.push(ring(alloc)?)?;
+    Region::new(rings).ok().context("a region")
+}
+
+fn parcel(alloc: Global, unit: u32) -> Result<Body> {
+    let unit = ObjectId::new(unit).context("a unit")?;
+    let label = words(alloc, "A-1")?;
+    let shape = square(alloc)?;
     Ok(Body::Parcel {
-        unit: ObjectId::new(unit).context("a unit")?,
-        label: words(alloc, "A-1")?,
+        unit,
+        label,
         area: Some(400),
         shape: Some(shape),
         spot: None,
@@ -87,14 +96,12 @@ fn push_units(alloc: Global, versions: &mut Vec<Version>, units: u32) -> Result<
     ensures { All IsVersion versions.new.items }
 {
     for unit in 1..=units {
-        let (first, second, third) = (
-            named(alloc, "Mill")?,
-            named(alloc, "Old Mill")?,
-            named(alloc, "New Mill")?,
-        );
-        push(versions, version(unit, 1, 10_000, Some(10_099), first))?;
-        push(versions, version(unit, 2, 10_100, Some(10_199), second))?;
-        push(versions, version(unit, 3, 10_200, None, third))?;
+        let body = named(alloc, "Mill")?;
+        push(versions, version(unit, 1, 10_000, Some(10_099), body))?;
+        let body = named(alloc, "Old Mill")?;
+        push(versions, version(unit, 2, 10_100, Some(10_199), body))?;
+        let body = named(alloc, "New Mill")?;
+        push(versions, version(unit, 3, 10_200, None, body))?;
     }
     Ok(())
 }

@@ -62,9 +62,12 @@ module _ (rules : Rules) where
   opened_opens c own [] answers commands old run opened = absurd opened
   opened_opens c own (event ∷ events) [] commands old run opened = absurd opened
   opened_opens c own (event ∷ events) (answer ∷ answers) commands old run (inl now) = (
-    commands, old, events, answers,
+    commands,
+    old,
+    events,
+    answers,
     subst (λ (e : Event). RunOf rules commands old (e ∷ events) (Ok Opened ∷ answers)) now.0
-    (subst (λ (a : Result Reply DeskFault). RunOf rules commands old (event ∷ events) (a ∷ answers)) now.1 run),
+        (subst (λ (a : Result Reply DeskFault). RunOf rules commands old (event ∷ events) (a ∷ answers)) now.1 run),
     now.2,
   )
   opened_opens c own (event ∷ events) (answer ∷ answers) commands old run (inr more) =

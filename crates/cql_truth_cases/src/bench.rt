@@ -7,6 +7,7 @@ use cad_feature::Feature;
 use cad_schema::Collection;
 use cql_text::like;
 use cql_truth::{Truth, truth};
+use cql_types::Filter;
 use std::alloc::{AllocError, Global};
 use std::time::Instant;
 
@@ -45,18 +46,28 @@ fn parcels(alloc: Global) -> Result<Vec<Feature>> {
     Ok(parcels)
 }
 
-fn tell_filter(rt: &HostRuntime, parcels: &[Feature], text: &str) -> Result<()> {
-    let filter = filter_of(rt.alloc(), Collection::Parcels, text).context("a filter")?;
+// Of how many the filter is true.
+fn count_true(alloc: Global, filter: &Filter, parcels: &[Feature]) -> Result<u32, AllocError> {
     let mut taken = 0u32;
-    let start = Instant::now(rt)?;
     for parcel in parcels {
-        if truth(rt.alloc(), &filter, parcel)? == Truth::Yes {
+        if truth(alloc, filter, parcel)? == Truth::Yes {
             taken = taken.wrapping_add(1);
         }
     }
+    Ok(taken)
+}
+
+fn tell_truth(rt: &HostRuntime, parcels: &[Feature], text: &str, filter: &Filter) -> Result<()> {
+    let start = Instant::now(rt)?;
+    let taken = count_true(rt.alloc(), filter, parcels)?;
     let spent = start.elapsed(rt)?.as_micros();
     println!(rt; "{text}: {spent} microseconds, {taken} taken")?;
     Ok(())
+}
+
+fn tell_filter(rt: &HostRuntime, parcels: &[Feature], text: &str) -> Result<()> {
+    let filter = filter_of(rt.alloc(), Collection::Parcels, text).context("a filter")?;
+    tell_truth(rt, parcels, text, &filter)
 }
 
 fn repeated(alloc: Global, text: &str, times: u32) -> Result<String, AllocError> {
@@ -75,54 +86,30 @@ fn tell_like(rt: &HostRuntime, name: &str, text: &str, pattern: &str) -> Result<
     Ok(())
 }
 
+// A pattern of a part 4,000 times, and a text of characters many times.
+fn tell_many(rt: &HostRuntime, part: &str, characters: &str, times: u32) -> Result<()> {
+    let pattern = repeated(rt.alloc(), part, 4000)?;
+    let text = repeated(rt.alloc(), characters, times)?;
+    print!(rt; "4,000 times {part}, and {times} times ")?;
+    tell_like(rt, characters, text.as_str(), pattern.as_str())
+}
+
 /// Prints what each takes.
 pub fn tell_times(rt: &HostRuntime) -> Result<()> {
-    let alloc = rt.alloc();
-    let parcels = parcels(alloc)?;
-    tell_filter(rt, parcels.as_slice(), "label IS NULL")?;
-    tell_filter(rt, parcels.as_slice(), "area > 390 AND label LIKE 'A%'")?;
-    tell_filter(
-        rt,
-        parcels.as_slice(),
+    let parcels = parcels(rt.alloc())?;
+    for text in [
+        "label IS NULL",
+        "area > 390 AND label LIKE 'A%'",
         "S_INTERSECTS(geometry, BBOX(100000,100000,400000,400000))",
-    )?;
-    tell_filter(rt, parcels.as_slice(), "CASEI(label) = 'a-7'")?;
-    tell_filter(rt, parcels.as_slice(), "CASEI(label) LIKE CASEI('B-_')")?;
-    tell_filter(
-        rt,
-        parcels.as_slice(),
+        "CASEI(label) = 'a-7'",
+        "CASEI(label) LIKE CASEI('B-_')",
         "T_DURING(begin, INTERVAL('2000-01-01','2003-01-01'))",
-    )?;
-    tell_filter(
-        rt,
-        parcels.as_slice(),
         "area * 2 + 7 NOT BETWEEN 500 AND 1000 DIV 3",
-    )?;
-    tell_filter(
-        rt,
-        parcels.as_slice(),
         "area IN (1, 2, 3, 5, 8, 13, 21, 34, 55, 89)",
-    )?;
-    let pattern = repeated(alloc, "%a", 4000)?;
-    let bytes = repeated(alloc, "a", 200)?;
-    tell_like(
-        rt,
-        "4,000 times %a, and 200 times a",
-        bytes.as_str(),
-        pattern.as_str(),
-    )?;
-    let mixed = repeated(alloc, "ab", 100)?;
-    tell_like(
-        rt,
-        "4,000 times %a, and 100 times ab",
-        mixed.as_str(),
-        pattern.as_str(),
-    )?;
-    let tail = repeated(alloc, "%ab", 4000)?;
-    tell_like(
-        rt,
-        "4,000 times %ab, and 200 times a",
-        bytes.as_str(),
-        tail.as_str(),
-    )
+    ] {
+        tell_filter(rt, parcels.as_slice(), text)?;
+    }
+    tell_many(rt, "%a", "a", 200)?;
+    tell_many(rt, "%a", "ab", 100)?;
+    tell_many(rt, "%ab", "a", 200)
 }
