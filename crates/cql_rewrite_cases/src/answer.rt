@@ -54,24 +54,40 @@ fn form_answer(
     alloc: Global,
     collection: Collection,
     filter: &Filter,
+    form: &Normal,
     features: &[Feature],
 ) -> Result<String, AllocError> {
-    let form = normal(alloc, filter)?;
-    let mut line = String::from_str(alloc, constant_word(&form))?;
+    let mut line = String::from_str(alloc, constant_word(form))?;
     match form.range() {
         Some(range) => put_range(alloc, collection, range, &mut line)?,
         None => line.push_str("none")?,
     }
     line.push_str(" yes")?;
     for feature in features {
-        if let Some(fault) = fault_of(alloc, filter, &form, feature)? {
+        if let Some(fault) = fault_of(alloc, filter, form, feature)? {
             return named(alloc, fault, feature);
         }
-        if test(alloc, &form, feature)? {
+        if test(alloc, form, feature)? {
             line.push_str(&named(alloc, "", feature)?)?;
         }
     }
     Ok(line)
+}
+
+// The answer to a filter, by its normal form.
+fn filter_answer(
+    alloc: Global,
+    versions: &[Version],
+    collection: Collection,
+    filter: &Filter,
+) -> Result<String, AllocError>
+    requires { IsListing versions.now }
+{
+    let features = flatten(alloc, versions, collection)?;
+    let form = normal(alloc, filter)?;
+    let answer = form_answer(alloc, collection, filter, &form, &features);
+    drop(form);
+    answer
 }
 
 fn answer_filter(
@@ -84,8 +100,9 @@ fn answer_filter(
 {
     match read(alloc, text, collection) {
         Ok(filter) => {
-            let features = flatten(alloc, versions, collection)?;
-            form_answer(alloc, collection, &filter, &features)
+            let answer = filter_answer(alloc, versions, collection, &filter);
+            drop(filter);
+            answer
         }
         Err(FilterFault::Refused(_)) => String::from_str(alloc, "refused"),
         Err(FilterFault::Memory) => Err(AllocError),

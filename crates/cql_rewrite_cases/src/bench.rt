@@ -36,23 +36,57 @@ fn count_met(alloc: Global, form: &Normal, features: &[Feature]) -> Result<u32, 
     Ok(met)
 }
 
+fn tell_truth(rt: &HostRuntime, features: &[Feature], filter: &Filter) -> std::io::Result<()> {
+    let start = Instant::now(rt)?;
+    let taken = count_true(rt.alloc(), filter, features)?;
+    let spent = start.elapsed(rt)?.as_micros();
+    println!(rt; "truth {spent} ({taken}) microseconds")
+}
+
+fn tell_test(rt: &HostRuntime, features: &[Feature], form: &Normal) -> std::io::Result<()> {
+    let start = Instant::now(rt)?;
+    let met = count_met(rt.alloc(), form, features)?;
+    let spent = start.elapsed(rt)?.as_micros();
+    print!(rt; "test {spent} ({met}), ")
+}
+
+fn tell_made(
+    rt: &HostRuntime,
+    start: Instant,
+    features: &[Feature],
+    form: &Normal,
+) -> std::io::Result<()> {
+    let spent = start.elapsed(rt)?.as_micros();
+    print!(rt; "normal {spent}, ")?;
+    tell_test(rt, features, form)
+}
+
+fn tell_normal(rt: &HostRuntime, features: &[Feature], filter: &Filter) -> std::io::Result<()> {
+    let start = Instant::now(rt)?;
+    let form = normal(rt.alloc(), filter)?;
+    let told = tell_made(rt, start, features, &form);
+    drop(form);
+    told
+}
+
+fn tell_filter(
+    rt: &HostRuntime,
+    features: &[Feature],
+    text: &str,
+    filter: &Filter,
+) -> std::io::Result<()> {
+    print!(rt; "{text}: ")?;
+    tell_normal(rt, features, filter)?;
+    tell_truth(rt, features, filter)
+}
+
 fn tell(rt: &HostRuntime, features: &[Feature], text: &str) -> std::io::Result<()> {
-    let alloc = rt.alloc();
-    let Ok(filter) = read(alloc, text, Collection::Parcels) else {
+    let Ok(filter) = read(rt.alloc(), text, Collection::Parcels) else {
         return Ok(());
     };
-    let start = Instant::now(rt)?;
-    let form = normal(alloc, &filter)?;
-    let made = start.elapsed(rt)?.as_micros();
-    let start = Instant::now(rt)?;
-    let taken = count_true(alloc, &filter, features)?;
-    let truth_took = start.elapsed(rt)?.as_micros();
-    let start = Instant::now(rt)?;
-    let met = count_met(alloc, &form, features)?;
-    let test_took = start.elapsed(rt)?.as_micros();
-    println!(rt;
-        "{text}: normal {made}, truth {truth_took} ({taken}), test {test_took} ({met}) microseconds"
-    )
+    let told = tell_filter(rt, features, text, &filter);
+    drop(filter);
+    told
 }
 
 /// A comparison 499 times, joined by OR.
