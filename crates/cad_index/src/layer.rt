@@ -56,7 +56,8 @@ impl Layer {
 
     /// The collection whose features they are.
     pub fn collection(&self) -> Collection
-        ensures { result ≡ self.now.collection }
+        ensures collection { result ≡ self.now.collection }
+        ensures listed { AreFeaturesOf result self.now.features }
     {
         self.collection
     }
