@@ -1,3 +1,2 @@
-pub mod OrderLemmas
-pub mod PageLemmas
+pub mod AnswerLemmas
 pub mod WalkLemmas

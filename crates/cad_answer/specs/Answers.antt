@@ -1,5 +1,5 @@
 -- The features that answer a question (OGC 17-069r4, 7.15: items; OGC 19-079r2, 6.4: filter).
-use Rattle.std.specs.Prelude.{Bool, true, false, ◌&&◌, List, filter, Option, Some, None, option_map}
+use Rattle.std.specs.Prelude.{ℤ, Bool, true, false, ◌&&◌, List, filter, Option, Some, None, option_map}
 use Rattle.cad_day.specs.declared.interval.Interval.{Interval}
 use Rattle.cad_day.specs.declared.relation.Relation.TheVariants.{Intersects}
 use Rattle.cad_day.specs.Relations.{holds}
@@ -11,6 +11,7 @@ use Rattle.cad_schema.specs.declared.collection.Collection.{Collection}
 use Rattle.cad_feature.specs.Features.{Item}
 use Rattle.cql_types.specs.declared.filter.Filter.{Filter}
 use Rattle.cql_truth.specs.Sides.{yes}
+use Rattle.cad_run.specs.Slices.{identifier}
 use Rattle.cad_answer.specs.declared.places.Places.{Places}
 use Rattle.cad_answer.specs.declared.question.Question.{Question}
 use Rattle.cad_answer.specs.Places.{places_of, lifespan_of, geometry_of}
@@ -23,6 +24,10 @@ pub record Asked : Type 0 where
 
 abbrev pub asked_of : Question → Asked
 asked_of question = record { days = question.days; bounds = question.bounds; filter = option_map (λ c. c.filter.now) question.filter }
+
+-- the identifier that the page begins after
+abbrev pub after_of : Question → Option (ℤ × ℤ)
+after_of question = option_map identifier question.after
 
 -- what is not asked restricts nothing
 abbrev pub if_asked : {A : Type 0} → (A → Bool) → Option A → Bool

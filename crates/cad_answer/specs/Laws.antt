@@ -4,7 +4,7 @@ use Rattle.std.specs.Bool.{MatchBool}
 use Rattle.std.specs.List.{All, flat_map}
 use Rattle.std.specs.List.Sorted.{IsStrictlySortedBy}
 use Rattle.cad_feature.specs.Features.{Item, identifier_of, by_identifier}
-use Rattle.cad_answer.specs.Slices.{is_later, later, slice, is_more}
+use Rattle.cad_run.specs.Slices.{is_later, later, slice, is_more}
 
 -- the features of a page ascend by identifier, and come after the one that is named
 abbrev pub PagesAscend : Type 0

@@ -1,4 +1,4 @@
 pub mod Answers
 pub mod Laws
 pub mod Places
-pub mod Slices
+pub mod Passing

@@ -3,9 +3,8 @@
 ghost use Rattle.std.specs.Prelude.{◌≡◌, IfOk, option_map};
 ghost use Rattle.cad_shape.specs.Shapes.{lent_shape};
 ghost use Rattle.cad_answer.specs.Answers as spec;
-ghost use Rattle.cad_answer.specs.Answers.{asked_of, is_true_of, if_asked, answers};
-ghost use Rattle.cql_truth.specs.Sides.{yes};
-ghost use Rattle.cql_rewrite.specs.Meets.{HoldsCharacters};
+ghost use Rattle.cad_answer.specs.Answers.{if_asked};
+ghost use Rattle.cad_answer.specs.Passing.{meets_form, passes_question};
 
 use crate::condition::Condition;
 use crate::places::Places;
@@ -36,23 +35,31 @@ fn meets_bounds(bounds: Option<Bounds>, geometry: Option<ShapeRef>) -> bool
     }
 }
 
-fn is_true(alloc: Global, condition: Condition, feature: &Feature) -> Result<bool, AllocError>
-    requires { HoldsCharacters feature.now }
-    ensures { IfOk result (λ is_true. is_true ≡ yes condition.entry.filter.now feature.now) }
+fn is_met(
+    alloc: Global,
+    condition: Option<Condition>,
+    feature: &Feature,
+) -> Result<bool, AllocError>
+    ensures { IfOk result (λ is_met. is_met ≡ if_asked (meets_form feature.now) condition.entry) }
 {
-    let is_met = test(alloc, condition.normal, feature)?;
-    Ok(is_met)
+    match condition {
+        None => Ok(true),
+        Some(condition) => {
+            let is_met = test(alloc, condition.normal, feature)?;
+            Ok(is_met)
+        }
+    }
 }
 
-/// Whether the feature, with its lifespan and geometry at these places, answers the question.
+/// Whether the feature, with its lifespan and geometry at these places, passes the question: the filter is tested by its normal
+/// form.
 pub(crate) fn is_answer(
     alloc: Global,
     places: Places,
     question: Question,
     feature: &Feature,
 ) -> Result<bool, AllocError>
-    requires { HoldsCharacters feature.now }
-    ensures { IfOk result (λ is_answer. is_answer ≡ answers places (asked_of question.entry) feature.now) }
+    ensures { IfOk result (λ is_answer. is_answer ≡ passes_question places question.entry feature.now) }
 {
     if !meets_days(question.days, places.lifespan(feature)) {
         return Ok(false);
@@ -60,11 +67,6 @@ pub(crate) fn is_answer(
     if !meets_bounds(question.bounds, places.geometry(feature)) {
         return Ok(false);
     }
-    match question.filter {
-        None => Ok(true),
-        Some(condition) => {
-            let is_true = is_true(alloc, condition, feature)?;
-            Ok(is_true)
-        }
-    }
+    let is_met = is_met(alloc, question.filter, feature)?;
+    Ok(is_met)
 }

@@ -2,7 +2,8 @@
 //!
 //! - [`Condition`]: a filter with its normal form, by which features are tested
 //! - [`Question`]: days, a box and a filter that restrict an answer, and which part of the answer is wanted
-//! - [`page`]: the first features that answer, after one that is named, and whether more are left: a [`Page`]
+//! - [`page`]: the first features that answer, after one that is named, and whether more are left: a [`Page`]. Looked at are the
+//!   candidates of a [`Plan`] among the features of a [`Layer`]
 //! - `laws`: that pages ascend and are full, and that the pages of a walk, joined, are the whole answer
 //!
 //! Of the parcels 1.1, 1.2, 2.1, 3.1 and 4.1, of which all but 1.1 are open since 2010, the question with the days of
@@ -10,16 +11,15 @@
 //! left.
 #![tactic(auto)]
 
-mod after;
 mod answer;
+mod asking;
 mod condition;
 pub mod laws;
+mod paging;
 mod places;
 mod question;
-mod rows;
-mod scan;
 
+pub use cad_run::{Layer, Page, Plan};
 pub use condition::Condition;
+pub use paging::page;
 pub use question::Question;
-pub use rows::Page;
-pub use scan::page;

@@ -49,3 +49,10 @@ grid_in (Grid g) = Some g
 pub record AreIndexesOf (collection : Collection) (xs : List Item) (indexes : Indexes) : Type 0 where
   pub properties : indexes.properties.items ≡ indexes_of collection xs
   pub counted : indexes.count ≡ length xs
+
+-- ---- words of the contracts
+
+-- the positions that were found, if any were
+abbrev pub positions_if_any : Option (List ℕ) → List ℕ
+positions_if_any None = []
+positions_if_any (Some found) = found

@@ -9,10 +9,12 @@ ghost use Rattle.cad_ordered.specs.Ranged.{value_at};
 ghost use Rattle.cad_index.specs.Indexed.{index_of, indexes_of, index_at, ordered_in, grid_in};
 
 use crate::Index;
-use cad_feature::Feature;
+use cad_feature::{Feature, Range};
 use cad_grid::Grid;
 use cad_ordered::Ordered;
+use cad_positions::Found;
 use cad_schema::{Collection, PropertyKind, schema};
+use cad_shape::Bounds;
 use std::alloc::{AllocError, Global};
 
 /// The indexes of a collection's features, one for each property in the order of the schema.
@@ -49,6 +51,15 @@ fn index(
 }
 
 impl Indexes {
+    ghost use Rattle.std.specs.Prelude.{◌≡◌, IfOk, List, length};
+    ghost use Rattle.cad_schema.specs.declared.collection.Collection.{Collection as CollectionOf};
+    ghost use Rattle.cad_feature.specs.Features.{Item, AreFeaturesOf};
+    ghost use Rattle.cad_feature.specs.Limits.{limit_of};
+    ghost use Rattle.cad_cells.specs.Blocks.{block_of};
+    ghost use Rattle.cad_grid.specs.Grids.{blocks_at, near_positions};
+    ghost use Rattle.cad_ordered.specs.Ranged.{column, range_positions};
+    ghost use Rattle.cad_index.specs.Indexed.{AreIndexesOf, positions_if_any};
+
     /// The indexes of these features of the collection. An error is want of memory.
     pub fn build(
         alloc: Global,
@@ -95,6 +106,55 @@ impl Indexes {
         match self.properties.get(place) {
             Some(Index::Grid(grid)) => Some(grid),
             _ => None,
+        }
+    }
+
+    /// The positions whose value lies in the range; none where the property has no ordered index, or an end is no value of its
+    /// kind, for then nothing lies in it. No memory is taken.
+    pub fn range(&self, range: &Range) -> Option<Found<'_>>
+        ensures { (collection : CollectionOf) (xs : List Item) → AreFeaturesOf collection xs → AreIndexesOf collection xs self.now
+            → positions_if_any result ≡ range_positions (column range.now.property xs) (limit_of range.now.low) (limit_of range.now.high) }
+    {
+        match self.ordered(range.property) {
+            None => None,
+            Some(ordered) => {
+                if ordered.takes(&range.low) && ordered.takes(&range.high) {
+                    Some(ordered.range(&range.low, &range.high))
+                } else {
+                    None
+                }
+            }
+        }
+    }
+
+    /// The positions near the box, as they ascend; none where the property has no grid, for then nothing is near. An error is
+    /// want of memory.
+    pub fn near(
+        &self,
+        alloc: Global,
+        property: usize,
+        bounds: Bounds,
+    ) -> Result<Vec<u32>, AllocError>
+        ensures { IfOk result (λ found. (collection : CollectionOf) (xs : List Item) → AreFeaturesOf collection xs → AreIndexesOf collection xs self.now
+            → found.items ≡ near_positions (blocks_at property xs) (block_of bounds)) }
+    {
+        match self.grid(property) {
+            None => Ok(Vec::new(alloc)),
+            Some(grid) => {
+                let found = grid.near(alloc, bounds)?;
+                Ok(found)
+            }
+        }
+    }
+
+    /// How many positions are near the box. No memory is taken.
+    pub fn near_count(&self, property: usize, bounds: Bounds) -> u64
+        ensures { (collection : CollectionOf) (xs : List Item) → AreFeaturesOf collection xs → AreIndexesOf collection xs self.now
+            → result ≡ length (near_positions (blocks_at property xs) (block_of bounds)) }
+    {
+        match self.grid(property) {
+            None => 0,
+            Some(grid) => grid.count(bounds),
         }
     }
 }

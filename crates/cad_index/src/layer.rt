@@ -21,13 +21,14 @@ pub struct Layer {
 impl Model for Layer {
     ghost use Rattle.cad_feature.specs.Features.{AreFeaturesOf};
     ghost use Rattle.cad_index.specs.Layers.{LayerFeatures};
+    ghost use Rattle.std.specs.Prelude.{◌≤◌, length};
     ghost use Rattle.cad_index.specs.Indexed.{AreIndexesOf};
 
     ghost Value = { LayerFeatures };
 
     ghost view = { λ l. record { collection = l.collection; features = l.features.items } };
 
-    ghost invariant = { λ l. AreFeaturesOf l.collection l.features.items × AreIndexesOf l.collection l.features.items l.indexes };
+    ghost invariant = { λ l. AreFeaturesOf l.collection l.features.items × AreIndexesOf l.collection l.features.items l.indexes × (length l.features.items ≤ 4294967295) };
 }
 
 impl Layer {
@@ -55,7 +56,8 @@ impl Layer {
 
     /// The collection whose features they are.
     pub fn collection(&self) -> Collection
-        ensures { result ≡ self.now.collection }
+        ensures collection { result ≡ self.now.collection }
+        ensures listed { AreFeaturesOf result self.now.features }
     {
         self.collection
     }
@@ -64,13 +66,15 @@ impl Layer {
     pub fn features(&self) -> &[Feature]
         ensures features { result.now ≡ self.now.features }
         ensures listed { AreFeaturesOf self.now.collection result.now }
+        ensures few { length result.now ≤ 4294967295 }
     {
         &self.features
     }
 
     /// Their indexes.
     pub fn indexes(&self) -> &Indexes
-        ensures { AreIndexesOf self.now.collection self.now.features result.now }
+        ensures indexes { AreIndexesOf self.now.collection self.now.features result.now }
+        ensures listed { AreFeaturesOf self.now.collection self.now.features }
     {
         &self.indexes
     }

@@ -6,7 +6,7 @@ use Rattle.cad_schema.specs.declared.collection.Collection.{Collection}
 use Rattle.cad_feature.specs.Features.{Item}
 use Rattle.cad_answer.specs.Answers.{Asked, answers, answer}
 use Rattle.cad_answer.specs.Places.{places_of}
-use Rattle.cad_answer.specs.Slices.{is_later, later, slice}
+use Rattle.cad_run.specs.Slices.{is_later, later, slice}
 
 pub all_rows : (P : Item → Type 0) (collection : Collection) (asked : Asked) (last : Option (ℤ × ℤ)) (limit : ℕ) (xs : List Item) → All P xs → All P (slice last limit (answer collection asked xs))
 all_rows P collection asked last limit xs all =

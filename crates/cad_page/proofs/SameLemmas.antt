@@ -20,7 +20,7 @@ use Rattle.cad_ask.specs.Laws.{AskTheSame}
 use Rattle.cad_snapshot.specs.Snapshots.{RevisionFeatures, features_at}
 use Rattle.cad_answer.specs.Answers.{Asked, if_asked, meets_days, meets_bounds, is_true_of, answers, answer}
 use Rattle.cad_answer.specs.Places.{places_of, lifespan_of, geometry_of}
-use Rattle.cad_answer.specs.Slices.{identifier, slice, is_more}
+use Rattle.cad_run.specs.Slices.{identifier, slice, is_more}
 use Rattle.cad_page.specs.Pages.{restrictions, beginning, answer_in, rows_in, is_more_in}
 use Rattle.cad_page.specs.Bodies.{numbers_of, pairs_of, next_links, page_data}
 use Rattle.cad_page.specs.Laws.{TheSameIsAnswered, TheSameHasOneAnswer}

@@ -5,7 +5,7 @@ use Rattle.cad_query.specs.declared.identifier.Identifier.{Identifier}
 use Rattle.cad_ask.specs.declared.ask.Ask.{Ask}
 use Rattle.cad_snapshot.specs.Snapshots.{RevisionFeatures, features_at}
 use Rattle.cad_answer.specs.Answers.{Asked, answer}
-use Rattle.cad_answer.specs.Slices.{identifier, slice, is_more}
+use Rattle.cad_run.specs.Slices.{identifier, slice, is_more}
 
 -- the days, the box and the filter
 abbrev pub restrictions : Ask → Asked

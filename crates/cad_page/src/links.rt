@@ -6,7 +6,7 @@ ghost use Rattle.serde_json.specs.Data.{array, item, no_items, depth};
 ghost use Rattle.serde_json.specs.View.{view};
 ghost use Rattle.serde_json.specs.Written.{has_float};
 ghost use Rattle.cad_feature.specs.Features.{IsFeatureOf};
-ghost use Rattle.cad_answer.specs.Slices.{rows_of};
+ghost use Rattle.cad_run.specs.Slices.{rows_of};
 ghost use Rattle.cad_bodies.specs.Links.{link_data};
 ghost use Rattle.cad_page.specs.Bodies.{target_after, next_after, links_data};
 

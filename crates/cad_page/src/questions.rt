@@ -4,7 +4,8 @@ ghost use Rattle.std.specs.Prelude.{◌≡◌, IfOk, Some, option_map};
 ghost use Rattle.std.specs.List.{All};
 ghost use Rattle.cad_feature.specs.Features.{IsFeatureOf};
 ghost use Rattle.cad_answer.specs.Answers.{asked_of};
-ghost use Rattle.cad_answer.specs.Slices.{after_of, rows_of};
+ghost use Rattle.cad_answer.specs.Answers.{after_of};
+ghost use Rattle.cad_run.specs.Slices.{rows_of};
 ghost use Rattle.cad_page.specs.Pages.{restrictions, beginning, rows_in, is_more_in};
 
 use cad_answer::{Condition, Page, Question, page};

@@ -4,7 +4,9 @@ ghost use Rattle.std.specs.Prelude.{◌≡◌, ◌≤◌, ◌^◌, IfOk, length,
 ghost use Rattle.std.specs.List.{find};
 ghost use Rattle.std.specs.List.Sorted.{IsPermutation, IsNonDecreasing};
 ghost use Rattle.cad_positions.specs.Rankings.{is_between, positions_between, IsPart};
+ghost use Rattle.cad_positions.specs.Kept.{Keeps};
 
+use crate::kept::Positions;
 use std::alloc::{AllocError, Global};
 use std::marker::Model;
 
@@ -109,6 +111,22 @@ impl<'a> Found<'a> {
         ensures { result ≡ find (nat_le position) self.now }
     {
         first(self.ranks, self.low, self.high, position)
+    }
+
+    /// They as they are best walked: few in a list that is sorted, many by their ranks. An error is want of memory.
+    pub fn positions(&self, alloc: Global) -> Result<Positions<'a>, AllocError>
+        ensures { IfOk result (Keeps self.now) }
+    {
+        if self.are_few() {
+            let found = sorted(alloc, self.places, self.low, self.high)?;
+            Ok(Positions::Listed(found))
+        } else {
+            Ok(Positions::Ranked {
+                ranks: self.ranks,
+                from: self.low,
+                to: self.high,
+            })
+        }
     }
 
     // Whether they are few beside all positions, so that sorting them is cheaper than looking at each position.

@@ -2,8 +2,10 @@
 
 ghost use Rattle.std.specs.Prelude.{◌≡◌};
 
-use crate::layer::Layer;
+use crate::building::layer;
+use crate::finding::feature_with;
 use cad_feature::Feature;
+use cad_index::Layer;
 use cad_schema::Collection;
 use cad_versions::{ObjectId, Version};
 use std::alloc::{AllocError, Global};
@@ -12,7 +14,7 @@ use std::marker::Model;
 /// The features of each collection at a revision, by identifier.
 ///
 /// Contracts see the revision, and the features of each collection as a list of items.
-#[derive(Debug, Drop)]
+#[derive(Drop)]
 pub struct Snapshot {
     revision: u64,
     parcels: Layer,
@@ -24,29 +26,29 @@ pub struct Snapshot {
 }
 
 impl Model for Snapshot {
+    ghost use Rattle.std.specs.Prelude.{◌≡◌};
     ghost use Rattle.cad_schema.specs.declared.collection.Collection.TheVariants.{Parcels, Rights, Restrictions, Units, Parties, Responsibilities};
-    ghost use Rattle.cad_feature.specs.Features.{AreFeaturesOf};
     ghost use Rattle.cad_snapshot.specs.Snapshots.{RevisionFeatures};
 
     ghost Value = { RevisionFeatures };
 
     ghost view = { λ s. record {
       revision = s.revision;
-      parcels = s.parcels.features.items;
-      rights = s.rights.features.items;
-      restrictions = s.restrictions.features.items;
-      units = s.units.features.items;
-      parties = s.parties.features.items;
-      responsibilities = s.responsibilities.features.items;
+      parcels = s.parcels.features;
+      rights = s.rights.features;
+      restrictions = s.restrictions.features;
+      units = s.units.features;
+      parties = s.parties.features;
+      responsibilities = s.responsibilities.features;
     } };
 
     ghost invariant = { λ s.
-        AreFeaturesOf Parcels s.parcels.features.items
-        × AreFeaturesOf Rights s.rights.features.items
-        × AreFeaturesOf Restrictions s.restrictions.features.items
-        × AreFeaturesOf Units s.units.features.items
-        × AreFeaturesOf Parties s.parties.features.items
-        × AreFeaturesOf Responsibilities s.responsibilities.features.items };
+        (s.parcels.collection ≡ Parcels)
+        × (s.rights.collection ≡ Rights)
+        × (s.restrictions.collection ≡ Restrictions)
+        × (s.units.collection ≡ Units)
+        × (s.parties.collection ≡ Parties)
+        × (s.responsibilities.collection ≡ Responsibilities) };
 }
 
 impl Snapshot {
@@ -62,12 +64,12 @@ impl Snapshot {
         requires { IsListing versions.now }
         ensures { IfOk result (IsSnapshotOf revision versions.now) }
     {
-        let parcels = Layer::build(alloc, versions, Collection::Parcels)?;
-        let rights = Layer::build(alloc, versions, Collection::Rights)?;
-        let restrictions = Layer::build(alloc, versions, Collection::Restrictions)?;
-        let units = Layer::build(alloc, versions, Collection::Units)?;
-        let parties = Layer::build(alloc, versions, Collection::Parties)?;
-        let responsibilities = Layer::build(alloc, versions, Collection::Responsibilities)?;
+        let parcels = layer(alloc, versions, Collection::Parcels)?;
+        let rights = layer(alloc, versions, Collection::Rights)?;
+        let restrictions = layer(alloc, versions, Collection::Restrictions)?;
+        let units = layer(alloc, versions, Collection::Units)?;
+        let parties = layer(alloc, versions, Collection::Parties)?;
+        let responsibilities = layer(alloc, versions, Collection::Responsibilities)?;
         Ok(Snapshot {
             revision,
             parcels,
@@ -98,12 +100,13 @@ impl Snapshot {
     pub fn feature(&self, collection: Collection, object: ObjectId, number: u32) -> Option<&Feature>
         ensures { IsTheOne (identifier object number) (features_at self.now collection) (option_copied result) }
     {
-        self.layer(collection).feature(object, number)
+        feature_with(self.layer(collection).features(), object, number)
     }
 
-    fn layer(&self, collection: Collection) -> &Layer
-        ensures features { result.now.features.items ≡ features_at self.now collection }
-        ensures listed { AreFeaturesOf collection result.now.features.items }
+    /// The features of the collection with their indexes.
+    pub fn layer(&self, collection: Collection) -> &Layer
+        ensures collection { result.now.collection ≡ collection }
+        ensures features { result.now.features ≡ features_at self.now collection }
     {
         match collection {
             Collection::Parcels => &self.parcels,

@@ -11,7 +11,7 @@ use Rattle.cad_ask.specs.declared.ask.Ask.{Ask}
 use Rattle.cad_ask.specs.Answers.{IsFilterGiven, IsAsk}
 use Rattle.cad_ask.specs.Laws.{AskTheSame, PairsAskOneThing}
 use Rattle.cad_snapshot.specs.Snapshots.{RevisionFeatures}
-use Rattle.cad_answer.specs.Slices.{identifier}
+use Rattle.cad_run.specs.Slices.{identifier}
 use Rattle.cad_page.specs.Pages.{beginning, answer_in}
 use Rattle.cad_page.specs.Laws.{TheSameHasOneAnswer}
 

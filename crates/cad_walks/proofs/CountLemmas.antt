@@ -6,7 +6,7 @@ use Rattle.std.proofs.Math.Nat.{add-div_right}
 use Rattle.std.proofs.lemmas.Bool.Decides.{nat_tests}
 use Rattle.std.proofs.lemmas.List.{length-take-le}
 use Rattle.cad_feature.specs.Features.{Item, by_identifier}
-use Rattle.cad_answer.specs.Slices.{later, is_more}
+use Rattle.cad_run.specs.Slices.{later, is_more}
 use Rattle.cad_answer.specs.Laws.{last_of, AreWalk, WalksAreWhole}
 use Rattle.cad_walks.specs.Walks.{joined, pages_of}
 use Rattle.cad_walks.specs.Laws.{WalksHaveThatManyPages}

@@ -14,7 +14,7 @@ use Rattle.cad_ask.specs.declared.ask.Ask.{Ask}
 use Rattle.cad_snapshot.specs.Snapshots.{RevisionFeatures, features_at}
 use Rattle.cad_answer.specs.Answers.{answers}
 use Rattle.cad_answer.specs.Places.{places_of}
-use Rattle.cad_answer.specs.Slices.{is_later, later}
+use Rattle.cad_run.specs.Slices.{is_later, later}
 use Rattle.cad_page.specs.Pages.{restrictions, beginning, answer_in, rows_in, is_more_in}
 use Rattle.cad_page.specs.Bodies.{numbers_of, target_after, next_in, page_data}
 use Rattle.cad_reply.specs.declared.status.Status.TheVariants as status

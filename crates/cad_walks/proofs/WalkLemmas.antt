@@ -24,7 +24,7 @@ use Rattle.cad_snapshot.specs.Snapshots.{RevisionFeatures, features_at}
 use Rattle.cad_answer.specs.Answers.{answers}
 use Rattle.cad_answer.specs.Laws.{last_of, AreWalk, WalksAreWhole}
 use Rattle.cad_answer.specs.Places.{places_of}
-use Rattle.cad_answer.specs.Slices.{is_later, later, is_more}
+use Rattle.cad_run.specs.Slices.{is_later, later, is_more}
 use Rattle.cad_page.specs.Bodies.{numbers_of, target_after}
 use Rattle.cad_page.specs.Laws.{TheSameHasOneAnswer}
 use Rattle.cad_page.specs.Pages.{restrictions, beginning, answer_in, rows_in, is_more_in}

@@ -6,7 +6,7 @@ use Rattle.std.specs.List.Sorted.{IsNonDecreasingBy, IsStrictlySortedBy}
 use Rattle.cad_versions.specs.Refusals.{AreAccepted}
 use Rattle.cad_feature.specs.Features.{Item, by_identifier}
 use Rattle.cad_ask.specs.declared.ask.Ask.{Ask}
-use Rattle.cad_answer.specs.Slices.{later}
+use Rattle.cad_run.specs.Slices.{later}
 use Rattle.cad_answer.specs.Laws.{AreWalk}
 use Rattle.cad_desk.specs.Events.{Rules}
 use Rattle.cad_desk.specs.Runs.{Exchange}

@@ -11,7 +11,7 @@ use Rattle.cad_bodies.specs.Paths.{items_path}
 use Rattle.cad_ask.specs.declared.ask.Ask.{Ask}
 use Rattle.cad_ask.specs.Answers.{IsAsk}
 use Rattle.cad_snapshot.specs.Snapshots.{RevisionFeatures}
-use Rattle.cad_answer.specs.Slices.{later}
+use Rattle.cad_run.specs.Slices.{later}
 use Rattle.cad_page.specs.Pages.{beginning, answer_in, rows_in}
 use Rattle.cad_page.specs.Bodies.{next_in, page_data}
 use Rattle.cad_reply.specs.declared.status.Status.TheVariants.{Ok}

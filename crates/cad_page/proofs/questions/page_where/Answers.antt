@@ -1,6 +1,6 @@
 use Rattle.cad_feature.specs.Features.{IsFeatureOf}
 use Rattle.cad_answer.specs.Answers.{asked_of}
-use Rattle.cad_answer.specs.Slices.{after_of}
+use Rattle.cad_answer.specs.Answers.{after_of}
 use Rattle.cad_page.proofs.PageLemmas.{all_rows}
 use Rattle.cad_page.proofs.questions.page_where.Goals as goal
 

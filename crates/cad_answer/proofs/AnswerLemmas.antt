@@ -1,0 +1,55 @@
+-- Answers among the candidates of a plan.
+use Rattle.std.proofs.Common.{◌≡◌, ◌∙◌, ℕ, zero, suc, ◌+◌, Bool, true, false, cond, ◌&&◌, List, [], ◌∷◌, filter, get_or, refl, sym, ap, arith, true≢false, Option, Some, None}
+use Rattle.std.specs.Prelude.{if◌then◌else◌, option_map}
+use Rattle.std.specs.List.{All}
+use Rattle.std.proofs.lemmas.List.Elements.{All-tail}
+use Rattle.cad_schema.specs.declared.collection.Collection.{Collection}
+use Rattle.cad_feature.specs.Features.{Item, AreFeaturesOf}
+use Rattle.cad_rows.specs.Pages.{examined_of}
+use Rattle.cql_rewrite.specs.Laws.{FeaturesAreWritten}
+use Rattle.cql_rewrite.specs.Meets.{HoldsCharacters}
+use Rattle.cad_answer.specs.declared.condition.Condition.{Condition}
+use Rattle.cad_answer.specs.declared.places.Places.{Places}
+use Rattle.cad_answer.specs.declared.question.Question.{Question}
+use Rattle.cad_answer.specs.Answers.{asked_of, if_asked, meets_days, meets_bounds, is_true_of, answers}
+use Rattle.cad_answer.specs.Passing.{meets_form, passes_question}
+use Rattle.cad_answer.specs.Places.{lifespan_of, geometry_of}
+
+-- ---- two tests that agree on a list
+
+module _ {X : Type 0} where
+  kept_here : (a b : Bool) (x : X) (p : X → Bool) (ys zs : List X) → p x ≡ b → (b ≡ true → a ≡ true) → filter p ys ≡ zs → filter p (cond a (x ∷ ys) ys) ≡ cond b (x ∷ zs) zs
+  kept_here true true x p ys zs e implies h = rw e (ap (λ us. x ∷ us) h)
+  kept_here true false x p ys zs e implies h = rw e h
+  kept_here false true x p ys zs e implies h = absurd (true≢false (sym (implies refl)))
+  kept_here false false x p ys zs e implies h = h
+
+  -- what passes the second is among what a third lets through
+  pub kept_within : (p q c : X → Bool) (xs : List X) → All (λ x. p x ≡ q x) xs → All (λ x. q x ≡ true → c x ≡ true) xs → filter p (filter c xs) ≡ filter q xs
+  kept_within p q c [] same covers = refl
+  kept_within p q c (x ∷ xs) same covers =
+      kept_here (c x) (q x) x p (filter c xs) (filter q xs) (same 0 x (omega arith)) (covers 0 x (omega arith))
+      (kept_within p q c xs (All-tail (λ y. p y ≡ q y) x xs same) (All-tail (λ y. q y ≡ true → c y ≡ true) x xs covers))
+
+  pub same_examined : (p q : X → Bool) (ys : List X) → All (λ x. p x ≡ q x) ys → (n : ℕ) → examined_of p n ys ≡ examined_of q n ys
+  same_examined p q [] same n = refl
+  same_examined p q (y ∷ ys) same zero =
+      ap (λ b. if b then 1 else (1 + examined_of p 0 ys)) (same 0 y (omega arith))
+      ∙ ap (λ m. if q y then 1 else (1 + m)) (same_examined p q ys (All-tail (λ x. p x ≡ q x) y ys same) 0)
+  same_examined p q (y ∷ ys) same (suc n) =
+      ap (λ b. 1 + examined_of p (if b then n else (suc n)) ys) (same 0 y (omega arith))
+      ∙ ap (λ m. 1 + m) (same_examined p q ys (All-tail (λ x. p x ≡ q x) y ys same) (if q y then n else (suc n)))
+
+-- ---- a question as features are tested by it
+
+same_filter : (x : Item) → HoldsCharacters x → (c : Option Condition) → if_asked (meets_form x) c ≡ if_asked (is_true_of x) (option_map (λ d. d.filter.now) c)
+same_filter x written None = refl
+same_filter x written (Some c) = c.stands (record { item = x; characters = written })
+
+pub passes_is : (places : Places) (question : Question) (x : Item) → HoldsCharacters x → passes_question places question x ≡ answers places (asked_of question) x
+passes_is places question x written =
+    ap (λ b. if_asked (meets_days (lifespan_of places x)) question.days && (if_asked (meets_bounds (geometry_of places x)) question.bounds && b)) (same_filter x written question.filter)
+
+pub passes_each : (collection : Collection) (places own : Places) (question : Question) (xs : List Item) → FeaturesAreWritten collection → AreFeaturesOf collection xs → own ≡ places → All (λ x. passes_question own question x ≡ answers places (asked_of question) x) xs
+passes_each collection places own question xs written listed same = λ k d h.
+    passes_is own question (get_or xs k d) (written (get_or xs k d) (listed.each k d h)) ∙ ap (λ ps. answers ps (asked_of question) (get_or xs k d)) same

@@ -1,0 +1,4 @@
+pub mod PositionLemmas
+pub mod IndexLemmas
+pub mod PlanLemmas
+pub mod PageLemmas

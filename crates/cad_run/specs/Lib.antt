@@ -1,0 +1,4 @@
+pub mod Slices
+pub mod Ascending
+pub mod Positions
+pub mod Parts

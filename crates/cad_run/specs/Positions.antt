@@ -1,0 +1,21 @@
+-- Positions in a list of features, and the features at them.
+use Rattle.std.specs.Prelude.{ℕ, Bool, false, List, [], ◌∷◌, slice_get, Option, Some, None}
+use Rattle.cad_feature.specs.Features.{Item}
+
+-- there is a feature, and it passes
+abbrev pub told_of : (Item → Bool) → Option Item → Bool
+told_of test None = false
+told_of test (Some x) = test x
+
+-- the feature at the position passes; past the last feature none does
+abbrev pub holds_at : (Item → Bool) → List Item → ℕ → Bool
+holds_at test xs k = told_of test (slice_get xs k)
+
+abbrev pub found_then : Option Item → List Item → List Item
+found_then None xs = xs
+found_then (Some x) xs = x ∷ xs
+
+-- the features at these positions
+abbrev pub items_at : List Item → List ℕ → List Item
+items_at xs [] = []
+items_at xs (k ∷ ks) = found_then (slice_get xs k) (items_at xs ks)

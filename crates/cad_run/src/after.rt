@@ -1,0 +1,38 @@
+//! Where a page begins.
+
+ghost use Rattle.std.specs.Prelude.{◌≡◌, ◌≤◌, length, drop, option_map};
+ghost use Rattle.std.specs.List.Sorted.{IsStrictlySortedBy};
+ghost use Rattle.cad_feature.specs.Features.{by_identifier};
+ghost use Rattle.cad_run.specs.Slices as spec;
+ghost use Rattle.cad_run.specs.Slices.{identifier, later};
+
+use cad_feature::Feature;
+use cad_versions::ObjectId;
+
+fn comes_after(feature: &Feature, last: (ObjectId, u32)) -> bool
+    ensures { result ≡ spec.comes_after (identifier last) feature.now }
+{
+    let (object, number) = last;
+    let by_object = feature.object.number().cmp(&object.number());
+    by_object.then(feature.number.cmp(&number)).is_gt()
+}
+
+fn first_later(features: &[Feature], last: (ObjectId, u32)) -> usize
+    requires { IsStrictlySortedBy by_identifier features.now }
+    ensures rest { drop result features.now ≡ spec.after (identifier last) features.now }
+    ensures within { result ≤ length features.now }
+{
+    features.partition_point(|feature| !comes_after(feature, last))
+}
+
+/// The position of the first feature after that one, by a search in their order.
+pub(crate) fn first_after(features: &[Feature], after: Option<(ObjectId, u32)>) -> usize
+    requires { IsStrictlySortedBy by_identifier features.now }
+    ensures rest { drop result features.now ≡ later (option_map identifier after) features.now }
+    ensures within { result ≤ length features.now }
+{
+    match after {
+        None => 0,
+        Some(last) => first_later(features, last),
+    }
+}

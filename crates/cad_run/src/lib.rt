@@ -1,0 +1,26 @@
+//! Pages of the features of a layer, by the candidates of a plan.
+//!
+//! - [`page`]: the first of a plan's candidates that pass a test, after one that is named, and whether more are left: a
+//!   [`Page`], with how many were tested
+//! - [`FeatureTest`]: a test of features
+//! - [`Layer`], [`Plan`]: the features with their indexes, and which of them are looked at
+//!
+//! Of the parcels 1.1, 1.2, 2.1, 3.1 and 4.1 and the plan of the range of `object` up to 2, the page of one after 1.1 that has
+//! any feature is 1.2: more are left, for 2.1 is one, and both were tested.
+#![tactic(auto)]
+
+mod after;
+mod at_positions;
+mod feature_test;
+mod joining;
+mod lending;
+mod paging;
+mod parts;
+mod planned;
+mod rows;
+
+pub use cad_index::Layer;
+pub use cad_lookup::Plan;
+pub use feature_test::FeatureTest;
+pub use paging::page;
+pub use rows::Page;

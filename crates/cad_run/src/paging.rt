@@ -1,0 +1,56 @@
+//! The search for a page.
+
+ghost use Rattle.std.specs.Prelude.{◌≡◌, IfOk, filter, option_map};
+ghost use Rattle.cad_lookup.specs.Candidates.{candidates};
+ghost use Rattle.cad_rows.specs.Pages.{examined_of};
+ghost use Rattle.cad_run.specs.Slices.{identifier, slice, is_more, later, rows_of};
+
+use crate::after::first_after;
+use crate::at_positions::AtPositions;
+use crate::feature_test::FeatureTest;
+use crate::lending::lend;
+use crate::planned::source_of;
+use crate::rows::Page;
+use cad_index::Layer;
+use cad_lookup::Plan;
+use cad_rows::{Rows, find};
+use cad_versions::ObjectId;
+use std::alloc::{AllocError, Global};
+
+/// The page of the plan's candidates that pass the test: the first of them after the one that is named, `limit` of them at
+/// most. An error is want of memory.
+///
+/// Candidates are tested in their order, each once, up to the one that shows that more are left.
+pub fn page<'a, T: FeatureTest>(
+    alloc: Global,
+    plan: &Plan,
+    layer: &'a Layer,
+    test: &T,
+    after: Option<(ObjectId, u32)>,
+    limit: u32,
+) -> Result<Page<'a>, AllocError>
+    ensures rows { IfOk result (λ page. rows_of page
+        ≡ slice (option_map identifier after) limit (filter (T.passes test.now) (candidates plan.now layer.now.features))) }
+    ensures more { IfOk result (λ page. page.more
+        ≡ is_more (option_map identifier after) limit (filter (T.passes test.now) (candidates plan.now layer.now.features))) }
+    ensures examined { IfOk result (λ page. page.examined
+        ≡ examined_of (T.passes test.now) limit (later (option_map identifier after) (candidates plan.now layer.now.features))) }
+{
+    let features = layer.features();
+    let start = first_after(features, after);
+    let judge = AtPositions { features, test };
+    let source = source_of(alloc, plan, layer)?;
+    let found = find(
+        alloc,
+        Rows::of(source),
+        &judge,
+        start as u32,
+        limit as usize,
+    )?;
+    let rows = lend(alloc, features, &found.rows)?;
+    Ok(Page {
+        rows,
+        more: found.more,
+        examined: found.examined,
+    })
+}
