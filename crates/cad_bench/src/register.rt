@@ -1,8 +1,10 @@
 //! The versions of a register to measure with.
 
-ghost use Rattle.std.specs.Prelude.{◌≡◌, IfOk, IfSome, IsTrue, All};
+ghost use Rattle.std.specs.Prelude.{◌≡◌, ◌≤ℤ◌, IfOk, IfSome, IsTrue, All};
+ghost use Rattle.std.specs.Option.{ForSome};
 ghost use Rattle.std.specs.List.Sorted.{IsStrictlySortedBy};
 ghost use Rattle.std.specs.declared.cmp.Ordering.TheVariants.{Less};
+ghost use Rattle.cad_day.specs.Days.{number_of};
 ghost use Rattle.cad_versions.specs.Identifiers.{by_identifier};
 ghost use Rattle.cad_versions.specs.VersionedObject.{IsVersion};
 
@@ -15,8 +17,9 @@ use std::alloc::Global;
 /// How many parcels stand on each unit.
 pub(crate) const PARCELS: u32 = 10;
 
-fn version(object: u32, number: u32, first: i32, last: Option<i32>, body: Body) -> Option<Version>
-    ensures { IfSome result IsVersion }
+// The object of a version, and its days, which are not turned round.
+fn head(object: u32, first: i32, last: Option<i32>) -> Option<(ObjectId, Day, Option<Day>)>
+    ensures { IfSome result (λ head. ForSome head.2 (λ last. number_of head.1 ≤ℤ number_of last)) }
 {
     let object = ObjectId::new(object)?;
     let first = Day::new(first)?;
@@ -25,9 +28,21 @@ fn version(object: u32, number: u32, first: i32, last: Option<i32>, body: Body) 
         Some(last) => Some(Day::new(last)?),
     };
     let _days = Interval::new(Some(first), last)?;
-    if number == 0 || number > MOST_NUMBER {
+    Some((object, first, last))
+}
+
+fn version(object: u32, number: u32, first: i32, last: Option<i32>, body: Body) -> Option<Version>
+    ensures { IfSome result IsVersion }
+{
+    let head = if 0 < number && number <= MOST_NUMBER {
+        head(object, first, last)
+    } else {
+        None
+    };
+    let Some((object, first, last)) = head else {
+        drop(body);
         return None;
-    }
+    };
     Some(Version {
         object,
         number,

@@ -1,11 +1,12 @@
 //! How long a snapshot of many parcels takes to build, a query of them to read, and a page of them to write.
 
 use crate::parcels::parcels;
-use anyhow::{Context, Result};
+use anyhow::{Context, Result, ensure};
 use cad_ask::Ask;
 use cad_page::body;
 use cad_schema::Collection;
 use cad_snapshot::Snapshot;
+use std::alloc::{AllocError, Global};
 use std::time::Instant;
 
 /// How often a query is read.
@@ -22,12 +23,29 @@ const QUERY: &str =
 fn tell_reading(rt: &HostRuntime, query: &str) -> Result<()> {
     let start = Instant::now(rt)?;
     for _ in 0..READINGS {
-        Ask::read(rt.alloc(), Collection::Parcels, query)
-            .ok()
-            .context("a query")?;
+        let is_read = Ask::read(rt.alloc(), Collection::Parcels, query).is_ok();
+        ensure!(is_read, "a query was refused");
     }
     let spent = start.elapsed(rt)?.as_micros() / u128::from(READINGS);
     eprintln!(rt; "pages: {query}: read in {spent} microseconds")?;
+    Ok(())
+}
+
+/// Writes the page so often, and answers how many bytes it has.
+fn write_pages(alloc: Global, ask: &Ask, snapshot: &Snapshot) -> Result<usize, AllocError> {
+    let mut bytes = 0;
+    for _ in 0..WRITINGS {
+        bytes = body(alloc, ask, snapshot)?.len();
+    }
+    Ok(bytes)
+}
+
+/// Tells what one writing of the page took.
+fn tell_asked(rt: &HostRuntime, snapshot: &Snapshot, query: &str, ask: &Ask) -> Result<()> {
+    let start = Instant::now(rt)?;
+    let bytes = write_pages(rt.alloc(), ask, snapshot)?;
+    let spent = start.elapsed(rt)?.as_micros() / u128::from(WRITINGS);
+    eprintln!(rt; "pages: {query}: {bytes} bytes in {spent} microseconds")?;
     Ok(())
 }
 
@@ -36,30 +54,28 @@ fn tell_page(rt: &HostRuntime, snapshot: &Snapshot, query: &str) -> Result<()> {
     let ask = Ask::read(rt.alloc(), Collection::Parcels, query)
         .ok()
         .context("a query")?;
-    let mut bytes = 0;
-    let start = Instant::now(rt)?;
-    for _ in 0..WRITINGS {
-        bytes = body(rt.alloc(), &ask, snapshot)?.len();
-    }
-    let spent = start.elapsed(rt)?.as_micros() / u128::from(WRITINGS);
-    eprintln!(rt; "pages: {query}: {bytes} bytes in {spent} microseconds")?;
-    Ok(())
+    tell_asked(rt, snapshot, query, &ask)
+}
+
+/// Writes short pages and long ones, and one whose parcels are the last.
+fn tell_pages(rt: &HostRuntime, snapshot: &Snapshot, count: u32) -> Result<()> {
+    tell_page(rt, snapshot, "limit=10")?;
+    tell_page(rt, snapshot, "limit=1000")?;
+    let last = count.saturating_sub(10);
+    let query = format!(in rt.alloc(); "limit=10&filter=area+%3E+{last}")?;
+    tell_page(rt, snapshot, query.as_str())
 }
 
 /// Builds a snapshot of so many parcels, and writes pages of it.
 pub fn tell(rt: &HostRuntime, count: u32) -> Result<()> {
     let count = count.min(1_000_000);
+    tell_reading(rt, QUERY)?;
     let versions = parcels(rt.alloc(), count)?;
     let start = Instant::now(rt)?;
     let snapshot = Snapshot::build(rt.alloc(), u64::from(count), &versions)?;
     let spent = start.elapsed(rt)?.as_millis();
     eprintln!(rt; "pages: a snapshot of {count} parcels in {spent} ms")?;
-    tell_reading(rt, QUERY)?;
-    tell_page(rt, &snapshot, "limit=10")?;
-    tell_page(rt, &snapshot, "limit=1000")?;
-    let last = count.saturating_sub(10);
-    let query = format!(in rt.alloc(); "limit=10&filter=area+%3E+{last}")?;
-    tell_page(rt, &snapshot, query.as_str())
+    tell_pages(rt, &snapshot, count)
 }
 
 /// Builds so many parcels, and then a snapshot of them if that is asked for. It tells nothing: what such a run holds is read

@@ -34,13 +34,21 @@ fn outline(alloc: Global, x: i64, y: i64) -> Result<Ring> {
     }
 }
 
-/// The region of the ring, without holes.
-fn region(alloc: Global, ring: Ring) -> Result<Region> {
+/// The region of the parcel with that number, without holes: a thousand parcels stand side by side.
+fn region(alloc: Global, number: u32) -> Result<Region> {
+    let place = i64::from(number);
     let mut rings = Vec::with_capacity(alloc, 1)?;
-    rings.push(ring)?;
+    rings.push(outline(alloc, place % 1000 * 20_000, place / 1000 * 20_000)?)?;
     match Region::new(rings) {
         Ok(region) => Ok(region),
         Err(_) => bail!("no region"),
+    }
+}
+
+fn label(alloc: Global, number: u32) -> Result<Words> {
+    match Words::new(format!(in alloc; "P-{number}")?) {
+        Ok(label) => Ok(label),
+        Err(_) => bail!("no words"),
     }
 }
 
@@ -52,13 +60,8 @@ fn parcel(alloc: Global, number: u32) -> Result<Version>
     let object = ObjectId::new(number).context("an object")?;
     let unit = ObjectId::new(1).context("a unit")?;
     let first = Day::read("2000-01-01").context("a day")?;
-    let label = format!(in alloc; "P-{number}")?;
-    let Ok(label) = Words::new(label) else {
-        bail!("no words");
-    };
-    let place = i64::from(number);
-    let outline = outline(alloc, place % 1000 * 20_000, place / 1000 * 20_000)?;
-    let shape = region(alloc, outline)?;
+    let label = label(alloc, number)?;
+    let shape = region(alloc, number)?;
     Ok(Version {
         object,
         number: 1,

@@ -90,6 +90,20 @@ fn accepted(
     Ok(line)
 }
 
+// What the filter takes of the collection's features.
+fn taken(
+    alloc: Global,
+    versions: &[Version],
+    collection: Collection,
+    days: Option<Interval>,
+    filter: &Filter,
+) -> Result<String, AllocError>
+    requires { IsListing versions.now }
+{
+    let features = flatten(alloc, versions, collection)?;
+    accepted(alloc, filter, days, &features)
+}
+
 fn answer_filter(
     alloc: Global,
     versions: &[Version],
@@ -101,8 +115,9 @@ fn answer_filter(
 {
     match read(alloc, text, collection) {
         Ok(filter) => {
-            let features = flatten(alloc, versions, collection)?;
-            accepted(alloc, &filter, days, &features)
+            let answer = taken(alloc, versions, collection, days, &filter);
+            drop(filter);
+            answer
         }
         Err(FilterFault::Refused(cause)) => {
             Ok(format!(in alloc; "{} {}", cause.name(), cause.place())?)

@@ -83,7 +83,11 @@ pub fn answer(alloc: Global, sample: &Sample, line: &str) -> Result<String, Allo
         return String::from_str(alloc, "no collection");
     };
     match filter_of(alloc, collection, rest) {
-        Some(filter) => filter_answer(alloc, &filter, sample.of(collection)),
+        Some(filter) => {
+            let answer = filter_answer(alloc, &filter, sample.of(collection));
+            drop(filter);
+            answer
+        }
         None => String::from_str(alloc, "refused"),
     }
 }

@@ -67,7 +67,9 @@ fn tell_truth(rt: &HostRuntime, parcels: &[Feature], text: &str, filter: &Filter
 
 fn tell_filter(rt: &HostRuntime, parcels: &[Feature], text: &str) -> Result<()> {
     let filter = filter_of(rt.alloc(), Collection::Parcels, text).context("a filter")?;
-    tell_truth(rt, parcels, text, &filter)
+    let told = tell_truth(rt, parcels, text, &filter);
+    drop(filter);
+    told
 }
 
 fn repeated(alloc: Global, text: &str, times: u32) -> Result<String, AllocError> {
