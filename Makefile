@@ -3,7 +3,7 @@ RT ?= rt
 # How many crates `make sample` and `make check` prove side by side.
 JOBS ?= $(shell nproc)
 
-.PHONY: sample cases test check wrong-bodies refused bench register-file office-file serve-file clients proxy clean
+.PHONY: sample cases test check wrong-bodies refused bench register-file office-file serve-file clients proxy import clean
 
 # Proves and builds the program and all that it stands on, and answers the request in crates/cadastre/stdin. Crates that do not wait for each other are proved side by side.
 sample:
@@ -66,6 +66,10 @@ serve-file: sample
 # Has curl, GDAL and OWSLib read a register of 2,000 parcels from `cadastre serve`.
 clients: sample
 	scripts/check_clients
+
+# Has a register make the round by GDAL and scripts/import, and sources with faults be told. Needs python3-gdal and gdal-bin.
+import: sample
+	scripts/check_import
 
 # Has nginx stand before `cadastre serve` by the snippet of docs/OPERATIONS.md, and systemd look at the other one.
 proxy: sample
