@@ -3,7 +3,7 @@ RT ?= rt
 # How many crates `make sample` and `make check` prove side by side.
 JOBS ?= $(shell nproc)
 
-.PHONY: sample cases test check wrong-bodies refused bench register-file office-file serve-file clients proxy import clean
+.PHONY: sample cases test check wrong-bodies refused bench register-file office-file serve-file clients proxy import viewer clean
 
 # Proves and builds the program and all that it stands on, and answers the request in crates/cadastre/stdin. Crates that do not wait for each other are proved side by side.
 sample:
@@ -74,6 +74,10 @@ import: sample
 # Has nginx stand before `cadastre serve` by the snippet of docs/OPERATIONS.md, and systemd look at the other one.
 proxy: sample
 	scripts/check_proxy
+
+# Opens viewer/ in headless Chromium behind nginx, and holds what it shows against the register. Needs chromium, nginx-light and openssl.
+viewer: sample
+	scripts/check_viewer $(PICTURE)
 
 clean:
 	rm -rf crates/*/out

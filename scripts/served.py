@@ -12,6 +12,7 @@ from urllib.parse import urljoin
 from urllib.request import urlopen
 
 TOP = Path(__file__).resolve().parent.parent
+PATH = os.environ.get("PATH", "")
 PROGRAM = os.environ.get("CADASTRE") or str(TOP / "crates/cadastre/out/cadastre")
 COLLECTIONS = ["parcels", "rights", "restrictions", "units", "parties", "responsibilities"]
 
