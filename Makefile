@@ -3,7 +3,7 @@ RT ?= rt
 # How many crates `make sample` and `make check` prove side by side.
 JOBS ?= $(shell nproc)
 
-.PHONY: sample cases test check wrong-bodies refused bench register-file office-file serve-file clients proxy import viewer clean
+.PHONY: sample cases test check wrong-bodies refused bench register-file office-file serve-file clients proxy import viewer deb clean
 
 # Proves and builds the program and all that it stands on, and answers the request in crates/cadastre/stdin. Crates that do not wait for each other are proved side by side.
 sample:
@@ -80,5 +80,9 @@ proxy: sample
 viewer: sample
 	scripts/check_viewer $(PICTURE)
 
+# Puts the program into a Debian package, looks at it, and where root may installs, uses and removes it. Needs debhelper and lintian.
+deb: sample
+	scripts/package
+
 clean:
-	rm -rf crates/*/out
+	rm -rf crates/*/out packaging/out
