@@ -3,7 +3,7 @@ RT ?= rt
 # How many crates `make sample` and `make check` prove side by side.
 JOBS ?= $(shell nproc)
 
-.PHONY: sample cases test check wrong-bodies refused bench register-file office-file serve-file clients proxy clean
+.PHONY: sample cases test check wrong-bodies refused bench register-file office-file serve-file clients proxy import viewer deb clean
 
 # Proves and builds the program and all that it stands on, and answers the request in crates/cadastre/stdin. Crates that do not wait for each other are proved side by side.
 sample:
@@ -11,12 +11,13 @@ sample:
 	cd crates/cadastre && $(RT) run -- sample < stdin
 
 # Holds the stored answers of the cases of filters, of the server, of days and of parameters, and the examples of docs/FILTERS.md,
-# against second readings of the rules, and the examples of docs/API.md against the server's cases.
+# against second readings of the rules, the examples of docs/API.md against the server's cases, and docs/PROMISES.md against the crates.
 cases:
 	scripts/check_filter_cases
 	scripts/check_further_cases
 	scripts/check_server_cases
 	scripts/check_api_examples
+	scripts/count_promises
 
 # The whole gate: the cases held against a second reading, every proof from nothing, the must-fail edits, the tests, each program as two compilers build it, and the program on files of the office and at an address.
 test: cases
@@ -67,9 +68,21 @@ serve-file: sample
 clients: sample
 	scripts/check_clients
 
+# Has a register make the round by GDAL and scripts/import, and sources with faults be told. Needs python3-gdal and gdal-bin.
+import: sample
+	scripts/check_import
+
 # Has nginx stand before `cadastre serve` by the snippet of docs/OPERATIONS.md, and systemd look at the other one.
 proxy: sample
 	scripts/check_proxy
 
+# Opens viewer/ in headless Chromium behind nginx, and holds what it shows against the register. Needs chromium, nginx-light and openssl.
+viewer: sample
+	scripts/check_viewer $(PICTURE)
+
+# Puts the program into a Debian package, looks at it, and where root may installs, uses and removes it. Needs debhelper and lintian.
+deb: sample
+	scripts/package
+
 clean:
-	rm -rf crates/*/out
+	rm -rf crates/*/out packaging/out

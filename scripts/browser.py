@@ -1,0 +1,97 @@
+"""A headless Chromium that a script drives by its DevTools protocol over two pipes. Needs Debian's package chromium."""
+import base64
+import json
+import os
+import shutil
+import subprocess
+import tempfile
+import time
+
+TOOL = shutil.which("chromium")
+
+
+class Browser:
+    """One page. What its console and its loading complain of is kept in `complaints`."""
+
+    def __init__(self, width, height, fields):
+        self.folder = tempfile.TemporaryDirectory(ignore_cleanup_errors=True)
+        theirs_in, self.out = os.pipe()
+        self.back, theirs_out = os.pipe()
+        words = [TOOL, "--headless=new", "--remote-debugging-pipe", "--disable-gpu", "--no-first-run", "--ignore-certificate-errors", "--disable-dev-shm-usage",
+                 "--hide-scrollbars", f"--user-data-dir={self.folder.name}", f"--window-size={width},{height}", "about:blank"]
+        if os.geteuid() == 0:
+            words.insert(1, "--no-sandbox")
+        os.set_inheritable(theirs_in, True)
+        os.set_inheritable(theirs_out, True)
+        # Chromium reads its orders from 3 and answers on 4.
+        shell = f'exec "$@" 3<&{theirs_in} 4>&{theirs_out}'
+        self.process = subprocess.Popen(["bash", "-c", shell, "bash", *words], pass_fds=(theirs_in, theirs_out), stderr=subprocess.DEVNULL)
+        os.close(theirs_in)
+        os.close(theirs_out)
+        self.held, self.number, self.complaints, self.session = b"", 0, [], None
+        target = self.send("Target.createTarget", url="about:blank")["targetId"]
+        self.session = self.send("Target.attachToTarget", targetId=target, flatten=True)["sessionId"]
+        for domain in ("Page", "Runtime", "Log", "Network"):
+            self.send(f"{domain}.enable")
+        self.send("Network.setExtraHTTPHeaders", headers=fields)
+        self.resize(width, height)
+
+    def resize(self, width, height):
+        self.send("Emulation.setDeviceMetricsOverride", width=width, height=height, deviceScaleFactor=1, mobile=False)
+
+    def read(self):
+        while b"\0" not in self.held:
+            data = os.read(self.back, 1 << 20)
+            if not data:
+                raise OSError("Chromium ended")
+            self.held += data
+        text, _, self.held = self.held.partition(b"\0")
+        return json.loads(text)
+
+    def send(self, method, **parameters):
+        self.number += 1
+        order = {"id": self.number, "method": method, "params": parameters}
+        if self.session:
+            order["sessionId"] = self.session
+        os.write(self.out, json.dumps(order).encode() + b"\0")
+        while True:
+            told = self.read()
+            self.hear(told)
+            if told.get("id") == self.number:
+                if "error" in told:
+                    raise OSError(f"{method}: {told['error']['message']}")
+                return told["result"]
+
+    def hear(self, told):
+        if told.get("method") == "Runtime.exceptionThrown":
+            self.complaints.append(told["params"]["exceptionDetails"].get("exception", {}).get("description", "an exception"))
+        if told.get("method") == "Log.entryAdded" and told["params"]["entry"]["level"] == "error":
+            self.complaints.append(f"{told['params']['entry']['text']} {told['params']['entry'].get('url', '')}")
+
+    def value(self, expression):
+        """The value of an expression of JavaScript in the page."""
+        told = self.send("Runtime.evaluate", expression=expression, returnByValue=True, awaitPromise=True)
+        if "exceptionDetails" in told:
+            raise OSError(f"{expression}: {told['exceptionDetails']['exception'].get('description')}")
+        return told["result"].get("value")
+
+    def until(self, expression, seconds=60):
+        """Waits for the expression to be true."""
+        end = time.monotonic() + seconds
+        while not self.value(expression):
+            if time.monotonic() > end:
+                raise OSError(f"not within {seconds} seconds: {expression}")
+            time.sleep(0.05)
+
+    def click(self, left, top):
+        for kind in ("mousePressed", "mouseReleased"):
+            self.send("Input.dispatchMouseEvent", type=kind, x=left, y=top, button="left", clickCount=1)
+
+    def picture(self, path):
+        with open(path, "wb") as it:
+            it.write(base64.b64decode(self.send("Page.captureScreenshot", format="png")["data"]))
+
+    def end(self):
+        self.process.terminate()
+        self.process.wait()
+        self.folder.cleanup()
