@@ -17,9 +17,9 @@
 #![tactic(auto)]
 
 mod calls;
+mod channel;
 mod cut;
 pub mod laws;
-mod channel;
 mod turned;
 
 pub use channel::Channel;

@@ -92,7 +92,8 @@ impl Clients {
                 self.put(c, Client::new(alloc, now));
                 Ok(())
             }
-            Ok(Reply::Closed | Reply::Sent { bytes: _, ends: _ } | Reply::Entered(_)) => unreachable!(),
+            Ok(Reply::Closed | Reply::Sent { bytes: _, ends: _ } | Reply::Entered(_)) =>
+                unreachable!(),
             Err(fault) => Err(fault),
         }
     }
@@ -155,11 +156,13 @@ impl Clients {
 
     /// Whether a reply of this connection has not gone out.
     pub fn is_sending(&self, c: u32) -> bool {
-        self.client(c).is_some_and(|client| !client.channel.sending().is_empty())
+        self.client(c)
+            .is_some_and(|client| !client.channel.sending().is_empty())
     }
 
     /// Whether the connection did nothing for too long, or a request of it takes too long.
     pub fn is_overdue(&self, c: u32, now: u64, limits: &Limits) -> bool {
-        self.client(c).is_some_and(|client| client.is_overdue(now, limits))
+        self.client(c)
+            .is_some_and(|client| client.is_overdue(now, limits))
     }
 }
