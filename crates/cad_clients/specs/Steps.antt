@@ -12,6 +12,8 @@ use Rattle.cad_channel.specs.declared.turned.Turned.TheVariants.{Wrote, Took, Fe
 use Rattle.cad_channel.specs.Channels as channels
 use Rattle.cad_channel.specs.Laws.{IsNew}
 use Rattle.cad_clients.specs.declared.clients.Clients.{Clients}
+use Rattle.cad_clients.specs.declared.served.Served.{Served}
+use Rattle.cad_clients.specs.declared.served.Served.TheVariants.{Stays, Over as Served-Over, Unknown}
 use Rattle.cad_clients.specs.Slots.{channel_at, Changes, Keeps}
 
 -- the connection is over
@@ -38,6 +40,27 @@ module _ {R : Type 0} (g : Ghosts R) (c : ℕ) where
   HasTurn old clients (Some turned) new next read written =
       (channel : Channel) × (after : Channel) × (channel_at clients c ≡ Some channel)
       × channels.IsTurn g c old channel turned new after read written × Changes clients next c (left_after turned after)
+
+  -- connection c has these turns, the last of them first
+  abbrev pub HasTurns : Desk R → Clients → List Turned → Desk R → Clients → List ℕ → List ℕ → Type 0
+  HasTurns old clients [] new next read written = (read ≡ []) × (written ≡ []) × (new ≡ old) × (next ≡ clients)
+  HasTurns old clients (turned ∷ before) new next read written =
+      (mid : Desk R) × (between : Clients) × (front : List ℕ) × (out : List ℕ) × (piece : List ℕ) × (sent : List ℕ)
+      × HasTurns old clients before mid between front out × HasTurn mid between (Some turned) new next piece sent
+      × (read ≡ front ++ piece) × (written ≡ out ++ sent)
+
+  -- connection c has turns, and then this comes of a turn of it
+  abbrev pub EndsWith : Desk R → Clients → Option Turned → Desk R → Clients → List ℕ → List ℕ → Type 0
+  EndsWith old clients last new next read written =
+      (before : List Turned) × (mid : Desk R) × (between : Clients) × (front : List ℕ) × (out : List ℕ) × (piece : List ℕ) × (sent : List ℕ)
+      × HasTurns old clients before mid between front out × HasTurn mid between last new next piece sent
+      × (read ≡ front ++ piece) × (written ≡ out ++ sent)
+
+  -- connection c is served by turns of its own, up to its last one where it is over
+  abbrev pub IsServed : Desk R → Clients → Served → Desk R → Clients → List ℕ → List ℕ → Type 0
+  IsServed old clients Stays new next read written = (turns : List Turned) × HasTurns old clients turns new next read written
+  IsServed old clients (Served-Over ending) new next read written = EndsWith old clients (Some (Over ending)) new next read written
+  IsServed old clients Unknown new next read written = EndsWith old clients None new next read written
 
   -- connection c is closed at the desk, and has no channel then
   abbrev pub Closes : Desk R → Clients → Desk R → Clients → Type 0

@@ -29,7 +29,7 @@ impl Clients {
     ghost use Rattle.std.specs.Prelude.{ℕ, ◌<◌, None, Some, IsSome, IfOk, IfSome, option_map};
     ghost use Rattle.cad_io.specs.Known.{ReadsAndWrites};
     ghost use Rattle.cad_clients.specs.Slots.{channel_at, Changes, Keeps};
-    ghost use Rattle.cad_clients.specs.Steps.{Opens, HasTurn, Closes};
+    ghost use Rattle.cad_clients.specs.Steps.{Opens, HasTurn, Closes, IsServed};
 
     /// No connection, and room for 64.
     pub fn new(alloc: Global) -> Result<Clients, AllocError>
@@ -164,5 +164,50 @@ impl Clients {
     pub fn is_overdue(&self, c: u32, now: u64, limits: &Limits) -> bool {
         self.client(c)
             .is_some_and(|client| client.is_overdue(now, limits))
+    }
+
+    /// Tells what the desk took of a connection and sends for it.
+    fn tell<L: AccessLog>(&self, c: u32, log: &mut L) {
+        if let Some(client) = self.client(c) {
+            log.note(c, client.channel.last_fed(), client.channel.sending());
+        }
+    }
+
+    /// Serves the connection of this number: some turns, up to one at which its socket gives or takes nothing, and not beyond
+    /// the reply to one piece, so that each other connection waits for one reply at most.
+    pub fn serve<I: Read, W: Write, R: Responder, L: AccessLog>(
+        &mut self,
+        alloc: Global,
+        c: u32,
+        now: u64,
+        reader: &mut I,
+        writer: &mut W,
+        desk: &mut Desk<R>,
+        log: &mut L,
+    ) -> Served
+        ensures { ReadsAndWrites (I.remaining reader.old) (I.remaining reader.new)
+            (W.contents writer.old) (W.contents writer.new)
+            (IsServed R.Responder c desk.old self.old result desk.new self.new) }
+    {
+        let mut has_fed = false;
+        for _ in 0..TURNS {
+            if has_fed && !self.is_sending(c) {
+                return Served::Stays;
+            }
+            let Some(turned) = self.turn(alloc, c, now, reader, writer, desk) else {
+                return Served::Unknown;
+            };
+            if let Turned::Over(ending) = turned {
+                return Served::Over(ending);
+            }
+            if turned == Turned::Waits {
+                return Served::Stays;
+            }
+            if turned == Turned::Fed {
+                self.tell(c, log);
+                has_fed = true;
+            }
+        }
+        Served::Stays
     }
 }
