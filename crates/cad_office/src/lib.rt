@@ -24,4 +24,6 @@ mod write;
 
 pub use cad_versions::Ledger;
 pub use fault::OfficeFault;
+pub use line::{Line, LineState};
+pub use print::{Answer, print_answer};
 pub use turns::office;

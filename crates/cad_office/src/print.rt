@@ -21,7 +21,7 @@ pub enum Answer {
 }
 
 /// Prints the answer as one line, or a front of it where a write fails.
-pub fn print<W: Write>(writer: &mut W, answer: Answer) -> Result<(), WriteFailed>
+pub fn print_answer<W: Write>(writer: &mut W, answer: Answer) -> Result<(), WriteFailed>
     ensures { IsWritten (W.contents writer.old) (W.contents writer.new) (printed answer) result }
 {
     match answer {

@@ -9,7 +9,7 @@ ghost use Rattle.cad_office.specs.Lines.{line_begun, BuffersLine};
 
 use crate::fault::OfficeFault;
 use crate::line::{Line, LineState};
-use crate::print::{Answer, print};
+use crate::print::{Answer, print_answer};
 use cad_commands::{CommandError, read_command};
 use cad_versions::{Command, Ledger, RegisterFault};
 use std::alloc::Global;
@@ -102,7 +102,7 @@ fn end_line<W: Write, L: Ledger>(
     }
     let answer = answer_line(alloc, line, ledger);
     line.clear();
-    print(writer, answer)?;
+    print_answer(writer, answer)?;
     match answer {
         Answer::Entered(_) => Ok(true),
         Answer::Refused(fault) => if is_store(fault) {

@@ -3,6 +3,7 @@
 //! - `serve`: reads the connection's bytes in pieces, has the desk take each, and writes its replies
 //! - `Ending`: how serving ended
 //! - `ServeFault`: why it stopped before its end
+//! - `write_fixed_head`: writes the head that tells a fault of the desk, for which no memory is needed
 //! - `laws`: what was written are the replies to the requests that were read, and no other connection is touched
 //!
 //! ```text
@@ -21,3 +22,4 @@ mod writing;
 pub use ending::Ending;
 pub use serve_fault::ServeFault;
 pub use serving::serve;
+pub use writing::write_fixed_head;

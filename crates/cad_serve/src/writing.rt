@@ -29,7 +29,7 @@ fn fixed_head(fault: DeskFault) -> &'static str
 }
 
 /// Writes the head that tells the fault. No memory is needed for it.
-pub(crate) fn write_fixed_head<W: Write>(
+pub fn write_fixed_head<W: Write>(
     writer: &mut W,
     fault: DeskFault,
 ) -> Result<(), WriteFailed>

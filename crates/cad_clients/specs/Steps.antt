@@ -1,0 +1,67 @@
+-- What is done for the open connections at a desk (own profile).
+use Rattle.std.specs.Prelude.{◌≡◌, ◌⊎◌, ℕ, Bool, true, false, if◌then◌else◌, List, [], ◌∷◌, ◌++◌, Option, None, Some, Result, Ok, Err}
+use Rattle.cad_stream.specs.declared.responder.Responder.{Ghosts}
+use Rattle.cad_desk.specs.declared.desk.Desk.{Desk}
+use Rattle.cad_desk.specs.declared.event.Event.TheVariants.{Open}
+use Rattle.cad_desk.specs.declared.event.Reply.TheVariants.{Opened}
+use Rattle.cad_desk.specs.declared.fault.DeskFault.{DeskFault}
+use Rattle.cad_desk.specs.Desks as desks
+use Rattle.cad_channel.specs.declared.channel.Channel.{Channel}
+use Rattle.cad_channel.specs.declared.turned.Turned.{Turned}
+use Rattle.cad_channel.specs.declared.turned.Turned.TheVariants.{Wrote, Took, Fed, Waits, Over}
+use Rattle.cad_channel.specs.Channels as channels
+use Rattle.cad_channel.specs.Laws.{IsNew}
+use Rattle.cad_clients.specs.declared.clients.Clients.{Clients}
+use Rattle.cad_clients.specs.declared.served.Served.{Served}
+use Rattle.cad_clients.specs.declared.served.Served.TheVariants.{Stays, Over as Served-Over, Unknown}
+use Rattle.cad_clients.specs.Slots.{channel_at, Changes, Keeps}
+
+-- the connection is over
+abbrev pub is_over : Turned → Bool
+is_over (Over ending) = true
+is_over other = false
+
+-- the channel that is left after a turn
+abbrev pub left_after : Turned → Channel → Option Channel
+left_after turned channel = if is_over turned then None else Some channel
+
+module _ {R : Type 0} (g : Ghosts R) (c : ℕ) where
+  -- the desk opens connection c, which has a new channel then, or refuses it
+  abbrev pub Opens : Desk R → Clients → Result (Unit {0}) DeskFault → Desk R → Clients → Type 0
+  Opens old clients (Ok done) new next =
+      desks.Steps g old (Open c) (Ok Opened) new
+      × ((channel : Channel) × IsNew channel × (channels.has_ended channel ≡ false) × Changes clients next c (Some channel))
+  Opens old clients (Err fault) new next = desks.Steps g old (Open c) (Err fault) new × Keeps clients next
+
+  -- connection c has a turn, by its own channel and its own number at the desk, and all others are as they were
+  abbrev pub HasTurn : Desk R → Clients → Option Turned → Desk R → Clients → List ℕ → List ℕ → Type 0
+  HasTurn old clients None new next read written =
+      (channel_at clients c ≡ None) × (read ≡ []) × (written ≡ []) × (new ≡ old) × Keeps clients next
+  HasTurn old clients (Some turned) new next read written =
+      (channel : Channel) × (after : Channel) × (channel_at clients c ≡ Some channel)
+      × channels.IsTurn g c old channel turned new after read written × Changes clients next c (left_after turned after)
+
+  -- connection c has these turns, the last of them first
+  abbrev pub HasTurns : Desk R → Clients → List Turned → Desk R → Clients → List ℕ → List ℕ → Type 0
+  HasTurns old clients [] new next read written = (read ≡ []) × (written ≡ []) × (new ≡ old) × (next ≡ clients)
+  HasTurns old clients (turned ∷ before) new next read written =
+      (mid : Desk R) × (between : Clients) × (front : List ℕ) × (out : List ℕ) × (piece : List ℕ) × (sent : List ℕ)
+      × HasTurns old clients before mid between front out × HasTurn mid between (Some turned) new next piece sent
+      × (read ≡ front ++ piece) × (written ≡ out ++ sent)
+
+  -- connection c has turns, and then this comes of a turn of it
+  abbrev pub EndsWith : Desk R → Clients → Option Turned → Desk R → Clients → List ℕ → List ℕ → Type 0
+  EndsWith old clients last new next read written =
+      (before : List Turned) × (mid : Desk R) × (between : Clients) × (front : List ℕ) × (out : List ℕ) × (piece : List ℕ) × (sent : List ℕ)
+      × HasTurns old clients before mid between front out × HasTurn mid between last new next piece sent
+      × (read ≡ front ++ piece) × (written ≡ out ++ sent)
+
+  -- connection c is served by turns of its own, up to its last one where it is over
+  abbrev pub IsServed : Desk R → Clients → Served → Desk R → Clients → List ℕ → List ℕ → Type 0
+  IsServed old clients Stays new next read written = (turns : List Turned) × HasTurns old clients turns new next read written
+  IsServed old clients (Served-Over ending) new next read written = EndsWith old clients (Some (Over ending)) new next read written
+  IsServed old clients Unknown new next read written = EndsWith old clients None new next read written
+
+  -- connection c is closed at the desk, and has no channel then
+  abbrev pub Closes : Desk R → Clients → Desk R → Clients → Type 0
+  Closes old clients new next = channels.Closes g c old new × Changes clients next c None

@@ -1,0 +1,89 @@
+//! A connection, and when something was done for it.
+
+use crate::limits::Limits;
+use cad_channel::{Channel, Turned};
+use cad_desk::Desk;
+use cad_stream::Responder;
+use std::alloc::Global;
+use std::io::{Read, Write};
+
+/// A connection between its socket and the desk, and when bytes of it came or went.
+#[derive(Drop)]
+pub(crate) struct Client {
+    pub(crate) channel: Channel,
+    /// Its socket may give or take something.
+    pub(crate) is_ready: bool,
+    /// When a byte was read or written last.
+    moved: u64,
+    /// Since when a request is under way whose reply has not gone out.
+    begun: Option<u64>,
+}
+
+impl Client {
+    ghost use Rattle.std.specs.Prelude.{◌≡◌, false};
+    ghost use Rattle.cad_io.specs.Known.{ReadsAndWrites};
+    ghost use Rattle.cad_channel.specs.Channels.{has_ended, IsTurn};
+    ghost use Rattle.cad_channel.specs.Laws.{IsNew};
+
+    /// A connection that was just opened.
+    pub(crate) fn new(alloc: Global, now: u64) -> Client
+        ensures new { IsNew result.channel }
+        ensures goes_on { has_ended result.channel ≡ false }
+    {
+        Client {
+            channel: Channel::new(alloc),
+            is_ready: true,
+            moved: now,
+            begun: None,
+        }
+    }
+
+    /// Keeps when it was.
+    fn note(&mut self, turned: Turned, now: u64)
+        ensures { self.new.channel ≡ self.old.channel }
+    {
+        match turned {
+            Turned::Wrote => {
+                self.moved = now;
+                if self.channel.sending().is_empty() {
+                    self.begun = None;
+                }
+            }
+            Turned::Took => {
+                self.moved = now;
+                self.begun = self.begun.or(Some(now));
+            }
+            Turned::Fed => self.begun = self.begun.or(Some(now)),
+            Turned::Waits => self.is_ready = false,
+            Turned::Over(_) => {}
+        }
+    }
+
+    /// A turn of the channel.
+    pub(crate) fn turn<I: Read, W: Write, R: Responder>(
+        &mut self,
+        alloc: Global,
+        c: u32,
+        now: u64,
+        reader: &mut I,
+        writer: &mut W,
+        desk: &mut Desk<R>,
+    ) -> Turned
+        ensures { ReadsAndWrites (I.remaining reader.old) (I.remaining reader.new)
+            (W.contents writer.old) (W.contents writer.new)
+            (IsTurn R.Responder c desk.old self.old.channel result desk.new self.new.channel) }
+    {
+        let turned = self.channel.turn(alloc, c, reader, writer, desk);
+        self.note(turned, now);
+        turned
+    }
+
+    /// Whether it did nothing for too long, or a request of it takes too long.
+    pub(crate) fn is_overdue(&self, now: u64, limits: &Limits) -> bool {
+        let is_idle = limits.idle <= now.saturating_sub(self.moved);
+        match self.begun {
+            Some(begun) => is_idle || limits.request <= now.saturating_sub(begun),
+            None => is_idle,
+        }
+    }
+}

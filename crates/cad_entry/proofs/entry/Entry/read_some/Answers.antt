@@ -1,0 +1,12 @@
+use Rattle.std.proofs.Common.{[], take, refl, inl}
+use Rattle.cad_entry.proofs.TurnLemmas.{last_turn}
+use Rattle.cad_entry.proofs.entry.Entry.read_some.Goals as goal
+
+pub returns-in_default : goal.returns-in_default
+returns-in_default g c = (take c.in-Ok.count c.read.new.buf, c.in-Ok.ensures.bytes.0, (refl, inl refl))
+
+pub returns-in-Ok-eq0 : goal.returns-in-Ok-eq0
+returns-in-Ok-eq0 g c =
+    let consumed = rw c.in-Ok-eq0.field-0-test at c.in-Ok-eq0.ensures.bytes.0 in
+    let requires = c.requires in
+    ([], consumed, last_turn g.R.Responder c.args.desk.now c.end_input.new.desk c.args.self.now c.end_input.new.self c.end_input.result c.end_input.ensures.ends requires.nothing_unread requires.nothing_unwritten c.end_input.ensures.line)

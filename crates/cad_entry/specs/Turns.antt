@@ -1,0 +1,89 @@
+-- What the connection of the land office holds between its socket and the desk, and what a turn does (own profile).
+use Rattle.std.specs.Prelude.{◌≡◌, ◌⊎◌, ℕ, ⊤, List, [], ◌∷◌, ◌++◌, drop, codes, Option}
+use Rattle.std.specs.Io.KnownBytes.{Consumes}
+use Rattle.cad_stream.specs.declared.responder.Responder.{Ghosts}
+use Rattle.cad_desk.specs.declared.desk.Desk.{Desk}
+use Rattle.cad_office.specs.declared.print.Answer.{Answer}
+use Rattle.cad_office.specs.Answers.{printed}
+use Rattle.cad_office.specs.Keeping.{AnswersLine}
+use Rattle.cad_office.specs.Lines.{BuffersLine}
+use Rattle.cad_entry.specs.declared.entry.Entry.{Entry}
+use Rattle.cad_entry.specs.declared.turned.EntryTurned.{EntryTurned}
+use Rattle.cad_entry.specs.declared.turned.EntryTurned.TheVariants.{Wrote, Took, Added, Answered, Stops, Waits, Over}
+use Rattle.cad_entry.specs.Buffering.{IsOfOneLine}
+use Rattle.cad_entry.specs.Entries.{EntersAtDesk}
+
+-- bytes that were read and not taken
+abbrev pub unread : Entry → List ℕ
+unread entry = drop entry.input_at entry.input.items
+
+-- what was not written of an answer
+abbrev pub unwritten : Entry → List ℕ
+unwritten entry = drop entry.output_at entry.output.items
+
+-- the line that has begun has this text
+abbrev pub HasBegun : List ℕ → Entry → Type 0
+HasBegun text entry = BuffersLine text entry.line
+
+-- nothing was read, and nothing is to be written
+pub record IsNewEntry (entry : Entry) : Type 0 where
+  pub none_read : unread entry ≡ []
+  pub none_written : unwritten entry ≡ []
+  pub none_begun : HasBegun [] entry
+
+-- known bytes are read so
+abbrev pub Reads : Option (List ℕ) → Option (List ℕ) → (List ℕ → Type 0) → Type 0
+Reads old new P = (read : List ℕ) × Consumes old new read × P read
+
+-- what the end of a line may come to
+abbrev pub MayEnd : EntryTurned → Type 0
+MayEnd Wrote = ⊥
+MayEnd Took = ⊥
+MayEnd Waits = ⊥
+MayEnd other = ⊤
+
+module _ {R : Type 0} (g : Ghosts R) where
+  -- what comes of the end of a line with this text: its command is entered, and then answered
+  abbrev pub EndsLine : List ℕ → Desk R → EntryTurned → Desk R → Entry → Type 0
+  EndsLine text old Added new next = (text ≡ []) × (new ≡ old) × (unwritten next ≡ []) × HasBegun [] next
+  EndsLine text old (Answered answer) new next = AnswersLine (EntersAtDesk g) text old answer new × (unwritten next ≡ printed answer) × HasBegun [] next
+  EndsLine text old Stops new next = (text ≡ codes "stop") × (new ≡ old)
+  -- no memory for the answer
+  EndsLine text old Over new next = (answer : Answer) × AnswersLine (EntersAtDesk g) text old answer new
+  EndsLine text old Wrote new next = ⊥
+  EndsLine text old Took new next = ⊥
+  EndsLine text old Waits new next = ⊥
+
+  -- the line ends, whatever its text is
+  abbrev pub IsLineEnd : Desk R → Entry → EntryTurned → Desk R → Entry → Type 0
+  IsLineEnd old entry turned new next = (text : List ℕ) → HasBegun text entry → EndsLine text old turned new next × (unread next ≡ unread entry)
+
+  -- bytes of the line are taken, and it goes on or ends
+  abbrev pub IsFed : Desk R → Entry → EntryTurned → Desk R → Entry → Type 0
+  IsFed old entry turned new next = (begun : List ℕ) → HasBegun begun entry → (part : List ℕ) × IsOfOneLine part
+      × (((turned ≡ Added) × (new ≡ old) × (unwritten next ≡ []) × (unread entry ≡ part ++ unread next) × HasBegun (begun ++ part) next)
+      ⊎ ((unread entry ≡ part ++ 10 ∷ unread next) × EndsLine (begun ++ part) old turned new next))
+
+  -- nothing was read or written
+  abbrev pub IsQuiet : List ℕ → List ℕ → Type 0
+  IsQuiet read written = (read ≡ []) × (written ≡ [])
+
+  -- the input is at its end, and so is the line that has begun
+  abbrev pub IsAtLastLine : Desk R → Entry → EntryTurned → Desk R → Entry → Type 0
+  IsAtLastLine old entry turned new next = (unread entry ≡ []) × IsLineEnd old entry turned new next
+
+  -- what came of a turn: an answer is written before more is taken, and more is read only when all is taken
+  abbrev pub IsEntryTurn : Desk R → Entry → EntryTurned → Desk R → Entry → List ℕ → List ℕ → Type 0
+  IsEntryTurn old entry Wrote new next read written =
+      (read ≡ []) × (unwritten entry ≡ written ++ unwritten next) × (unread next ≡ unread entry) × (next.line ≡ entry.line) × (new ≡ old)
+  IsEntryTurn old entry Took new next read written =
+      (written ≡ []) × (unwritten entry ≡ []) × (unread entry ≡ []) × (unwritten next ≡ []) × (unread next ≡ read) × (next.line ≡ entry.line) × (new ≡ old)
+  IsEntryTurn old entry Added new next read written =
+      IsQuiet read written × (unwritten entry ≡ []) × (IsFed old entry Added new next ⊎ IsAtLastLine old entry Added new next)
+  IsEntryTurn old entry (Answered answer) new next read written =
+      IsQuiet read written × (unwritten entry ≡ []) × (IsFed old entry (Answered answer) new next ⊎ IsAtLastLine old entry (Answered answer) new next)
+  IsEntryTurn old entry Stops new next read written =
+      IsQuiet read written × (unwritten entry ≡ []) × (IsFed old entry Stops new next ⊎ IsAtLastLine old entry Stops new next)
+  IsEntryTurn old entry Waits new next read written = IsQuiet read written × (new ≡ old) × (next ≡ entry)
+  IsEntryTurn old entry Over new next read written =
+      (written ≡ []) × ((new ≡ old) ⊎ (IsFed old entry Over new next ⊎ IsAtLastLine old entry Over new next))
