@@ -42,8 +42,8 @@ const slider = by("slider");
 const view = { x: 0, y: 0, scale: 100 };
 /** What was drawn last: the parcels, their revision, the last revision that was told, the filter, how many came, and the pages that are left. */
 const shown = { parcels: [], revision: 0, inForce: 0, filter: "", came: 0, rest: null, target: "" };
-/** The object of the parcel that was clicked, and its unit. */
-const chosen = { object: null, unit: null };
+/** The object of the parcel that was clicked, its unit, and of which object, day and revision the panel tells. */
+const chosen = { object: null, unit: null, told: "" };
 let loading = new AbortController();
 let telling = new AbortController();
 
@@ -267,6 +267,7 @@ async function load() {
     await follow(targetOf("parcels", asked), signal);
     tellFault(null);
     delete document.body.dataset.busy;
+    tell();
   } catch (fault) {
     failed(fault);
   }
@@ -433,13 +434,15 @@ function holdsOn({ begin, end }) {
   return !day.value || (begin <= day.value && (end === null || day.value <= end));
 }
 
-/** Tells of the chosen parcel, on the day and at the revision that the map shows. */
+/** Tells of the chosen parcel, on the day and at the revision that the map shows, unless the panel does already. */
 async function tell() {
+  const asked = `${chosen.object} ${day.value} ${shown.revision}`;
+  if (chosen.object === null || asked === chosen.told) return;
   telling.abort();
   telling = new AbortController();
   const { signal } = telling;
-  if (chosen.object === null) return;
   const panel = by("panel");
+  chosen.told = asked;
   panel.setAttribute("aria-busy", "true");
   const at = { revision: shown.revision };
   try {
@@ -454,7 +457,9 @@ async function tell() {
     chosen.unit = now.properties.unit;
     draw();
   } catch (fault) {
-    if (fault.name !== "AbortError") panel.replaceChildren(element("p", { className: "hint" }, `This could not be read: ${fault.message}.`));
+    if (fault.name === "AbortError") return;
+    chosen.told = "";
+    panel.replaceChildren(element("p", { className: "hint" }, `This could not be read: ${fault.message}.`));
   } finally {
     if (!signal.aborted) panel.removeAttribute("aria-busy");
   }
@@ -481,7 +486,7 @@ function areaOf(area) {
 function dayButton(text) {
   const goTo = () => {
     day.value = text;
-    changed();
+    load();
   };
   return element("button", { type: "button", title: "Show this day", onclick: goTo }, text);
 }
@@ -549,22 +554,16 @@ function readAddress() {
   return true;
 }
 
-async function changed() {
-  await load();
-  await tell();
-}
-
 function goTo(number) {
   revision.value = number;
   tellRevision();
-  soon(changed);
+  soon(load);
 }
 
 function choose(left, top) {
   const place = toPlane(left, top);
   const found = shown.parcels.findLast((it) => holds(it, place));
-  chosen.object = found?.properties.object ?? null;
-  chosen.unit = found?.properties.unit ?? null;
+  Object.assign(chosen, { object: found?.properties.object ?? null, unit: found?.properties.unit ?? null, told: "" });
   draw();
   writeAddress();
   if (found) tell();
@@ -572,17 +571,17 @@ function choose(left, top) {
 }
 
 function listenToControls() {
-  day.addEventListener("change", changed);
+  day.addEventListener("change", load);
   by("today").addEventListener("click", () => {
     day.value = new Date().toISOString().slice(0, 10);
-    changed();
+    load();
   });
   by("every-day").addEventListener("click", () => {
     day.value = "";
-    changed();
+    load();
   });
   slider.addEventListener("input", () => goTo(slider.value));
-  revision.addEventListener("input", () => soon(changed));
+  revision.addEventListener("input", () => soon(load));
   by("earlier").addEventListener("click", () => goTo(shown.revision - 1));
   by("later").addEventListener("click", () => goTo(shown.revision + 1));
   by("latest").addEventListener("click", () => goTo(""));
@@ -657,7 +656,7 @@ async function start() {
   }
   if (!hasView) await fitAll();
   listenToMap();
-  await changed();
+  await load();
   document.body.dataset.ready = "yes";
 }
 
