@@ -16,6 +16,9 @@ use Rattle.std.proofs.Common.{◌<◌, zero, suc, length, get_or, Option, Some, 
 use Rattle.std.specs.Prelude.{IfSome, IsTrue}
 use Rattle.std.specs.List.{remove}
 use Rattle.cad_shape.specs.declared.shape.Shape.{Shape}
+use Rattle.cad_shape.specs.Shapes.{shape_corners}
+use Rattle.cad_cells.specs.Blocks.{block_around}
+use Rattle.cad_cells.specs.Near.{is_near}
 use Rattle.cql_types.specs.declared.filter.Filter.{Filter}
 use Rattle.cad_range.specs.Ranges.{lies_in_if_any}
 use Rattle.cql_truth.specs.Sides.{Sides, conjunction}
@@ -38,8 +41,13 @@ meets_Range x r = ap (meets x) (sym (rolls-Range r)) ∙ fold-roll-Normal Bool (
 pub meets_Like : (x : Item) (pattern : String Global) (r : RangeOf) → meets x (Like pattern r) ≡ (lies_in x r && is_liked (text_in (datum_at x r.property)) (text_of pattern))
 meets_Like x pattern r = ap (meets x) (sym (rolls-Like pattern r)) ∙ fold-roll-Normal Bool (meet_step x) (Normal-F.Like pattern r)
 
-pub meets_Near : (x : Item) (f : Bor Filter) (property : ℕ) (shape : Bor Shape) → meets x (Near f property shape) ≡ in_side true x f.now
+pub meets_Near : (x : Item) (f : Bor Filter) (property : ℕ) (shape : Bor Shape) → meets x (Near f property shape) ≡ (is_near property (block_around (shape_corners shape.now)) x && in_side true x f.now)
 meets_Near x f property shape = ap (meets x) (sym (rolls-Near f property shape)) ∙ fold-roll-Normal Bool (meet_step x) (Normal-F.Near f property shape)
+
+pub told_by_second : (a b : Bool) → (b ≡ true → a ≡ true) → (a && b) ≡ b
+told_by_second a true h = rw (h refl) refl
+told_by_second true false h = refl
+told_by_second false false h = refl
 
 pub meets_Folded : (x : Item) (f : Filter) (side : Bool) → meets x (Folded f side) ≡ in_side side x f
 meets_Folded x f side = ap (meets x) (sym (rolls-Folded f side)) ∙ fold-roll-Normal Bool (meet_step x) (Normal-F.Folded f side)

@@ -6,8 +6,8 @@ use Rattle.std.specs.declared.cmp.Ordering.{Ordering}
 use Rattle.std.specs.declared.cmp.Ordering.TheVariants.{Less, Equal, Greater}
 use Rattle.std.specs.Ordering.{is_le, is_lt, ordering_reverse}
 use Rattle.std.proofs.lemmas.Cmp.{nat_list_cmp_total}
-use Rattle.cad_feature.specs.Features.{Item, datum_at}
-use Rattle.cad_feature.specs.Limits.{Limit, limit_of, with_value}
+use Rattle.cad_feature.specs.Features.{datum_at}
+use Rattle.cad_feature.specs.Limits.{limit_of, with_value}
 use Rattle.cad_feature.specs.declared.range.Range.{Range as RangeOf}
 use Rattle.cql_truth.specs.Sides.{compared, is_like}
 use Rattle.cad_feature.specs.Values.{Datum, null, a_text, a_whole, a_flag, a_day, a_span, a_spot, an_area}

@@ -1,7 +1,10 @@
+pub mod Covered
 pub mod FoldedLemmas
 pub mod Forms
 pub mod FrontLemmas
 pub mod Least
 pub mod MemberLemmas
+pub mod Nearness
+pub mod Priced
 pub mod Turns
 pub mod WrittenLemmas

@@ -1,11 +1,11 @@
 -- The equalities of an IN, one after the other.
-use Rattle.std.proofs.Common.{◌≡◌, ◌∙◌, ap, sym, refl, ℕ, zero, suc, ◌+◌, ◌≤◌, min, List, [], ◌∷◌, ◌++◌, map, length, get_or, drop, add-one, drop-cons, Bool, true, false, ◌||◌, arith}
+use Rattle.std.proofs.Common.{◌≡◌, ◌∙◌, ap, sym, refl, ℕ, suc, ◌+◌, ◌≤◌, List, ◌∷◌, map, length, get_or, drop, add-one, drop-cons, Bool, true, false, ◌||◌, arith}
 use Rattle.std.specs.List.{list_any}
 use Rattle.cad_feature.specs.Features.{Item}
 use Rattle.cql_truth.specs.Sides.{Sides}
 use Rattle.cql_types.specs.declared.filter.Filter.{Filter}
 use Rattle.cql_rewrite.specs.declared.form.Normal.{Normal}
-use Rattle.cql_rewrite.specs.Costs.{any_equal, bound, bound_on, count_in, count_of, every, IsCounted, least, least_of_some, total}
+use Rattle.cql_rewrite.specs.Costs.{any_equal, bound, bound_on, count_in, count_of, IsCounted, least, least_of_some, total}
 use Rattle.cql_rewrite.specs.Meets.{Written, meets}
 use Rattle.cql_rewrite.proofs.Forms.{or_assoc, or_false}
 use Rattle.cql_rewrite.proofs.Least.{count_alike, drop_over, least_under}

@@ -1,6 +1,5 @@
 -- The features of a collection hold characters alone.
-use Rattle.std.proofs.Common.{◌≡◌, ◌∙◌, sym, ap, refl, ℕ, zero, suc, List, [], ◌∷◌, Bool, true, Option, Some, None, get_or}
-use Rattle.std.specs.List.{AllZip}
+use Rattle.std.proofs.Common.{◌≡◌, ◌∙◌, sym, ap, ℕ, zero, suc, List, [], ◌∷◌, true, Some, get_or}
 use Rattle.std.specs.Str.{all_scalars}
 use Rattle.cad_feature.specs.Features.{Item, IsFeatureOf, FitSchema, datum_at}
 use Rattle.cad_schema.specs.Attributes.{Named}

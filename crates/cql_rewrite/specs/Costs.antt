@@ -1,11 +1,12 @@
 -- What the cheapest plan of a normal form looks at, and the bound of a filter (own profile).
-use Rattle.std.specs.Prelude.{◌≡◌, ◌≤◌, ℕ, suc, min, ◌+◌, ◌==◌, ◌&&◌, Bool, true, false, List, [], ◌∷◌, map, length, Option, Some, None, if◌then◌else◌}
+use Rattle.std.specs.Prelude.{◌≡◌, ◌≤◌, ℕ, min, ◌+◌, Bool, true, false, List, [], ◌∷◌, map, length, Option, Some, None, if◌then◌else◌}
 use Rattle.std.specs.List.{list_all, list_any}
 use Rattle.cad_cells.specs.Blocks.{block_around}
 use Rattle.cad_cells.specs.Near.{is_near}
 use Rattle.cad_feature.specs.Features.{Item, datum_at}
 use Rattle.cad_feature.specs.declared.range.Range.{Range}
 use Rattle.cad_range.specs.Ranges.{lies_in, lies_in_if_any}
+pub use Rattle.cad_lookup.specs.Ways.{how_many, min_of, total}
 use Rattle.cad_shape.specs.declared.shape.Shape.{Shape}
 use Rattle.cad_shape.specs.Shapes.{shape_corners}
 use Rattle.cql_lexer.specs.declared.token.SpatialRelation.{SpatialRelation}
@@ -31,21 +32,6 @@ use Rattle.cql_rewrite.specs.declared.form.Normal.TheOpen.{Normal-F}
 use Rattle.cql_rewrite.specs.declared.form.Normal.TheFolds.{fold-Normal}
 use Rattle.cql_rewrite.specs.Meets.{Written, meets}
 use Rattle.cql_rewrite.specs.Terms.{day_sides, is_plain_days, is_plain_texts, is_plain_wholes, text_sides, whole_sides}
-
--- how many pass a test
-abbrev pub how_many : {X : Type 0} → (X → Bool) → List X → ℕ
-how_many test [] = 0
-how_many test (x ∷ xs) = if test x then (suc (how_many test xs)) else (how_many test xs)
-
--- all of them together
-abbrev pub total : List ℕ → ℕ
-total [] = 0
-total (n ∷ ns) = n + total ns
-
--- the least of a bound and some numbers
-abbrev pub min_of : ℕ → List ℕ → ℕ
-min_of n [] = n
-min_of n (c ∷ cs) = min c (min_of n cs)
 
 abbrev pub every : List Written → ℕ
 every t = length t

@@ -1,4 +1,7 @@
 pub mod Meets
 pub mod Terms
 pub mod Costs
+pub mod Menus
+pub mod Choices
+pub mod MenuNodes
 pub mod Laws

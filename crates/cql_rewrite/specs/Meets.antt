@@ -1,13 +1,16 @@
 -- The features that meet a normal form (own profile).
-use Rattle.std.specs.Prelude.{◌≡◌, ℕ, Bool, true, false, not, ◌&&◌, ◌||◌, List, Option, Some, None, option_map}
+use Rattle.std.specs.Prelude.{◌≡◌, ℕ, Bool, true, false, ◌&&◌, ◌||◌, List, Option, Some, None}
 use Rattle.std.specs.List.{list_all, list_any}
 use Rattle.std.specs.Str.{all_scalars}
+use Rattle.cad_shape.specs.Shapes.{shape_corners}
+use Rattle.cad_cells.specs.Blocks.{block_around}
+use Rattle.cad_cells.specs.Near.{is_near}
 use Rattle.cad_feature.specs.Features.{Item, datum_at}
 use Rattle.cad_range.specs.Ranges.{lies_in}
 use Rattle.cql_text.specs.Fronts.{text_of}
 use Rattle.cql_text.specs.Patterns.{like_test}
 use Rattle.cql_types.specs.declared.filter.Filter.{Filter}
-use Rattle.cql_truth.specs.Sides.{Sides, compared, is_like, sides}
+use Rattle.cql_truth.specs.Sides.{Sides, sides}
 use Rattle.cql_truth.specs.Folding.{folds_case}
 use Rattle.cql_truth.specs.Values.{text_in}
 use Rattle.cql_rewrite.specs.declared.form.Normal.{Normal}
@@ -44,7 +47,7 @@ meet_step x (Normal-F.Range r) = lies_in x r
 meet_step x (Normal-F.Like pattern r) = lies_in x r && is_liked (text_in (datum_at x r.property)) (text_of pattern)
 meet_step x (Normal-F.Atom f side) = in_side side x f.now
 meet_step x (Normal-F.Folded f side) = in_side side x f
-meet_step x (Normal-F.Near f property shape) = in_side true x f.now
+meet_step x (Normal-F.Near f property shape) = is_near property (block_around (shape_corners shape.now)) x && in_side true x f.now
 meet_step x (Normal-F.And parts) = list_all (λ b. b) parts.items
 meet_step x (Normal-F.Or parts) = list_any (λ b. b) parts.items
 

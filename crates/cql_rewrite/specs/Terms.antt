@@ -1,7 +1,5 @@
 -- What a comparison comes to where an operand is a constant (own profile).
 use Rattle.std.specs.Prelude.{ℕ, Bool, true, false, not, List, Option, Some, None, option_map}
-use Rattle.std.specs.declared.cmp.Ordering.{Ordering}
-use Rattle.std.specs.List.{list_all, list_any}
 use Rattle.cad_feature.specs.Features.{Item, datum_at}
 use Rattle.cad_feature.specs.Limits.{Limit, free, scalar_datum, without_value}
 use Rattle.cad_feature.specs.Values.{a_text}

@@ -26,7 +26,8 @@ pub enum Normal<'a> {
         filter: Filter,
         side: bool,
     },
-    /// The filter is true of the feature, and speaks of the property's place relative to the shape.
+    /// The filter is true of the feature, and its shape of the property is near the shape: its bounds touch more than 64
+    /// cells, or a cell that the shape's bounds touch.
     Near {
         filter: &'a Filter,
         property: usize,

@@ -1,10 +1,38 @@
 //! What holds of normal forms. Each contract is a law; the functions do nothing.
 
-ghost use Rattle.cql_rewrite.specs.Laws.{FeaturesAreWritten};
+ghost use Rattle.cql_rewrite.specs.Laws.{
+  ChoicesCostTheLeast,
+  FeaturesAreWritten,
+  MenusCover,
+  SpatialIsNear,
+};
 
+use cad_cells::laws::shared_cells_are_touched;
 use cad_schema::Collection;
+use cad_shape::laws::{bounds_overlap, meeting_is_symmetric, tests_tell, within_meets};
 
 /// The features of a collection hold characters alone, as `normal` asks of those of which it speaks.
 pub fn features_are_written(collection: Collection)
     ensures { FeaturesAreWritten collection }
 {}
+
+/// The choice of a form's menu costs no more than the least of which `normal` speaks, over any list of features.
+pub fn choices_cost_the_least()
+    ensures { ChoicesCostTheLeast }
+{}
+
+/// Each way of a form's menu has each feature that meets the form, however features are counted.
+pub fn menus_cover()
+    ensures { MenusCover }
+{}
+
+/// A feature of which S_INTERSECTS, S_WITHIN or S_CONTAINS with a shape is true is near the shape.
+pub fn spatial_is_near()
+    ensures { SpatialIsNear }
+{
+    bounds_overlap();
+    meeting_is_symmetric();
+    within_meets();
+    tests_tell();
+    shared_cells_are_touched();
+}

@@ -1,7 +1,11 @@
 //! Whether a feature meets a normal form.
 
-ghost use Rattle.std.specs.Prelude.{◌≡◌, false, chars, IfOk, IsOk};
+ghost use Rattle.std.specs.Prelude.{◌≡◌, ◌&&◌, true, false, chars, IfOk, IsOk, Some};
 ghost use Rattle.std.specs.List.{list_all, list_any};
+ghost use Rattle.cad_shape.specs.Shapes.{shape_corners};
+ghost use Rattle.cad_cells.specs.Blocks.{block_around};
+ghost use Rattle.cad_cells.specs.Counted.{block_at};
+ghost use Rattle.cad_cells.specs.Near.{block_in, is_candidate, is_near as is_near_of};
 ghost use Rattle.cad_feature.specs.Features.{datum_at};
 ghost use Rattle.cad_feature.specs.Values.{datum_of};
 ghost use Rattle.cql_text.specs.Fronts.{text_of};
@@ -10,8 +14,10 @@ ghost use Rattle.cql_truth.specs.Values.{text_in};
 ghost use Rattle.cql_rewrite.specs.Meets.{folds, in_side, is_liked as is_liked_of, meets};
 
 use crate::form::Normal;
+use cad_cells::{Cells, bounds_of};
 use cad_feature::{Feature, Value};
 use cad_range::lies_in;
+use cad_shape::{Shape, bounds};
 use cql_text::like;
 use cql_truth::{Truth, truth};
 use cql_types::Filter;
@@ -54,6 +60,50 @@ fn is_liked_at(feature: &Feature, property: usize, pattern: &String) -> bool
     }
 }
 
+// Whether some cell is among both, or the feature's own are more than 64.
+fn are_near(own: Cells, asked: Cells) -> bool
+    ensures { result ≡ is_candidate (block_at asked) (Some (block_at own)) }
+{
+    own.is_wide() || own.share_a_cell(asked)
+}
+
+fn is_near_value(value: &Value, shape: &Shape) -> bool
+    ensures { result ≡ is_candidate (block_around (shape_corners shape.now)) (block_in (datum_of value.now)) }
+{
+    match bounds_of(value) {
+        None => false,
+        Some(own) => are_near(Cells::of(own), Cells::of(bounds(shape))),
+    }
+}
+
+fn is_near(feature: &Feature, property: usize, shape: &Shape) -> bool
+    ensures { result ≡ is_near_of property (block_around (shape_corners shape.now)) feature.now }
+{
+    if property < feature.values.len() {
+        is_near_value(&feature.values[property], shape)
+    } else {
+        false
+    }
+}
+
+// The cells are looked at first, since they are soon compared.
+fn is_said_near(
+    alloc: Global,
+    filter: &Filter,
+    property: usize,
+    shape: &Shape,
+    feature: &Feature,
+) -> Result<bool, AllocError>
+    ensures said { IfOk result (λ b. b ≡ (is_near_of property (block_around (shape_corners shape.now)) feature.now && in_side true feature.now filter.now)) }
+    ensures answers { folds_case filter.now ≡ false → IsOk result }
+{
+    if is_near(feature, property, shape) {
+        is_said(alloc, filter, true, feature)
+    } else {
+        Ok(false)
+    }
+}
+
 /// Whether the feature meets the form, or want of memory, which is taken for texts whose case is folded alone: a form
 /// without such a text is always answered.
 #[cycle(tested)]
@@ -69,7 +119,11 @@ pub fn test(alloc: Global, form: &Normal, feature: &Feature) -> Result<bool, All
         }
         Normal::Atom { filter, side } => is_said(alloc, filter, *side, feature),
         Normal::Folded { filter, side } => is_said(alloc, filter, *side, feature),
-        Normal::Near { filter, .. } => is_said(alloc, filter, true, feature),
+        Normal::Near {
+            filter,
+            property,
+            shape,
+        } => is_said_near(alloc, filter, *property, shape, feature),
         Normal::And(parts) => meets_all(alloc, parts, feature),
         Normal::Or(parts) => meets_some(alloc, parts, feature),
     }

@@ -1,4 +1,4 @@
-use Rattle.std.proofs.Common.{◌∙◌, ◌&&◌, ap, refl, List, ℕ, Option}
+use Rattle.std.proofs.Common.{◌∙◌, ◌&&◌, ap, refl}
 use Rattle.std.specs.Prelude.{option_map}
 use Rattle.cad_feature.specs.Features.{datum_at}
 use Rattle.cad_feature.specs.declared.range.Edge.TheVariants as edge

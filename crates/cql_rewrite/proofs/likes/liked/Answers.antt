@@ -1,5 +1,4 @@
-use Rattle.std.proofs.Common.{◌∙◌, arith, ap}
-use Rattle.cql_rewrite.specs.Meets.{side_of}
+use Rattle.std.proofs.Common.{arith}
 use Rattle.cql_rewrite.proofs.Least.{least_under}
 use Rattle.cql_rewrite.proofs.likes.liked.Goals as goal
 

@@ -3,7 +3,7 @@ use Rattle.cql_rewrite.proofs.Forms.{meets_And, meets_Near, meets_Or, folds_And,
 use Rattle.cql_rewrite.proofs.tested.+tested.Goals as goal
 
 pub test-returns-in-Near-clause-said : goal.test-returns-in-Near-clause-said
-test-returns-in-Near-clause-said m c = rw (c.in-Near.is, meets_Near) c.is_said-in-Near.ensures.said
+test-returns-in-Near-clause-said m c = rw (c.in-Near.is, meets_Near) c.is_said_near.ensures.said
 
 pub test-returns-in-And-clause-said : goal.test-returns-in-And-clause-said
 test-returns-in-And-clause-said m c = rw (c.in-And.is, meets_And, ← c.deref.ensures.value) c.meets_all.ensures.said
