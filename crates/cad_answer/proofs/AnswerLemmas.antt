@@ -1,8 +1,8 @@
 -- Answers among the candidates of a plan.
-use Rattle.std.proofs.Common.{◌≡◌, ◌∙◌, ℕ, zero, suc, ◌+◌, Bool, true, false, cond, ◌&&◌, List, [], ◌∷◌, filter, get_or, refl, sym, ap, arith, true≢false, Option, Some, None}
+use Rattle.std.proofs.Common.{◌≡◌, ◌∙◌, ℕ, zero, suc, ◌+◌, ℤ, Bool, true, false, cond, ◌&&◌, List, [], ◌∷◌, filter, get_or, refl, sym, ap, arith, true≢false, Option, Some, None}
 use Rattle.std.specs.Prelude.{if◌then◌else◌, option_map}
 use Rattle.std.specs.List.{All}
-use Rattle.std.proofs.lemmas.List.Elements.{All-tail}
+use Rattle.std.proofs.lemmas.List.Elements.{All-tail, All-take, All-filter}
 use Rattle.cad_schema.specs.declared.collection.Collection.{Collection}
 use Rattle.cad_feature.specs.Features.{Item, AreFeaturesOf}
 use Rattle.cad_rows.specs.Pages.{examined_of}
@@ -11,6 +11,7 @@ use Rattle.cql_rewrite.specs.Meets.{HoldsCharacters}
 use Rattle.cad_answer.specs.declared.condition.Condition.{Condition}
 use Rattle.cad_answer.specs.declared.places.Places.{Places}
 use Rattle.cad_answer.specs.declared.question.Question.{Question}
+use Rattle.cad_run.specs.Slices.{is_later, later, slice}
 use Rattle.cad_answer.specs.Answers.{asked_of, if_asked, meets_days, meets_bounds, is_true_of, answers}
 use Rattle.cad_answer.specs.Passing.{meets_form, passes_question}
 use Rattle.cad_answer.specs.Places.{lifespan_of, geometry_of}
@@ -53,3 +54,9 @@ passes_is places question x written =
 pub passes_each : (collection : Collection) (places own : Places) (question : Question) (xs : List Item) → FeaturesAreWritten collection → AreFeaturesOf collection xs → own ≡ places → All (λ x. passes_question own question x ≡ answers places (asked_of question) x) xs
 passes_each collection places own question xs written listed same = λ k d h.
     passes_is own question (get_or xs k d) (written (get_or xs k d) (listed.each k d h)) ∙ ap (λ ps. answers ps (asked_of question) (get_or xs k d)) same
+
+-- ---- what holds of the features of a list holds of those of a page
+
+pub all_rows : (P : Item → Type 0) (p c : Item → Bool) (last : Option (ℤ × ℤ)) (limit : ℕ) (xs : List Item) → All P xs → All P (slice last limit (filter p (filter c xs)))
+all_rows P p c last limit xs all =
+    All-take P limit (later last (filter p (filter c xs))) (All-filter (is_later last) P (filter p (filter c xs)) (All-filter p P (filter c xs) (All-filter c P xs all)))

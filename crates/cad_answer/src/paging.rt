@@ -1,6 +1,8 @@
 //! The search for a page of an answer.
 
 ghost use Rattle.std.specs.Prelude.{◌≡◌, IfOk};
+ghost use Rattle.std.specs.List.{All};
+ghost use Rattle.cad_feature.specs.Features.{IsFeatureOf};
 ghost use Rattle.cad_lookup.specs.Candidates.{candidates};
 ghost use Rattle.cad_rows.specs.Pages.{examined_of};
 ghost use Rattle.cad_run.specs.Slices.{later, rows_of, slice, is_more};
@@ -31,6 +33,7 @@ pub fn page<'a>(
         ≡ is_more (after_of question.entry) question.entry.limit (answer layer.now.collection (asked_of question.entry) layer.now.features)) }
     ensures examined { IfOk result (λ page. page.examined
         ≡ examined_of (answers (places_of layer.now.collection) (asked_of question.entry)) question.entry.limit (later (after_of question.entry) (candidates plan.now layer.now.features))) }
+    ensures features { IfOk result (λ page. All (IsFeatureOf layer.now.collection) (rows_of page)) }
 {
     let collection = layer.collection();
     features_are_written(collection);

@@ -1,2 +1,1 @@
-mod PageLemmas
 pub mod SameLemmas

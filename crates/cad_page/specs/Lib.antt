@@ -2,3 +2,4 @@ pub mod Bodies
 pub mod Features
 pub mod Pages
 pub mod Laws
+pub mod Plans

@@ -15,6 +15,7 @@ mod features;
 pub mod laws;
 mod links;
 mod pages;
+mod planning;
 mod questions;
 
 pub use cad_ask::{Ask, AskFault, fault_body};

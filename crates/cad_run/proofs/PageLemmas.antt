@@ -171,6 +171,22 @@ module _ (c p q : Item → Bool) (xs : List Item) (start limit : ℕ) (left : �
   pub page_examined : examined_of (holds_at p xs) limit seen ≡ examined_of p limit (filter q (filter c xs))
   page_examined = ap (examined_of (holds_at p xs) limit) seen_is ∙ as_examined xs c p start (drop start xs) refl limit ∙ ap (examined_of p limit) (ap (filter c) later ∙ turned c q xs)
 
+-- ---- all candidates
+
+from_zero : (k : ℕ) → nat_le 0 k ≡ true
+from_zero k = grind (arith, nat_tests)
+
+all_kept : (ks : List ℕ) → filter (nat_le 0) ks ≡ ks
+all_kept [] = refl
+all_kept (k ∷ ks) = rw (from_zero k) (ap (λ us. k ∷ us) (all_kept ks))
+
+pub all_many : (c : Item → Bool) (xs : List Item) (left : ℕ → Bool) → ((k : ℕ) → left k ≡ holds_at c xs k) → length xs ≤ 2 ^ 32 → length (rows_of left) ≡ length (filter c xs)
+all_many c xs left stands few =
+    ap length
+    (sym (all_kept (rows_of left)) ∙ ap (filter (nat_le 0)) (filter_same left (holds_at c xs) (range_with_len 0 most) stands)
+    ∙ begins xs c 0 0 0 most (omega arith) (omega (arith, few, most_is)))
+    ∙ as_many xs c 0 xs
+
 -- ---- features that are lent
 
 found_append : (o : Option Item) (ys zs : List Item) → found_then o (ys ++ zs) ≡ found_then o ys ++ zs

@@ -2,6 +2,7 @@
 //!
 //! - [`page`]: the first of a plan's candidates that pass a test, after one that is named, and whether more are left: a
 //!   [`Page`], with how many were tested
+//! - [`candidate_count`]: how many candidates a plan has
 //! - [`FeatureTest`]: a test of features
 //! - [`Layer`], [`Plan`]: the features with their indexes, and which of them are looked at
 //!
@@ -11,6 +12,7 @@
 
 mod after;
 mod at_positions;
+mod counting;
 mod feature_test;
 mod joining;
 mod lending;
@@ -21,6 +23,7 @@ mod rows;
 
 pub use cad_index::Layer;
 pub use cad_lookup::Plan;
+pub use counting::candidate_count;
 pub use feature_test::FeatureTest;
 pub use paging::page;
 pub use rows::Page;

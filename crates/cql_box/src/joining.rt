@@ -3,16 +3,18 @@
 ghost use Rattle.std.specs.Prelude.{◌≡◌, ◌&&◌, IfOk};
 ghost use Rattle.cad_feature.specs.Features.{Item};
 ghost use Rattle.cql_truth.specs.Sides.{yes};
-ghost use Rattle.cql_box.specs.Boxes.{meets_box};
+ghost use Rattle.cql_box.specs.Boxes.{meets_box, box_condition as condition_of};
 
 use cad_shape::{Bounds, Shape};
 use cql_lexer::SpatialRelation;
 use cql_types::{Filter, ShapeTerm};
 use std::alloc::{AllocError, Global};
 
-// S_INTERSECTS of the geometry and the box; without a geometry FALSE.
-fn box_condition(geometry: Option<usize>, bounds: Bounds) -> Filter
-    ensures { (x : Item) → yes result x ≡ meets_box x geometry bounds }
+/// The filter that is true of those features whose geometry meets the box. `geometry` is the place of the geometry in the
+/// collection's schema, where it has one.
+pub fn box_condition(geometry: Option<usize>, bounds: Bounds) -> Filter
+    ensures condition { result ≡ condition_of geometry bounds }
+    ensures says { (x : Item) → yes result x ≡ meets_box x geometry bounds }
 {
     match geometry {
         Some(property) => Filter::Spatial {

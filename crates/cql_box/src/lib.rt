@@ -1,9 +1,9 @@
 //! A filter and a box: `bbox` as one more condition of the filter.
 //!
-//! [`in_box`] joins to a filter, by AND, that the geometry meets the box. Of a collection without geometry the joined filter is
-//! true of no feature.
+//! - [`box_condition`]: that the geometry meets the box, as a filter. Of a collection without geometry it is true of no feature.
+//! - [`in_box`]: it joined to a filter by AND
 #![tactic(auto)]
 
 mod joining;
 
-pub use joining::in_box;
+pub use joining::{box_condition, in_box};

@@ -3,6 +3,7 @@
 //!
 //! - [`normal`]: the normal form of a filter. Of `NOT (area < 3 OR area > 8)` it is the range of `area` from 3 to 8.
 //! - [`Normal`]: a normal form; it borrows from the filter the conditions that are no ranges.
+//! - [`both`]: the AND of two normal forms
 //! - [`test`]: whether a feature meets it, which it does exactly where the filter is true of the feature
 //! - [`laws`]: what holds of normal forms, beyond what each call says
 #![tactic(auto)]
@@ -22,5 +23,6 @@ mod terms;
 mod tested;
 
 pub use form::Normal;
+pub use parts::both;
 pub use rewrite::normal;
 pub use tested::test;

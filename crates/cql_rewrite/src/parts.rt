@@ -1,6 +1,6 @@
 //! The parts of an AND and of an OR.
 
-ghost use Rattle.std.specs.Prelude.{◌≡◌, ◌<◌, ◌≤◌, ◌&&◌, ◌||◌, false, true, length, List, IfOk, IfSome, IsTrue, OnOk};
+ghost use Rattle.std.specs.Prelude.{◌≡◌, ◌<◌, ◌≤◌, ◌&&◌, ◌||◌, false, min, true, length, List, IfOk, IfSome, IsTrue, OnOk};
 ghost use Rattle.std.specs.List.{list_all, list_any};
 ghost use Rattle.cad_feature.specs.Features.{Item};
 ghost use Rattle.cad_range.specs.Ranges.{lies_in_if_any};
@@ -239,8 +239,14 @@ fn has_never(parts: &[Normal]) -> bool
     false
 }
 
-fn both<'a>(alloc: Global, first: Normal<'a>, second: Normal<'a>) -> Result<Normal<'a>, AllocError>
-    ensures { IfOk result (λ n. (x : Item) → meets x n ≡ (meets x first.entry && meets x second.entry)) }
+/// The AND of two forms. An error is want of memory.
+pub fn both<'a>(
+    alloc: Global,
+    first: Normal<'a>,
+    second: Normal<'a>,
+) -> Result<Normal<'a>, AllocError>
+    ensures stands { IfOk result (λ n. (x : Item) → meets x n ≡ (meets x first.entry && meets x second.entry)) }
+    ensures costs { IfOk result (λ n. (t : List Written) → least t n ≤ min (least t first.entry) (least t second.entry)) }
 {
     let mut parts = Vec::new(alloc);
     add(&mut parts, first)?;
