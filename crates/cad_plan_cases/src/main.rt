@@ -10,12 +10,14 @@
 //!
 //! A line without bytes, or one that begins with `#`, is passed over.
 //!
-//! - `cases`: lines, and their answers
+//! - `cases`: lines with cases
+//! - `answers`: what is answered of a filter's plans
 //! - `plans`: plans as they are printed, and their candidates
 //! - `ranges`: ranges as they are printed
 //! - `sample`: the versions that it is asked of
 #![tactic(auto)]
 
+mod answers;
 mod cases;
 mod plans;
 mod ranges;

@@ -3,7 +3,7 @@
 use crate::ranges::put_range;
 use cad_cells::{Cells, bounds_of};
 use cad_feature::Feature;
-use cad_plan::Plan;
+use cad_lookup::Plan;
 use cad_range::lies_in;
 use cad_schema::{Collection, schema};
 use cad_shape::Bounds;
@@ -66,11 +66,11 @@ fn put_plans(
     plans: &[Plan],
     line: &mut String,
 ) -> Result<(), AllocError> {
-    let mut between = "";
-    for plan in plans {
-        line.push_str(between)?;
+    for (place, plan) in plans.iter().enumerate() {
+        if place > 0 {
+            line.push_str("; ")?;
+        }
         put_plan(alloc, collection, plan, line)?;
-        between = "; ";
     }
     line.push_str(")")
 }
