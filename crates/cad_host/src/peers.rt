@@ -145,6 +145,20 @@ impl Peers {
         }
     }
 
+    /// Lets all clients go.
+    pub(crate) fn part_all<R: Responder>(&mut self, now: u64, desk: &mut Desk<R>) {
+        for c in 0..ROOM {
+            self.clients.close(c, desk);
+            self.part(c, now);
+        }
+    }
+
+    /// Whether the socket of a client that is over is still kept.
+    pub(crate) fn any_departing(&mut self, now: u64) -> bool {
+        self.departing.sweep(now);
+        !self.departing.is_empty()
+    }
+
     /// Opens a connection for a socket, by the number that it is given. A socket for which there is no room is told so.
     pub(crate) fn admit<R: Responder>(
         &mut self,
