@@ -10,12 +10,13 @@ sample:
 	cd crates/cadastre && $(RT) all check --jobs $(JOBS)
 	cd crates/cadastre && $(RT) run -- sample < stdin
 
-# Holds the stored answers of the cases of filters, of the server, of days and of parameters, and the examples of docs/FILTERS.md,
+# Holds the stored answers of the cases of filters, of the server, of clients, of days and of parameters, and the examples of docs/FILTERS.md,
 # against second readings of the rules, and the examples of docs/API.md against the server's cases.
 cases:
 	scripts/check_filter_cases
 	scripts/check_further_cases
 	scripts/check_server_cases
+	scripts/check_clients_cases
 	scripts/check_api_examples
 
 # The whole gate: the cases held against a second reading, every proof from nothing, the must-fail edits, the tests, each program as two compilers build it, and the program on files of the office and at an address.
