@@ -179,16 +179,23 @@ impl Rounds {
     }
 
     /// Lets the replies go out that are under way, for five seconds at most.
-    fn finish<N: Clock, E: Write, R: Responder>(
-        &mut self,
-        rt: &N,
-        log: &mut Log<E>,
-        desk: &mut Desk<R>,
-    ) -> Result<()> {
+    fn send_last<N: Clock, R: Responder>(&mut self, rt: &N, desk: &mut Desk<R>) -> Result<()> {
         let began = self.now;
         for _ in 0..u64::MAX {
-            self.peers.send_ready(self.alloc, self.now, desk, log);
+            self.peers.send_ready(self.alloc, self.now, desk);
             if !self.peers.any_sending() || LAST_SECONDS <= self.now.saturating_sub(began) {
+                return Ok(());
+            }
+            self.wait(rt, 100)?;
+        }
+        Ok(())
+    }
+
+    /// Lets the clients go.
+    fn part<N: Clock, R: Responder>(&mut self, rt: &N, desk: &mut Desk<R>) -> Result<()> {
+        self.peers.part_all(self.now, desk);
+        for _ in 0..u64::MAX {
+            if !self.peers.any_departing(self.now) {
                 return Ok(());
             }
             self.wait(rt, 100)?;
@@ -212,7 +219,8 @@ pub fn host<N: Net + Clock, E: Write, R: Responder>(
     for _ in 0..u64::MAX {
         if let Some(stopped) = rounds.round(rt, log, desk)? {
             if stopped == Stopped::Asked {
-                rounds.finish(rt, log, desk)?;
+                rounds.send_last(rt, desk)?;
+                rounds.part(rt, desk)?;
             }
             return Ok(stopped);
         }

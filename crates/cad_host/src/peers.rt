@@ -1,7 +1,7 @@
 //! The clients, each with its socket.
 
 use crate::departing::Departing;
-use cad_channel::Ending;
+use cad_channel::{Ending, Turned};
 use cad_clients::{AccessLog, Clients, Limits, ROOM, Served};
 use cad_desk::{Desk, DeskFault};
 use cad_serve::write_fixed_head;
@@ -112,17 +112,24 @@ impl Peers {
         true
     }
 
-    /// Each client whose reply has not gone out is served once.
-    pub(crate) fn send_ready<R: Responder, L: AccessLog>(
-        &mut self,
-        alloc: Global,
-        now: u64,
-        desk: &mut Desk<R>,
-        log: &mut L,
-    ) {
+    /// A write of what has not gone out to a client.
+    fn send_one<R: Responder>(&mut self, alloc: Global, c: u32, now: u64, desk: &mut Desk<R>) {
+        let Some(Some(socket)) = self.sockets.get(c as usize) else {
+            return;
+        };
+        let turned = self
+            .clients
+            .turn(alloc, c, now, &mut &*socket, &mut &*socket, desk);
+        if let Some(Turned::Over(_)) = turned {
+            self.part(c, now);
+        }
+    }
+
+    /// Writes what has not gone out, to each client once. Nothing is read or answered.
+    pub(crate) fn send_ready<R: Responder>(&mut self, alloc: Global, now: u64, desk: &mut Desk<R>) {
         for c in 0..ROOM {
             if self.clients.is_ready(c) && self.clients.is_sending(c) {
-                let _ = self.serve_one(alloc, c, now, desk, log);
+                self.send_one(alloc, c, now, desk);
             }
         }
     }
@@ -136,6 +143,20 @@ impl Peers {
                 self.part(c, now);
             }
         }
+    }
+
+    /// Lets all clients go.
+    pub(crate) fn part_all<R: Responder>(&mut self, now: u64, desk: &mut Desk<R>) {
+        for c in 0..ROOM {
+            self.clients.close(c, desk);
+            self.part(c, now);
+        }
+    }
+
+    /// Whether the socket of a client that is over is still kept.
+    pub(crate) fn any_departing(&mut self, now: u64) -> bool {
+        self.departing.sweep(now);
+        !self.departing.is_empty()
     }
 
     /// Opens a connection for a socket, by the number that it is given. A socket for which there is no room is told so.

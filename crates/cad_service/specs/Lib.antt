@@ -1,0 +1,2 @@
+pub mod Invocations
+pub mod Outcomes

@@ -1,0 +1,14 @@
+-- How runs end (exit statuses: own profile).
+use Rattle.std.specs.Prelude.{ℕ}
+use Rattle.cad_listen.specs.Statuses.{good, failed, wrong_arguments, no_register, no_address}
+use Rattle.cad_service.specs.declared.outcome.Outcome.{Outcome}
+use Rattle.cad_service.specs.declared.outcome.Outcome.TheVariants.{Good, Failed, Register, Usage, Address, Office}
+
+-- the status of the process
+abbrev pub status_of : Outcome → ℕ
+status_of Good = good
+status_of Failed = failed
+status_of Usage = wrong_arguments
+status_of (Register fault) = no_register
+status_of Address = no_address
+status_of Office = no_address

@@ -1,0 +1,22 @@
+//! A run of a server for many clients over any ledger: what a command line asks for, the work, and how it ended.
+//!
+//! - `Invocation`, `Service`: what the words of a command line ask for
+//! - `open_doors`: the sockets of a service
+//! - `host_over`: clients and the land office taken at those sockets and served over a ledger
+//! - `Outcome`, `tell`: how a run ended, its status, and the line that tells it
+//!
+//! No database is known here: the program finds the register of a file and lends it to these calls.
+//!
+//! ```text
+//! Invocation::of_words(&["cadastred", "land.db", "127.0.0.1:0", "office"])
+//!     // Some(Invocation::Serve(Service { file: "land.db", address: "127.0.0.1:0", office: "office", logs: false }))
+//! ```
+#![tactic(auto)]
+
+mod hosting;
+mod invocation;
+mod outcome;
+
+pub use hosting::{host_over, open_doors};
+pub use invocation::{Invocation, Service};
+pub use outcome::{HELP, Outcome, tell};

@@ -1,0 +1,75 @@
+//! How a run ended: its status, and the line that tells it.
+
+use cad_host::Stopped;
+use cad_listen::status;
+use cad_versions::RegisterFault;
+use std::io::Result;
+
+/// How the program is called.
+pub const HELP: &str = "usage: cadastred [--log] FILE ADDRESS OFFICE | --help | --version";
+
+/// How a run ended.
+#[derive(Clone, Copy, Debug, PartialEq, Eq)]
+pub enum Outcome {
+    /// All went well.
+    Good,
+    /// The system refused what serving needs: memory, descriptors, the clock, or waiting for sockets.
+    Failed,
+    /// There was no register or no desk over it, or its database refused what it was asked.
+    Register(RegisterFault),
+    /// The arguments are wrong.
+    Usage,
+    /// The address cannot be read or bound.
+    Address,
+    /// The office's socket cannot be bound.
+    Office,
+}
+
+impl Outcome {
+    ghost use Rattle.std.specs.Prelude.{◌≡◌};
+    ghost use Rattle.cad_service.specs.Outcomes.{status_of};
+
+    /// How hosting ends a run.
+    pub(crate) fn of_hosting(hosted: Result<Stopped>) -> Outcome {
+        match hosted {
+            Ok(Stopped::Asked) => Outcome::Good,
+            Ok(Stopped::StoreRefused) => Outcome::Register(RegisterFault::Store),
+            Ok(Stopped::RoundsSpent) | Err(_) => Outcome::Failed,
+        }
+    }
+
+    /// The status of the process.
+    pub fn status(self) -> u8
+        ensures { result ≡ status_of self }
+    {
+        match self {
+            Outcome::Good => status::GOOD,
+            Outcome::Failed => status::FAILED,
+            Outcome::Usage => status::WRONG_ARGUMENTS,
+            Outcome::Register(_) => status::NO_REGISTER,
+            Outcome::Address | Outcome::Office => status::NO_ADDRESS,
+        }
+    }
+}
+
+/// Tells a bad outcome on standard error. Where that cannot be written, the status alone tells it.
+pub fn tell(rt: &impl Eprint, outcome: Outcome) {
+    match outcome {
+        Outcome::Good => {}
+        Outcome::Failed => {
+            let _ = eprintln!(rt; "host: failed");
+        }
+        Outcome::Usage => {
+            let _ = eprintln!(rt; "{HELP}");
+        }
+        Outcome::Address => {
+            let _ = eprintln!(rt; "address");
+        }
+        Outcome::Office => {
+            let _ = eprintln!(rt; "office");
+        }
+        Outcome::Register(fault) => {
+            let _ = eprintln!(rt; "register: {} {}", fault.number(), fault.name());
+        }
+    }
+}

@@ -1,0 +1,40 @@
+//! What clients and the land office get at a desk whose sockets give and take bytes as they are told: each line of standard
+//! input is something that happens, and a line is printed for it.
+//!
+//! - `sockets`: sockets that give and take as they are told
+//! - `room`: the clients, the office and their sockets
+//! - `script`: the lines, and what is printed for them
+//!
+//! The lines are
+//!
+//! - `open`, a client comes: `N opened`, by its number, or `full`;
+//! - `give N TEXT`, it sends this text, in which `|` stands for CR and LF; `long N COUNT`, it sends so many bytes `a`;
+//! - `room N COUNT`, its socket takes so many bytes more; `hang N`, it sends no more; `break N`, reads and writes fail;
+//! - `serve N`, it is served: how that ended, what was written to it, and `sending` where a reply has not gone out;
+//! - `second N`, it is second N: the numbers of the clients that are dropped for it;
+//! - `line TEXT`, the office sends a line; `part TEXT`, it sends a part of one; `office-room COUNT`, its socket takes so many
+//!   bytes more; `office`, it is served: how that ended, and what was written to it.
+//!
+//! In what was written `|` stands for LF. A request is answered with its method, its target and the revision in force.
+//! Any other line is answered by `no case`, and an empty one is passed over.
+#![tactic(auto)]
+
+mod room;
+mod script;
+mod sockets;
+
+use room::Room;
+use script::answer;
+use std::io::{Read, Result};
+
+fn main(rt: HostRuntime) -> Result<()> {
+    let mut input = Vec::new(rt.alloc());
+    rt.stdin().read_to_end(&mut input)?;
+    let mut room = Room::new(rt.alloc())?;
+    for line in input.split(|byte| *byte == b'\n') {
+        if !line.is_empty() {
+            println!(rt; "{}", answer(rt.alloc(), &mut room, line)?.as_str())?;
+        }
+    }
+    Ok(())
+}
