@@ -10,13 +10,8 @@ sample:
 	cd crates/cadastre && $(RT) all check --jobs $(JOBS)
 	cd crates/cadastre && $(RT) run -- sample < stdin
 
-<<<<<<< HEAD
-# Holds the stored answers of the cases of filters, of the server, of days and of parameters, and the examples of docs/FILTERS.md,
-# against second readings of the rules, the examples of docs/API.md against the server's cases, and docs/PROMISES.md against the crates.
-=======
 # Holds the stored answers of the cases of filters, of the server, of clients, of days and of parameters, and the examples of docs/FILTERS.md,
-# against second readings of the rules, and the examples of docs/API.md against the server's cases.
->>>>>>> h4/plans
+# against second readings of the rules, the examples of docs/API.md against the server's cases, and docs/PROMISES.md against the crates.
 cases:
 	scripts/check_filter_cases
 	scripts/check_further_cases
