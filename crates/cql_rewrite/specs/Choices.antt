@@ -17,7 +17,7 @@ cost_if counts false v w = refl
 pub cheaper_cost : (counts : Counts) (w v : Way) → cost counts (cheaper counts w v) ≡ min (cost counts v) (cost counts w)
 cheaper_cost counts w v = cost_if counts (nat_lt (cost counts v) (cost counts w)) v w ∙ min_if (cost counts v) (cost counts w)
 
-min_moved : (c n : ℕ) (cs : List ℕ) → min_of (min c n) cs ≡ min c (min_of n cs)
+pub min_moved : (c n : ℕ) (cs : List ℕ) → min_of (min c n) cs ≡ min c (min_of n cs)
 min_moved c n [] = refl
 min_moved c n (d ∷ cs) = omega (arith, min_moved c n cs)
 
@@ -87,10 +87,10 @@ first_costs counts w (v ∷ vs) h = first_costs counts (cheaper counts w v) vs (
 
 -- ---- when the first stays
 
-cheaper_stays : (counts : Counts) (w v : Way) → cost counts w ≤ cost counts v → cheaper counts w v ≡ w
+pub cheaper_stays : (counts : Counts) (w v : Way) → cost counts w ≤ cost counts v → cheaper counts w v ≡ w
 cheaper_stays counts w v h = ap (λ b. if b then v else w) (not_less_tells (cost counts v) (cost counts w) h)
 
-cheaper_goes : (counts : Counts) (w v : Way) → cost counts v < cost counts w → cheaper counts w v ≡ v
+pub cheaper_goes : (counts : Counts) (w v : Way) → cost counts v < cost counts w → cheaper counts w v ≡ v
 cheaper_goes counts w v h = ap (λ b. if b then v else w) (sym (less_tells (cost counts v) (cost counts w) h))
 
 pub stays : (counts : Counts) (w : Way) (ws : List Way) → cost counts w ≤ min_of (cost counts w) (map (cost counts) ws) → first_least counts w ws ≡ w
@@ -113,11 +113,11 @@ cost_if_all : (counts : Counts) (w : Way) → false ≡ is_narrow w → cost cou
 cost_if_all counts w e = ap (cost counts) (not_narrow w (sym e)) ∙ cost_all counts
 
 -- the ways that are other than all, after one way
-abbrev after : Bool → Way → List Way → List Way
+abbrev pub after : Bool → Way → List Way → List Way
 after true w ws = w ∷ ws
 after false w ws = ws
 
-filter_step : (w : Way) (ws : List Way) → filter is_narrow (w ∷ ws) ≡ after (is_narrow w) w (filter is_narrow ws)
+pub filter_step : (w : Way) (ws : List Way) → filter is_narrow (w ∷ ws) ≡ after (is_narrow w) w (filter is_narrow ws)
 filter_step all_features ws = refl
 filter_step no_feature ws = refl
 filter_step (in_range property low high) ws = refl
@@ -138,7 +138,7 @@ under_each counts k n (w ∷ ws) h e f =
     (rw (filter_step w ws) at f)
 
 -- with the cost of all, where each costs at most that
-min_over : (n c : ℕ) (cs : List ℕ) → c ≤ n → min c (min_of n cs) ≡ min_of c cs
+pub min_over : (n c : ℕ) (cs : List ℕ) → c ≤ n → min c (min_of n cs) ≡ min_of c cs
 min_over n c [] h = omega arith
 min_over n c (d ∷ cs) h = omega (arith, min_over n c cs h)
 

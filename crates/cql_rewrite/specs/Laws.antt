@@ -25,9 +25,9 @@ FeaturesAreWritten collection = (x : Item) → IsFeatureOf collection x → Hold
 abbrev pub ChoicesCostTheLeast : Type 0
 ChoicesCostTheLeast = (t : List Written) (n : Normal) → cost (counts_of (map (λ x. x.item) t)) (choice (counts_of (map (λ x. x.item) t)) n) ≤ least t n
 
--- each way of a form's menu has each feature that meets the form
+-- each way of a form's menu has each feature that meets the form, and so has the choice
 abbrev pub MenusCover : Type 0
-MenusCover = (counts : Counts) (n : Normal) (x : Item) → IsTrue (meets x n) → IsTrue (list_all (λ w. is_found w x) (menu counts n))
+MenusCover = (counts : Counts) (n : Normal) (x : Item) → IsTrue (meets x n) → IsTrue (list_all (λ w. is_found w x) (menu counts n)) × IsTrue (is_found (choice counts n) x)
 
 -- a feature whose shape meets another, lies within it or holds it is near it
 abbrev pub SpatialIsNear : Type 0

@@ -21,7 +21,7 @@ pub fn choices_cost_the_least()
     ensures { ChoicesCostTheLeast }
 {}
 
-/// Each way of a form's menu has each feature that meets the form, however features are counted.
+/// Each way of a form's menu has each feature that meets the form, however features are counted, and so has the choice.
 pub fn menus_cover()
     ensures { MenusCover }
 {}

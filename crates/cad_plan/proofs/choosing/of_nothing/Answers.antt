@@ -1,0 +1,10 @@
+use Rattle.std.proofs.Common.{◌∙◌, ap, sym}
+use Rattle.cad_lookup.specs.WayLaws.{cost_none, way_Empty}
+use Rattle.cad_lookup.specs.Ways.{cost}
+use Rattle.cad_plan.specs.Counted.{counts_in}
+use Rattle.cad_plan.proofs.choosing.of_nothing.Goals as goal
+
+pub all_or-requires : goal.all_or-requires
+all_or-requires c =
+    let counts = counts_in c.args.indexes.now in
+    sym (ap (cost counts) way_Empty ∙ cost_none counts)

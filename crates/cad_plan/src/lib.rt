@@ -1,0 +1,21 @@
+//! Plans for the features that meet a normal form: which there are, what each costs, and the cheapest.
+//!
+//! - [`menu`]: the plans for a form, each of which has every feature that meets it among its candidates
+//! - [`estimate`]: how many features a plan looks at. No memory is taken.
+//! - [`choose`]: the first plan of least cost of the menu
+//! - [`Plan`]: which features of a collection are looked at
+//! - [`laws`]: what holds of indexes and plans, beyond what each call says
+//!
+//! Of the five parcels 1.1, 1.2, 2.1, 3.1 and 4.1, the menu of `object = 3` is all, which costs 5, and the range of `object`
+//! from 3 to 3, which costs 1 and is chosen.
+#![tactic(auto)]
+
+mod choosing;
+mod estimating;
+pub mod laws;
+mod menus;
+
+pub use cad_lookup::Plan;
+pub use choosing::choose;
+pub use estimating::estimate;
+pub use menus::menu;

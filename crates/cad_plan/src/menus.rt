@@ -1,0 +1,129 @@
+//! The plans for a normal form.
+
+ghost use Rattle.std.specs.Prelude.{◌≡◌, [], ◌∷◌, ◌++◌, List, IfOk, IsTrue, OnOk, map};
+ghost use Rattle.std.specs.List.{list_all};
+ghost use Rattle.cad_schema.specs.declared.collection.Collection.{Collection};
+ghost use Rattle.cad_feature.specs.Features.{AreFeaturesOf, Item};
+ghost use Rattle.cad_index.specs.Indexed.{AreIndexesOf};
+ghost use Rattle.cad_lookup.specs.Candidates.{is_candidate};
+ghost use Rattle.cad_lookup.specs.Ways.{all_features, counts_of, way_of};
+ghost use Rattle.cql_rewrite.specs.Meets.{meets};
+ghost use Rattle.cql_rewrite.specs.Menus.{and_menu, choice, menu as menu_of};
+ghost use Rattle.cad_plan.specs.Counted.{counts_in};
+
+use crate::choosing::{chosen, joined, narrow, near_plan, range_plan};
+use crate::laws::indexes_count_features;
+use cad_index::Indexes;
+use cad_lookup::Plan;
+use cql_rewrite::Normal;
+use cql_rewrite::laws::menus_cover;
+use std::alloc::{AllocError, Global};
+
+// The choice of each part.
+fn add_choices(
+    alloc: Global,
+    plans: &mut Vec<Plan>,
+    parts: &[Normal],
+    indexes: &Indexes,
+) -> Result<(), AllocError>
+    ensures { OnOk result (map way_of plans.new.items ≡ map way_of plans.old.items ++ map (choice (counts_in indexes.now)) parts.now) }
+{
+    for part in parts {
+        let chosen = chosen(alloc, part, indexes)?;
+        plans.push(chosen.plan)?;
+    }
+    Ok(())
+}
+
+// All, the meet of the parts' choices that are other than all, where they are two or more, and each part's choice.
+fn of_all(alloc: Global, parts: &[Normal], indexes: &Indexes) -> Result<Vec<Plan>, AllocError>
+    ensures { IfOk result (λ plans. map way_of plans.items ≡ and_menu (map (choice (counts_in indexes.now)) parts.now)) }
+{
+    let narrow = narrow(alloc, parts, indexes)?;
+    let mut plans = Vec::new(alloc);
+    plans.push(Plan::All)?;
+    if narrow.plans.len() >= 2 {
+        plans.push(Plan::Meet(narrow.plans))?;
+    }
+    add_choices(alloc, &mut plans, parts, indexes)?;
+    Ok(plans)
+}
+
+fn pair(alloc: Global, plan: Plan) -> Result<Vec<Plan>, AllocError>
+    ensures { IfOk result (λ plans. map way_of plans.items ≡ all_features ∷ way_of plan ∷ []) }
+{
+    let mut plans = Vec::new(alloc);
+    plans.push(Plan::All)?;
+    plans.push(plan)?;
+    Ok(plans)
+}
+
+fn only_all(alloc: Global) -> Result<Vec<Plan>, AllocError>
+    ensures { IfOk result (λ plans. map way_of plans.items ≡ all_features ∷ []) }
+{
+    let mut plans = Vec::new(alloc);
+    plans.push(Plan::All)?;
+    Ok(plans)
+}
+
+fn plans_for(alloc: Global, form: &Normal, indexes: &Indexes) -> Result<Vec<Plan>, AllocError>
+    ensures { IfOk result (λ plans. map way_of plans.items ≡ menu_of (counts_in indexes.now) form.now) }
+{
+    match form {
+        Normal::Constant(true) => {
+            let plans = only_all(alloc)?;
+            Ok(plans)
+        }
+        Normal::Constant(false) => {
+            let plans = pair(alloc, Plan::Empty)?;
+            Ok(plans)
+        }
+        Normal::Range(range) => {
+            let plan = range_plan(alloc, range)?;
+            let plans = pair(alloc, plan)?;
+            Ok(plans)
+        }
+        Normal::Like { range, .. } => {
+            let plan = range_plan(alloc, range)?;
+            let plans = pair(alloc, plan)?;
+            Ok(plans)
+        }
+        Normal::Atom { .. } => {
+            let plans = only_all(alloc)?;
+            Ok(plans)
+        }
+        Normal::Folded { .. } => {
+            let plans = only_all(alloc)?;
+            Ok(plans)
+        }
+        Normal::Near {
+            property,
+            shape,
+            ..
+        } => {
+            let plans = pair(alloc, near_plan(*property, shape))?;
+            Ok(plans)
+        }
+        Normal::And(parts) => {
+            let plans = of_all(alloc, parts, indexes)?;
+            Ok(plans)
+        }
+        Normal::Or(parts) => {
+            let joined = joined(alloc, parts, indexes)?;
+            let plans = pair(alloc, joined.plan)?;
+            Ok(plans)
+        }
+    }
+}
+
+/// The plans for the form, in order, by the indexes of a collection's features. Each feature that meets the form is a
+/// candidate of each, whatever the indexes are. An error is want of memory.
+pub fn menu(alloc: Global, form: &Normal, indexes: &Indexes) -> Result<Vec<Plan>, AllocError>
+    ensures ways { IfOk result (λ plans. (collection : Collection) (xs : List Item) → AreFeaturesOf collection xs → AreIndexesOf collection xs indexes.now → map way_of plans.items ≡ menu_of (counts_of xs) form.now) }
+    ensures covers { IfOk result (λ plans. (x : Item) → IsTrue (meets x form.now) → IsTrue (list_all (λ plan. is_candidate plan x) plans.items)) }
+{
+    indexes_count_features();
+    menus_cover();
+    let plans = plans_for(alloc, form, indexes)?;
+    Ok(plans)
+}
