@@ -1,18 +1,57 @@
 -- How the features that a request asks for are found (own profile).
-use Rattle.std.specs.Prelude.{◌≡◌, ℕ, List}
+use Rattle.std.specs.Prelude.{◌≡◌, ◌≤◌, ◌&&◌, ⊤, ℕ, List, codes, Option, Some, None, option_map}
 use Rattle.cad_feature.specs.Features.{Item}
 use Rattle.cad_lookup.specs.declared.plan.Plan.{Plan}
 use Rattle.cad_lookup.specs.Candidates.{candidates}
+use Rattle.cad_lookup.specs.Ways.{cost, counts_of, way_of}
 use Rattle.cad_rows.specs.Pages.{examined_of}
 use Rattle.cad_run.specs.Slices.{later}
+use Rattle.cql_box.specs.Boxes.{box_condition}
+use Rattle.cql_truth.specs.Sides.{yes}
+use Rattle.cql_types.specs.declared.filter.Filter.{Filter}
 use Rattle.cql_rewrite.specs.declared.form.Normal.{Normal}
+use Rattle.cql_rewrite.specs.Costs.{bound, least}
 use Rattle.cql_rewrite.specs.Meets.{Written, meets}
-use Rattle.cad_answer.specs.Answers.{answers, if_asked, is_true_of}
+use Rattle.cql_rewrite.specs.Menus.{choice}
+use Rattle.cad_answer.specs.Answers.{answers, if_asked, is_true_of, meets_bounds}
 use Rattle.cad_answer.specs.Passing.{Covers}
-use Rattle.cad_answer.specs.Places.{places_of}
+use Rattle.cad_answer.specs.Places.{geometry_of, place_named, places_of}
 use Rattle.cad_ask.specs.declared.ask.Ask.{Ask}
 use Rattle.cad_snapshot.specs.Snapshots.{RevisionFeatures, features_at}
 use Rattle.cad_page.specs.Pages.{restrictions, beginning}
+
+-- ---- the plan
+
+-- the cheapest way to look for the features that meet the form costs no more than the filter's bound
+abbrev pub IsWithin : List Written → Normal → Option Filter → Type 0
+IsWithin t form None = ⊤
+IsWithin t form (Some filter) = least t form ≤ bound t filter
+
+-- the box as a filter
+abbrev pub box_filter : Ask → Option Filter
+box_filter ask = option_map (box_condition (place_named ask.collection (codes "geometry"))) ask.selection.bbox
+
+-- a normal form of the filter and the box: met by the features that meet both, and within the bound of each
+pub record IsFormOf (ask : Ask) (form : Normal) : Type 0 where
+  pub stands : (x : Written) → meets x.item form ≡ (if_asked (is_true_of x.item) ask.filter && if_asked (meets_bounds (geometry_of (places_of ask.collection) x.item)) ask.selection.bbox)
+  pub filter_bound : (t : List Written) → IsWithin t form ask.filter
+  pub box_bound : (t : List Written) → IsWithin t form (box_filter ask)
+
+-- the plan is the choice of the menu of such a form
+pub record IsChosen (plan : Plan) (ask : Ask) (snapshot : RevisionFeatures) : Type 0 where
+  pub form : Normal
+  pub is_form : IsFormOf ask form
+  pub way : way_of plan ≡ choice (counts_of (features_at snapshot ask.collection)) form
+
+-- what it costs to look at its candidates
+abbrev pub cost_in : Plan → Ask → RevisionFeatures → ℕ
+cost_in plan ask snapshot = cost (counts_of (features_at snapshot ask.collection)) (way_of plan)
+
+-- each feature that answers is among them
+abbrev pub CoversAnswer : Plan → Ask → RevisionFeatures → Type 0
+CoversAnswer plan ask snapshot = Covers plan ask.collection (restrictions ask) (features_at snapshot ask.collection)
+
+-- ---- what is looked at
 
 -- of the snapshot's features those that the plan looks at
 abbrev pub candidates_in : Plan → Ask → RevisionFeatures → List Item
@@ -23,12 +62,17 @@ abbrev pub examined_in : Plan → Ask → RevisionFeatures → ℕ
 examined_in plan ask snapshot =
     examined_of (answers (places_of ask.collection) (restrictions ask)) ask.selection.limit (later (beginning ask) (candidates_in plan ask snapshot))
 
--- each feature that answers is among them
-abbrev pub CoversAnswer : Plan → Ask → RevisionFeatures → Type 0
-CoversAnswer plan ask snapshot = Covers plan ask.collection (restrictions ask) (features_at snapshot ask.collection)
-
 -- ---- words of the contracts
+
+-- the filter is the box
+pub record IsBoxFilter (boxed : Filter) (ask : Ask) : Type 0 where
+  pub condition : box_filter ask ≡ Some boxed
+  pub says : (x : Item) → yes boxed x ≡ if_asked (meets_bounds (geometry_of (places_of ask.collection) x)) ask.selection.bbox
 
 -- the features that meet the form are those of which the filter is true
 abbrev pub FormStands : Normal → Ask → Type 0
 FormStands form ask = (x : Written) → meets x.item form ≡ if_asked (is_true_of x.item) ask.filter
+
+-- and it is within the filter's bound
+abbrev pub FormCosts : Normal → Ask → Type 0
+FormCosts form ask = (t : List Written) → IsWithin t form ask.filter

@@ -2,6 +2,7 @@
 //!
 //! - [`body`]: the page that a request asks for, of a snapshot of its revision
 //! - [`next_link`]: the target of the link to the page after it
+//! - [`explain`]: which features are looked at for it: a [`Report`]
 //! - [`feature_body`]: one feature
 //! - [`Ask`], [`fault_body`], [`Snapshot`], and the bodies that show no features (`landing_body` and its like): from the crates below
 //! - `laws`: that what asks the same is answered by the same page, and has the same answer
@@ -11,6 +12,7 @@
 //! `{"features":[],"links":[{"href":"/collections/parcels/items","rel":"self","type":"application/json"}],"numberReturned":0,"revision":0,"type":"FeatureCollection"}`.
 #![tactic(auto)]
 
+mod explaining;
 mod features;
 pub mod laws;
 mod links;
@@ -24,5 +26,6 @@ pub use cad_bodies::{
 };
 pub use cad_snapshot::Snapshot;
 pub use cql_filter::Cause;
+pub use explaining::{Report, explain};
 pub use features::feature_body;
 pub use pages::{body, next_link};

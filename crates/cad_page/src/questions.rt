@@ -7,7 +7,7 @@ ghost use Rattle.cad_answer.specs.Answers.{asked_of};
 ghost use Rattle.cad_answer.specs.Answers.{after_of};
 ghost use Rattle.cad_run.specs.Slices.{rows_of};
 ghost use Rattle.cad_page.specs.Pages.{restrictions, beginning, rows_in, is_more_in};
-ghost use Rattle.cad_page.specs.Plans.{CoversAnswer, FormStands, examined_in};
+ghost use Rattle.cad_page.specs.Plans.{CoversAnswer, FormStands, IsChosen, examined_in};
 
 use crate::planning::{form_of, plan_asked};
 use cad_answer::{Condition, Page, Plan, Question, page};
@@ -87,6 +87,7 @@ pub(crate) fn planned_asked<'a>(
     ensures more { IfOk result (λ found. found.page.more ≡ is_more_in ask.now snapshot.now) }
     ensures examined { IfOk result (λ found. found.page.examined ≡ examined_in found.plan ask.now snapshot.now) }
     ensures features { IfOk result (λ found. All (IsFeatureOf ask.now.collection) (rows_of found.page)) }
+    ensures chosen { IfOk result (λ found. IsChosen found.plan ask.now snapshot.now) }
 {
     let form = form_of(alloc, ask)?;
     let plan = plan_asked(alloc, ask, &form, snapshot)?;

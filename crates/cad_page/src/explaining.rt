@@ -1,0 +1,44 @@
+//! How a page is found.
+
+ghost use Rattle.std.specs.Prelude.{◌≡◌, IfOk, length};
+ghost use Rattle.cad_page.specs.Plans.{IsChosen, candidates_in, cost_in, examined_in};
+
+use crate::questions::{Planned, planned_asked};
+use cad_answer::Plan;
+use cad_ask::Ask;
+use cad_plan::estimate;
+use cad_run::candidate_count;
+use cad_snapshot::Snapshot;
+use std::alloc::{AllocError, Global};
+
+/// What is looked at for a page.
+#[derive(Drop)]
+pub struct Report {
+    /// Which features are looked at.
+    pub plan: Plan,
+    /// What that costs, as it was estimated for the choice.
+    pub cost: u64,
+    /// How many features they are.
+    pub candidates: u64,
+    /// How many of them are tested for this page.
+    pub examined: u64,
+}
+
+/// How the page that is asked for is found. An error is want of memory.
+pub fn explain(alloc: Global, ask: &Ask, snapshot: &Snapshot) -> Result<Report, AllocError>
+    ensures plan { IfOk result (λ report. IsChosen report.plan ask.now snapshot.now) }
+    ensures cost { IfOk result (λ report. report.cost ≡ cost_in report.plan ask.now snapshot.now) }
+    ensures candidates { IfOk result (λ report. report.candidates ≡ length (candidates_in report.plan ask.now snapshot.now)) }
+    ensures examined { IfOk result (λ report. report.examined ≡ examined_in report.plan ask.now snapshot.now) }
+{
+    let Planned { plan, page } = planned_asked(alloc, ask, snapshot)?;
+    let layer = snapshot.layer(ask.collection);
+    let cost = estimate(&plan, layer.indexes());
+    let candidates = candidate_count(alloc, &plan, layer)?;
+    Ok(Report {
+        plan,
+        cost,
+        candidates,
+        examined: page.examined,
+    })
+}
