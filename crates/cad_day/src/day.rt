@@ -6,6 +6,7 @@ ghost use Rattle.cad_day.specs.DayNumbers.{IsDayNumber};
 #[derive(Clone, Copy, Debug, PartialEq, Eq, PartialOrd, Ord)]
 pub struct Day {
     number: i32,
+    /// The number is that of a day of the calendar.
     pub ghost in_range: { IsDayNumber number },
 }
 

@@ -9,8 +9,11 @@ use std::marker::Model;
 /// `object` and `number` identify it. Contracts see it as an `Item`.
 #[derive(Debug, Drop)]
 pub struct Feature {
+    /// The object of the version.
     pub object: ObjectId,
+    /// The number of the version within its object, from 1 on.
     pub number: u32,
+    /// The values of its properties, in the order of the schema.
     pub values: Vec<Value>,
 }
 

@@ -30,7 +30,9 @@ pub enum Edge {
 pub struct Range {
     /// The property's place in the schema.
     pub property: usize,
+    /// Where the range begins.
     pub low: Edge,
+    /// Where it ends.
     pub high: Edge,
 }
 

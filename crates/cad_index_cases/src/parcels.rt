@@ -20,11 +20,17 @@ use std::alloc::Global;
 /// What differs from parcel to parcel.
 #[derive(Drop)]
 pub struct Parcel {
+    /// The first day.
     pub first: Day,
+    /// The last day, where there is one.
     pub last: Option<Day>,
+    /// The name on maps.
     pub label: String,
+    /// The area in square metres, where it is told.
     pub area: Option<u32>,
+    /// The region, where it has one.
     pub shape: Option<Region>,
+    /// The reference point, where it has one.
     pub spot: Option<Point>,
 }
 

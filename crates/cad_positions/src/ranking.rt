@@ -12,8 +12,11 @@ use std::alloc::{AllocError, Global};
 pub struct Ranking {
     places: Vec<u32>,
     ranks: Vec<u32>,
+    /// Each position stands in the order at its rank.
     pub ghost inverse: { AreInverse places.items ranks.items },
+    /// Positions have 32 bits.
     pub ghost small: { length ranks.items ≤ 4294967295 },
+    /// Positions stand in the order at most once.
     pub ghost no_more: { length places.items ≤ length ranks.items },
 }
 

@@ -10,9 +10,13 @@ use std::alloc::{AllocError, Global};
 /// The identifier of a feature: an object, and the number of its version, from 1 to 2,147,483,647 each.
 #[derive(Clone, Copy, Debug, PartialEq, Eq)]
 pub struct Identifier {
+    /// The object of the version.
     pub object: ObjectId,
+    /// The number of the version within its object.
     pub number: u32,
+    /// Numbers begin with 1.
     pub ghost positive: { 1 ≤ number },
+    /// Numbers have 31 bits.
     pub ghost small: { number ≤ 2147483647 },
 }
 

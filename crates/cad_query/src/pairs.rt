@@ -9,7 +9,9 @@ use std::alloc::{AllocError, Global};
 /// A parameter, read.
 #[derive(Debug, Drop)]
 pub struct Pair {
+    /// The name, without escapes.
     pub name: String,
+    /// The value, without escapes.
     pub value: String,
 }
 

@@ -9,11 +9,17 @@ use crate::point::is_coordinate;
 /// A closed box, in millimetres. Its sides may have no length.
 #[derive(Clone, Copy, Debug, PartialEq, Eq)]
 pub struct Bounds {
+    /// The least x, in millimetres.
     pub x_min: i64,
+    /// The least y.
     pub y_min: i64,
+    /// The greatest x.
     pub x_max: i64,
+    /// The greatest y.
     pub y_max: i64,
+    /// Both x are coordinates, and in order.
     pub ghost width: { IsExtent x_min x_max },
+    /// Both y are coordinates, and in order.
     pub ghost height: { IsExtent y_min y_max },
 }
 

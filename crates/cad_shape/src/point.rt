@@ -6,9 +6,13 @@ ghost use Rattle.cad_shape.specs.Coordinates.{IsCoordinate};
 /// A point, in millimetres east and north of the origin.
 #[derive(Clone, Copy, Debug, PartialEq, Eq)]
 pub struct Point {
+    /// To the right, in millimetres.
     pub x: i64,
+    /// Upward, in millimetres.
     pub y: i64,
+    /// It is a coordinate of the plane.
     pub ghost x_in_range: { IsCoordinate x },
+    /// It is a coordinate of the plane.
     pub ghost y_in_range: { IsCoordinate y },
 }
 

@@ -31,9 +31,13 @@ impl Model for Rings {
 #[derive(Debug, Drop)]
 pub struct Region {
     rings: Rings,
+    /// There is an exterior boundary.
     pub ghost some: { 0 < length rings },
+    /// There are at most 99 holes.
     pub ghost not_too_many_rings: { length rings ≤ 100 },
+    /// The corners of all rings are counted together.
     pub ghost not_too_many_corners: { length (rings_corners rings) ≤ 1000 },
+    /// No corner of a hole lies outside of the exterior boundary.
     pub ghost inside: { NoneOutside rings },
 }
 

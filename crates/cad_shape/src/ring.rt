@@ -38,9 +38,13 @@ impl Model for Corners {
 #[derive(Debug, Drop)]
 pub struct Ring {
     corners: Corners,
+    /// There are at least three corners.
     pub ghost enough: { 3 ≤ length corners },
+    /// There are at most 1,000 corners.
     pub ghost not_too_many: { length corners ≤ 1000 },
+    /// Its signed area is not zero.
     pub ghost has_area: { HasArea (edges_of corners) },
+    /// No two edges share more than the corner of neighbours.
     pub ghost simple: { NoneCross (edges_of corners) },
 }
 

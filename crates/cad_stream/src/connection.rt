@@ -12,6 +12,7 @@ use std::alloc::Global;
 #[derive(Debug, Drop)]
 pub struct Connection {
     held: Vec<u8>,
+    /// No head is there yet, and one may still come.
     pub ghost waits: { IsIncomplete held.items },
 }
 

@@ -13,16 +13,21 @@ use cad_shape::{Point, Region};
 pub enum Body {
     /// LA_Party. The code says what kind of party it is.
     Party {
+        /// What it is called, where that is told.
         name: Option<Words>,
+        /// Which type of party it is, as `naturalPerson`.
         code: Words,
     },
     /// LA_BAUnit.
     Unit {
+        /// What it is called, where that is told.
         name: Option<Words>,
     },
     /// LA_SpatialUnit, of one unit.
     Parcel {
+        /// The unit that it belongs to.
         unit: ObjectId,
+        /// Its name on maps.
         label: Words,
         /// In whole square metres. It is told with the parcel, and not worked out from the shape.
         area: Option<u32>,
@@ -33,24 +38,37 @@ pub enum Body {
     },
     /// LA_Right on a unit. The code says what kind of right it is.
     Right {
+        /// The unit that it is of.
         unit: ObjectId,
+        /// Who has it, where that is told.
         party: Option<ObjectId>,
+        /// Which type of right it is, as `ownership`.
         code: Words,
+        /// The share in it, where that is told.
         share: Option<Share>,
     },
     /// LA_Restriction on a unit, and whether a party is required for what it restricts.
     Restriction {
+        /// The unit that it is of.
         unit: ObjectId,
+        /// Whom it serves, where that is told.
         party: Option<ObjectId>,
+        /// Which type of restriction it is, as `noBuilding`.
         code: Words,
+        /// The share in it, where that is told.
         share: Option<Share>,
+        /// Whether a party is needed, where that is told.
         required: Option<bool>,
     },
     /// LA_Responsibility for a unit. The code says what is to be done.
     Responsibility {
+        /// The unit that it is of.
         unit: ObjectId,
+        /// Who has it, where that is told.
         party: Option<ObjectId>,
+        /// Which type of responsibility it is.
         code: Words,
+        /// The share in it, where that is told.
         share: Option<Share>,
     },
 }

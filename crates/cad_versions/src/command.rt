@@ -12,19 +12,27 @@ use cad_day::Day;
 pub enum Command {
     /// Begins an object with version 1, which holds from `first` on.
     Enter {
+        /// The object, which was never entered before.
         object: ObjectId,
+        /// The first day of version 1.
         first: Day,
+        /// What version 1 says.
         body: Body,
     },
     /// Ends the object's open version on the day before `first`, and begins the next one.
     Amend {
+        /// The object, which has an open version.
         object: ObjectId,
+        /// The first day of the next version.
         first: Day,
+        /// What the next version says.
         body: Body,
     },
     /// Ends the object's open version on `last`.
     Retire {
+        /// The object, which has an open version.
         object: ObjectId,
+        /// The last day of that version.
         last: Day,
     },
 }

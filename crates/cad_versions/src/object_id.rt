@@ -8,7 +8,9 @@ use crate::limits::MOST_NUMBER;
 #[derive(Clone, Copy, Debug, PartialEq, Eq, PartialOrd, Ord)]
 pub struct ObjectId {
     number: u32,
+    /// Numbers begin with 1.
     pub ghost positive: { 1 ≤ number },
+    /// Numbers have 31 bits.
     pub ghost small: { number ≤ 2147483647 },
 }
 

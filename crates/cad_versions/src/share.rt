@@ -7,8 +7,11 @@ ghost use Rattle.std.specs.Prelude.{◌≤◌};
 pub struct Share {
     num: u32,
     den: u32,
+    /// It is more than nothing.
     pub ghost some: { 1 ≤ num },
+    /// It is at most the whole.
     pub ghost within: { num ≤ den },
+    /// The whole is divided into so many parts at most.
     pub ghost small: { den ≤ 1000000000 },
 }
 

@@ -13,10 +13,15 @@ use std::marker::Model;
 /// `number` counts the versions of the object from 1 and is at most 2,147,483,647. `last` is `None` while the version is open, and is never before `first`.
 #[derive(Debug, Drop)]
 pub struct Version {
+    /// The object that it is a version of.
     pub object: ObjectId,
+    /// Its number within its object: 1, 2, and so on.
     pub number: u32,
+    /// The first day on which it holds.
     pub first: Day,
+    /// The last day; without one it is open.
     pub last: Option<Day>,
+    /// What it says of the object.
     pub body: Body,
 }
 

@@ -24,9 +24,13 @@ impl Model for Spelling {
 #[derive(Debug, Drop)]
 pub struct Words {
     spelling: Spelling,
+    /// The text is not empty.
     pub ghost some: { 1 ≤ length spelling },
+    /// It has at most 200 bytes.
     pub ghost few: { length spelling ≤ 200 },
+    /// It has no U+0000.
     pub ghost printable: { list_any (λ b. b == 0) spelling ≡ false },
+    /// Its bytes are UTF-8.
     pub ghost utf8: { ∥ IsUtf8 spelling ∥₁ },
 }
 

@@ -25,7 +25,9 @@ pub enum Wanted {
     Page(Ask),
     /// One feature, if it is there.
     Feature {
+        /// The collection that it is asked for in.
         collection: Collection,
+        /// Which version of which object it is.
         identifier: Identifier,
     },
 }

@@ -107,13 +107,17 @@ pub enum Kind {
 /// A token, and the byte of the text at which it begins.
 #[derive(Debug, Drop)]
 pub struct Token {
+    /// The byte of the text at which it begins.
     pub place: usize,
+    /// What stands there.
     pub kind: Kind,
 }
 
 /// The tokens of a text, and the text's length in bytes.
 #[derive(Debug, Drop)]
 pub struct Tokens {
+    /// The tokens, in the order of the text.
     pub list: Vec<Token>,
+    /// The length of the text in bytes.
     pub end: usize,
 }

@@ -19,7 +19,9 @@ pub enum Stop<'a> {
 /// A part that was read, and the tokens after it.
 #[derive(Drop)]
 pub struct Parsed<'a> {
+    /// The part.
     pub tree: Box<Tree>,
+    /// The tokens that no part has yet.
     pub rest: &'a [Token],
 }
 

@@ -17,7 +17,9 @@ struct FixedFront {
 /// The texts from `low` on and below `end`, where there is one: those that begin with `low`.
 #[derive(Drop)]
 pub struct LikeRange {
+    /// The front of the pattern, which is the first text of the range.
     pub low: String,
+    /// The first text behind the range; without one it has no end.
     pub end: Option<String>,
     /// Each of them is like the pattern.
     pub is_exact: bool,

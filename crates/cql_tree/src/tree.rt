@@ -10,122 +10,177 @@ use cql_lexer::{Comparison, SpatialRelation};
 pub enum Tree {
     /// A property's name.
     Name {
+        /// The byte at which it begins.
         place: usize,
+        /// The name, without quotes.
         name: String,
     },
     /// A number with its sign.
     Number(Number),
     /// A text.
     Text {
+        /// The byte at which it begins.
         place: usize,
+        /// What the text stands for.
         content: String,
     },
     /// TRUE or FALSE.
     Truth {
+        /// The byte at which it begins.
         place: usize,
+        /// Whether it is TRUE.
         value: bool,
     },
     /// Two parts or more, joined by OR.
     Or {
+        /// The first part.
         first: Box<Tree>,
+        /// The further parts, one at least.
         others: Vec<Tree>,
     },
     /// Two parts or more, joined by AND.
     And {
+        /// The first part.
         first: Box<Tree>,
+        /// The further parts, one at least.
         others: Vec<Tree>,
     },
     /// The part behind a NOT.
     Not {
+        /// The byte at which NOT begins.
         place: usize,
+        /// What is negated.
         part: Box<Tree>,
     },
     /// Two values compared.
     Compare {
+        /// How the sides are compared.
         by: Comparison,
+        /// The side before the sign.
         left: Box<Tree>,
+        /// The side behind it.
         right: Box<Tree>,
     },
     /// `[NOT] LIKE`
     Like {
+        /// Whether NOT stands before LIKE.
         is_negated: bool,
+        /// What is to be like the pattern.
         value: Box<Tree>,
+        /// The pattern.
         pattern: Box<Tree>,
     },
     /// `[NOT] BETWEEN`, with both ends.
     Between {
+        /// Whether NOT stands before BETWEEN.
         is_negated: bool,
+        /// What is to lie between the bounds.
         value: Box<Tree>,
+        /// The lower bound.
         low: Box<Tree>,
+        /// The upper bound.
         high: Box<Tree>,
     },
     /// `[NOT] IN`, with one item or more.
     In {
+        /// Whether NOT stands before IN.
         is_negated: bool,
+        /// What is to be one of the items.
         value: Box<Tree>,
+        /// The first item.
         first: Box<Tree>,
+        /// The further items.
         others: Vec<Tree>,
     },
     /// `IS [NOT] NULL`
     IsNull {
+        /// Whether NOT stands behind IS.
         is_negated: bool,
+        /// What is to have no value.
         value: Box<Tree>,
     },
     /// Two parts or more, added and taken off from the left.
     Sum {
+        /// The first part.
         first: Box<Tree>,
+        /// The further parts, each with its sign, one at least.
         others: Vec<Term>,
     },
     /// Two parts or more, multiplied and divided from the left.
     Product {
+        /// The first part.
         first: Box<Tree>,
+        /// The further parts, each with its sign, one at least.
         others: Vec<Factor>,
     },
     /// `CASEI(..)`
     Casei {
+        /// The byte at which the word begins.
         place: usize,
+        /// What is folded.
         part: Box<Tree>,
     },
     /// `DATE('..')`: the place of the keyword, and the text with its own place.
     Date {
+        /// The byte at which the word begins.
         place: usize,
+        /// The byte at which the text in it begins.
         text_place: usize,
+        /// The text that has to name a day.
         text: String,
     },
     /// `INTERVAL(.., ..)`
     Interval {
+        /// The byte at which the word begins.
         place: usize,
+        /// The first end.
         from: Bound,
+        /// The last end.
         to: Bound,
     },
     /// `POINT(x y)`
     Point {
+        /// The byte at which the word begins.
         place: usize,
+        /// Its coordinates.
         corner: Corner,
     },
     /// `POLYGON((x y, ..), ..)`: its outer ring, then those of its holes.
     Polygon {
+        /// The byte at which the word begins.
         place: usize,
+        /// The outline, and then the holes.
         rings: Vec<Ring>,
     },
     /// `BBOX(x, y, x, y)`: the least corner, then the greatest.
     Bbox {
+        /// The byte at which the word begins.
         place: usize,
+        /// The least x and y.
         low: Corner,
+        /// The greatest x and y.
         high: Corner,
     },
     /// One of the functions whose names begin with `S_`.
     Spatial {
+        /// The byte at which the function's name begins.
         place: usize,
+        /// The relation that is asked for.
         by: SpatialRelation,
+        /// The first argument.
         left: Box<Tree>,
+        /// The second argument.
         right: Box<Tree>,
     },
     /// One of the functions whose names begin with `T_`.
     Temporal {
+        /// The byte at which the function's name begins.
         place: usize,
+        /// The relation that is asked for.
         by: Relation,
+        /// The first argument.
         left: Box<Tree>,
+        /// The second argument.
         right: Box<Tree>,
     },
 }
@@ -165,7 +220,9 @@ pub enum Multiplication {
 #[derive(Drop)]
 #[cycle(tree)]
 pub struct Term {
+    /// The sign before it.
     pub by: Addition,
+    /// The part.
     pub tree: Tree,
 }
 
@@ -173,7 +230,9 @@ pub struct Term {
 #[derive(Drop)]
 #[cycle(tree)]
 pub struct Factor {
+    /// The sign before it.
     pub by: Multiplication,
+    /// The part.
     pub tree: Tree,
 }
 
@@ -189,12 +248,15 @@ pub enum Bound {
 /// A point of a literal.
 #[derive(Drop)]
 pub struct Corner {
+    /// The first number.
     pub x: Number,
+    /// The second number.
     pub y: Number,
 }
 
 /// A closed line through its corners.
 #[derive(Drop)]
 pub struct Ring {
+    /// The corners as they are written, the first once more at the end.
     pub corners: Vec<Corner>,
 }

@@ -31,6 +31,7 @@ pub enum Misuse {
 pub struct Fault {
     /// The byte of the text at which the part begins.
     pub place: usize,
+    /// What is wrong with it.
     pub cause: Misuse,
 }
 

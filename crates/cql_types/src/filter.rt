@@ -29,7 +29,9 @@ pub enum WholeTerm {
     Property(usize),
     /// A sum or a product, computed from the left.
     Computed {
+        /// The first part.
         first: Box<WholeTerm>,
+        /// What is done then, from the left.
         steps: Vec<Step>,
     },
 }
@@ -38,7 +40,9 @@ pub enum WholeTerm {
 #[derive(Drop)]
 #[cycle(whole)]
 pub struct Step {
+    /// What is done with it.
     pub by: Operation,
+    /// The part.
     pub term: WholeTerm,
 }
 
@@ -124,71 +128,102 @@ pub enum Filter {
     Truth(bool),
     /// Two numbers, by their size.
     CompareWhole {
+        /// How the sides are compared.
         by: Comparison,
+        /// The side before the sign.
         left: WholeTerm,
+        /// The side behind it.
         right: WholeTerm,
     },
     /// Two texts, in the order of code points.
     CompareText {
+        /// How the sides are compared.
         by: Comparison,
+        /// The side before the sign.
         left: TextTerm,
+        /// The side behind it.
         right: TextTerm,
     },
     /// Two days, by their order in time.
     CompareDay {
+        /// How the sides are compared.
         by: Comparison,
+        /// The side before the sign.
         left: DayTerm,
+        /// The side behind it.
         right: DayTerm,
     },
     /// By equality alone.
     CompareFlag {
+        /// How the sides are compared, by equality alone.
         by: Comparison,
+        /// The side before the sign.
         left: FlagTerm,
+        /// The side behind it.
         right: FlagTerm,
     },
     /// The text is like the pattern.
     Like {
+        /// What is to be like the pattern.
         value: TextTerm,
+        /// The pattern.
         pattern: TextTerm,
     },
     /// The value is neither below the one nor above the other.
     Between {
+        /// What is to lie between the bounds.
         value: WholeTerm,
+        /// The lower bound, counted in.
         low: WholeTerm,
+        /// The upper bound, counted in.
         high: WholeTerm,
     },
     /// The value equals one of the numbers.
     InWhole {
+        /// What is to be one of the items.
         value: WholeTerm,
+        /// The items.
         items: Vec<WholeTerm>,
     },
     /// The value equals one of the texts.
     InText {
+        /// What is to be one of the items.
         value: TextTerm,
+        /// The items.
         items: Vec<TextTerm>,
     },
     /// The value equals one of the days.
     InDay {
+        /// What is to be one of the items.
         value: DayTerm,
+        /// The items.
         items: Vec<DayTerm>,
     },
     /// The value equals one of the flags.
     InFlag {
+        /// What is to be one of the items.
         value: FlagTerm,
+        /// The items.
         items: Vec<FlagTerm>,
     },
     /// The term has no value.
     IsNull(AnyTerm),
     /// How two shapes lie to each other.
     Spatial {
+        /// The relation that is asked for.
         by: SpatialRelation,
+        /// The first argument.
         left: ShapeTerm,
+        /// The second argument.
         right: ShapeTerm,
     },
     /// How two intervals lie to each other.
     Temporal {
+        /// The relation that is asked for.
         by: Relation,
+        /// The first argument.
         left: SpanTerm,
+        /// The second argument.
         right: SpanTerm,
     },
     /// The condition is false.

@@ -34,13 +34,17 @@ pub enum Node {
 /// What a tree is, and its place.
 #[derive(Drop)]
 pub struct Judged {
+    /// The byte of the text at which it begins.
     pub place: usize,
+    /// What it is, of its kind.
     pub node: Node,
 }
 
 /// A part of a sum or a product behind the first, and what is done with it.
 #[derive(Drop)]
 pub struct JudgedStep {
+    /// What is done with it.
     pub by: Operation,
+    /// The part.
     pub part: Judged,
 }

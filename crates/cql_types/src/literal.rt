@@ -32,7 +32,9 @@ use std::alloc::{AllocError, Global};
 /// A point of a literal, before it is known to be one of the plane.
 #[derive(Drop)]
 pub struct Position {
+    /// The first number.
     pub x: i64,
+    /// The second number.
     pub y: i64,
 }
 

@@ -21,8 +21,11 @@ pub enum Failure {
 /// A connection that sends these bytes.
 #[derive(Drop)]
 pub struct Served {
+    /// The number of the connection.
     pub number: u32,
+    /// What it sends.
     pub bytes: Vec<u8>,
+    /// What fails while it is served.
     pub failure: Failure,
 }
 
