@@ -87,8 +87,8 @@ within_box t form boxed o e h = subst (IsWithin t form) (sym e) h
 
 module _ (ask : Ask) (filter_form box_form form : Normal) (boxed : Filter) (box : IsBoxFilter boxed ask) where
   pub form_both : ((x : Item) → meets x form ≡ (meets x filter_form && meets x box_form)) → ((t : List Written) → least t form ≤ least t filter_form) → ((t : List Written) → least t form ≤ least t box_form)
-    → FormStands filter_form ask → FormCosts filter_form ask
-    → ((x : Written) → meets x.item box_form ≡ yes boxed x.item) → ((t : List Written) → least t box_form ≤ bound t boxed) → IsFormOf ask form
+      → FormStands filter_form ask → FormCosts filter_form ask
+      → ((x : Written) → meets x.item box_form ≡ yes boxed x.item) → ((t : List Written) → least t box_form ≤ bound t boxed) → IsFormOf ask form
   form_both meet first second stands costs box_stands box_costs = record {
     stands = λ x. meet x.item ∙ ap₂ ◌&&◌ (stands x) (box_stands x ∙ box.says x.item);
     filter_bound = λ t. within_less t form filter_form ask.filter (first t) (costs t);

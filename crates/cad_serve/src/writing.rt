@@ -29,10 +29,7 @@ fn fixed_head(fault: DeskFault) -> &'static str
 }
 
 /// Writes the head that tells the fault. No memory is needed for it.
-pub fn write_fixed_head<W: Write>(
-    writer: &mut W,
-    fault: DeskFault,
-) -> Result<(), WriteFailed>
+pub fn write_fixed_head<W: Write>(writer: &mut W, fault: DeskFault) -> Result<(), WriteFailed>
     ensures { IsWritten (W.contents writer.old) (W.contents writer.new) (fixed_head_of fault) result }
 {
     write_whole(writer, fixed_head(fault).as_bytes())
