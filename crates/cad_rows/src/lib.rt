@@ -1,5 +1,4 @@
 //! Positions of features, in ascending order and each once, from sets that meet and join; and the page of those that pass a test.
-//! Nothing is answered by it yet.
 //!
 //! - [`RowSource`]: positions that are taken one after the other, or sought
 //! - [`Source`]: a tree of sources: all positions, those of a list, those between two ranks, those of two sources or of either
