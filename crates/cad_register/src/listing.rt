@@ -61,7 +61,7 @@ pub(crate) fn versions_at(
         versions.items ≡ map (seen_at revision) entries) }
     ensures cause { IfErr result (IsCauseIn newest rows.now) }
 {
-    let mut versions = Vec::new(alloc);
+    let mut versions = Vec::with_capacity(alloc, rows.len())?;
     let mut before = None;
     for row in rows {
         let kept = match next_version(alloc, row, before, versions.len(), newest) {

@@ -43,13 +43,13 @@ loop-row-preserved c =
 
 pub loop-row-init : goal.loop-row-init
 loop-row-init c = record {
-  count = c.new-versions.ensures.len;
-  few = rw c.new-versions.ensures.items (omega arith);
-  listed = rw c.new-versions.ensures.items none_listed;
+  count = c.in_ok-versions.ensures.len;
+  few = rw c.in_ok-versions.ensures.items (omega arith);
+  listed = rw c.in_ok-versions.ensures.items none_listed;
   sound = λ rest. rest;
   damaged = λ id rest. rest;
-  shown = rw c.new-versions.ensures.items tt;
-  seen = λ entries is. c.new-versions.ensures.items;
+  shown = rw c.in_ok-versions.ensures.items tt;
+  seen = λ entries is. c.in_ok-versions.ensures.items;
 }
 
 pub returns-clause-shown : goal.returns-clause-shown
