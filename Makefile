@@ -2,13 +2,22 @@
 RT ?= rt
 # How many crates `make sample` and `make check` prove side by side.
 JOBS ?= $(shell nproc)
+# What `make explain` is asked: a query as a request has it, and of which collection.
+QUERY ?=
+COLLECTION ?= parcels
+export QUERY COLLECTION
 
-.PHONY: sample cases test check wrong-bodies refused bench register-file office-file serve-file clients proxy import viewer deb clean
+.PHONY: sample explain cases test check wrong-bodies refused bench register-file office-file serve-file clients proxy import viewer deb clean
 
 # Proves and builds the program and all that it stands on, and answers the request in crates/cadastre/stdin. Crates that do not wait for each other are proved side by side.
 sample:
 	cd crates/cadastre && $(RT) all check --jobs $(JOBS)
 	cd crates/cadastre && $(RT) run -- sample < stdin
+
+# Tells how the page of a query is found over the sample register, by a program of cases: `make explain QUERY='filter=object+%3D+3'`.
+explain:
+	cd crates/cad_plan_cases && $(RT) all check --jobs $(JOBS)
+	@cd crates/cad_plan_cases && printf 'explain %s?%s\n' "$$COLLECTION" "$$QUERY" | $(RT) run
 
 # Holds the stored answers of the cases of filters, of the server, of clients, of days and of parameters, and the examples of docs/FILTERS.md,
 # against second readings of the rules, the examples of docs/API.md against the server's cases, and docs/PROMISES.md against the crates.
