@@ -39,6 +39,7 @@ pub(crate) fn connected<D: Disk + Drop>(
 }
 
 /// A database file and its log, as bytes.
+#[derive(Drop)]
 struct Image {
     log: Vec<u8>,
     db: Vec<u8>,
