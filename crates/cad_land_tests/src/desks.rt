@@ -1,6 +1,6 @@
 //! Desks over registers in databases: a walk over a restart, and a register with a damaged row.
 
-use crate::disks::connected;
+use crate::disks::{made, opened};
 use crate::register::{created, in_memory};
 use cad_desk::Desk;
 use cad_register::Register;
@@ -8,7 +8,7 @@ use cad_sample::fill;
 use cad_server::Server;
 use cad_stream::Responder;
 use desk_script::{Memory as Want, answer, line_of};
-use sqlite::{Alter, Connection, FileStore, Files};
+use sqlite::{Alter, FileStore};
 use sqlite_disk::Memory;
 use std::alloc::Global;
 use std::process::Abort;
@@ -27,9 +27,9 @@ fn desk_over<S: Alter + Drop>(
     }
 }
 
-/// The sample register in a database.
-fn sample<S: Alter + Drop>(alloc: Global, connection: Connection<S>) -> Result<Register<S>, Fail> {
-    let mut register = created(alloc, connection).ok_or("created")?;
+/// The register with the commands of the sample.
+fn filled<S: Alter + Drop>(alloc: Global, register: Register<S>) -> Result<Register<S>, Fail> {
+    let mut register = register;
     if fill(alloc, &mut register) != Ok(10) {
         return Err("filled")?;
     }
@@ -43,8 +43,7 @@ fn restarted(
 ) -> Result<RegisterDesk<FileStore<Memory>>, Fail> {
     let register = desk.release().release();
     let files = register.release().close_files().ok().ok_or("closed")?;
-    let connection = connected(alloc, files).ok().ok_or("connected")?;
-    let register = Register::open(alloc, connection).ok().ok_or("opened")?;
+    let register = opened(alloc, files).ok().ok_or("opened")?;
     desk_over(alloc, register)
 }
 
@@ -115,12 +114,7 @@ Sent "HTTP/1.1 200 OK\r\nContent-Type: application/json\r\nContent-Length: 1776\
 #[test]
 fn a_walk_goes_on_over_a_restart(rt: HostRuntime) -> Result<(), Fail> {
     let alloc = rt.alloc();
-    let files = Files {
-        log: Memory::new(alloc),
-        db: Memory::new(alloc),
-    };
-    let connection = connected(alloc, files).ok().ok_or("connected")?;
-    let mut desk = desk_over(alloc, sample(alloc, connection)?)?;
+    let mut desk = desk_over(alloc, filled(alloc, made(alloc)?)?)?;
     tell(&rt, alloc, &mut desk, WALK, WALK_ANSWERS)?;
     let mut desk = restarted(alloc, desk)?;
     tell(&rt, alloc, &mut desk, WALK_ON, WALK_ON_ANSWERS)
@@ -161,7 +155,8 @@ peer ended "HTTP/1.1 200 OK\r\nContent-Type: application/json\r\nContent-Length:
 fn a_damaged_row_refuses_what_reads_it_alone(rt: HostRuntime) -> Result<(), Fail> {
     let alloc = rt.alloc();
     let connection = in_memory(alloc).ok_or("in memory")?;
-    let mut connection = sample(alloc, connection)?.release();
+    let register = created(alloc, connection).ok_or("created")?;
+    let mut connection = filled(alloc, register)?.release();
     let change = "UPDATE version SET label = NULL WHERE object = 2";
     assert!(rt; connection.execute_batch(change).is_ok());
     let register = Register::open(alloc, connection).ok().ok_or("opened")?;

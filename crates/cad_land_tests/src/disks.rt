@@ -4,7 +4,7 @@ ghost use Rattle.std.specs.Prelude.{IsTrue, IfOk};
 ghost use Rattle.sqlite_disk.specs.Memory.{memory_is_usable};
 
 use crate::register::{Y2000, Y2001, Y2003, amend, applied, enter, listed, retire, unit};
-use cad_register::{Command, Register, RegisterFault, Revision};
+use cad_register::{Command, Register};
 use sqlite::{Connection, FileStore, Files, Options};
 use sqlite_disk::{Crash, Disk, Fuse, Memory};
 use std::alloc::Global;
@@ -24,68 +24,69 @@ fn file_of(alloc: Global, bytes: &[u8]) -> Result<Memory, Fail>
     Ok(file)
 }
 
-/// The database in the files, or the files back.
-pub(crate) fn connected<D: Disk + Drop>(
+/// The database in the files, or the files back. What is committed is copied from the log into the database file at once, so that
+/// each command writes to both.
+fn connected<D: Disk + Drop>(
     alloc: Global,
     files: Files<D>,
 ) -> Result<Connection<FileStore<D>>, Files<D>> {
     if !files.may_be_used() {
         return Err(files);
     }
-    match Connection::open_files(alloc, files, Options::new(1)) {
+    let options = Options {
+        checkpoint_frames: 1,
+        ..Options::new(1)
+    };
+    match Connection::open_files(alloc, files, options) {
         Ok(connection) => Ok(connection),
         Err((_, left)) => Err(left.into_files()),
     }
 }
 
-/// A database file and its log, as bytes.
-#[derive(Drop)]
-struct Image {
-    log: Vec<u8>,
-    db: Vec<u8>,
+/// The register in the files, or the files back.
+pub(crate) fn opened<D: Disk + Drop>(
+    alloc: Global,
+    files: Files<D>,
+) -> Result<Register<FileStore<D>>, Files<D>> {
+    match Register::open(alloc, connected(alloc, files)?) {
+        Ok(register) => Ok(register),
+        Err((_, connection)) => Err(connection.into_store().close()),
+    }
 }
 
-/// A register of one command, which enters unit 11.
-fn image(alloc: Global) -> Result<Image, Fail> {
+/// A register of no commands, in files of no bytes.
+pub(crate) fn made(alloc: Global) -> Result<Register<FileStore<Memory>>, Fail> {
     let files = Files {
         log: Memory::new(alloc),
         db: Memory::new(alloc),
     };
     let connection = connected(alloc, files).ok().ok_or("connected")?;
-    let mut register = Register::create(alloc, connection).ok().ok_or("created")?;
+    Ok(Register::create(alloc, connection).ok().ok_or("created")?)
+}
+
+/// A database file and its log, as bytes.
+#[derive(Drop)]
+struct Bytes {
+    log: Vec<u8>,
+    db: Vec<u8>,
+}
+
+/// A register of one command, which enters unit 11.
+fn bytes_of_one(alloc: Global) -> Result<Bytes, Fail> {
+    let mut register = made(alloc)?;
     if applied(&mut register, enter(11, Y2000, unit())?) != Ok(1) {
         return Err("entered")?;
     }
     let files = register.release().close_files().ok().ok_or("closed")?;
-    Ok(Image {
+    Ok(Bytes {
         log: Vec::from_slice(alloc, files.log.bytes())?,
         db: Vec::from_slice(alloc, files.db.bytes())?,
     })
 }
 
-/// What the command is answered, where the register was opened, and what is left of the files.
-fn applied_over<D: Disk + Drop>(
-    alloc: Global,
-    files: Files<D>,
-    command: Command,
-) -> (Option<Result<Revision, RegisterFault>>, Files<D>) {
-    let connection = match connected(alloc, files) {
-        Ok(connection) => connection,
-        Err(files) => return (None, files),
-    };
-    match Register::open(alloc, connection) {
-        Ok(mut register) => {
-            let answer = register.apply(command);
-            (Some(answer), register.release().into_store().close())
-        }
-        Err((_, connection)) => (None, connection.into_store().close()),
-    }
-}
-
 /// The revision of the register in the files, and its versions.
 fn found_in<D: Disk + Drop>(alloc: Global, files: Files<D>) -> Result<String, Fail> {
-    let connection = connected(alloc, files).ok().ok_or("connected")?;
-    let mut register = Register::open(alloc, connection).ok().ok_or("opened")?;
+    let mut register = opened(alloc, files).ok().ok_or("opened")?;
     let revision = register.revision();
     let found = listed(alloc, &mut register, revision)?;
     Ok(format!(in alloc; "{revision} {found:?}")?)
@@ -127,67 +128,76 @@ enum Failing {
     Database,
 }
 
-/// How a run of a command ended.
-#[derive(Clone, Copy, Debug, PartialEq, Eq)]
-enum Run {
-    /// No call failed.
-    Whole,
-    /// A call failed while the register was opened, or behind the command.
-    Beside,
-    /// A call failed in the command.
-    Within,
+/// Files of which one fails behind so many calls.
+fn failing_files(
+    alloc: Global,
+    stored: &Bytes,
+    failing: Failing,
+    calls: u64,
+) -> Result<Files<Fuse<Memory>>, Fail> {
+    let (log_calls, db_calls) = match failing {
+        Failing::Log => (calls, u64::MAX),
+        Failing::Database => (u64::MAX, calls),
+    };
+    Ok(Files {
+        log: Fuse::new(file_of(alloc, &stored.log)?, log_calls),
+        db: Fuse::new(file_of(alloc, &stored.db)?, db_calls),
+    })
+}
+
+/// The least number of calls behind which the register is open.
+fn opening_calls(alloc: Global, stored: &Bytes, failing: Failing) -> Result<u64, Fail> {
+    for calls in 0..MOST_CALLS {
+        if opened(alloc, failing_files(alloc, stored, failing, calls)?).is_ok() {
+            return Ok(calls);
+        }
+    }
+    Err("the register is opened by more calls")?
 }
 
 fn has_failed<D: Disk>(file: &mut D) -> bool {
     !file.may_be_used() || file.len().is_err()
 }
 
-/// Runs a command over files of which one fails behind so many calls, and looks at what a crash leaves then.
+/// Runs a command over files of which one fails behind so many calls, and looks at what a stop leaves then. Whether a call failed.
 fn run(
     rt: &impl Abort,
     alloc: Global,
-    image: &Image,
+    stored: &Bytes,
     at: u32,
     failing: Failing,
     calls: u64,
-) -> Result<Run, Fail> {
+) -> Result<bool, Fail> {
     let (command, after) = command(alloc, at)?;
-    let (log_calls, db_calls) = match failing {
-        Failing::Log => (calls, u64::MAX),
-        Failing::Database => (u64::MAX, calls),
-    };
-    let files = Files {
-        log: Fuse::new(file_of(alloc, &image.log)?, log_calls),
-        db: Fuse::new(file_of(alloc, &image.db)?, db_calls),
-    };
-    let (answer, mut files) = applied_over(alloc, files, command);
-    let is_whole = !has_failed(&mut files.log) && !has_failed(&mut files.db);
-    let is_entered = answer == Some(Ok(2));
+    let files = failing_files(alloc, stored, failing, calls)?;
+    let mut register = opened(alloc, files).ok().ok_or("opened")?;
+    let answer = register.apply(command);
+    let mut files = register.release().into_store().close();
+    let is_failed = has_failed(&mut files.log) || has_failed(&mut files.db);
+    let is_entered = answer == Ok(2);
+    assert!(rt;
+        is_failed || is_entered,
+        "{at} {failing:?} {calls}: {answer:?}"
+    );
     for found in &found_after(alloc, files)? {
         let is_right = found.as_str() == after || !is_entered && found.as_str() == BEFORE;
         assert!(rt; is_right, "{at} {failing:?} {calls}: {found}");
     }
-    match answer {
-        Some(Ok(_)) if is_whole => Ok(Run::Whole),
-        Some(Err(_)) => Ok(Run::Within),
-        _ => Ok(Run::Beside),
-    }
+    Ok(is_failed)
 }
 
-/// How many calls of the file a run of the command makes, and how many of them stop it within the command.
+/// How many stops of the file a run of the command has, one after each of its calls.
 fn stops(
     rt: &impl Abort,
     alloc: Global,
-    image: &Image,
+    stored: &Bytes,
     at: u32,
     failing: Failing,
-) -> Result<(u64, u64), Fail> {
-    let mut within = 0u64;
-    for calls in 0..MOST_CALLS {
-        match run(rt, alloc, image, at, failing, calls)? {
-            Run::Whole => return Ok((calls, within)),
-            Run::Within => within = within.saturating_add(1),
-            Run::Beside => {}
+) -> Result<u64, Fail> {
+    let opening = opening_calls(alloc, stored, failing)?;
+    for calls in opening..MOST_CALLS {
+        if !run(rt, alloc, stored, at, failing, calls)? {
+            return Ok(calls - opening);
         }
     }
     Err("a run makes more calls")?
@@ -198,12 +208,12 @@ fn stops(
 #[test]
 fn a_stop_leaves_the_register_before_a_command_or_after_it(rt: HostRuntime) -> Result<(), Fail> {
     let alloc = rt.alloc();
-    let image = image(alloc)?;
+    let stored = bytes_of_one(alloc)?;
     for at in 0..3u32 {
-        let (calls, within) = stops(&rt, alloc, &image, at, Failing::Log)?;
-        assert!(rt; within > 0, "{at}: {calls} calls of the log");
-        let (calls, _) = stops(&rt, alloc, &image, at, Failing::Database)?;
-        assert!(rt; calls > 0, "{at}");
+        for failing in [Failing::Log, Failing::Database] {
+            let stops = stops(&rt, alloc, &stored, at, failing)?;
+            assert!(rt; stops > 1, "{at} {failing:?}: {stops}");
+        }
     }
     Ok(())
 }
