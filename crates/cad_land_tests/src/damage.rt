@@ -156,6 +156,23 @@ const CHANGES: &str =
 10 3.1 UPDATE version SET shape = X'020001000300000000000000000000000000007530000000000000753000000000000075300000000000000000000000000000EA600003000000000000138800000000000088B8000000000000177000000000000088B800000000000013880000000000008CA0' WHERE object = 3
 10 3.1 UPDATE version SET shape = X'020002000300000000000000000000000000007530000000000000753000000000000075300000000000000000000000000000EA600003000000000000138800000000000088B8000000000000177000000000000088B800000000000013880000000000008CA000' WHERE object = 3
 10 3.1 UPDATE version SET shape = X'020000' WHERE object = 3
+# Numbers of an object one after the other from 1.
+10 3.2 UPDATE version SET number = 2 WHERE object = 3
+10 1.3 UPDATE version SET number = 3 WHERE object = 1 AND number = 2
+10 1.11 UPDATE version SET number = number + 10 WHERE object = 1
+# One class an object.
+10 1.2 UPDATE version SET class = 2, label = NULL, area = NULL, unit = NULL, shape = NULL WHERE object = 1 AND number = 2
+# Entered from 1 on.
+10 3.1 UPDATE version SET entered = 0 WHERE object = 3
+# Closed exactly where there is a last day, from where it was entered to the register's revision.
+10 1.1 UPDATE version SET closed = NULL WHERE object = 1 AND number = 1
+10 3.1 UPDATE version SET closed = 7 WHERE object = 3
+10 1.1 UPDATE version SET closed = 3 WHERE object = 1 AND number = 1
+10 - UPDATE version SET closed = 4 WHERE object = 1 AND number = 1
+10 - UPDATE version SET closed = 10 WHERE object = 1 AND number = 1
+10 1.1 UPDATE version SET closed = 11 WHERE object = 1 AND number = 1
+4 1.1 UPDATE version SET closed = 11 WHERE object = 1 AND number = 1
+10 3.1 UPDATE version SET last = 12053 WHERE object = 3
 # The first of several in the order of objects.
 10 10.1 UPDATE version SET name = '' WHERE object >= 10
 10 2.1 UPDATE version SET unit = 0 WHERE object = 3 OR object = 2
