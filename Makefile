@@ -7,7 +7,7 @@ QUERY ?=
 COLLECTION ?= parcels
 export QUERY COLLECTION
 
-.PHONY: sample explain cases test check wrong-bodies refused bench register-file office-file serve-file clients proxy import viewer deb clean
+.PHONY: sample explain cases test check wrong-bodies tests-refuse refused damage bench register-file office-file serve-file clients proxy import viewer deb clean
 
 # Proves and builds the program and all that it stands on, and answers the request in crates/cadastre/stdin. Crates that do not wait for each other are proved side by side.
 sample:
@@ -37,6 +37,7 @@ test: cases
 	$(RT) ci
 	scripts/check_office
 	scripts/check_old_register
+	scripts/check_damage
 	scripts/check_serve
 
 # Every crate, over what earlier checks kept.
@@ -47,12 +48,20 @@ check:
 wrong-bodies: check
 	SAMPLE=$(SAMPLE) SEED=$(SEED) scripts/wrong_bodies
 
+# Has tests refuse the wrong bodies that no contract can refuse, those of folder wrong-for-tests/.
+tests-refuse:
+	scripts/tests_refuse
+
 # Refuses each growth of a run of the case programs in turn. Needs a C compiler.
 refused:
 	cd crates/cql_cases && $(RT) run < stdin | cmp - stdout
 	cd crates/cad_cases && $(RT) run < stdin | cmp - stdout
 	cd crates/desk_cases && $(RT) run < stdin | cmp - stdout
 	scripts/refused
+
+# Breaks each rule of a stored row by Python's SQLite, and has the program say so.
+damage: sample
+	scripts/check_damage
 
 # How many commands a second the office enters, in memory and in a file, and what pages take.
 bench: sample
