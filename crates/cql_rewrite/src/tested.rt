@@ -135,7 +135,10 @@ fn meets_all(alloc: Global, parts: &[Normal], feature: &Feature) -> Result<bool,
     ensures answers { list_any folds parts.now ≡ false → IsOk result }
 {
     for part in parts {
-        let is_met = test(alloc, part, feature)?;
+        let is_met = match part {
+            Normal::Range(range) => lies_in(range, feature),
+            _ => test(alloc, part, feature)?,
+        };
         if !is_met {
             return Ok(false);
         }
@@ -149,7 +152,10 @@ fn meets_some(alloc: Global, parts: &[Normal], feature: &Feature) -> Result<bool
     ensures answers { list_any folds parts.now ≡ false → IsOk result }
 {
     for part in parts {
-        let is_met = test(alloc, part, feature)?;
+        let is_met = match part {
+            Normal::Range(range) => lies_in(range, feature),
+            _ => test(alloc, part, feature)?,
+        };
         if is_met {
             return Ok(true);
         }
