@@ -1,5 +1,5 @@
 -- What is told of the program, and how a run ends without a service (own profile).
-use Rattle.std.specs.Prelude.{◌≡◌, ◌++◌, ℕ, ⊤, ⊥, List, codes, Option, None, Some, Result, Ok, Err}
+use Rattle.std.specs.Prelude.{◌≡◌, ◌++◌, ℕ, ⊤, List, codes, Option, None, Some, Result, Ok, Err}
 use Rattle.std.specs.Io.KnownBytes.{Appends}
 use Rattle.std.specs.declared.io.ErrorKind.{ErrorKind}
 use Rattle.std.specs.declared.io.ErrorKind.TheVariants.{OutOfMemory}

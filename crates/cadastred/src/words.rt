@@ -53,7 +53,7 @@ pub fn begin<'a, W: Write>(
     invocation: Option<Invocation<'a>>,
     writer: &mut W,
 ) -> Result<Service<'a>, Outcome>
-    ensures { Begins (W.contents writer.old) (W.contents writer.new) invocation result }
+    ensures { Begins (W.contents writer.old) (W.contents writer.new) invocation.entry result }
 {
     match invocation {
         Some(Invocation::Serve(service)) => Ok(service),

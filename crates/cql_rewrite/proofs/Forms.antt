@@ -97,18 +97,6 @@ folds_And v = ap folds (sym (rolls-And v)) ∙ fold-roll-Normal Bool folds_step 
 pub folds_Or : (v : Vec Normal Global) → folds (Or v) ≡ list_any folds v.items
 folds_Or v = ap folds (sym (rolls-Or v)) ∙ fold-roll-Normal Bool folds_step (Normal-F.Or v) ∙ list_any-map (λ b. b) folds v.items
 
-neither : (a b : Bool) → (a || b) ≡ false → (a ≡ false) × (b ≡ false)
-neither a b h = (grind arith, grind arith)
-
-none_at : {X : Type 0} (p : X → Bool) (xs : List X) (i : ℕ) (d : X) → list_any p xs ≡ false → i < length xs → p (get_or xs i d) ≡ false
-none_at p [] i d h l = absurd (omega arith)
-none_at p (x ∷ xs) zero d h l = (neither (p x) (list_any p xs) h).0
-none_at p (x ∷ xs) (suc i) d h l = none_at p xs i d (neither (p x) (list_any p xs) h).1 (omega arith)
-
--- where no part folds case, this one does not
-pub no_part_folds : (parts : List Normal) (i : ℕ) (part : Normal) → list_any folds parts ≡ false → i < length parts → part ≡ get_or parts i part → folds part ≡ false
-no_part_folds parts i part h l e = ap folds e ∙ none_at folds parts i part h l
-
 -- ---- two parts
 
 and_last : (a b : Bool) → (a && b) ≡ (a && (b && true))

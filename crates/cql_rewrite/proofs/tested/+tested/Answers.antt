@@ -1,5 +1,4 @@
-use Rattle.std.proofs.lemmas.Bool.{false≢true}
-use Rattle.cql_rewrite.proofs.Forms.{meets_And, meets_Near, meets_Or, folds_And, folds_Or, no_part_folds}
+use Rattle.cql_rewrite.proofs.Forms.{meets_And, meets_Near, meets_Or, folds_And, folds_Or}
 use Rattle.cql_rewrite.proofs.tested.+tested.Goals as goal
 
 pub test-returns-in-Near-clause-said : goal.test-returns-in-Near-clause-said
@@ -16,11 +15,3 @@ test-returns-in-Or-clause-said m c = rw (c.in-Or.is, meets_Or, ← c.deref-in-Or
 
 pub test-returns-in-Or-clause-answers : goal.test-returns-in-Or-clause-answers
 test-returns-in-Or-clause-answers m c = rw (c.in-Or.is, folds_Or, ← c.deref-in-Or.ensures.value) c.meets_some.ensures.answers
-
-pub meets_all-returns-in_err-is_met-clause-answers : goal.meets_all-returns-in_err-is_met-clause-answers
-meets_all-returns-in_err-is_met-clause-answers m c =
-    λ h. absurd (false≢true (c.in_err-is_met.ensures.answers (no_part_folds c.args.parts.now c.loop-part.part-index c.part-item.result h c.loop-part-test.true c.part-item.is)))
-
-pub meets_some-returns-in_err-is_met-clause-answers : goal.meets_some-returns-in_err-is_met-clause-answers
-meets_some-returns-in_err-is_met-clause-answers m c =
-    λ h. absurd (false≢true (c.in_err-is_met.ensures.answers (no_part_folds c.args.parts.now c.loop-part.part-index c.part-item.result h c.loop-part-test.true c.part-item.is)))
