@@ -7,12 +7,17 @@ QUERY ?=
 COLLECTION ?= parcels
 export QUERY COLLECTION
 
-.PHONY: sample explain cases test check wrong-bodies refused bench register-file office-file serve-file clients proxy import viewer deb clean
+.PHONY: sample cadastred explain cases test check wrong-bodies tests-refuse refused damage bench register-file office-file serve-file host clients proxy import viewer deb clean
 
 # Proves and builds the program and all that it stands on, and answers the request in crates/cadastre/stdin. Crates that do not wait for each other are proved side by side.
 sample:
 	cd crates/cadastre && $(RT) all check --jobs $(JOBS)
 	cd crates/cadastre && $(RT) run -- sample < stdin
+
+# Proves and builds the program for many clients, and tells how it is called.
+cadastred:
+	cd crates/cadastred && $(RT) all check --jobs $(JOBS)
+	cd crates/cadastred && $(RT) run -- --help
 
 # Tells how the page of a query is found over the sample register, by a program of cases: `make explain QUERY='filter=object+%3D+3'`.
 explain:
@@ -29,7 +34,7 @@ cases:
 	scripts/check_api_examples
 	scripts/count_promises
 
-# The whole gate: the cases held against a second reading, every proof from nothing, the must-fail edits, the tests, each program as two compilers build it, and the program on files of the office and at an address.
+# The whole gate: the cases held against a second reading, every proof from nothing, the must-fail edits, the tests, each program as two compilers build it, and the programs on files of the office, at an address and at an office's socket.
 test: cases
 	scripts/check_wrong_bodies
 	scripts/crate_rows --check
@@ -37,7 +42,9 @@ test: cases
 	$(RT) ci
 	scripts/check_office
 	scripts/check_old_register
+	scripts/check_damage
 	scripts/check_serve
+	scripts/check_host
 
 # Every crate, over what earlier checks kept.
 check:
@@ -47,6 +54,10 @@ check:
 wrong-bodies: check
 	SAMPLE=$(SAMPLE) SEED=$(SEED) scripts/wrong_bodies
 
+# Has tests refuse the wrong bodies that no contract can refuse, those of folder wrong-for-tests/.
+tests-refuse:
+	scripts/tests_refuse
+
 # Refuses each growth of a run of the case programs in turn. Needs a C compiler.
 refused:
 	cd crates/cql_cases && $(RT) run < stdin | cmp - stdout
@@ -54,12 +65,17 @@ refused:
 	cd crates/desk_cases && $(RT) run < stdin | cmp - stdout
 	scripts/refused
 
-# How many commands a second the office enters, in memory and in a file, and what pages take.
-bench: sample
+# Breaks each rule of a stored row by Python's SQLite, and has the program say so.
+damage: sample
+	scripts/check_damage
+
+# How many commands a second the office enters, in memory and in a file, what pages take, and requests a second of both programs.
+bench: sample cadastred
 	cd crates/cad_bench && $(RT) run -- 100
 	cd crates/cad_page_bench && $(RT) run
 	scripts/bench
 	scripts/bench_serve
+	scripts/bench_host
 
 # Has the real sqlite3 look at a file that the program wrote.
 register-file: sample
@@ -74,24 +90,28 @@ office-file: sample
 serve-file: sample
 	scripts/check_serve
 
-# Has curl, GDAL and OWSLib read a register of 2,000 parcels from `cadastre serve`.
-clients: sample
+# Runs `cadastred` on a new register: sixty clients at once, some of them odd, walks with commands between, kills, stops. Under two minutes.
+host: cadastred
+	scripts/check_host
+
+# Has curl, GDAL and OWSLib read a register of 2,000 parcels from `cadastred` and from `cadastre serve`.
+clients: sample cadastred
 	scripts/check_clients
 
 # Has a register make the round by GDAL and scripts/import, and sources with faults be told. Needs python3-gdal and gdal-bin.
 import: sample
 	scripts/check_import
 
-# Has nginx stand before `cadastre serve` by the snippet of docs/OPERATIONS.md, and systemd look at the other one.
-proxy: sample
+# Has nginx stand before `cadastred` and before `cadastre serve` by the snippet of docs/OPERATIONS.md, and systemd look at the units there.
+proxy: sample cadastred
 	scripts/check_proxy
 
-# Opens viewer/ in headless Chromium behind nginx, and holds what it shows against the register. Needs chromium, nginx-light and openssl.
-viewer: sample
+# Opens viewer/ in headless Chromium, behind nginx and `cadastred`, and holds what it shows against the register. Needs chromium, nginx-light and openssl.
+viewer: sample cadastred
 	scripts/check_viewer $(PICTURE)
 
-# Puts the program into a Debian package, looks at it, and where root may installs, uses and removes it. Needs debhelper and lintian.
-deb: sample
+# Puts the programs into a Debian package, looks at it, and where root may installs, uses and removes it. Needs debhelper and lintian.
+deb: sample cadastred
 	scripts/package
 
 clean:

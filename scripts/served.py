@@ -1,12 +1,14 @@
-"""Runs the program on files for the scripts that look at it: the office on lines, and a server with a client.
+"""Runs the programs on files for the scripts that look at them: the office on lines, and servers with a client.
 
-The program is crates/cadastre/out/cadastre, or what the variable CADASTRE names. How a server is started stands here alone.
+The programs are crates/cadastre/out/cadastre and crates/cadastred/out/cadastred, or what the variables CADASTRE and CADASTRED name.
+How a server is started stands here alone.
 """
 import contextlib
 import json
 import os
 import subprocess
 import sys
+import tempfile
 from pathlib import Path
 from urllib.parse import urljoin
 from urllib.request import urlopen
@@ -14,14 +16,16 @@ from urllib.request import urlopen
 TOP = Path(__file__).resolve().parent.parent
 PATH = os.environ.get("PATH", "")
 PROGRAM = os.environ.get("CADASTRE") or str(TOP / "crates/cadastre/out/cadastre")
+SERVICE = os.environ.get("CADASTRED") or str(TOP / "crates/cadastred/out/cadastred")
 COLLECTIONS = ["parcels", "rights", "restrictions", "units", "parties", "responsibilities"]
 
 
-def need_program():
-    """Ends the run where the program isn't built."""
-    if not os.access(PROGRAM, os.X_OK):
-        print(f"build {PROGRAM} first, by 'make sample'", file=sys.stderr)
-        sys.exit(2)
+def need_program(*further):
+    """Ends the run where the program isn't built, or a further one."""
+    for it in (PROGRAM, *further):
+        if not os.access(it, os.X_OK):
+            print(f"build {it} first, by 'make sample{' cadastred' * bool(further)}'", file=sys.stderr)
+            sys.exit(2)
 
 
 def enter(file, lines):
@@ -31,17 +35,28 @@ def enter(file, lines):
 
 
 @contextlib.contextmanager
-def serving(file):
-    """A server of the file at a port that the system chose; its address."""
-    words = [PROGRAM, "serve", str(file), "127.0.0.1:0", "1000000"]
+def listening(*words):
+    """A server at a port that the system chose; its address."""
     with subprocess.Popen(words, stdout=subprocess.PIPE, text=True) as server:
         try:
             first = server.stdout.readline().split()
             if first[:1] != ["listening"]:
-                sys.exit(f"{PROGRAM} serve {file} tells no address")
+                sys.exit(f"{' '.join(words)} tells no address")
             yield f"http://{first[1]}"
         finally:
             server.kill()
+
+
+def serving(file):
+    """`cadastre serve` on the file."""
+    return listening(PROGRAM, "serve", str(file), "127.0.0.1:0", "1000000")
+
+
+@contextlib.contextmanager
+def hosting(file):
+    """`cadastred` on the file, with its office's socket in a folder of its own."""
+    with tempfile.TemporaryDirectory() as folder, listening(SERVICE, str(file), "127.0.0.1:0", f"{folder}/office") as address:
+        yield address
 
 
 def get(address, target):

@@ -5,6 +5,25 @@
 //! - `Stopped`: why hosting ended
 //! - `Log`: where a line is written for each reply, or nowhere
 //!
+//! What is proved of this crate is that it is safe and total: whatever readiness the system tells, whatever sockets give and
+//! take, however many clients come and go, no index is out of range, no sum wraps, and each call ends, `host` after 2 ^ 64 - 1
+//! rounds at the latest. None of its calls has a clause, since no contract can say what a socket gives or takes, or what `mio`
+//! tells of one.
+//!
+//! What it calls for a client or for the office is proved below: each step of a connection goes through `Clients` and
+//! `Channel::turn`, each line of the office through `Entry::turn`, and both through `Desk::step` alone. `cad_channel` has the
+//! law that follows for a connection that is served so, by whatever turns, among whatever other clients and commands.
+//!
+//! What is left to be read here, and is only tested, by `scripts/check_host`, `scripts/check_clients` and `scripts/check_proxy`:
+//!
+//! - that a client is served by its own socket: `Peers` keeps the socket of client `c` in slot `c`, puts it there where `Clients`
+//!   gave that number, and takes it out before the number is free; `serve_one` and `send_one` hand both to one call;
+//! - that a socket that may give or take something is served: a client is marked when `mio` tells of it and when it comes, and
+//!   is passed over only after a turn at which its socket gave and took nothing;
+//! - that each round gives a turn to all that are marked, and to the office;
+//! - the times, 60 and 300 seconds for a client, two for a socket that is over, five for replies at a stop;
+//! - that the office's socket has the rights that it should, and is removed at the end.
+//!
 //! ```text
 //! let doors = Doors::open(&rt, "127.0.0.1:8080".parse()?, "/run/cadastred/office")?;
 //! host(&rt, alloc, doors, &mut Log::new(alloc, Some(rt.stderr()))?, &mut desk)?    // Stopped::Asked after the office's line `stop`

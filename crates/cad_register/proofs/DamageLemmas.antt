@@ -6,20 +6,27 @@ use Rattle.sqlite_value.specs.Order.{Row}
 use Rattle.cad_versions.specs.VersionedObject.{VersionedObject}
 use Rattle.cad_versions.specs.Entries.{Entry, seen_at}
 use Rattle.cad_register.specs.Kept.{IsRowOf, AreRowsOf}
-use Rattle.cad_register.specs.Damage.{identifier_in, IsNext, AreSound, AreSeenAt, IsFirstDamaged}
+use Rattle.cad_register.specs.declared.place.Place.{Place}
+use Rattle.cad_register.specs.Damage.{identifier_in, place_of, IsNext, AreSound, AreSeenAt, IsFirstDamaged}
 use Rattle.cad_register.proofs.KeptLemmas.{entry_same}
 
 drop_row : (rows : List Row) (at : ℕ) (row : Row) → at < length rows → row ≡ get_or rows at row → drop at rows ≡ row ∷ drop (at + 1) rows
 drop_row rows at row h is = drop-cons rows at row h ∙ ap₂ ◌∷◌ (sym is) (ap (λ n. drop n rows) (sym (add-one at)))
 
-pub sound_step : (rows : List Row) (at : ℕ) (row : Row) (before : Option (ℤ × ℤ)) → at < length rows → row ≡ get_or rows at row → IsNext before at row → AreSound (Some (identifier_in row)) (at + 1) (drop (at + 1) rows) → AreSound before at (drop at rows)
-sound_step rows at row before h is next rest = subst (AreSound before at) (sym (drop_row rows at row h is)) (next, rest)
+pub sound_step : (newest : ℕ) (rows : List Row) (at : ℕ) (row : Row) (before : Option Place) (e : Entry) → at < length rows → row ≡ get_or rows at row → IsNext newest before at row e
+    → AreSound newest (Some (place_of e.version)) (at + 1) (drop (at + 1) rows) → AreSound newest before at (drop at rows)
+sound_step newest rows at row before e h is next rest = subst (AreSound newest before at) (sym (drop_row rows at row h is)) (e, next, rest)
 
-pub damaged_step : (id : ℤ × ℤ) (rows : List Row) (at : ℕ) (row : Row) (before : Option (ℤ × ℤ)) → at < length rows → row ≡ get_or rows at row → IsNext before at row → IsFirstDamaged id (Some (identifier_in row)) (at + 1) (drop (at + 1) rows) → IsFirstDamaged id before at (drop at rows)
-damaged_step id rows at row before h is next rest = subst (IsFirstDamaged id before at) (sym (drop_row rows at row h is)) (inr (next, rest))
+pub damaged_step : (newest : ℕ) (id : ℤ × ℤ) (rows : List Row) (at : ℕ) (row : Row) (before : Option Place) (e : Entry) → at < length rows → row ≡ get_or rows at row → IsNext newest before at row e
+    → IsFirstDamaged newest id (Some (place_of e.version)) (at + 1) (drop (at + 1) rows) → IsFirstDamaged newest id before at (drop at rows)
+damaged_step newest id rows at row before e h is next rest = subst (IsFirstDamaged newest id before at) (sym (drop_row rows at row h is)) (inr (e, next, rest))
 
-pub damaged_here : (rows : List Row) (at : ℕ) (row : Row) (before : Option (ℤ × ℤ)) → at < length rows → row ≡ get_or rows at row → (IsNext before at row → ⊥) → IsFirstDamaged (identifier_in row) before at (drop at rows)
-damaged_here rows at row before h is bad = subst (IsFirstDamaged (identifier_in row) before at) (sym (drop_row rows at row h is)) (inl (refl, bad))
+pub damaged_here : (newest : ℕ) (rows : List Row) (at : ℕ) (row : Row) (before : Option Place) → at < length rows → row ≡ get_or rows at row → ((e : Entry) → IsNext newest before at row e → ⊥) → IsFirstDamaged newest (identifier_in row) before at (drop at rows)
+damaged_here newest rows at row before h is bad = subst (IsFirstDamaged newest (identifier_in row) before at) (sym (drop_row rows at row h is)) (inl (refl, bad))
+
+-- a row of one entry stands for no other that would break no rule
+pub never_next : (newest : ℕ) (before : Option Place) (count : ℕ) (row : Row) (e : Entry) → IsRowOf row e → (IsNext newest before count row e → ⊥) → (f : Entry) → IsNext newest before count row f → ⊥
+never_next newest before count row e is bad f next = bad (subst (IsNext newest before count row) (entry_same row f e next.shows is) next)
 
 take_all : {X : Type 0} (rows : List X) (n : ℕ) → length rows ≤ n → take n rows ≡ rows
 take_all [] zero h = refl

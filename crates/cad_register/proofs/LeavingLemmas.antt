@@ -103,19 +103,19 @@ store_reading fault.Store is = tt
 store_reading fault.Memory is = tt
 store_reading cause is = absurd is
 
-pub rows_reading : (rows : List Row) (cause : RegisterFault) → IsCauseIn rows cause → IsReadingFault cause
-rows_reading rows (fault.Damaged object number) h = tt
-rows_reading rows fault.Memory h = tt
-rows_reading rows cause h = absurd h
+pub rows_reading : (newest : ℕ) (rows : List Row) (cause : RegisterFault) → IsCauseIn newest rows cause → IsReadingFault cause
+rows_reading newest rows (fault.Damaged object number) h = tt
+rows_reading newest rows fault.Memory h = tt
+rows_reading newest rows cause h = absurd h
 
 -- what is made of the rows that the database shows
-pub rows_read : (old new : State) (revision : ℕ) (rows : List Row) (r : Result (Vec VersionedObject Global) RegisterFault) → AreShown old new revision rows → IfOk r (λ _. AreSound None 0 rows) → IfOk r (λ vs. AreSeenAt revision rows vs.items) → IfErr r (IsCauseIn rows) → ReadsRows old new revision r
-rows_read old new revision rows (Ok vs) shown sound seen cause = (rows, shown, sound, seen)
-rows_read old new revision rows (Err (fault.Damaged object number)) shown sound seen cause = (rows, shown, cause)
-rows_read old new revision rows (Err fault.Memory) shown sound seen cause = tt
-rows_read old new revision rows (Err other) shown sound seen cause = absurd cause
+pub rows_read : (old new : State) (revision newest : ℕ) (rows : List Row) (r : Result (Vec VersionedObject Global) RegisterFault) → AreShown old new revision rows → IfOk r (λ _. AreSound newest None 0 rows) → IfOk r (λ vs. AreSeenAt revision rows vs.items) → IfErr r (IsCauseIn newest rows) → ReadsRows old new revision newest r
+rows_read old new revision newest rows (Ok vs) shown sound seen cause = (rows, shown, sound, seen)
+rows_read old new revision newest rows (Err (fault.Damaged object number)) shown sound seen cause = (rows, shown, cause)
+rows_read old new revision newest rows (Err fault.Memory) shown sound seen cause = tt
+rows_read old new revision newest rows (Err other) shown sound seen cause = absurd cause
 
-pub store_reads : (old new : State) (revision : ℕ) (cause : RegisterFault) → IsStoreFault cause → ReadsRows old new revision (Err cause)
-store_reads old new revision fault.Store is = tt
-store_reads old new revision fault.Memory is = tt
-store_reads old new revision cause is = absurd is
+pub store_reads : (old new : State) (revision newest : ℕ) (cause : RegisterFault) → IsStoreFault cause → ReadsRows old new revision newest (Err cause)
+store_reads old new revision newest fault.Store is = tt
+store_reads old new revision newest fault.Memory is = tt
+store_reads old new revision newest cause is = absurd is

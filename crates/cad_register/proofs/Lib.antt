@@ -5,6 +5,9 @@ pub mod DamageLemmas
 pub mod ListedLemmas
 pub mod RowLemmas
 pub mod OrderLemmas
+pub mod ClassLemmas
+pub mod FollowLemmas
+pub mod RevisionLemmas
 pub mod SoundLemmas
 pub mod StandingLemmas
 pub mod StandLemmas

@@ -38,7 +38,7 @@ module _ {S : Type 0} (g : Ghosts S) where
   rows_named old new object n is rows shown why bad = absurd bad
 
   -- so does one that a listing names
-  pub lines_named : (old new : Held S) (revision : ℕ) (r : Result (Vec VersionedObject Global) RegisterFault) → ReadsRows (state g old) (state g new) revision r → IfErr r (NamesShown g old new (IsForLines revision))
+  pub lines_named : (old new : Held S) (revision : ℕ) (r : Result (Vec VersionedObject Global) RegisterFault) → ReadsRows (state g old) (state g new) revision revision r → IfErr r (NamesShown g old new (IsForLines revision))
   lines_named old new revision (Ok found) reads = tt
   lines_named old new revision (Err (fault.Damaged named number)) reads = (asking listing_text revision, reads.0, refl, λ clean. (old, before_here (state g old), reads.1 clean), inr (revision, refl, reads.2))
   lines_named old new revision (Err why) reads = tt

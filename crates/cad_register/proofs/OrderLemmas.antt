@@ -12,7 +12,7 @@ use Rattle.cad_versions.specs.declared.command.Command.{Command}
 use Rattle.cad_versions.specs.Objects.{object_number}
 use Rattle.cad_versions.specs.VersionedObject.{VersionedObject}
 use Rattle.cad_versions.specs.Versions.{is_of, history, versions}
-use Rattle.cad_versions.specs.Entries.{Entry, version_in, entries_of, entries_at}
+use Rattle.cad_versions.specs.Entries.{Entry, version_in, entries_of}
 use Rattle.cad_versions.specs.Identifiers.{by_identifier}
 use Rattle.cad_versions.specs.AsOf.{entry_order}
 use Rattle.cad_versions.specs.EntryLemmas.{versions_of_entries}
@@ -55,10 +55,6 @@ Apart a b = is_eq (entry_order a b) ≡ false
 
 all_untied : (cs : List Command) → HasHistories (versions cs) → IsAscending Apart (entries_of cs)
 all_untied cs all = ascending_unmap Untied version_in (entries_of cs) (subst (IsAscending Untied) (sym (versions_of_entries cs)) (distinct_untied (versions cs) (identifiers_apart (versions cs) all)))
-
--- no two of the entries of a revision have one identifier
-pub entries_untied : (r : ℕ) (cs : List Command) → HasHistories (versions cs) → IsAscending Apart (entries_at r (entries_of cs))
-entries_untied r cs all = ascending-filter Apart _ (entries_of cs) (all_untied cs all)
 
 pub listing_untied : (r : ℕ) (lines : List VersionRow) (cs : List Command) → AreLinesOf lines (entries_of cs) → HasHistories (versions cs) → HaveNoTies identifier_order (lines_at r lines)
 listing_untied r lines cs rows all =

@@ -22,7 +22,7 @@ use Rattle.cad_versions.specs.EntryLemmas.{listing_is}
 use Rattle.cad_versions.specs.declared.command.Command.{Command}
 use Rattle.cad_versions.specs.Entries.{Entry, entries_of, seen_at}
 use Rattle.cad_register.specs.Kept.{AreRowsOf, HoldsEntries}
-use Rattle.cad_register.specs.Damage.{IsCauseIn}
+use Rattle.cad_register.specs.Damage.{AreSound, IsCauseIn}
 use Rattle.cad_register.specs.Stands.{StandsFor, IsStoreFault, IsRefusal}
 use Rattle.cad_register.specs.Registers.{IsRefused}
 use Rattle.cad_register.proofs.SoundLemmas.{listed_sound, sound_cause}
@@ -45,11 +45,11 @@ told_while_open g old new revision (inl lacking) = absurd (cc lacking.1)
 told_while_open g old new revision (inr told) = told.2.same.0.was_open
 
 -- what the rows of a revision show is the register at the revision
-pub listing_told : (revision : ℕ) (cs : List Command) (rows : List Row) (new : State) (r : Result (Vec VersionedObject Global) RegisterFault) → AreRowsOf rows (entries_listed revision (entries_of cs)) → StandsFor new cs
-    → IfOk r (λ vs. (entries : List Entry) → AreRowsOf rows entries → vs.items ≡ map (seen_at revision) entries) → IfErr r (IsCauseIn rows)
-    → MatchResult r (λ vs. (revision ≤ length cs → vs.items ≡ as_of revision cs) × StandsFor new cs) (λ f. IsStoreFault f × (IsTrue new.is_open → StandsFor new cs))
-listing_told revision cs rows new (Ok vs) are stands seen cause = (λ h. seen (entries_listed revision (entries_of cs)) are ∙ listing_is revision cs h, stands)
-listing_told revision cs rows new (Err f) are stands seen cause = (sound_cause rows f (listed_sound revision cs rows stands.accepted are) cause, λ _. stands)
+pub listing_told : (revision newest : ℕ) (cs : List Command) (rows : List Row) (new : State) (r : Result (Vec VersionedObject Global) RegisterFault) → AreRowsOf rows (entries_listed revision (entries_of cs)) → StandsFor new cs
+    → IfOk r (λ vs. (entries : List Entry) → AreRowsOf rows entries → vs.items ≡ map (seen_at revision) entries) → IfErr r (IsCauseIn newest rows)
+    → MatchResult r (λ vs. (revision ≤ length cs → vs.items ≡ as_of revision cs) × StandsFor new cs) (λ f. (newest ≡ length cs → IsStoreFault f) × (IsTrue new.is_open → StandsFor new cs))
+listing_told revision newest cs rows new (Ok vs) are stands seen cause = (λ h. seen (entries_listed revision (entries_of cs)) are ∙ listing_is revision cs h, stands)
+listing_told revision newest cs rows new (Err f) are stands seen cause = (λ e. sound_cause newest rows f (subst (λ n. AreSound n None 0 rows) (sym e) (listed_sound revision cs rows stands.accepted are)) cause, λ _. stands)
 
 -- causes that the fold never has: its own are others
 module _ (k : RegisterFault) where

@@ -87,7 +87,8 @@ class_stands vs object = ap (option_map class_of_version) (go vs)
         step true e = refl
         step false e = e
 
-all_own : (object : ObjectId) (vs : List VersionedObject) → AllByRecursion (λ v. is_of object v ≡ true) (history object vs)
+-- the versions of an object are its own
+pub all_own : (object : ObjectId) (vs : List VersionedObject) → AllByRecursion (λ v. is_of object v ≡ true) (history object vs)
 all_own object [] = tt
 all_own object (v ∷ vs) = go (is_of object v) refl (all_own object vs)
   where

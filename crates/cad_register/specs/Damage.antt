@@ -1,10 +1,11 @@
 -- Which rows make a register (own profile).
-use Rattle.std.specs.Prelude.{◌≡◌, ℕ, ◌+◌, ◌<◌, ℤ, pos, Bool, true, List, [], ◌∷◌, Option, Some, None, ◌⊎◌, Vec, Result, Ok, Err}
-use Rattle.std.specs.Ordering.{is_lt}
+use Rattle.std.specs.Prelude.{◌≡◌, ℕ, ◌+◌, ◌<◌, ◌≤◌, ℤ, pos, List, [], ◌∷◌, Option, Some, None, ◌⊎◌, Vec, Result, Ok, Err}
 use Rattle.sqlite_value.specs.declared.value.Value.{Value}
 use Rattle.sqlite_value.specs.declared.value.Value.TheVariants.{Int}
 use Rattle.sqlite_value.specs.Order.{Row, column}
-use Rattle.cad_versions.specs.Identifiers.{identifier_cmp}
+use Rattle.cad_day.specs.declared.day.Day.{Day}
+use Rattle.cad_versions.specs.Objects.{object_number}
+use Rattle.cad_versions.specs.Class.{class_of}
 use Rattle.cad_versions.specs.declared.fault.RegisterFault.{RegisterFault}
 use Rattle.cad_versions.specs.declared.fault.RegisterFault.TheVariants as fault
 use Rattle.cad_versions.specs.VersionedObject.{VersionedObject}
@@ -12,6 +13,7 @@ use Rattle.cad_versions.specs.Entries.{Entry, seen_at}
 use Rattle.sqlite.specs.State.{State, HasCleanDisk, Shown}
 use Rattle.cad_tables.specs.Texts.{listing_text}
 use Rattle.std.specs.Global.{Global}
+use Rattle.cad_register.specs.declared.place.Place.{Place}
 use Rattle.cad_register.specs.Kept.{IsRowOf}
 
 abbrev pub number_in : Value → ℤ
@@ -22,34 +24,70 @@ number_in other = pos 0
 abbrev pub identifier_in : Row → ℤ × ℤ
 identifier_in row = (number_in (column row 0), number_in (column row 1))
 
-abbrev pub comes_before : ℤ × ℤ → ℤ × ℤ → Bool
-comes_before a b = is_lt (identifier_cmp a b)
+-- ---- one row behind another
 
-abbrev pub comes_after : Option (ℤ × ℤ) → ℤ × ℤ → Bool
-comes_after None id = true
-comes_after (Some before) id = comes_before before id
+-- which version it is: the number of its object, its own, and its class
+abbrev pub place_of : VersionedObject → Place
+place_of v = record { object = object_number v.object; number = v.number; class = class_of v.body }
 
--- the row stands for an entry, it comes after the row before it, and there are not too many before it
-pub record IsNext (before : Option (ℤ × ℤ)) (count : ℕ) (row : Row) : Type 0 where
-  pub shows : (e : Entry) × IsRowOf row e
-  pub later : comes_after before (identifier_in row) ≡ true
+-- the next version of the same object, and of its class
+pub record IsNextOf (before : Place) (v : VersionedObject) : Type 0 where
+  pub object : object_number v.object ≡ before.object
+  pub number : v.number ≡ before.number + 1
+  pub class : class_of v.body ≡ before.class
+
+-- the first version of a later object
+pub record IsFirstBehind (before : Place) (v : VersionedObject) : Type 0 where
+  pub object : before.object < object_number v.object
+  pub number : v.number ≡ 1
+
+-- of each object the versions stand together, numbered 1, 2, and so on, all of one class
+abbrev pub Follows : Option Place → VersionedObject → Type 0
+Follows None v = v.number ≡ 1
+Follows (Some before) v = IsNextOf before v ⊎ IsFirstBehind before v
+
+-- ---- the revisions of a row
+
+-- closed exactly where there is a last day, at the revision that entered the version or a later one, up to the newest
+abbrev pub IsClosedBy : ℕ → ℕ → Option Day → Option ℕ → Type 0
+IsClosedBy newest entered None None = Unit {0}
+IsClosedBy newest entered (Some last) (Some closed) = (entered ≤ closed) × (closed ≤ newest)
+IsClosedBy newest entered last closed = ⊥
+
+-- entered and closed at revisions of a register of which this is the newest
+pub record HasRevisions (newest : ℕ) (e : Entry) : Type 0 where
+  pub entered : (1 ≤ e.entered) × (e.entered ≤ newest)
+  pub closed : IsClosedBy newest e.entered e.version.last e.closed
+
+-- ---- the rows of a revision, in a register of which another is the newest
+
+-- the entry may stand in the row behind so many others, the last of which has this place
+pub record KeepsRules (newest : ℕ) (before : Option Place) (count : ℕ) (e : Entry) : Type 0 where
+  pub follows : Follows before e.version
+  pub revisions : HasRevisions newest e
   pub room : count < 2147483647
 
-abbrev pub AreSound : Option (ℤ × ℤ) → ℕ → List Row → Type 0
-AreSound before count [] = Unit {0}
-AreSound before count (row ∷ rows) = IsNext before count row × AreSound (Some (identifier_in row)) (count + 1) rows
+-- the row stands for the entry, which may stand there
+pub record IsNext (newest : ℕ) (before : Option Place) (count : ℕ) (row : Row) (e : Entry) : Type 0 where
+  pub shows : IsRowOf row e
+  pub keeps : KeepsRules newest before count e
+
+abbrev pub AreSound : ℕ → Option Place → ℕ → List Row → Type 0
+AreSound newest before count [] = Unit {0}
+AreSound newest before count (row ∷ rows) = (e : Entry) × IsNext newest before count row e × AreSound newest (Some (place_of e.version)) (count + 1) rows
 
 -- this is the identifier of the first row that breaks a rule
-abbrev pub IsFirstDamaged : ℤ × ℤ → Option (ℤ × ℤ) → ℕ → List Row → Type 0
-IsFirstDamaged id before count [] = ⊥
-IsFirstDamaged id before count (row ∷ rows) =
-    ((identifier_in row ≡ id) × (IsNext before count row → ⊥)) ⊎ (IsNext before count row × IsFirstDamaged id (Some (identifier_in row)) (count + 1) rows)
+abbrev pub IsFirstDamaged : ℕ → ℤ × ℤ → Option Place → ℕ → List Row → Type 0
+IsFirstDamaged newest id before count [] = ⊥
+IsFirstDamaged newest id before count (row ∷ rows) =
+    ((identifier_in row ≡ id) × ((e : Entry) → IsNext newest before count row e → ⊥))
+    ⊎ ((e : Entry) × IsNext newest before count row e × IsFirstDamaged newest id (Some (place_of e.version)) (count + 1) rows)
 
 -- why the rows are not read: no memory, or the first of them that breaks a rule
-abbrev pub IsCauseIn : List Row → RegisterFault → Type 0
-IsCauseIn rows (fault.Damaged object number) = IsFirstDamaged (object, number) None 0 rows
-IsCauseIn rows fault.Memory = Unit {0}
-IsCauseIn rows other = ⊥
+abbrev pub IsCauseIn : ℕ → List Row → RegisterFault → Type 0
+IsCauseIn newest rows (fault.Damaged object number) = IsFirstDamaged newest (object, number) None 0 rows
+IsCauseIn newest rows fault.Memory = Unit {0}
+IsCauseIn newest rows other = ⊥
 
 abbrev pub damage_of : Row → RegisterFault
 damage_of row = fault.Damaged (number_in (column row 0)) (number_in (column row 1))
@@ -64,8 +102,8 @@ AreSeenAt revision rows vs = ⊥
 abbrev pub AreShown : State → State → ℕ → List Row → Type 0
 AreShown old new revision rows = HasCleanDisk new → Shown listing_text (Int (pos revision) ∷ []) old new rows
 
--- whatever the disk returns, versions are listed of sound rows alone, and the damaged row is the first that breaks a rule, of the rows that the database shows
-abbrev pub ReadsRows : State → State → ℕ → Result (Vec VersionedObject Global) RegisterFault → Type 0
-ReadsRows old new revision (Ok found) = (rows : List Row) × AreShown old new revision rows × AreSound None 0 rows × AreSeenAt revision rows found.items
-ReadsRows old new revision (Err (fault.Damaged object number)) = (rows : List Row) × AreShown old new revision rows × IsFirstDamaged (object, number) None 0 rows
-ReadsRows old new revision (Err other) = Unit {0}
+-- whatever the disk returns, versions are listed of sound rows alone, and the damaged row is the first that breaks a rule, of the rows that the database shows for the revision, in a register of this newest one
+abbrev pub ReadsRows : State → State → ℕ → ℕ → Result (Vec VersionedObject Global) RegisterFault → Type 0
+ReadsRows old new revision newest (Ok found) = (rows : List Row) × AreShown old new revision rows × AreSound newest None 0 rows × AreSeenAt revision rows found.items
+ReadsRows old new revision newest (Err (fault.Damaged object number)) = (rows : List Row) × AreShown old new revision rows × IsFirstDamaged newest (object, number) None 0 rows
+ReadsRows old new revision newest (Err other) = Unit {0}

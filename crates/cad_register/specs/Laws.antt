@@ -20,4 +20,4 @@ RowsAreOfOneEntry = (row : Row) (one other : Entry) → IsRowOf row one → IsRo
 abbrev pub RegisterRowsAreSound : {S : Type 0} → Ghosts S → Type 0
 RegisterRowsAreSound {S} g =
     (register : Register S) (commands : List Command) (revision : ℕ) → IsRegisterOf g register commands
-    → (lines : List VersionRow) × Holds (length commands) lines (state_of g register).now × AreSound None 0 (map cells_of (listing revision lines))
+    → (lines : List VersionRow) × Holds (length commands) lines (state_of g register).now × AreSound (length commands) None 0 (map cells_of (listing revision lines))

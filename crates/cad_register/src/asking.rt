@@ -57,16 +57,17 @@ pub(crate) fn standing_of<S: Alter>(
     }
 }
 
-/// The versions at a revision, in the order of identifiers.
+/// The versions at a revision of a register, of which another is the newest, in the order of identifiers.
 pub(crate) fn versions_of<S: Alter>(
     alloc: Global,
     connection: &mut Connection<S>,
     revision: u32,
+    newest: u32,
 ) -> Result<Vec<Version>, RegisterFault>
     ensures told { HasCleanDisk (state S.Store connection.new) →
         Tells (state S.Store connection.old) (state S.Store connection.new) result
         (λ commands found. revision ≤ length commands → found.items ≡ as_of revision commands)
-        (λ commands fault. IsStoreFault fault) }
+        (λ commands fault. newest ≡ length commands → IsStoreFault fault) }
     ensures listed { IfOk result (λ found. IsListing found.items) }
     ensures store { HasCleanDisk (state S.Store connection.new) → result ≡ Err RegisterFault.Store →
         (e : Error) × IsNotForMemory e ×
@@ -77,10 +78,10 @@ pub(crate) fn versions_of<S: Alter>(
         OnOk result (IsSettled S.Store connection.old connection.new) }
     ensures leaves { AsksOnly (state S.Store connection.old) (state S.Store connection.new) result }
     ensures cause { IfErr result IsReadingFault }
-    ensures read { ReadsRows (state S.Store connection.old) (state S.Store connection.new) revision result }
+    ensures read { ReadsRows (state S.Store connection.old) (state S.Store connection.new) revision newest result }
 {
     match cad_tables::listing(connection, revision) {
-        Ok(rows) => versions_at(alloc, &rows, revision),
+        Ok(rows) => versions_at(alloc, &rows, revision, newest),
         Err(fault) => Err(store_fault(fault)),
     }
 }

@@ -74,7 +74,7 @@ fn is_full<S: Alter>(
     ensures told { HasCleanDisk (state S.Store connection.new) →
         Tells (state S.Store connection.old) (state S.Store connection.new) result (λ commands full.
         revision ≡ length commands → full ≡ filled (versions commands)) (λ commands fault.
-        IsStoreFault fault) }
+        revision ≡ length commands → IsStoreFault fault) }
     ensures asked { HasCleanDisk (state S.Store connection.new) →
         Asks S.Store connection.old connection.new (IsForRoom revision) result }
     ensures leaves { AsksOnly (state S.Store connection.old) (state S.Store connection.new) result }
@@ -84,7 +84,7 @@ fn is_full<S: Alter>(
     if revision < MOST_VERSIONS {
         return Ok(false);
     }
-    let standing = versions_of(alloc, connection, revision)?;
+    let standing = versions_of(alloc, connection, revision, revision)?;
     Ok(MOST_VERSIONS as usize <= standing.as_slice().len())
 }
 

@@ -9,13 +9,15 @@ ghost use Rattle.cad_versions.specs.BodyParts.{parts_of};
 ghost use Rattle.cad_register.specs.Parts.{HasParts};
 ghost use Rattle.cad_register.specs.Reading.{Reads};
 ghost use Rattle.cad_register.specs.Kept.{IsRowOf, entry_of};
+ghost use Rattle.cad_register.specs.Damage.{place_of, IsClosedBy, HasRevisions, KeepsRules};
 
 use crate::columns::{
     ReadFault, class_at, count_at, day_at, last_day_at, object_at, optional_count_at,
 };
 use crate::parts::parts_at;
+use crate::place::{Place, follows};
 use cad_day::Day;
-use cad_versions::{Body, Class, MOST_NUMBER, ObjectId, Version};
+use cad_versions::{Body, Class, MOST_NUMBER, MOST_VERSIONS, ObjectId, Version};
 use sqlite::Row;
 use std::alloc::Global;
 
@@ -90,6 +92,40 @@ impl StoredVersion {
             entered,
             closed,
         })
+    }
+
+    /// Which version it is.
+    pub(crate) fn place(&self) -> Place
+        ensures { result ≡ place_of self.now.version }
+    {
+        Place::of(&self.version)
+    }
+
+    /// Whether it was closed exactly where it has a last day, at the revision that entered it or a later one, up to the newest.
+    fn is_closed_by(&self, newest: u32) -> bool
+        ensures { IsTrue result ↔ IsClosedBy newest self.now.entered self.now.version.last self.now.closed }
+    {
+        match (self.version.last, self.closed) {
+            (None, None) => true,
+            (Some(_), Some(closed)) => self.entered <= closed && closed <= newest,
+            _ => false,
+        }
+    }
+
+    /// Whether it was entered and closed at revisions of a register of which this is the newest.
+    fn has_revisions(&self, newest: u32) -> bool
+        ensures { IsTrue result ↔ HasRevisions newest (entry_of self.now) }
+    {
+        1 <= self.entered && self.entered <= newest && self.is_closed_by(newest)
+    }
+
+    /// Whether it may stand, in a register of this newest revision, in the row behind so many others, the last of which has the place `before`.
+    pub(crate) fn keeps_rules(&self, before: Option<Place>, count: usize, newest: u32) -> bool
+        ensures { IsTrue result ↔ KeepsRules newest before count (entry_of self.now) }
+    {
+        count < MOST_VERSIONS as usize
+            && follows(before, &self.version)
+            && self.has_revisions(newest)
     }
 
     /// The version as it stood at a revision, at which a later closing is not seen.

@@ -22,6 +22,7 @@ pub mod laws;
 mod ledger;
 mod listing;
 mod parts;
+mod place;
 mod register;
 mod standing;
 mod writing;

@@ -1,15 +1,16 @@
 //! The rows of a revision as versions.
 
-ghost use Rattle.std.specs.Prelude.{◌≡◌, ◌<◌, ◌↔◌, List, IsTrue, IfOk, IfErr, true, map};
+ghost use Rattle.std.specs.Prelude.{◌≡◌, List, None, IfOk, IfErr, map};
 ghost use Rattle.cad_versions.specs.Entries.{Entry, seen_at};
-ghost use Rattle.cad_register.specs.Kept.{entry_of, IsRowOf, AreRowsOf};
+ghost use Rattle.cad_register.specs.Kept.{entry_of, AreRowsOf};
 ghost use Rattle.cad_register.specs.Reading.{Reads};
-ghost use Rattle.cad_register.specs.Damage.{identifier_in, damage_of, comes_after as is_after, IsNext, AreSound, AreSeenAt, IsCauseIn};
+ghost use Rattle.cad_register.specs.Damage.{identifier_in, damage_of, IsNext, AreSound, AreSeenAt, IsCauseIn};
 ghost use Rattle.cad_versions.specs.Listing.{IsListing};
 
 use crate::columns::{ReadFault, number_or_zero};
 use crate::kept::StoredVersion;
-use cad_versions::{MOST_VERSIONS, RegisterFault, Version};
+use crate::place::Place;
+use cad_versions::{RegisterFault, Version};
 use sqlite::Row;
 use std::alloc::Global;
 
@@ -28,56 +29,48 @@ fn damage(row: &Row) -> RegisterFault
     RegisterFault::Damaged { object, number }
 }
 
-fn comes_after(before: Option<(i64, i64)>, here: (i64, i64)) -> bool
-    ensures { result ≡ is_after before here }
-{
-    match before {
-        None => true,
-        Some(before) => before.0 < here.0 || (before.0 == here.0 && before.1 < here.1),
-    }
-}
-
-/// The version of a row that may stand behind so many others, the last of which has the identifier `before`.
+/// The version of a row that may stand, in a register of this newest revision, behind so many others, the last of which has the place `before`.
 fn next_version(
     alloc: Global,
     row: &Row,
-    before: Option<(i64, i64)>,
+    before: Option<Place>,
     count: usize,
+    newest: u32,
 ) -> Result<StoredVersion, ReadFault>
-    ensures { Reads result (λ kept. IsRowOf row.now (entry_of kept) ×
-        (is_after before (identifier_in row.now) ≡ true) × (count < 2147483647)) }
+    ensures { Reads result (λ kept. IsNext newest before count row.now (entry_of kept)) }
 {
     let kept = StoredVersion::read(alloc, row)?;
-    if count < MOST_VERSIONS as usize && comes_after(before, identifier(row)) {
+    if kept.keeps_rules(before, count, newest) {
         Ok(kept)
     } else {
         Err(ReadFault::Damaged)
     }
 }
 
-/// The versions that the rows show at a revision.
+/// The versions that the rows show at a revision of a register, of which another is the newest.
 pub(crate) fn versions_at(
     alloc: Global,
     rows: &[Row],
     revision: u32,
+    newest: u32,
 ) -> Result<Vec<Version>, RegisterFault>
-    ensures sound { IfOk result (λ _. AreSound None 0 rows.now) }
+    ensures sound { IfOk result (λ _. AreSound newest None 0 rows.now) }
     ensures shown { IfOk result (λ versions. AreSeenAt revision rows.now versions.items) }
     ensures listed { IfOk result (λ versions. IsListing versions.items) }
     ensures seen { IfOk result (λ versions. (entries : List Entry) → AreRowsOf rows.now entries →
         versions.items ≡ map (seen_at revision) entries) }
-    ensures cause { IfErr result (IsCauseIn rows.now) }
+    ensures cause { IfErr result (IsCauseIn newest rows.now) }
 {
-    let mut versions = Vec::new(alloc);
+    let mut versions = Vec::with_capacity(alloc, rows.len())?;
     let mut before = None;
     for row in rows {
-        let kept = match next_version(alloc, row, before, versions.len()) {
+        let kept = match next_version(alloc, row, before, versions.len(), newest) {
             Ok(kept) => kept,
             Err(ReadFault::Memory) => return Err(RegisterFault::Memory),
             Err(ReadFault::Damaged) => return Err(damage(row)),
         };
+        before = Some(kept.place());
         versions.push(kept.seen_at(revision))?;
-        before = Some(identifier(row));
     }
     Ok(versions)
 }

@@ -139,7 +139,7 @@ impl<S: Alter> Register<S> {
         ensures named { IfErr result (λ fault. fault ≢ RegisterFault.UnknownRevision →
             IsReadingFault fault) }
         // Whatever the disk returns, only sound rows are listed, and the damaged row is the first that breaks a rule.
-        ensures read { ReadsRows (state_of S.Store self.old) (state_of S.Store self.new) revision result }
+        ensures read { ReadsRows (state_of S.Store self.old) (state_of S.Store self.new) revision (revision_of self.old) result }
         // Answered, or refused by neither the database nor want of memory.
         ensures same { HasCleanDisk (state_of S.Store self.new) → IsAnswered result →
             IsStill S.Store self.old self.new }
@@ -165,7 +165,8 @@ impl<S: Alter> Register<S> {
         if u64::from(self.revision) < revision {
             return Err(RegisterFault::UnknownRevision);
         }
-        versions_of(self.alloc, &mut self.connection, revision as u32)
+        let newest = self.revision;
+        versions_of(self.alloc, &mut self.connection, revision as u32, newest)
     }
 
     /// Makes the next revision of the register, or changes nothing. After `Store` from a file it is to be opened again.

@@ -1,2 +1,3 @@
 pub mod Invocations
 pub mod Outcomes
+pub mod Hosting

@@ -1,5 +1,7 @@
 //! Clients and the land office, served over a ledger.
 
+ghost use Rattle.cad_service.specs.Hosting.{EndsHosting, HostsOver};
+
 use crate::invocation::Service;
 use crate::outcome::Outcome;
 use cad_desk::Desk;
@@ -34,7 +36,9 @@ fn host_desk<N: Net + Clock, R: Responder, W: Write, E: Write>(
     writer: &mut W,
     log: &mut Log<E>,
     desk: &mut Desk<R>,
-) -> Outcome {
+) -> Outcome
+    ensures { EndsHosting (W.contents writer.old) (W.contents writer.new) result }
+{
     let Ok(bound) = doors.address() else {
         return Outcome::Address;
     };
@@ -53,7 +57,9 @@ pub fn host_over<N: Net + Clock, L: Ledger, W: Write, E: Write>(
     doors: Doors,
     writer: &mut W,
     log: &mut Log<E>,
-) -> (Outcome, L) {
+) -> (Outcome, L)
+    ensures { HostsOver (W.contents writer.old) (W.contents writer.new) ledger result }
+{
     match Server::new(alloc, ledger) {
         Ok(server) => {
             let mut desk = Desk::new(alloc, server);

@@ -27,10 +27,13 @@ pub enum Outcome {
 
 impl Outcome {
     ghost use Rattle.std.specs.Prelude.{◌≡◌};
+    ghost use Rattle.cad_service.specs.Hosting.{outcome_of_hosting};
     ghost use Rattle.cad_service.specs.Outcomes.{status_of};
 
     /// How hosting ends a run.
-    pub(crate) fn of_hosting(hosted: Result<Stopped>) -> Outcome {
+    pub(crate) fn of_hosting(hosted: Result<Stopped>) -> Outcome
+        ensures { result ≡ outcome_of_hosting hosted }
+    {
         match hosted {
             Ok(Stopped::Asked) => Outcome::Good,
             Ok(Stopped::StoreRefused) => Outcome::Register(RegisterFault::Store),

@@ -30,7 +30,7 @@ use Rattle.cad_tables.proofs.Queries.{begin_terms, count_query, listing_query, h
 use Rattle.cad_tables.proofs.Parse.{register_schema_is, state_is, state_plain, version_is, version_plain, begin_is, begin_plain, count_is, count_plain, listing_is, listing_plain, history_is, history_plain, revision_is, revision_plain}
 use Rattle.cad_tables.proofs.Finding.{one_answer, in_order}
 use Rattle.cad_tables.proofs.Writes.{went, same_value}
-use Rattle.cad_tables.proofs.CellLemmas.{cast_null, cast_int}
+use Rattle.cad_tables.proofs.CellLemmas.{cast_null, cast_int, cmp_itself}
 use Rattle.cad_tables.specs.Listing.{HaveNoTies, identifier_order, number_order, lines_at, listing, lines_of_object, history, outline_of}
 
 pub counts : (old new : State) (n m : ℕ) (xs : List VersionRow) (count : ℕ) → Holds n xs old.now → Executes count_text (Int (pos m) ∷ []) old new (Ok count) → Holds m xs new.now
@@ -84,7 +84,7 @@ lists old new n r xs rows has apart h =
     let read = reads_as listing_text params old new register_schema has.schema _ listing_is.0 listing_plain listing_is.1 rows h in
     in_order (overlay old.now.trees []) 1 xs has.versions listing_query refl refl refl params (λ x. int_le (pos x.entered) (pos r))
     (λ line. last_term (at_ints false Le (pos line.1.entered) (pos r)))
-    identifier_order (λ a b. then_key (value_cmp-Int _ _) (last_key (value_cmp-Int _ _)))
+    identifier_order (λ a b. then_key (cmp_itself _ _) (last_key (cmp_itself _ _)))
     cells_of (λ a. refl) rows apart (read.answer Null)
 
 pub outlines : (old new : State) (n o : ℕ) (xs : List VersionRow) (rows : List Row) → Holds n xs old.now → HaveNoTies number_order (lines_of_object o xs)

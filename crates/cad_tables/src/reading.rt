@@ -56,6 +56,8 @@ pub fn history<S: Alter>(conn: &mut Connection<S>, object: u32) -> Result<Vec<Ro
 }
 
 /// The rows that were entered up to a revision, by object and number, with all nineteen columns.
+///
+/// They are read in the order of the table and then sorted: by its key each would cost a search of the table.
 pub fn listing<S: Alter>(conn: &mut Connection<S>, revision: u32) -> Result<Vec<Row>, TableFault>
     ensures rows { HasCleanDisk (state S.Store conn.new) → IfOk result (λ rows. (n : ℕ) (lines : List VersionRow)
         → Holds n lines (state S.Store conn.old).now → HaveNoTies identifier_order (lines_at revision lines)
@@ -70,7 +72,7 @@ pub fn listing<S: Alter>(conn: &mut Connection<S>, revision: u32) -> Result<Vec<
         conn,
         "SELECT object, number, class, first, last, entered, closed, name, code, label, area, unit, party, \
             share_num, share_den, required, spot_x, spot_y, shape \
-            FROM version WHERE entered <= ?1 ORDER BY object, number",
+            FROM version WHERE entered <= ?1 ORDER BY +object, +number",
         revision,
     )
 }

@@ -24,7 +24,7 @@ returns-in-Ok-clause-told g c clean cs stands =
     let revision = c.args.revision in
     let shown = c.deref.ensures.value ∙ c.in-Ok.ensures.rows clean (length cs) lines stands.holds.holds (listing_untied revision lines cs stored all) in
     let new = state g.S.Store c.listing.new.conn in
-    listing_told revision cs c.deref.result.now new c.versions_at.result (subst (λ rows. AreRowsOf rows (entries_listed revision (entries_of cs))) (sym shown) (rows_listed revision lines (entries_of cs) stored))
+    listing_told revision c.args.newest cs c.deref.result.now new c.versions_at.result (subst (λ rows. AreRowsOf rows (entries_listed revision (entries_of cs))) (sym shown) (rows_listed revision lines (entries_of cs) stored))
     (stands_same (state g.S.Store c.args.connection.now) new cs (c.in-Ok.ensures.reads.same clean) stands) c.versions_at.ensures.seen c.versions_at.ensures.cause
 
 pub returns-in-Err-clause-asked : goal.returns-in-Err-clause-asked
@@ -46,7 +46,7 @@ returns-in-Ok-clause-still g c clean =
 
 pub returns-in-Err-clause-told : goal.returns-in-Err-clause-told
 returns-in-Err-clause-told g c clean cs stands = (
-  c.store_fault.ensures.cause,
+  λ _. c.store_fault.ensures.cause,
   λ live. stands_kept (state g.S.Store c.args.connection.now) (state g.S.Store c.listing.new.conn) cs (c.in-Err.ensures.reads.kept clean live stands.settled) live stands,
 )
 
@@ -57,14 +57,14 @@ pub returns-in-Err-clause-leaves : goal.returns-in-Err-clause-leaves
 returns-in-Err-clause-leaves g c = asks_refused (state g.S.Store c.args.connection.now) (state g.S.Store c.listing.new.conn) _ c.store_fault.result c.store_fault.ensures.cause c.in-Err.ensures.reads
 
 pub returns-in-Ok-clause-cause : goal.returns-in-Ok-clause-cause
-returns-in-Ok-clause-cause g c = IfErr-weaker c.versions_at.result _ _ (λ cause h. rows_reading c.deref.result.now cause h) c.versions_at.ensures.cause
+returns-in-Ok-clause-cause g c = IfErr-weaker c.versions_at.result _ _ (λ cause h. rows_reading c.args.newest c.deref.result.now cause h) c.versions_at.ensures.cause
 
 pub returns-in-Err-clause-cause : goal.returns-in-Err-clause-cause
 returns-in-Err-clause-cause g c = store_reading c.store_fault.result c.store_fault.ensures.cause
 
 pub returns-in-Ok-clause-read : goal.returns-in-Ok-clause-read
 returns-in-Ok-clause-read g c =
-    rows_read (state g.S.Store c.args.connection.now) (state g.S.Store c.listing.new.conn) c.args.revision c.deref.result.now c.versions_at.result (λ clean. rw c.deref.ensures.value (c.in-Ok.ensures.shown clean)) c.versions_at.ensures.sound c.versions_at.ensures.shown c.versions_at.ensures.cause
+    rows_read (state g.S.Store c.args.connection.now) (state g.S.Store c.listing.new.conn) c.args.revision c.args.newest c.deref.result.now c.versions_at.result (λ clean. rw c.deref.ensures.value (c.in-Ok.ensures.shown clean)) c.versions_at.ensures.sound c.versions_at.ensures.shown c.versions_at.ensures.cause
 
 pub returns-in-Err-clause-read : goal.returns-in-Err-clause-read
-returns-in-Err-clause-read g c = store_reads (state g.S.Store c.args.connection.now) (state g.S.Store c.listing.new.conn) c.args.revision c.store_fault.result c.store_fault.ensures.cause
+returns-in-Err-clause-read g c = store_reads (state g.S.Store c.args.connection.now) (state g.S.Store c.listing.new.conn) c.args.revision c.args.newest c.store_fault.result c.store_fault.ensures.cause

@@ -10,8 +10,8 @@ invariant-loop-row l = record {
   count : vec_len l.versions ≡ l.row-index;
   few : length l.versions.items ≤ 2147483647;
   listed : AreListed l.before l.versions.items;
-  sound : AreSound l.before l.row-index (drop l.row-index l.rows) → AreSound None 0 l.rows;
-  damaged : (id : ℤ × ℤ) → IsFirstDamaged id l.before l.row-index (drop l.row-index l.rows) → IsFirstDamaged id None 0 l.rows;
+  sound : AreSound l.newest l.before l.row-index (drop l.row-index l.rows) → AreSound l.newest None 0 l.rows;
+  damaged : (id : ℤ × ℤ) → IsFirstDamaged l.newest id l.before l.row-index (drop l.row-index l.rows) → IsFirstDamaged l.newest id None 0 l.rows;
   shown : AreSeenAt l.revision (take l.row-index l.rows) l.versions.items;
   seen : (entries : List Entry) → AreRowsOf l.rows entries → l.versions.items ≡ map (seen_at l.revision) (take l.row-index entries);
 }

@@ -1,0 +1,37 @@
+-- Clients and the land office over a database, and how that ends a run (own profile).
+use Rattle.std.specs.Prelude.{◌≡◌, ℕ, List, Option, Result, Ok, Err}
+use Rattle.sqlite_trees.specs.declared.store.Store.{Ghosts}
+use Rattle.sqlite.specs.Held.{Held}
+use Rattle.cad_versions.specs.declared.fault.RegisterFault.{RegisterFault}
+use Rattle.cad_register.specs.declared.register.Register.{Register}
+use Rattle.cad_register.specs.Registers.{connection_of}
+use Rattle.cad_register.specs.Opening.{OpenedOrCreated}
+use Rattle.cad_host.specs.declared.log.Log.{Log}
+use Rattle.cad_service.specs.declared.outcome.Outcome.{Outcome}
+use Rattle.cad_service.specs.declared.outcome.Outcome.TheVariants as outcome
+use Rattle.cad_service.specs.Hosting.{HostsOver}
+
+-- what standard output holds before and after, and the log
+module _ {S E : Type 0} (g : Ghosts S) (before after : Option (List ℕ)) (quiet told : Log E) where
+  -- no register is had: the run ends for this cause, nothing is told, and the database's connection is given back
+  pub record EndsUnhosted (refused : RegisterFault × Held S) (ended : Outcome × Held S) : Type 0 where
+    pub cause : ended.0 ≡ outcome.Register refused.0
+    pub back : ended.1 ≡ refused.1
+    pub silent : after ≡ before
+    pub unlogged : told ≡ quiet
+
+  -- the register is hosted, and the database's connection is given back
+  pub record EndsHosted (register : Register S) (ended : Outcome × Held S) : Type 0 where
+    pub left : Register S
+    pub hosts : HostsOver before after register (ended.0, left)
+    pub back : ended.1 ≡ connection_of left
+
+  abbrev pub HostsFound : Result (Register S) (RegisterFault × Held S) → Outcome × Held S → Type 0
+  HostsFound (Err refused) ended = EndsUnhosted refused ended
+  HostsFound (Ok register) ended = EndsHosted register ended
+
+  -- hosting over a database: its register is found, or made where none stands, before the address is told
+  pub record RunsHost (lent : Held S) (ended : Outcome × Held S) : Type 0 where
+    pub found : Result (Register S) (RegisterFault × Held S)
+    pub opened : OpenedOrCreated g lent found
+    pub hosts : HostsFound found ended

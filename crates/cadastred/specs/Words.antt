@@ -1,0 +1,41 @@
+-- What is told of the program, and how a run ends without a service (own profile).
+use Rattle.std.specs.Prelude.{◌≡◌, ◌++◌, ℕ, ⊤, List, codes, Option, None, Some, Result, Ok, Err}
+use Rattle.std.specs.Io.KnownBytes.{Appends}
+use Rattle.std.specs.declared.io.ErrorKind.{ErrorKind}
+use Rattle.std.specs.declared.io.ErrorKind.TheVariants.{OutOfMemory}
+use Rattle.cad_service.specs.declared.invocation.Service.{Service}
+use Rattle.cad_service.specs.declared.invocation.Invocation.{Invocation}
+use Rattle.cad_service.specs.declared.invocation.Invocation.TheVariants.{Help, Version, Serve}
+use Rattle.cad_service.specs.declared.outcome.Outcome.{Outcome}
+use Rattle.cad_service.specs.declared.outcome.Outcome.TheVariants as outcome
+
+-- how a run ends whose command line cannot be had, by the cause
+abbrev pub outcome_without_words : ErrorKind → Outcome
+outcome_without_words OutOfMemory = outcome.Failed
+outcome_without_words cause = outcome.Usage
+
+-- it ends so for some cause
+abbrev pub IsWithoutWords : Outcome → Type 0
+IsWithoutWords ended = (cause : ErrorKind) × (ended ≡ outcome_without_words cause)
+
+abbrev pub usage : List ℕ
+usage = codes "usage: cadastred [--log] FILE ADDRESS OFFICE | --help | --version"
+
+abbrev pub version : List ℕ
+version = codes "cadastred 0.1.0"
+
+-- what standard output holds before and after
+module _ (before after : Option (List ℕ)) where
+  -- the line is written and the run ends well, or writing failed and so did the run
+  abbrev pub IsLine : List ℕ → Outcome → Type 0
+  IsLine line outcome.Good = Appends before after (line ++ codes "\n")
+  IsLine line outcome.Failed = ⊤
+  IsLine line other = ⊥
+
+  -- a service begins, and nothing is told; or the run ends, by the usage or the version where that is asked for, and else as one with wrong arguments
+  abbrev pub Begins : Option Invocation → Result Service Outcome → Type 0
+  Begins (Some (Serve service)) (Ok begun) = (begun ≡ service) × (after ≡ before)
+  Begins (Some Help) (Err ended) = IsLine usage ended
+  Begins (Some Version) (Err ended) = IsLine version ended
+  Begins None (Err ended) = (ended ≡ outcome.Usage) × (after ≡ before)
+  Begins other result = ⊥
