@@ -2,8 +2,12 @@
 RT ?= rt
 # How many crates `make sample` and `make check` prove side by side.
 JOBS ?= $(shell nproc)
+# What `make explain` is asked: a query as a request has it, and of which collection.
+QUERY ?=
+COLLECTION ?= parcels
+export QUERY COLLECTION
 
-.PHONY: sample cadastred cases test check wrong-bodies refused bench register-file office-file serve-file host clients proxy import viewer deb clean
+.PHONY: sample cadastred explain cases test check wrong-bodies tests-refuse refused damage bench register-file office-file serve-file host clients proxy import viewer deb clean
 
 # Proves and builds the program and all that it stands on, and answers the request in crates/cadastre/stdin. Crates that do not wait for each other are proved side by side.
 sample:
@@ -14,6 +18,11 @@ sample:
 cadastred:
 	cd crates/cadastred && $(RT) all check --jobs $(JOBS)
 	cd crates/cadastred && $(RT) run -- --help
+
+# Tells how the page of a query is found over the sample register, by a program of cases: `make explain QUERY='filter=object+%3D+3'`.
+explain:
+	cd crates/cad_plan_cases && $(RT) all check --jobs $(JOBS)
+	@cd crates/cad_plan_cases && printf 'explain %s?%s\n' "$$COLLECTION" "$$QUERY" | $(RT) run
 
 # Holds the stored answers of the cases of filters, of the server, of clients, of days and of parameters, and the examples of docs/FILTERS.md,
 # against second readings of the rules, the examples of docs/API.md against the server's cases, and docs/PROMISES.md against the crates.
@@ -33,6 +42,7 @@ test: cases
 	$(RT) ci
 	scripts/check_office
 	scripts/check_old_register
+	scripts/check_damage
 	scripts/check_serve
 	scripts/check_host
 
@@ -44,12 +54,20 @@ check:
 wrong-bodies: check
 	SAMPLE=$(SAMPLE) SEED=$(SEED) scripts/wrong_bodies
 
+# Has tests refuse the wrong bodies that no contract can refuse, those of folder wrong-for-tests/.
+tests-refuse:
+	scripts/tests_refuse
+
 # Refuses each growth of a run of the case programs in turn. Needs a C compiler.
 refused:
 	cd crates/cql_cases && $(RT) run < stdin | cmp - stdout
 	cd crates/cad_cases && $(RT) run < stdin | cmp - stdout
 	cd crates/desk_cases && $(RT) run < stdin | cmp - stdout
 	scripts/refused
+
+# Breaks each rule of a stored row by Python's SQLite, and has the program say so.
+damage: sample
+	scripts/check_damage
 
 # How many commands a second the office enters, in memory and in a file, what pages take, and requests a second of both programs.
 bench: sample cadastred

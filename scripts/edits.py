@@ -1,4 +1,4 @@
-"""Wrong bodies: edits of a crate's code that the prover has to refuse."""
+"""Wrong bodies: edits of a crate's code that the prover, or a test, has to refuse."""
 import glob
 import os
 
@@ -13,6 +13,11 @@ def of_gate(crate="*", name="*"):
 def aside(crate="*", name="*"):
     """The further ones, that stand aside."""
     return sorted(glob.glob(f"{TOP}/wrong-bodies/{crate}/{name}.edit"))
+
+
+def for_tests():
+    """Those that no contract can refuse, since what they tell may come at any call: a test has to."""
+    return sorted(glob.glob(f"{TOP}/wrong-for-tests/*/*.edit"))
 
 
 def crate_of(edit):

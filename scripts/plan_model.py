@@ -1,18 +1,21 @@
 #!/usr/bin/env python3
-"""A second reading of the rules of plans: what crates/cad_plan_cases answers, from scripts/normal_model.py and the table of
-menus and costs, and not from the crates.
+"""A second reading of the rules of plans: what crates/cad_plan_cases answers, from scripts/normal_model.py, the parameters of
+scripts/server_model.py and the table of menus and costs, and not from the crates.
 
     scripts/plan_model.py <crates/cad_plan_cases/stdin     prints the answers
+    scripts/plan_model.py docs/FILTERS.md                  fails where a row of its table of what is looked at tells another number
 
 A plan is ("all",), ("empty",), ("range", property, low, high), ("near", property, box), ("meet", plans) or ("join", plans); a
 box is the least and the greatest coordinates. Forms are those of normal_model.py, and ("near", property, box) beside them.
 """
 import re
 import sys
+from urllib.parse import quote_plus
 
 import filter_meaning as meaning
 import filter_model as model
 import normal_model as normal
+import server_model as server
 
 MOST = 2**64 - 1
 CELL = 65536
@@ -134,7 +137,12 @@ def windowed(form, collection, window):
     return normal.all_of([form, ("near", "geometry", window) if "geometry" in model.SCHEMAS[collection] else normal.FALSE])
 
 
-def answer(line):
+def given(identifiers):
+    return " ".join(["gives", *(identifiers or ["none"])])
+
+
+def filter_answer(line):
+    """What is answered of a filter, with its window."""
     found = re.fullmatch(rb"([a-z]+)(?:/(-?[0-9]+),(-?[0-9]+),(-?[0-9]+),(-?[0-9]+))? (.*)", line)
     if not found or found[1].decode() not in model.SCHEMAS:
         return "no case"
@@ -144,15 +152,81 @@ def answer(line):
         return "no case"
     if model.answer(collection, found[6]) != "accepted":
         return "refused"
-    features = [x for _, x in meaning.features(collection)]
-    form = windowed(form_of(model.tree_of(found[6]), True), collection, window)
+    rows = list(meaning.features(collection))
+    features, tree = [x for _, x in rows], model.tree_of(found[6])
+    form = windowed(form_of(tree, True), collection, window)
     best = choice(form, features)
     menus = ", ".join(priced(it, features) for it in menu(form, features))
-    return f"{menus} -> {priced(best, features)} has {sum(has(best, x) for x in features)}"
+    taken = [name for name, x in rows if meets_window(x, window) and meaning.truth(tree, x) is True]
+    return f"{menus} -> {priced(best, features)} has {sum(has(best, x) for x in features)} {given(taken)}"
+
+
+def meets_window(x, window):
+    """Without a window every feature does; a feature without geometry meets none."""
+    if window is None:
+        return True
+    return x.get("geometry") is not None and meaning.meets(x["geometry"], ("frame", window[:2], window[2:]))
+
+
+def request_answer(target):
+    """What is answered of a request: the page by the chosen plan, with what it took."""
+    name, _, query = target.partition(b"?")
+    collection = name.decode(errors="replace")
+    if collection not in model.SCHEMAS:
+        return "no case"
+    register = server.sample()
+    try:
+        limit, days, box, tree, revision, after = server.asked(server.pairs_of(query), collection)
+    except server.Refused as refused:
+        return "refused " + "".join(it.capitalize() for it in refused.tree["fault"].split("-"))
+    if revision is not None and revision > register.revision:
+        return "no revision"
+    window = box and (*box[1], *box[2])
+    rows = list(server.features(register.as_of(register.revision if revision is None else revision), collection))
+    features = [x for _, _, x in rows]
+    form = windowed(normal.TRUE if tree is None else form_of(tree, True), collection, window)
+    best = choice(form, features)
+    looked_at = [(name, x) for name, _, x in rows if has(best, x)]
+    listed, examined = [], 0
+    for name, x in looked_at:
+        if name > after and len(listed) <= limit:
+            examined += 1
+            lives = meaning.related("T_INTERSECTS", x["lifespan"], days)
+            if lives and meets_window(x, window) and (tree is None or meaning.truth(tree, x) is True):
+                listed.append("%d.%d" % name)
+    more = " and more" if len(listed) > limit else ""
+    counts = f"cost {cost(best, features)} candidates {len(looked_at)} examined {examined}"
+    return f"{told(best)} {counts} {given(listed[:limit])}{more}"
+
+
+def answer(line):
+    try:
+        line.decode()
+    except UnicodeDecodeError:
+        return "no case"
+    target = line.removeprefix(b"explain ")
+    return filter_answer(line) if target == line else request_answer(target)
+
+
+ROW = re.compile(r"\| ([0-9]+) \| `([^`]+)` \| [^|]* \|")
+
+
+def check_page(path):
+    """The rows below a head `looked at`, each with the number of parcels that are tested and the filter."""
+    with open(path, encoding="utf-8") as page:
+        rows = page.read().partition("| looked at | filter |")[2].partition("\n\n")[0].split("\n")[2:]
+    for row in rows:
+        shown = ROW.fullmatch(row)
+        found = request_answer(b"parcels?filter=" + quote_plus(shown[2]).encode()) if shown else ""
+        if f" examined {shown and shown[1]} " not in found:
+            sys.exit(f"plan_model: {path}: {row}: {found}")
+    print(f"plan_model: {len(rows)} rows of {path} tell how many features are tested")
 
 
 def main():
     sys.setrecursionlimit(20000)
+    if len(sys.argv) > 1:
+        return check_page(sys.argv[1])
     for line in sys.stdin.buffer.read().split(b"\n"):
         if line and not line.startswith(b"#"):
             print(answer(line))

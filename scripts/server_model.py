@@ -2,10 +2,10 @@
 """A second reading of the server's rules, in Python and not from the crates.
 
 It tells what a desk over a ledger in memory, which holds the sample register, answers to events, one a line: `open C`,
-`bytes C JSON`, `close C`, `office COMMAND`, `serve C JSON`, and `sample` and `empty`, which begin anew. Lines and answers are
-those of crates/cad_cases. Filters and features are judged by scripts/filter_model.py and scripts/filter_meaning.py.
-scripts/check_server_cases holds the stored answers of crates/cad_cases against it, and scripts/refused those of runs in which
-memory is refused once.
+`bytes C JSON`, `close C`, `office COMMAND`, `serve C JSON`, `restart`, after which no connection is known, and `sample` and
+`empty`, which begin anew. Lines and answers are those of crates/cad_cases. Filters and features are judged by
+scripts/filter_model.py and scripts/filter_meaning.py. scripts/check_server_cases holds the stored answers of crates/cad_cases
+against it, and scripts/refused those of runs in which memory is refused once.
 
     scripts/server_model.py [N] < EVENTS    N: the event, from 1 on, that is refused for want of memory
 """
@@ -563,6 +563,9 @@ def answers(lines, wanting=None):
         count += 1
         if line in ("sample", "empty"):
             desk = Desk(sample() if line == "sample" else Register())
+            yield line, line
+        elif line == "restart":
+            desk = Desk(desk.register)
             yield line, line
         elif line == "memory may be wanting":
             yield line, line

@@ -1,11 +1,12 @@
 //! What the server answers to a list of events: each line of standard input is an event, and a line is printed for it.
 //!
 //! The server stands over a ledger in memory, which holds the sample register. The lines and what is printed for them are
-//! those of `desk_script`, and three more are answered by themselves, of which the first two begin anew, with a server and
+//! those of `desk_script`, and four more are answered by themselves, of which the first three begin anew, with a server and
 //! a desk of their own:
 //!
 //! - `sample`: the ledger holds the sample register, as at the first line;
 //! - `empty`: the ledger holds nothing;
+//! - `restart`: the ledger is the one that the desk before gives back;
 //! - `memory may be wanting`: from here on an event that the desk refuses for want of memory is answered by `4 Memory`, and
 //!   the events after it go on.
 //!
@@ -13,14 +14,26 @@
 //! is refused otherwise the program ends with status 7.
 #![tactic(auto)]
 
+use cad_desk::Desk;
 use cad_plain_desk::{PlainDesk, empty_desk, sample_desk};
+use cad_server::Server;
 use desk_script::{Memory, answer, line_of};
 use std::alloc::{AllocError, Global};
 use std::io::{Error, ErrorKind, Read, Result};
+use std::mem;
 use std::process::ExitCode;
 
 /// The status where memory is refused.
 const NO_MEMORY: u8 = 7;
+
+/// A desk without connections, over the ledger of this one.
+fn restarted(alloc: Global, desk: PlainDesk) -> std::result::Result<PlainDesk, AllocError> {
+    let ledger = desk.release().release();
+    match Server::new(alloc, ledger) {
+        Ok(server) => Ok(Desk::new(alloc, server)),
+        Err(_) => Err(AllocError),
+    }
+}
 
 /// What is printed for a line.
 fn answer_line(
@@ -36,6 +49,11 @@ fn answer_line(
     if line == b"empty".as_slice() {
         *desk = empty_desk(alloc)?;
         return String::from_str(alloc, "empty");
+    }
+    if line == b"restart".as_slice() {
+        let before = mem::replace(desk, empty_desk(alloc)?);
+        *desk = restarted(alloc, before)?;
+        return String::from_str(alloc, "restart");
     }
     if line == b"memory may be wanting".as_slice() {
         *memory = Memory::MayBeWanting;

@@ -9,11 +9,11 @@ use std::alloc::Global;
 use std::test::Fail;
 
 // Days by their numbers: 1970-01-01 is 0.
-const Y2000: i32 = 10957;
+pub(crate) const Y2000: i32 = 10957;
 
-const Y2001: i32 = 11323;
+pub(crate) const Y2001: i32 = 11323;
 
-const Y2003: i32 = 12053;
+pub(crate) const Y2003: i32 = 12053;
 
 const Y2005: i32 = 12784;
 
@@ -39,7 +39,7 @@ fn words(alloc: Global, text: &str) -> Result<Words, Fail> {
     )
 }
 
-fn enter(number: u32, first: i32, body: Body) -> Result<Command, Fail> {
+pub(crate) fn enter(number: u32, first: i32, body: Body) -> Result<Command, Fail> {
     Ok(Command::Enter {
         object: object(number)?,
         first: day(first)?,
@@ -47,7 +47,7 @@ fn enter(number: u32, first: i32, body: Body) -> Result<Command, Fail> {
     })
 }
 
-fn amend(number: u32, first: i32, body: Body) -> Result<Command, Fail> {
+pub(crate) fn amend(number: u32, first: i32, body: Body) -> Result<Command, Fail> {
     Ok(Command::Amend {
         object: object(number)?,
         first: day(first)?,
@@ -55,7 +55,7 @@ fn amend(number: u32, first: i32, body: Body) -> Result<Command, Fail> {
     })
 }
 
-fn retire(number: u32, last: i32) -> Result<Command, Fail> {
+pub(crate) fn retire(number: u32, last: i32) -> Result<Command, Fail> {
     Ok(Command::Retire {
         object: object(number)?,
         last: day(last)?,
@@ -95,16 +95,19 @@ fn parcel(
     })
 }
 
-fn in_memory(alloc: Global) -> Option<Connection<sqlite::MemStore>> {
+pub(crate) fn in_memory(alloc: Global) -> Option<Connection<sqlite::MemStore>> {
     Connection::open_in_memory(alloc).ok()
 }
 
-fn created<S: Alter + Drop>(alloc: Global, connection: Connection<S>) -> Option<Register<S>> {
+pub(crate) fn created<S: Alter + Drop>(
+    alloc: Global,
+    connection: Connection<S>,
+) -> Option<Register<S>> {
     Register::create(alloc, connection).ok()
 }
 
 /// The revision, or the number of the fault.
-fn applied<S: Alter>(register: &mut Register<S>, command: Command) -> Result<u64, u8> {
+pub(crate) fn applied<S: Alter>(register: &mut Register<S>, command: Command) -> Result<u64, u8> {
     match register.apply(command) {
         Ok(revision) => Ok(revision),
         Err(fault) => Err(fault.number()),
@@ -112,7 +115,7 @@ fn applied<S: Alter>(register: &mut Register<S>, command: Command) -> Result<u64
 }
 
 /// Object, number, first and last day of each version at a revision, or the number of the fault.
-fn listed<S: Alter>(
+pub(crate) fn listed<S: Alter>(
     alloc: Global,
     register: &mut Register<S>,
     revision: Revision,
@@ -143,7 +146,7 @@ fn revisions<S: Alter>(alloc: Global, register: &mut Register<S>) -> Result<Stri
     Ok(text)
 }
 
-fn unit() -> Body {
+pub(crate) fn unit() -> Body {
     Body::Unit { name: None }
 }
 
@@ -315,7 +318,7 @@ fn sampled<S: Alter>(alloc: Global, register: &mut Register<S>) -> Result<String
     Ok(text)
 }
 
-fn fill<S: Alter>(alloc: Global, register: &mut Register<S>) -> Result<u64, Fail> {
+pub(crate) fn fill<S: Alter>(alloc: Global, register: &mut Register<S>) -> Result<u64, Fail> {
     for at in 0..10u32 {
         let revision = applied(register, sample(alloc, at)?);
         if revision != Ok(u64::from(at) + 1) {
@@ -369,126 +372,6 @@ fn is_made_where_none_stands(rt: HostRuntime) -> Result<(), Fail> {
     let (refused, other) = found_in(alloc, other);
     assert_eq!(rt; refused, Err(9));
     drop(other);
-    Ok(())
-}
-
-/// What a listing of the sample tells after this change of the file, made behind the register's back.
-fn told_after(alloc: Global, change: &str) -> Result<Option<RegisterFault>, Fail> {
-    let connection = in_memory(alloc).ok_or("in memory")?;
-    let mut register = created(alloc, connection).ok_or("created")?;
-    fill(alloc, &mut register)?;
-    let mut connection = register.release();
-    if connection.execute_batch(change).is_err() {
-        return Err("changed")?;
-    }
-    let mut register = Register::open(alloc, connection).ok().ok_or("opened")?;
-    Ok(register.as_of(10).err())
-}
-
-// Shapes as bytes: their form, then the number of corners and each corner's x and y. The first is the triangle of object 3, in the form of one ring.
-const CHANGES: [(&str, Option<(i64, i64)>); 22] = [
-    (
-        "UPDATE version SET shape = X'01000300000000000000000000000000007530000000000000753000000000000075300000000000000000000000000000EA60' WHERE object = 3",
-        None,
-    ),
-    // Its edges cross: (0,0) (10,10) (10,0) (0,20).
-    (
-        "UPDATE version SET shape = X'01000400000000000000000000000000000000000000000000000A000000000000000A000000000000000A000000000000000000000000000000000000000000000014' WHERE object = 3",
-        Some((3, 1)),
-    ),
-    // It holds no area: (0,0) (10,10) (20,20).
-    (
-        "UPDATE version SET shape = X'01000300000000000000000000000000000000000000000000000A000000000000000A00000000000000140000000000000014' WHERE object = 3",
-        Some((3, 1)),
-    ),
-    // Two rings in the form of one.
-    (
-        "UPDATE version SET shape = X'01000300000000000000000000000000007530000000000000753000000000000075300000000000000000000000000000EA600003000000000000138800000000000088B8000000000000177000000000000088B800000000000013880000000000008CA0' WHERE object = 3",
-        Some((3, 1)),
-    ),
-    // The form of an outer ring and holes: without holes, with one, with one outside, with one ring less than is told, with a byte behind.
-    (
-        "UPDATE version SET shape = X'020001000300000000000000000000000000007530000000000000753000000000000075300000000000000000000000000000EA60' WHERE object = 3",
-        None,
-    ),
-    (
-        "UPDATE version SET shape = X'020002000300000000000000000000000000007530000000000000753000000000000075300000000000000000000000000000EA600003000000000000138800000000000088B8000000000000177000000000000088B800000000000013880000000000008CA0' WHERE object = 3",
-        None,
-    ),
-    (
-        "UPDATE version SET shape = X'020002000300000000000000000000000000007530000000000000753000000000000075300000000000000000000000000000EA600003000000000000C35000000000000088B8000000000000EA6000000000000088B8000000000000C3500000000000008CA0' WHERE object = 3",
-        Some((3, 1)),
-    ),
-    (
-        "UPDATE version SET shape = X'020003000300000000000000000000000000007530000000000000753000000000000075300000000000000000000000000000EA600003000000000000138800000000000088B8000000000000177000000000000088B800000000000013880000000000008CA0' WHERE object = 3",
-        Some((3, 1)),
-    ),
-    (
-        "UPDATE version SET shape = X'020002000300000000000000000000000000007530000000000000753000000000000075300000000000000000000000000000EA600003000000000000138800000000000088B8000000000000177000000000000088B800000000000013880000000000008CA000' WHERE object = 3",
-        Some((3, 1)),
-    ),
-    // No ring, and a form that is none.
-    (
-        "UPDATE version SET shape = X'020000' WHERE object = 3",
-        Some((3, 1)),
-    ),
-    (
-        "UPDATE version SET shape = X'030001000300000000000000000000000000007530000000000000753000000000000075300000000000000000000000000000EA60' WHERE object = 3",
-        Some((3, 1)),
-    ),
-    // A right is stored as a responsibility is; a restriction is not, where it says whether a party is required.
-    ("UPDATE version SET class = 6 WHERE object = 30", None),
-    (
-        "UPDATE version SET class = 6 WHERE object = 31",
-        Some((31, 1)),
-    ),
-    (
-        "UPDATE version SET class = 7 WHERE object = 30",
-        Some((30, 1)),
-    ),
-    (
-        "UPDATE version SET shape = X'' WHERE object = 3",
-        Some((3, 1)),
-    ),
-    (
-        "UPDATE version SET label = NULL WHERE object = 2",
-        Some((2, 1)),
-    ),
-    (
-        "UPDATE version SET class = 9 WHERE object = 10",
-        Some((10, 1)),
-    ),
-    (
-        "UPDATE version SET share_num = 3 WHERE object = 30",
-        Some((30, 1)),
-    ),
-    (
-        "UPDATE version SET required = 2 WHERE object = 31",
-        Some((31, 1)),
-    ),
-    (
-        "UPDATE version SET spot_x = 5 WHERE object = 4",
-        Some((4, 1)),
-    ),
-    (
-        "UPDATE version SET last = 0 WHERE object = 1 AND number = 1",
-        Some((1, 1)),
-    ),
-    // The first of two in the order of objects.
-    (
-        "UPDATE version SET name = '' WHERE object >= 10",
-        Some((10, 1)),
-    ),
-];
-
-#[test]
-fn a_damaged_row_is_named(rt: HostRuntime) -> Result<(), Fail> {
-    let alloc = rt.alloc();
-    for (change, row) in &CHANGES {
-        let told = told_after(alloc, change)?;
-        let named = row.map(|(object, number)| RegisterFault::Damaged { object, number });
-        assert_eq!(rt; told, named);
-    }
     Ok(())
 }
 

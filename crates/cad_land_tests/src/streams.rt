@@ -4,7 +4,7 @@ use cad_office::{OfficeFault, office};
 use cad_plain::PlainLedger;
 use cad_versions::Ledger;
 use std::test::Fail;
-use test_streams::{Peer, Stop, Taker};
+use test_streams::{Endless, Peer, Stop, Taker};
 
 /// Two commands, with a line between them that is none.
 const LINES: &str = r#"{"do":"enter","object":11,"first":"2000-01-01","unit":{}}
@@ -73,5 +73,18 @@ fn stops_where_writing_does(rt: HostRuntime) -> Result<(), Fail> {
             );
         }
     }
+    Ok(())
+}
+
+/// A reader that gives line feeds without end is read 1,000,000 times, and nothing is answered.
+#[test]
+fn ends_where_the_turns_are_spent(rt: HostRuntime) -> Result<(), Fail> {
+    let mut reader = Endless::new(b"\n");
+    let mut writer = Taker::new(512, 512, Stop::Fails);
+    let mut ledger = PlainLedger::new(rt.alloc());
+    let ended = office(rt.alloc(), &mut reader, &mut writer, &mut ledger);
+    assert_eq!(rt; ended, Err(OfficeFault::TurnsSpent));
+    assert_eq!(rt; reader.reads(), 1_000_000);
+    assert!(rt; writer.has_taken(b""));
     Ok(())
 }

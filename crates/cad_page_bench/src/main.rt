@@ -4,7 +4,7 @@
 //! standard error. `cad_page_bench COUNT versions` builds the versions of so many parcels alone, and
 //! `cad_page_bench COUNT snapshot` the snapshot of them too, so that what the two runs hold can be compared.
 //!
-//! `cad_page_bench 100000` writes five lines, the first of them as `pages: a snapshot of 100000 parcels in 75 ms`.
+//! `cad_page_bench 100000` writes eleven lines, one of them as `pages: a snapshot of 100000 parcels in 75 ms`.
 #![tactic(auto)]
 
 mod pages;

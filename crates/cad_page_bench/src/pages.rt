@@ -3,7 +3,7 @@
 use crate::parcels::parcels;
 use anyhow::{Context, Result, ensure};
 use cad_ask::Ask;
-use cad_page::body;
+use cad_page::{body, explain};
 use cad_schema::Collection;
 use cad_snapshot::Snapshot;
 use std::alloc::{AllocError, Global};
@@ -12,8 +12,18 @@ use std::time::Instant;
 /// How often a query is read.
 const READINGS: u32 = 10_000;
 
-/// How often a page is written.
-const WRITINGS: u32 = 20;
+/// How often a long page is written.
+const SELDOM: u32 = 20;
+
+/// How often a short page is written.
+const OFTEN: u32 = 1000;
+
+/// Boxes of 10, 100 and 1,000 parcels.
+const BOXES: [&str; 3] = [
+    "limit=10&bbox=40001,1,139999,39999",
+    "limit=100&bbox=40001,1,239999,199999",
+    "limit=1000&bbox=40001,1,839999,499999",
+];
 
 /// A query of five parameters, one of them a filter.
 const QUERY: &str =
@@ -32,38 +42,62 @@ fn tell_reading(rt: &HostRuntime, query: &str) -> Result<()> {
 }
 
 /// Writes the page so often, and answers how many bytes it has.
-fn write_pages(alloc: Global, ask: &Ask, snapshot: &Snapshot) -> Result<usize, AllocError> {
+fn write_pages(
+    alloc: Global,
+    ask: &Ask,
+    snapshot: &Snapshot,
+    times: u32,
+) -> Result<usize, AllocError> {
     let mut bytes = 0;
-    for _ in 0..WRITINGS {
+    for _ in 0..times {
         bytes = body(alloc, ask, snapshot)?.len();
     }
     Ok(bytes)
 }
 
 /// Tells what one writing of the page took.
-fn tell_asked(rt: &HostRuntime, snapshot: &Snapshot, query: &str, ask: &Ask) -> Result<()> {
+fn tell_asked(
+    rt: &HostRuntime,
+    snapshot: &Snapshot,
+    query: &str,
+    ask: &Ask,
+    times: u32,
+) -> Result<()> {
     let start = Instant::now(rt)?;
-    let bytes = write_pages(rt.alloc(), ask, snapshot)?;
-    let spent = start.elapsed(rt)?.as_micros() / u128::from(WRITINGS);
-    eprintln!(rt; "pages: {query}: {bytes} bytes in {spent} microseconds")?;
+    let bytes = write_pages(rt.alloc(), ask, snapshot, times)?;
+    let spent = start.elapsed(rt)?.as_micros() / u128::from(times.max(1));
+    let examined = explain(rt.alloc(), ask, snapshot)?.examined;
+    eprintln!(rt;
+        "pages: {query}: {bytes} bytes in {spent} microseconds, {examined} features tested"
+    )?;
     Ok(())
 }
 
 /// Writes the page that the query asks for, and tells what one writing took.
-fn tell_page(rt: &HostRuntime, snapshot: &Snapshot, query: &str) -> Result<()> {
+fn tell_page(rt: &HostRuntime, snapshot: &Snapshot, query: &str, times: u32) -> Result<()> {
     let ask = Ask::read(rt.alloc(), Collection::Parcels, query)
         .ok()
         .context("a query")?;
-    tell_asked(rt, snapshot, query, &ask)
+    tell_asked(rt, snapshot, query, &ask, times)
 }
 
-/// Writes short pages and long ones, and one whose parcels are the last.
+/// Writes short pages and long ones, some of parcels in the middle of the list, and some whose parcels are the last.
 fn tell_pages(rt: &HostRuntime, snapshot: &Snapshot, count: u32) -> Result<()> {
-    tell_page(rt, snapshot, "limit=10")?;
-    tell_page(rt, snapshot, "limit=1000")?;
-    let last = count.saturating_sub(10);
-    let query = format!(in rt.alloc(); "limit=10&filter=area+%3E+{last}")?;
-    tell_page(rt, snapshot, query.as_str())
+    let alloc = rt.alloc();
+    let (middle, last) = (count / 2, count.saturating_sub(10));
+    tell_page(rt, snapshot, "limit=10", OFTEN)?;
+    tell_page(rt, snapshot, "limit=1000", SELDOM)?;
+    let one = format!(in alloc; "filter=object+%3D+{middle}")?;
+    tell_page(rt, snapshot, one.as_str(), OFTEN)?;
+    for query in BOXES {
+        tell_page(rt, snapshot, query, SELDOM)?;
+    }
+    let few = format!(in alloc; "limit=100&filter=area+%3E+{last}+AND+label+LIKE+'P-%25'")?;
+    tell_page(rt, snapshot, few.as_str(), SELDOM)?;
+    let found = format!(in alloc; "limit=10&filter=area+%3E+{last}")?;
+    tell_page(rt, snapshot, found.as_str(), SELDOM)?;
+    let sought = format!(in alloc; "limit=10&filter=area+%2B+0+%3E+{last}")?;
+    tell_page(rt, snapshot, sought.as_str(), SELDOM)
 }
 
 /// Builds a snapshot of so many parcels, and writes pages of it.

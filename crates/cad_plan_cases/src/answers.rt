@@ -1,10 +1,12 @@
 //! What is answered of a filter's plans.
 
+use crate::pages::{Meeting, fault_of};
 use crate::plans::{has, put_plan};
 use cad_feature::Feature;
 use cad_index::Indexes;
 use cad_lookup::Plan;
 use cad_plan::{choose, estimate, menu};
+use cad_run::Layer;
 use cad_schema::Collection;
 use cql_rewrite::normal;
 use cql_truth::{Truth, truth};
@@ -27,23 +29,31 @@ fn count_candidates(plan: &Plan, features: &[Feature]) -> usize {
     features.iter().filter(|feature| has(plan, feature)).count()
 }
 
-// A feature of which the filter is true and which some plan has not.
-fn uncovered<'a>(
+// The features of which the filter is true.
+fn taken<'a>(
     alloc: Global,
     filter: &Filter,
-    plans: &[Plan],
     features: &'a [Feature],
-) -> Result<Option<&'a Feature>, AllocError> {
+) -> Result<Vec<&'a Feature>, AllocError> {
+    let mut taken = Vec::new(alloc);
     for feature in features {
         if truth(alloc, filter, feature)? == Truth::Yes {
-            for plan in plans {
-                if !has(plan, feature) {
-                    return Ok(Some(feature));
-                }
+            taken.push(feature)?;
+        }
+    }
+    Ok(taken)
+}
+
+// A feature that is taken and that some plan has not.
+fn uncovered<'a>(plans: &[Plan], taken: &[&'a Feature]) -> Option<&'a Feature> {
+    for feature in taken {
+        for plan in plans {
+            if !has(plan, feature) {
+                return Some(*feature);
             }
         }
     }
-    Ok(None)
+    None
 }
 
 fn menu_line(
@@ -62,25 +72,63 @@ fn menu_line(
     Ok(line)
 }
 
-/// The menu, and the choice with its candidates.
-pub fn plans_answer(
+/// Appends the identifier.
+pub fn put_identifier(
     alloc: Global,
-    collection: Collection,
-    filter: &Filter,
-    features: &[Feature],
-    indexes: &Indexes,
-) -> Result<String, AllocError> {
-    let form = normal(alloc, filter)?;
-    let plans = menu(alloc, &form, indexes)?;
-    let chosen = choose(alloc, &form, indexes)?;
-    if let Some(feature) = uncovered(alloc, filter, &plans, features)? {
-        let object = feature.object.number();
-        return format!(in alloc; "uncovered {object}.{}", feature.number);
+    feature: &Feature,
+    line: &mut String,
+) -> Result<(), AllocError> {
+    let object = feature.object.number();
+    line.push_str(&format!(in alloc; " {object}.{}", feature.number)?)
+}
+
+fn put_taken(alloc: Global, taken: &[&Feature], line: &mut String) -> Result<(), AllocError> {
+    line.push_str(" gives")?;
+    if taken.is_empty() {
+        return line.push_str(" none");
     }
-    let mut line = menu_line(alloc, collection, &plans, indexes)?;
+    for feature in taken {
+        put_identifier(alloc, feature, line)?;
+    }
+    Ok(())
+}
+
+// The menu, and the choice with its candidates and the features of its page.
+fn choice_line(
+    alloc: Global,
+    layer: &Layer,
+    plans: &[Plan],
+    chosen: &Plan,
+    taken: &[&Feature],
+) -> Result<String, AllocError> {
+    let (collection, indexes) = (layer.collection(), layer.indexes());
+    let mut line = menu_line(alloc, collection, plans, indexes)?;
     line.push_str(" -> ")?;
-    put_priced(alloc, collection, &chosen, indexes, &mut line)?;
-    let count = count_candidates(&chosen, features);
+    put_priced(alloc, collection, chosen, indexes, &mut line)?;
+    let count = count_candidates(chosen, layer.features());
     line.push_str(&format!(in alloc; " has {count}")?)?;
+    put_taken(alloc, taken, &mut line)?;
     Ok(line)
+}
+
+/// The menu, and the choice with its candidates and the features of its page, which each plan of the menu has to give.
+pub fn plans_answer(alloc: Global, filter: &Filter, layer: &Layer) -> Result<String, AllocError> {
+    let form = normal(alloc, filter)?;
+    let plans = menu(alloc, &form, layer.indexes())?;
+    let chosen = choose(alloc, &form, layer.indexes())?;
+    let taken = taken(alloc, filter, layer.features())?;
+    if let Some(feature) = uncovered(&plans, &taken) {
+        let mut line = String::from_str(alloc, "uncovered")?;
+        put_identifier(alloc, feature, &mut line)?;
+        return Ok(line);
+    }
+    let meeting = Meeting { alloc, form: &form };
+    for plan in &plans {
+        if let Some(fault) = fault_of(alloc, plan, layer, &meeting, &taken)? {
+            let mut line = String::from_str(alloc, fault)?;
+            put_plan(alloc, layer.collection(), plan, &mut line)?;
+            return Ok(line);
+        }
+    }
+    choice_line(alloc, layer, &plans, &chosen, &taken)
 }

@@ -3,8 +3,9 @@
 ghost use Rattle.cad_versions.specs.Listing.{IsListing};
 
 use crate::answers::plans_answer;
+use crate::reports::request_answer;
 use cad_feature::flatten;
-use cad_index::Indexes;
+use cad_run::Layer;
 use cad_schema::{Collection, find_property};
 use cad_shape::Bounds;
 use cad_versions::Version;
@@ -25,8 +26,8 @@ fn asked_answer(
     if features.len() > 1000 {
         return String::from_str(alloc, "no case");
     }
-    let indexes = Indexes::build(alloc, &features, collection)?;
-    plans_answer(alloc, collection, filter, &features, &indexes)
+    let layer = Layer::build(alloc, features, collection)?;
+    plans_answer(alloc, filter, &layer)
 }
 
 // The window of four numbers with commas between.
@@ -77,13 +78,9 @@ fn case_answer(
     }
 }
 
-/// What is printed for a case, asked of these versions.
-pub fn answer(alloc: Global, versions: &[Version], line: &[u8]) -> Result<String, AllocError>
+fn filter_answer(alloc: Global, versions: &[Version], line: &str) -> Result<String, AllocError>
     requires { IsListing versions.now }
 {
-    let Ok(line) = str::from_utf8(line) else {
-        return String::from_str(alloc, "no case");
-    };
     let Some((target, text)) = line.split_once(' ') else {
         return String::from_str(alloc, "no case");
     };
@@ -97,5 +94,18 @@ pub fn answer(alloc: Global, versions: &[Version], line: &[u8]) -> Result<String
     match Collection::read(name) {
         None => String::from_str(alloc, "no case"),
         Some(collection) => case_answer(alloc, versions, collection, asked, text),
+    }
+}
+
+/// What is printed for a case, asked of these versions.
+pub fn answer(alloc: Global, versions: &[Version], line: &[u8]) -> Result<String, AllocError>
+    requires { IsListing versions.now }
+{
+    let Ok(line) = str::from_utf8(line) else {
+        return String::from_str(alloc, "no case");
+    };
+    match line.strip_prefix("explain ") {
+        None => filter_answer(alloc, versions, line),
+        Some(target) => request_answer(alloc, target),
     }
 }

@@ -1,26 +1,42 @@
-//! The plans for filters: each line of standard input is a case, and a line is printed for it.
+//! The plans for filters and requests: each line of standard input is a case, and a line is printed for it.
 //!
-//! A case is the name of a collection, where a window is asked for `/` and its four numbers, a space, and the text of a
-//! filter, as `parcels/0,0,9,9 area > 390`. It is asked of the sample register, and the answer is
+//! A filter's case is the name of a collection, where a window is asked for `/` and its four numbers, a space, and the text of
+//! a filter, as `parcels/0,0,9,9 area > 390`. It is asked of the sample register, and the answer is
 //!
-//! - the menu, each plan with its cost; then, after `->`, the plan that is chosen, its cost and how many candidates it has:
-//!   `all 5, range(object with 3 with 3) 1 -> range(object with 3 with 3) 1 has 1`,
+//! - the menu, each plan with its cost; then, after `->`, the plan that is chosen, its cost, how many candidates it has, and
+//!   the features that it gives, which are those of which the filter is true:
+//!   `all 5, range(object with 3 with 3) 1 -> range(object with 3 with 3) 1 has 1 gives 3.1`,
 //! - `uncovered` and an identifier, where the filter is true of that feature and a plan of the menu has it not,
-//! - `refused`, where the text is no filter of that collection, and `no case`, where the line is none.
+//! - `gives others`, `tests others` or `counted otherwise` and a plan of the menu, where its page lists other features, or one
+//!   of them twice, where another number of features was tested than its candidates, or where these are counted otherwise.
 //!
-//! A line without bytes, or one that begins with `#`, is passed over.
+//! A request's case is `explain `, the name of a collection and, behind `?`, a query, as
+//! `explain parcels?filter=object+%3D+3`. It is asked of the sample register at the revision that it names, or at the last one,
+//! and the answer is
+//!
+//! - the plan by which its page is found, its cost, how many candidates it has, how many features are tested, the identifiers
+//!   that the page lists, and `and more` where another page follows:
+//!   `range(object with 3 with 3) cost 1 candidates 1 examined 1 gives 3.1`,
+//! - `refused` and the fault's name, where the query is none, and `no revision`, where the register has none such.
+//!
+//! `refused` is answered where a text is no filter of that collection, and `no case` where the line is none. A line without
+//! bytes, or one that begins with `#`, is passed over.
 //!
 //! - `cases`: lines with cases
 //! - `answers`: what is answered of a filter's plans
+//! - `pages`: pages by every plan
 //! - `plans`: plans as they are printed, and their candidates
 //! - `ranges`: ranges as they are printed
-//! - `sample`: the versions that it is asked of
+//! - `reports`: what is answered of a request
+//! - `sample`: the register that it is asked of
 #![tactic(auto)]
 
 mod answers;
 mod cases;
+mod pages;
 mod plans;
 mod ranges;
+mod reports;
 mod sample;
 
 use cases::answer;

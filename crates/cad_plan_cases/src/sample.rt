@@ -3,9 +3,10 @@
 ghost use Rattle.std.specs.Prelude.{IfOk};
 ghost use Rattle.cad_versions.specs.Listing.{IsListing};
 
+use cad_page::Snapshot;
 use cad_plain::PlainLedger;
 use cad_sample::fill;
-use cad_versions::{Ledger, Version};
+use cad_versions::{Ledger, RegisterFault, Version};
 use std::alloc::{AllocError, Global};
 
 /// The versions of the sample register at its last revision, from the plain ledger that its commands were entered into.
@@ -18,6 +19,23 @@ pub fn sample_versions(alloc: Global) -> Result<Vec<Version>, AllocError>
     };
     match ledger.as_of(revision) {
         Ok(versions) => Ok(versions),
+        Err(_) => Err(AllocError),
+    }
+}
+
+/// The sample register at a revision, or at its last one where none is asked for; none where there is no such revision.
+pub fn snapshot_at(alloc: Global, asked: Option<u64>) -> Result<Option<Snapshot>, AllocError> {
+    let mut ledger = PlainLedger::new(alloc);
+    let Ok(last) = fill(alloc, &mut ledger) else {
+        return Err(AllocError);
+    };
+    let revision = asked.unwrap_or(last);
+    match ledger.as_of(revision) {
+        Ok(versions) => {
+            let snapshot = Snapshot::build(alloc, revision, &versions)?;
+            Ok(Some(snapshot))
+        }
+        Err(RegisterFault::UnknownRevision) => Ok(None),
         Err(_) => Err(AllocError),
     }
 }

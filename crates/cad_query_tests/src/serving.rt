@@ -4,7 +4,7 @@ use cad_desk::Event;
 use cad_plain_desk::sample_desk;
 use cad_serve::{Ending, ServeFault, serve};
 use std::test::Fail;
-use test_streams::{Peer, Stop, Taker};
+use test_streams::{Copies, Endless, Peer, Stop, Taker};
 
 /// A request after which the connection goes on.
 const REQUEST: &str = "GET /collections/parcels/items?filter=5+%3C+3 HTTP/1.1\r\nHost: x\r\n\r\n";
@@ -120,5 +120,27 @@ fn replies_twice_on_one_desk(rt: HostRuntime) -> Result<(), Fail> {
         assert!(rt; writer.has_taken(REPLY.as_bytes()));
     }
     assert!(rt; desk.step(Event::Close(2)).is_ok());
+    Ok(())
+}
+
+/// A request of 27 bytes, and its reply.
+const SHORT: &str = "GET / HTTP/1.1\r\nHost: x\r\n\r\n";
+
+const SHORT_REPLY: &str =
+    "HTTP/1.1 200 OK\r\nContent-Type: application/json\r\nContent-Length: 145\r\n\r\n{\"links\":[{\"href\":\"/\",\"rel\":\"self\",\"type\":\"application/json\"},{\"href\":\"/collections\",\"rel\":\"data\",\"type\":\"application/json\"}],\"title\":\"Cadastre\"}";
+
+/// A peer that sends a byte a read and never ends is served for 100,000 reads: 3,703 requests of 27 bytes are whole then, each
+/// is replied to, and the connection is closed.
+#[test]
+fn ends_where_the_turns_are_spent(rt: HostRuntime) -> Result<(), Fail> {
+    let alloc = rt.alloc();
+    let mut desk = sample_desk(alloc)?;
+    let mut reader = Endless::new(SHORT.as_bytes());
+    let mut writer = Copies::new(SHORT_REPLY.as_bytes());
+    let served = serve(alloc, &mut reader, &mut writer, &mut desk, 1);
+    assert_eq!(rt; served, Err(ServeFault::TurnsSpent));
+    assert_eq!(rt; reader.reads(), 100_000);
+    assert_eq!(rt; writer.count(), Some(3703));
+    assert!(rt; desk.step(Event::Open(1)).is_ok());
     Ok(())
 }

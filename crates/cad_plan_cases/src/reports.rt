@@ -1,0 +1,80 @@
+//! What is answered of a request.
+
+use crate::plans::put_plan;
+use crate::sample::snapshot_at;
+use cad_page::{Ask, AskFault, Report, Snapshot, body, explain, next_link};
+use cad_schema::Collection;
+use std::alloc::{AllocError, Global};
+
+/// What stands before an identifier in a body. Within a text its quotes would have backslashes.
+const IDENTIFIER: &str = "\"id\":\"";
+
+// The identifiers that stand in a body.
+fn put_identifiers(body: &str, line: &mut String) -> Result<(), AllocError> {
+    let mut pieces = body.split(IDENTIFIER);
+    let _front = pieces.next();
+    let mut is_empty = true;
+    for piece in pieces {
+        if let Some((identifier, _)) = piece.split_once('"') {
+            is_empty = false;
+            line.push_str(" ")?;
+            line.push_str(identifier)?;
+        }
+    }
+    if is_empty {
+        line.push_str(" none")?;
+    }
+    Ok(())
+}
+
+fn report_line(
+    alloc: Global,
+    collection: Collection,
+    report: &Report,
+) -> Result<String, AllocError> {
+    let mut line = String::new(alloc);
+    put_plan(alloc, collection, &report.plan, &mut line)?;
+    let Report {
+        cost,
+        candidates,
+        examined,
+        ..
+    } = report;
+    line.push_str(&format!(in alloc;
+        " cost {cost} candidates {candidates} examined {examined} gives"
+    )?)?;
+    Ok(line)
+}
+
+fn asked_answer(alloc: Global, ask: &Ask, snapshot: &Snapshot) -> Result<String, AllocError> {
+    let report = explain(alloc, ask, snapshot)?;
+    let mut line = report_line(alloc, ask.collection, &report)?;
+    put_identifiers(body(alloc, ask, snapshot)?.as_str(), &mut line)?;
+    if next_link(alloc, ask, snapshot)?.is_some() {
+        line.push_str(" and more")?;
+    }
+    Ok(line)
+}
+
+fn query_answer(alloc: Global, collection: Collection, query: &str) -> Result<String, AllocError> {
+    match Ask::read(alloc, collection, query) {
+        Ok(ask) => match snapshot_at(alloc, ask.continuation.revision)? {
+            None => String::from_str(alloc, "no revision"),
+            Some(snapshot) => asked_answer(alloc, &ask, &snapshot),
+        },
+        Err(AskFault::Memory) => Err(AllocError),
+        Err(fault) => format!(in alloc; "refused {}", fault.name()),
+    }
+}
+
+/// How the page is found that is asked for by a collection and, behind `?`, a query, and what it gives.
+pub fn request_answer(alloc: Global, target: &str) -> Result<String, AllocError> {
+    let (name, query) = match target.split_once('?') {
+        None => (target, ""),
+        Some((name, query)) => (name, query),
+    };
+    match Collection::read(name) {
+        None => String::from_str(alloc, "no case"),
+        Some(collection) => query_answer(alloc, collection, query),
+    }
+}
