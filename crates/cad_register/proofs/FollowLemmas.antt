@@ -24,14 +24,14 @@ use Rattle.cad_register.specs.Damage.{place_of, Follows}
 use Rattle.cad_register.proofs.ClassLemmas.{HasClass, classes}
 use Rattle.cad_register.proofs.StandingLemmas.{all_own}
 
--- each follows the one before it, and the first of them what is given
+-- each follows the one before it, the first of them what is given
 abbrev pub Follow : Option Place → List VersionedObject → Type 0
 Follow before [] = Unit {0}
 Follow before (v ∷ vs) = Follows before v × Follow (Some (place_of v)) vs
 
 -- ---- the version before one of an object
 
--- one of the versions has this number, of the object of this one
+-- some version has this number, of the object of this one
 abbrev Has : ℕ → ℕ → List VersionedObject → Type 0
 Has object number [] = ⊥
 Has object number (v ∷ vs) = ((object_number v.object ≡ object) × (v.number ≡ number)) ⊎ Has object number vs

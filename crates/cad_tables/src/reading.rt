@@ -72,7 +72,7 @@ pub fn listing<S: Alter>(conn: &mut Connection<S>, revision: u32) -> Result<Vec<
         conn,
         "SELECT object, number, class, first, last, entered, closed, name, code, label, area, unit, party, \
             share_num, share_den, required, spot_x, spot_y, shape \
-            FROM version WHERE entered <= ?1 ORDER BY +object DESC, +number DESC",
+            FROM version WHERE entered <= ?1 ORDER BY +object, +number",
         revision,
     )
 }
