@@ -1,0 +1,3 @@
+mod VersionLemmas
+mod FeatureLemmas
+mod RevisionLemmas

@@ -1,0 +1,4 @@
+//! What a command changes of the features of a revision.
+#![tactic(auto)]
+
+pub mod laws;

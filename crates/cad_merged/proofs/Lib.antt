@@ -1,0 +1,5 @@
+mod AfterLemmas
+mod LookupLemmas
+mod MergedLemmas
+mod RunLemmas
+mod WalkLemmas
