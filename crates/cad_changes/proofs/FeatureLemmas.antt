@@ -33,57 +33,12 @@ use Rattle.cad_versions.specs.OrderLemmas.{identifiers_total, versions_total}
 use Rattle.cad_merged.specs.ItemLemmas.{items_total}
 use Rattle.cad_merged.specs.Merging.{put, put_if, merged}
 use Rattle.cad_merged.specs.MergeLemmas.{IsNew, find_put, filter_put, filter_put_out, map_put, merged_put, replaced}
+use Rattle.cad_changes.proofs.TestLemmas.{left_true, right_true, neither_true, each_fails, other_fails, no_last, find_filter, find_map}
 use Rattle.cad_changes.proofs.VersionLemmas.{left_keeps, left_identifier, left_order, AddsNew}
-
--- ---- true and false
-
-left_true : (a b : Bool) → (a && b) ≡ true → a ≡ true
-left_true true b h = refl
-left_true false b h = absurd (true≢false (sym h))
-
-right_true : (a b : Bool) → (a && b) ≡ true → b ≡ true
-right_true true b h = h
-right_true false b h = absurd (true≢false (sym h))
-
-neither_true : (a b : Bool) → (a || b) ≡ false → (a ≡ false) × (b ≡ false)
-neither_true true b h = absurd (true≢false h)
-neither_true false b h = (refl, h)
-
--- of two parts of one condition
-each_fails : (a b d : Bool) → (a && (b || d)) ≡ false → ((a && b) ≡ false) × ((a && d) ≡ false)
-each_fails true b d h = neither_true b d h
-each_fails false b d h = (refl, refl)
-
-other_fails : (a b : Bool) → (a && b) ≡ false → b ≡ true → a ≡ false
-other_fails a b h e = subst (λ (x : Bool). (a && x) ≡ false → a ≡ false) (sym e) (go a) h
-  where
-    go : (a : Bool) → (a && true) ≡ false → a ≡ false
-    go true h = absurd (true≢false h)
-    go false h = refl
-
-no_last : (last : Option Day) → is_none last ≡ true → last ≡ None
-no_last None e = refl
-no_last (Some day) e = absurd (true≢false (sym e))
-
--- ---- searches
-
-find_filter : {X : Type 0} (p q : X → Bool) (xs : List X) → find p (filter q xs) ≡ find (λ x. q x && p x) xs
-find_filter p q [] = refl
-find_filter p q (x ∷ xs) =
-    elim (q x) as (λ b. find p (cond b (x ∷ filter q xs) (filter q xs)) ≡ cond (b && p x) (Some x) (find (λ y. q y && p y) xs))
-    [ true ↦ ap (λ l. cond (p x) (Some x) l) (find_filter p q xs) | false ↦ find_filter p q xs ]
-
-find_map : {X : Type 0} (p : X → Bool) (f : X → X) → ((x : X) → p (f x) ≡ p x) → (xs : List X) → find p (map f xs) ≡ option_map f (find p xs)
-find_map p f same [] = refl
-find_map p f same (x ∷ xs) = ap₂ (λ b l. cond b (Some (f x)) l) (same x) (find_map p f same xs) ∙ go (p x)
-  where
-    go : (b : Bool) → cond b (Some (f x)) (option_map f (find p xs)) ≡ option_map f (cond b (Some x) (find p xs))
-    go true = refl
-    go false = refl
 
 -- ---- names
 
-same_object_number : (n : ℕ) (a b : ObjectId) → int_eq (pos n) (pos (object_number a)) ≡ true → int_eq (pos n) (pos (object_number b)) ≡ true → int_eq (pos (object_number a)) (pos (object_number b)) ≡ true
+pub same_object_number : (n : ℕ) (a b : ObjectId) → int_eq (pos n) (pos (object_number a)) ≡ true → int_eq (pos n) (pos (object_number b)) ≡ true → int_eq (pos (object_number a)) (pos (object_number b)) ≡ true
 same_object_number n a b h k = grind (arith, ints)
 
 turned : (a b : ObjectId) → int_eq (pos (object_number a)) (pos (object_number b)) ≡ true → int_eq (pos (object_number b)) (pos (object_number a)) ≡ true
@@ -152,7 +107,7 @@ module _ (vs : List VersionedObject) where
   name_left c None = refl
   name_left c (Some v) = left_keeps (λ v. name_in v.body) (λ day v. refl) c v
 
-  name_next : (c : Command) → AddsNew vs c → (day : Day) (named : Option ObjectId) → (renames_on c day && is_object (object_named c) named) ≡ false → joined_name (next vs c) day named ≡ joined_name vs day named
+  pub name_next : (c : Command) → AddsNew vs c → (day : Day) (named : Option ObjectId) → (renames_on c day && is_object (object_named c) named) ≡ false → joined_name (next vs c) day named ≡ joined_name vs day named
   name_next c new day None keeps = refl
   name_next c new day (Some object) keeps =
       ap (option_and_then (λ v. name_in v.body)) (find_filter (holds_on day) (is_of object) (next vs c) ∙ find_next c new day object keeps)

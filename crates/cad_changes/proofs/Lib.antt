@@ -1,3 +1,7 @@
-mod VersionLemmas
+mod ClassLemmas
 mod FeatureLemmas
+mod ItemLemmas
 mod RevisionLemmas
+mod StandingLemmas
+mod TestLemmas
+mod VersionLemmas

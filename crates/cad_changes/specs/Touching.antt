@@ -1,9 +1,10 @@
 -- What a command changes, told from the features of the revision before it alone (ISO 19152:2012, VersionedObject; OGC 17-069r4, 7.15: items).
-use Rattle.std.specs.Prelude.{ℕ, ◌+◌, ℤ, pos, ◌==◌, Bool, true, false, ◌&&◌, ◌||◌, if◌then◌else◌, int_le, List, [], ◌∷◌, length, map, filter, find, Option, Some, None, is_none, option_map, option_and_then}
+use Rattle.std.specs.Prelude.{ℕ, ◌+◌, ℤ, pos, ◌==◌, Bool, true, false, ◌&&◌, ◌||◌, if◌then◌else◌, int_le, nat_lt, List, [], ◌∷◌, length, map, filter, find, Option, Some, None, is_none, option_map, option_and_then}
 use Rattle.std.specs.Ordering.{int_eq}
 use Rattle.cad_day.specs.declared.day.Day.{Day}
 use Rattle.cad_day.specs.Days.{number_of}
 use Rattle.cad_day.specs.Intervals.{interval_of}
+use Rattle.cad_versions.specs.declared.body.Body.{Body}
 use Rattle.cad_versions.specs.declared.command.Command.{Command}
 use Rattle.cad_versions.specs.declared.command.Command.TheVariants.{Enter, Amend, Retire}
 use Rattle.cad_versions.specs.declared.object_id.ObjectId.{ObjectId}
@@ -11,6 +12,7 @@ use Rattle.cad_versions.specs.BodyParts.{name_in, unit_named, party_named}
 use Rattle.cad_versions.specs.Command.{object_named, body_added}
 use Rattle.cad_versions.specs.DayBefore.{day_before}
 use Rattle.cad_versions.specs.Objects.{object_number}
+use Rattle.cad_versions.specs.Refusals.{most_versions}
 use Rattle.cad_versions.specs.VersionedObject.{VersionedObject}
 use Rattle.cad_versions.specs.Versions.{begun}
 use Rattle.cad_schema.specs.declared.attribute.Attribute.{Attribute}
@@ -184,10 +186,13 @@ name_among xs day object = name_of (find (has_day day) (of_object object xs))
 abbrev pub count_of : ObjectId → List Item → ℕ
 count_of object xs = length (of_object object xs)
 
+abbrev pub begun_after : ℕ → ObjectId → Day → Body → Option VersionedObject
+begun_after count object first body = if nat_lt count most_versions then Some (begun object (count + 1) first body) else None
+
 -- the version that the command adds, by the features of its object's collection
 abbrev pub version_begun : List Item → Command → Option VersionedObject
-version_begun xs (Enter object first body) = Some (begun object (count_of object xs + 1) first body)
-version_begun xs (Amend object first body) = Some (begun object (count_of object xs + 1) first body)
+version_begun xs (Enter object first body) = begun_after (count_of object xs) object first body
+version_begun xs (Amend object first body) = begun_after (count_of object xs) object first body
 version_begun xs (Retire object last) = None
 
 abbrev pub names_joined : List Item → List Item → VersionedObject → Edits
