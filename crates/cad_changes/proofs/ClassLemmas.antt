@@ -164,7 +164,7 @@ classes_stand cs accepted = stand_from [] cs accepted tt
 abbrev pub AreOf : ℕ → ObjectId → List VersionedObject → Type 0
 AreOf number object vs = AllByRecursion (λ w. is_of object w ≡ true → (class_number (class_of w.body) == number) ≡ true) vs
 
-same_class_at : (vs : List VersionedObject) (a b : ObjectId) → int_eq (pos (object_number a)) (pos (object_number b)) ≡ true → class_at vs a ≡ class_at vs b
+pub same_class_at : (vs : List VersionedObject) (a b : ObjectId) → int_eq (pos (object_number a)) (pos (object_number b)) ≡ true → class_at vs a ≡ class_at vs b
 same_class_at vs a b h = let same : object_number a ≡ object_number b = grind (arith, ints) in ap (λ n. option_map (λ (v : VersionedObject). class_of v.body) (find (λ (v : VersionedObject). int_eq (pos (object_number v.object)) (pos n)) vs)) same
 
 pub are_of : (k : Class) (object : ObjectId) (vs : List VersionedObject) → ClassesStand vs → is_class k (class_at vs object) ≡ true → AreOf (class_number k) object vs

@@ -1,7 +1,9 @@
+mod AddedLemmas
 mod ClassLemmas
 mod FeatureLemmas
 mod ItemLemmas
 mod RevisionLemmas
 mod StandingLemmas
 mod TestLemmas
+mod TouchedLemmas
 mod VersionLemmas

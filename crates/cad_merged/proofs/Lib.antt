@@ -1,5 +1,4 @@
 mod AfterLemmas
-mod LookupLemmas
 mod MergedLemmas
 mod RunLemmas
 mod WalkLemmas

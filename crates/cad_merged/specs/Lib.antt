@@ -3,6 +3,7 @@ pub mod Identifiers
 pub mod ItemLemmas
 pub mod Laws
 pub mod ListedLemmas
+pub mod LookupLemmas
 pub mod MergeLemmas
 pub mod Merging
 pub mod SearchLemmas

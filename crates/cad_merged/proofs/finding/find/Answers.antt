@@ -1,6 +1,6 @@
 use Rattle.std.specs.Option.{option_copied}
 use Rattle.cad_merged.specs.Identifiers.{identifier}
-use Rattle.cad_merged.proofs.LookupLemmas.{changed_one, base_one}
+use Rattle.cad_merged.specs.LookupLemmas.{changed_one, base_one}
 use Rattle.cad_merged.proofs.finding.find.Goals as goal
 
 pub returns-in-Some : goal.returns-in-Some

@@ -41,7 +41,7 @@ put_keeps n x (y ∷ ys) apart (suc i, h, at) = go (by_identifier n y) (put_keep
     go Equal more = (suc i, omega (arith, h), at)
     go Greater more = later x y (put by_identifier n ys) more
 
-has_change : (base cs : List Item) (x : Item) → IsStrictlySortedBy by_identifier cs → Contains cs x → Contains (merged by_identifier base cs) x
+pub has_change : (base cs : List Item) (x : Item) → IsStrictlySortedBy by_identifier cs → Contains cs x → Contains (merged by_identifier base cs) x
 unfolding IsStrictlySortedBy
 has_change base [] x up (i, h, at) = absurd (omega (arith, h))
 has_change base (c ∷ cs) x up (zero, h, at) = subst (λ z. Contains (put by_identifier c (merged by_identifier base cs)) z) at (put_has c (merged by_identifier base cs))
