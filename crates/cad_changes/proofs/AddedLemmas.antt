@@ -192,7 +192,7 @@ module _ (vs : List VersionedObject) (c : Command) (new : AddsNew vs c) where
       object = v.object;
       number = v.number;
       values = ((λ j. edited_data (names_joined (features_in vs Units) (features_in vs Parties) v) (first_is (v ∷ []) v collection j) (attributes_of collection) (map (value_in (v ∷ []) v) (attributes_of collection)))
-        ∙ edited_is (names_joined (features_in vs Units) (features_in vs Parties) v) (Some v.first) (value_in (v ∷ []) v) (value_in (next vs c) v) (attributes_of collection) value_added) i;
+          ∙ edited_is (names_joined (features_in vs Units) (features_in vs Parties) v) (Some v.first) (value_in (v ∷ []) v) (value_in (next vs c) v) (attributes_of collection) value_added) i;
     }
 
   module _ (first : Day) (body : Body) (collection : Collection) where
@@ -214,8 +214,8 @@ module _ (vs : List VersionedObject) (c : Command) (new : AddsNew vs c) where
             → option_and_then (λ v. cond (is_in collection v) (Some (seen v)) None) (cond (nat_lt count most_versions) (Some (version (count + 1))) None) ≡ cond b (Some (feature_in (next vs c) collection (version number))) None
         go true e =
             let inside : AreIn collection (object_named c) vs =
-                all_weaker (λ (w : VersionedObject). is_of (object_named c) w ≡ true → (class_number (class_of w.body) == class_number (class_of body)) ≡ true) (λ w. is_of (object_named c) w ≡ true → is_in collection w ≡ true)
-                (λ w h own. through (class_number (class_of w.body)) (class_number (class_of body)) (class_number (class_for collection)) (h own) e) vs facts.own in
+            all_weaker (λ (w : VersionedObject). is_of (object_named c) w ≡ true → (class_number (class_of w.body) == class_number (class_of body)) ≡ true) (λ w. is_of (object_named c) w ≡ true → is_in collection w ≡ true)
+            (λ w h own. through (class_number (class_of w.body)) (class_number (class_of body)) (class_number (class_for collection)) (h own) e) vs facts.own in
             let counted = count_is collection (object_named c) vs inside in
             let room : nat_lt count most_versions ≡ true = ap (λ n. nat_lt n most_versions) counted ∙ has_room (length (history (object_named c) vs)) (length vs) most_versions (kept_length (is_of (object_named c)) vs) facts.room in
             ap (λ t. option_and_then (λ v. cond (is_in collection v) (Some (seen v)) None) (cond t (Some (version (count + 1))) None)) room

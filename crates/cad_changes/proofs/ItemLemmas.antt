@@ -199,7 +199,7 @@ module _ (vs : List VersionedObject) (c : Command) (new : AddsNew vs c) (all : A
     object = same (λ w. w.object) (λ day w. refl) i;
     number = same (λ w. w.number) (λ day w. refl) i;
     values = ((λ j. edited_data (edits_are vs v c collection inside j) (first_is vs v collection j) (attributes_of collection) (map (value_in vs v) (attributes_of collection)))
-      ∙ edited_is (edits_of vs v c collection inside) (Some v.first) (value_in vs v) (value_in (next vs c) (left_by c v)) (attributes_of collection) (value_left collection inside)) i;
+        ∙ edited_is (edits_of vs v c collection inside) (Some v.first) (value_in vs v) (value_in (next vs c) (left_by c v)) (attributes_of collection) (value_left collection inside)) i;
   }
 
 -- ---- all that the command leaves

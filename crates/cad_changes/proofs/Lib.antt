@@ -1,6 +1,9 @@
 mod AddedLemmas
+mod AloneLemmas
 mod ClassLemmas
 mod FeatureLemmas
+mod FitLemmas
+mod FollowLemmas
 mod ItemLemmas
 mod RevisionLemmas
 mod StandingLemmas

@@ -92,9 +92,10 @@ closed_under object v n x (w ∷ xs) h f = go x.last refl (closed_under object v
         let shut : is_open_of object x ≡ false = closed_is_not_open object x last e in
         let rest = more (ap (λ t. cond t (Some x) (find (is_open_of object) (w ∷ xs))) (sym shut) ∙ f) in
         let forward : number_of x.first ≤ℤ number_of last = subst (IsForward x) e h.1 in
-        let before : number_of last ≡ number_of w.first -ℤ pos 1 = subst (λ l. EndsBefore l w) e h.2 in
-        (starts_sooner (number_of x.first) (number_of last) (number_of w.first) (number_of v.first) forward before rest.0,
-        ((λ other k. subst (λ (d : Day). number_of d <ℤ number_of v.first) (same_last x last other e k) (ends_sooner (number_of last) (number_of w.first) (number_of v.first) before rest.0)), rest.1))
+        let before : number_of last ≡ number_of w.first -ℤ pos 1 = subst (λ l. EndsBefore l w) e h.2 in (
+          starts_sooner (number_of x.first) (number_of last) (number_of w.first) (number_of v.first) forward before rest.0,
+          ((λ other k. subst (λ (d : Day). number_of d <ℤ number_of v.first) (same_last x last other e k) (ends_sooner (number_of last) (number_of w.first) (number_of v.first) before rest.0)), rest.1),
+        )
 
 all_under : (object : ObjectId) (v : VersionedObject) (vs : List VersionedObject) → HasHistories vs → find (is_open_of object) vs ≡ Some v → AllByRecursion (λ w. is_of object w ≡ true → EndsUnder v w) vs
 all_under object v vs all f = all_kept (EndsUnder v) (is_of object) vs (go (history object vs) (all object) (sym (find-filter object vs) ∙ f))

@@ -98,3 +98,11 @@ touched_is cs c all collection =
     subst (λ vs. items_touched (features_in vs collection) (features_in vs Units) (features_in vs Parties) c collection ≡ touched vs c collection) (sym (all_as_of cs (length cs) refl))
     (ap₂ (put_if by_identifier) (added_is cs c all collection)
     (items_left_are vs c (adds_new_sorted (versions cs) c (adds cs c all)) (all_sorted by_version (IsOver c) (versions cs) (all_over c (versions cs) (last_accepted [] cs c all) (histories cs (all_accepted cs c all)))) collection))
+
+-- the same of lists that are they
+pub touched_told : (cs : List Command) (c : Command) → AreAccepted [] (cs ++ c ∷ []) → (collection : Collection) (xs units parties ys : List Item) → ys ≡ items_touched xs units parties c collection
+    → xs ≡ features_in (as_of (length cs) cs) collection → units ≡ features_in (as_of (length cs) cs) Units → parties ≡ features_in (as_of (length cs) cs) Parties → ys ≡ touched (as_of (length cs) cs) c collection
+touched_told cs c all collection xs units parties ys is f u p =
+    let vs = as_of (length cs) cs in
+    let same : items_touched xs units parties c collection ≡ items_touched (features_in vs collection) (features_in vs Units) (features_in vs Parties) c collection = λ i. items_touched (f i) (u i) (p i) c collection in
+    is ∙ same ∙ touched_is cs c all collection

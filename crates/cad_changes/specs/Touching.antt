@@ -105,9 +105,10 @@ edited_datum e first attribute.ShareNum d = d
 edited_datum e first attribute.ShareDen d = d
 edited_datum e first attribute.PartyRequired d = d
 
+-- what has no value has null
 abbrev pub edited_data : Edits → Option Day → List Attribute → List Datum → List Datum
 edited_data e first [] ds = []
-edited_data e first (a ∷ rest) [] = []
+edited_data e first (a ∷ rest) [] = edited_datum e first a null ∷ edited_data e first rest []
 edited_data e first (a ∷ rest) (d ∷ ds) = edited_datum e first a d ∷ edited_data e first rest ds
 
 -- a feature of the collection with these edits
@@ -185,6 +186,10 @@ name_among xs day object = name_of (find (has_day day) (of_object object xs))
 -- how many of the features are versions of the object
 abbrev pub count_of : ObjectId → List Item → ℕ
 count_of object xs = length (of_object object xs)
+
+-- the number of the version after so many, if it may have one
+abbrev pub number_after : ℕ → Option ℕ
+number_after count = if nat_lt count most_versions then Some (count + 1) else None
 
 abbrev pub begun_after : ℕ → ObjectId → Day → Body → Option VersionedObject
 begun_after count object first body = if nat_lt count most_versions then Some (begun object (count + 1) first body) else None
