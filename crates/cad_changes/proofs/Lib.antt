@@ -1,0 +1,12 @@
+mod AddedLemmas
+mod AloneLemmas
+mod ClassLemmas
+mod FeatureLemmas
+mod FitLemmas
+mod FollowLemmas
+mod ItemLemmas
+mod RevisionLemmas
+mod StandingLemmas
+mod TestLemmas
+mod TouchedLemmas
+mod VersionLemmas

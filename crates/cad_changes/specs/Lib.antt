@@ -1,0 +1,6 @@
+pub mod Changes
+pub mod Fitting
+pub mod Laws
+pub mod Revisions
+pub mod Told
+pub mod Touching

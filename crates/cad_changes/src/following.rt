@@ -1,0 +1,37 @@
+//! The features of a collection after a command.
+
+ghost use Rattle.std.specs.Prelude.{◌≡◌, ◌+◌, List, [], ◌∷◌, ◌++◌, length, IfOk};
+ghost use Rattle.cad_versions.specs.declared.command.Command.{Command as CommandOf};
+ghost use Rattle.cad_versions.specs.AsOf.{as_of};
+ghost use Rattle.cad_versions.specs.Refusals.{AreAccepted};
+ghost use Rattle.cad_schema.specs.declared.collection.Collection.TheVariants.{Units, Parties};
+ghost use Rattle.cad_feature.specs.Flatten.{features_in};
+
+use crate::touching::touched;
+use cad_merged::Merged;
+use cad_versions::Command;
+use std::alloc::{AllocError, Global};
+
+/// The features of a collection after the command, told by those of the collection, the units and the parties before it. They share
+/// the base where there are no more changes than `most`. An error is want of memory.
+pub fn features_after(
+    alloc: Global,
+    command: &Command,
+    features: &Merged,
+    units: &Merged,
+    parties: &Merged,
+    most: usize,
+) -> Result<Merged, AllocError>
+    requires units { units.now.collection ≡ Units }
+    requires parties { parties.now.collection ≡ Parties }
+    ensures collection { IfOk result (λ after. after.collection ≡ features.now.collection) }
+    ensures features { IfOk result (λ after. (commands : List CommandOf) → AreAccepted [] (commands ++ command.now ∷ [])
+        → features.now.features ≡ features_in (as_of (length commands) commands) features.now.collection
+        → units.now.features ≡ features_in (as_of (length commands) commands) Units
+        → parties.now.features ≡ features_in (as_of (length commands) commands) Parties
+        → after.features ≡ features_in (as_of (length commands + 1) (commands ++ command.now ∷ [])) features.now.collection) }
+{
+    let touched = touched(alloc, command, features, units, parties)?;
+    let after = features.with(alloc, &touched, most)?;
+    Ok(after)
+}

@@ -1,0 +1,105 @@
+//! What a feature says.
+
+ghost use Rattle.std.specs.Prelude.{◌≡◌, MatchOption};
+ghost use Rattle.cad_feature.specs.Features.{datum_at};
+ghost use Rattle.cad_feature.specs.Values.{datum_of, null};
+ghost use Rattle.cad_changes.specs.Touching as spec;
+ghost use Rattle.cad_changes.specs.Touching.{day_in, whole_in};
+
+use cad_day::Day;
+use cad_feature::{Feature, Value};
+use cad_schema::Collection;
+
+/// Where each feature says its first day.
+const BEGIN: usize = 2;
+
+/// Where each feature says its last day.
+const END: usize = 3;
+
+/// The value of the property at that place of the schema, if there is such a place.
+pub(crate) fn value_at(feature: &Feature, place: usize) -> Option<&Value>
+    ensures { MatchOption result (datum_at feature.now place ≡ null) (λ value. datum_of value.now ≡ datum_at feature.now place) }
+{
+    if place < feature.values.len() {
+        Some(&feature.values[place])
+    } else {
+        None
+    }
+}
+
+fn day_of(value: &Value) -> Option<Day>
+    ensures { result ≡ day_in (datum_of value.now) }
+{
+    match value {
+        Value::Day(day) => Some(*day),
+        _ => None,
+    }
+}
+
+fn whole_of(value: &Value) -> Option<i64>
+    ensures { result ≡ whole_in (datum_of value.now) }
+{
+    match value {
+        Value::Whole(number) => Some(*number),
+        _ => None,
+    }
+}
+
+fn day_at(feature: &Feature, place: usize) -> Option<Day>
+    ensures { result ≡ day_in (datum_at feature.now place) }
+{
+    day_of(value_at(feature, place)?)
+}
+
+fn whole_at(feature: &Feature, place: usize) -> Option<i64>
+    ensures { result ≡ whole_in (datum_at feature.now place) }
+{
+    whole_of(value_at(feature, place)?)
+}
+
+/// The first day of the feature's version.
+pub(crate) fn first_of(feature: &Feature) -> Option<Day>
+    ensures { result ≡ spec.first_of feature.now }
+{
+    day_at(feature, BEGIN)
+}
+
+/// The last day of the feature's version, where it has one.
+pub(crate) fn last_of(feature: &Feature) -> Option<Day>
+    ensures { result ≡ spec.last_of feature.now }
+{
+    day_at(feature, END)
+}
+
+fn unit_place(collection: Collection) -> Option<usize>
+    ensures { result ≡ spec.unit_place collection }
+{
+    match collection {
+        Collection::Parcels => Some(9),
+        Collection::Rights | Collection::Restrictions | Collection::Responsibilities => Some(8),
+        Collection::Units | Collection::Parties => None,
+    }
+}
+
+fn party_place(collection: Collection) -> Option<usize>
+    ensures { result ≡ spec.party_place collection }
+{
+    match collection {
+        Collection::Rights | Collection::Restrictions | Collection::Responsibilities => Some(10),
+        Collection::Parcels | Collection::Units | Collection::Parties => None,
+    }
+}
+
+/// The number of the unit that the feature of the collection names, if it names one.
+pub(crate) fn unit_of(feature: &Feature, collection: Collection) -> Option<i64>
+    ensures { result ≡ spec.number_at feature.now (spec.unit_place collection) }
+{
+    whole_at(feature, unit_place(collection)?)
+}
+
+/// The number of the party that it names, if it names one.
+pub(crate) fn party_of(feature: &Feature, collection: Collection) -> Option<i64>
+    ensures { result ≡ spec.number_at feature.now (spec.party_place collection) }
+{
+    whole_at(feature, party_place(collection)?)
+}

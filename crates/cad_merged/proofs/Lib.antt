@@ -1,0 +1,4 @@
+mod AfterLemmas
+mod MergedLemmas
+mod RunLemmas
+mod WalkLemmas

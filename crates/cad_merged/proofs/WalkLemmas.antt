@@ -1,0 +1,45 @@
+-- One step of a walk.
+use Rattle.std.proofs.Common.{◌≡◌, List, [], ◌∷◌, length, ◌+◌, ℕ, refl, sym, ap, ◌∙◌, subst, arith, Ordering, Less, Equal, Greater}
+use Rattle.std.specs.List.Sorted.{IsStrictlySortedBy}
+use Rattle.cad_feature.specs.Features.{Item, by_identifier}
+use Rattle.cad_merged.specs.ItemLemmas.{items_total}
+use Rattle.cad_merged.specs.Merging.{merged}
+use Rattle.cad_merged.specs.MergeLemmas.{change_first, change_before, change_in_place, change_behind, merged_ascends, merged_merged}
+use Rattle.cad_merged.specs.Walks.{all_in, IsInOrder}
+
+pub rest_rises : (x : Item) (xs ys : List Item) → ys ≡ x ∷ xs → IsStrictlySortedBy by_identifier ys → IsStrictlySortedBy by_identifier xs
+unfolding IsStrictlySortedBy
+rest_rises x xs ys e up = (subst (IsStrictlySortedBy by_identifier) e up).1
+
+pub none_left : (xs : List Item) → length xs ≡ 0 → xs ≡ []
+none_left [] e = refl
+none_left (x ∷ xs) e = absurd (omega (arith, e))
+
+pub only_changes : (base changes : List Item) (c : Item) (cs : List Item) → length base ≡ 0 → changes ≡ c ∷ cs → IsInOrder base changes → all_in base changes ≡ c ∷ all_in base cs
+only_changes base changes c cs none is up = rw (none_left base none, is) (change_first by_identifier items_total [] c cs tt (subst (IsStrictlySortedBy by_identifier) is up.1))
+
+module _ (base changes : List Item) (b c : Item) (bs cs : List Item) (is_base : base ≡ b ∷ bs) (is : changes ≡ c ∷ cs) (up : IsInOrder base changes) where
+  rising : IsStrictlySortedBy by_identifier (c ∷ cs)
+  rising = subst (IsStrictlySortedBy by_identifier) is up.1
+
+  pub comes_before : by_identifier c b ≡ Less → all_in base changes ≡ c ∷ all_in base cs
+  comes_before e = rw (is_base, is) (change_before by_identifier items_total b bs c cs e (subst (IsStrictlySortedBy by_identifier) is_base up.0) rising)
+
+  pub comes_in_place : by_identifier c b ≡ Equal → all_in base changes ≡ c ∷ all_in bs cs
+  comes_in_place e = rw (is_base, is) (change_in_place by_identifier items_total b bs c cs e rising)
+
+  pub comes_behind : by_identifier c b ≡ Greater → all_in base changes ≡ b ∷ all_in bs changes
+  comes_behind e = rw (is_base, is) (change_behind by_identifier items_total b bs c cs e rising)
+
+-- ---- layers
+
+pub none_rise : IsStrictlySortedBy by_identifier []
+unfolding IsStrictlySortedBy
+none_rise = tt
+
+pub all_rise : (all base changes : List Item) → all ≡ merged by_identifier base changes → IsStrictlySortedBy by_identifier base → IsStrictlySortedBy by_identifier all
+all_rise all base changes is up = rw is (merged_ascends by_identifier items_total base changes up)
+
+pub stacked : (all base shared changes more touched : List Item) → all ≡ merged by_identifier base changes → shared ≡ base → more ≡ merged by_identifier changes touched
+    → merged by_identifier shared more ≡ merged by_identifier all touched
+stacked all base shared changes more touched is same added = rw (is, same, added) (merged_merged by_identifier items_total base changes touched)

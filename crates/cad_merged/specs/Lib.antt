@@ -1,0 +1,10 @@
+pub mod Features
+pub mod Identifiers
+pub mod ItemLemmas
+pub mod Laws
+pub mod ListedLemmas
+pub mod LookupLemmas
+pub mod MergeLemmas
+pub mod Merging
+pub mod SearchLemmas
+pub mod Walks

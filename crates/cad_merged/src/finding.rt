@@ -1,0 +1,75 @@
+//! Features by their identifiers, found by a search in their order.
+
+ghost use Rattle.std.specs.Prelude.{◌≡◌};
+ghost use Rattle.std.specs.Option.{option_copied};
+ghost use Rattle.std.specs.List.Sorted.{IsStrictlySortedBy};
+ghost use Rattle.cad_feature.specs.Features.{by_identifier};
+ghost use Rattle.cad_merged.specs.Identifiers.{identifier, compared, comes_after as is_after, after, of_object, IsTheOne};
+ghost use Rattle.cad_merged.specs.Walks.{all_in, IsInOrder};
+
+use cad_feature::Feature;
+use cad_versions::ObjectId;
+use std::cmp::Ordering;
+
+/// How the feature stands to the one with that identifier.
+fn compare(feature: &Feature, object: ObjectId, number: u32) -> Ordering
+    ensures { result ≡ compared (identifier object number) feature.now }
+{
+    let by_object = feature.object.number().cmp(&object.number());
+    by_object.then(feature.number.cmp(&number))
+}
+
+fn comes_after(feature: &Feature, object: ObjectId, number: u32) -> bool
+    ensures { result ≡ is_after (identifier object number) feature.now }
+{
+    compare(feature, object, number).is_gt()
+}
+
+/// Those after the one that is named.
+pub(crate) fn rest_after(features: &[Feature], object: ObjectId, number: u32) -> &[Feature]
+    requires { IsStrictlySortedBy by_identifier features.now }
+    ensures { result.now ≡ after (identifier object number) features.now }
+{
+    let first = features.partition_point(|feature| !comes_after(feature, object, number));
+    &features[first..]
+}
+
+/// The features of that object, the oldest first.
+pub(crate) fn run_of(features: &[Feature], object: ObjectId) -> &[Feature]
+    requires { IsStrictlySortedBy by_identifier features.now }
+    ensures { result.now ≡ of_object object features.now }
+{
+    let number = object.number();
+    let first = features.partition_point(|feature| feature.object.number() < number);
+    let rest = &features[first..];
+    let count = rest.partition_point(|feature| feature.object.number() <= number);
+    &rest[..count]
+}
+
+/// The feature with that identifier.
+fn found(features: &[Feature], object: ObjectId, number: u32) -> Option<&Feature>
+    requires { IsStrictlySortedBy by_identifier features.now }
+    ensures { IsTheOne (identifier object number) features.now (option_copied result) }
+{
+    let place = features.binary_search_by(|feature| compare(feature, object, number));
+    match place {
+        Ok(at) => Some(&features[at]),
+        Err(_) => None,
+    }
+}
+
+/// The feature of the base with the changes that has that identifier.
+pub fn find<'a>(
+    base: &'a [Feature],
+    changes: &'a [Feature],
+    object: ObjectId,
+    number: u32,
+) -> Option<&'a Feature>
+    requires { IsInOrder base.now changes.now }
+    ensures { IsTheOne (identifier object number) (all_in base.now changes.now) (option_copied result) }
+{
+    match found(changes, object, number) {
+        Some(feature) => Some(feature),
+        None => found(base, object, number),
+    }
+}

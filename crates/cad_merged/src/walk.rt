@@ -1,0 +1,95 @@
+//! Walks through a base and the changes to it.
+
+ghost use Rattle.std.specs.Prelude.{◌≡◌};
+ghost use Rattle.cad_feature.specs.Features.{by_identifier};
+
+use crate::finding::{rest_after, run_of};
+use cad_feature::Feature;
+use cad_versions::ObjectId;
+use std::cmp::Ordering;
+
+/// What is left of a walk: features of the base, and changes, both by identifier.
+#[derive(Debug, Clone, Copy)]
+pub struct Walk<'a> {
+    base: &'a [Feature],
+    changes: &'a [Feature],
+}
+
+/// How one feature stands to another by their identifiers.
+fn compare(one: &Feature, other: &Feature) -> Ordering
+    ensures { result ≡ by_identifier one.now other.now }
+{
+    let by_object = one.object.number().cmp(&other.object.number());
+    by_object.then(one.number.cmp(&other.number))
+}
+
+impl<'a> Walk<'a> {
+    ghost use Rattle.std.specs.Prelude.{◌≡◌, ◌∷◌, [], MatchOption};
+    ghost use Rattle.cad_merged.specs.Identifiers.{identifier, after, of_object};
+    ghost use Rattle.cad_merged.specs.Walks.{all_in, IsInOrder};
+
+    /// The walk through all of both.
+    pub fn new(base: &'a [Feature], changes: &'a [Feature]) -> Walk<'a>
+        ensures base { result.base.now ≡ base.now }
+        ensures changes { result.changes.now ≡ changes.now }
+    {
+        Walk { base, changes }
+    }
+
+    /// The walk through what is left after the feature that is named, whether or not it is one of them.
+    pub fn after(&self, object: ObjectId, number: u32) -> Walk<'a>
+        requires { IsInOrder self.now.base.now self.now.changes.now }
+        ensures order { IsInOrder result.base.now result.changes.now }
+        ensures rest { all_in result.base.now result.changes.now ≡ after (identifier object number) (all_in self.now.base.now self.now.changes.now) }
+    {
+        Walk {
+            base: rest_after(self.base, object, number),
+            changes: rest_after(self.changes, object, number),
+        }
+    }
+
+    /// The walk through what is left of the features of that object.
+    pub fn of_object(&self, object: ObjectId) -> Walk<'a>
+        requires { IsInOrder self.now.base.now self.now.changes.now }
+        ensures order { IsInOrder result.base.now result.changes.now }
+        ensures object { all_in result.base.now result.changes.now ≡ of_object object (all_in self.now.base.now self.now.changes.now) }
+    {
+        Walk {
+            base: run_of(self.base, object),
+            changes: run_of(self.changes, object),
+        }
+    }
+
+    /// The next feature, a change in place of the one of the base that it changes.
+    pub fn next(&mut self) -> Option<&'a Feature>
+        requires { IsInOrder self.now.base.now self.now.changes.now }
+        ensures order { IsInOrder self.new.base.now self.new.changes.now }
+        ensures next { MatchOption result (all_in self.old.base.now self.old.changes.now ≡ [])
+            (λ x. all_in self.old.base.now self.old.changes.now ≡ x.now ∷ all_in self.new.base.now self.new.changes.now) }
+    {
+        let Some((c, changes)) = self.changes.split_first() else {
+            let (b, base) = self.base.split_first()?;
+            self.base = base;
+            return Some(b);
+        };
+        let Some((b, base)) = self.base.split_first() else {
+            self.changes = changes;
+            return Some(c);
+        };
+        match compare(c, b) {
+            Ordering::Less => {
+                self.changes = changes;
+                Some(c)
+            }
+            Ordering::Equal => {
+                self.base = base;
+                self.changes = changes;
+                Some(c)
+            }
+            Ordering::Greater => {
+                self.base = base;
+                Some(b)
+            }
+        }
+    }
+}
