@@ -3,7 +3,7 @@
 
 It tells what a desk over a ledger in memory, which holds the sample register, answers to events, one a line: `open C`,
 `bytes C JSON`, `close C`, `office COMMAND`, `serve C JSON`, `restart`, after which no connection is known, and `sample` and
-`empty`, which begin anew. Lines and answers are those of crates/cad_cases. Filters and features are judged by
+`empty`, which begin anew. `changes N` bounds what the server keeps beside its bases, which changes no answer. Lines and answers are those of crates/cad_cases. Filters and features are judged by
 scripts/filter_model.py and scripts/filter_meaning.py. scripts/check_server_cases holds the stored answers of crates/cad_cases
 against it, and scripts/refused those of runs in which memory is refused once.
 
@@ -567,7 +567,7 @@ def answers(lines, wanting=None):
         elif line == "restart":
             desk = Desk(desk.register)
             yield line, line
-        elif line == "memory may be wanting":
+        elif line == "memory may be wanting" or line.startswith("changes "):
             yield line, line
         else:
             yield line, desk.wanting(line) if count == wanting else desk.step(line)

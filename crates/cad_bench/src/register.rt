@@ -75,9 +75,7 @@ fn ring(alloc: Global) -> Result<Ring> {
 
 /// A square of twenty metres.
 fn square(alloc: Global) -> Result<Region> {
-    let mut rings = Vec::with_capacity(alloc, 1)?;
-    rings.push(ring(alloc)?)?;
-    Region::new(rings).ok().context("a region")
+    Ok(Region::of(alloc, ring(alloc)?)?)
 }
 
 fn parcel(alloc: Global, unit: u32) -> Result<Body> {

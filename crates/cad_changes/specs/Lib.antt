@@ -1,6 +1,5 @@
 pub mod Changes
 pub mod Fitting
 pub mod Laws
-pub mod Revisions
 pub mod Told
 pub mod Touching

@@ -14,7 +14,7 @@ use crate::edits::{NewValues, edited};
 use crate::reading::{first_of, last_of, value_at};
 use cad_day::Day;
 use cad_feature::{Feature, Value, flatten};
-use cad_merged::{Merged, copy_value};
+use cad_merged::{Layer, copy_value};
 use cad_schema::Collection;
 use cad_versions::{Body, Command, MOST_NUMBER, ObjectId, Version};
 use std::alloc::{AllocError, Global};
@@ -24,7 +24,7 @@ use std::slice::from_ref;
 const NAME: usize = 5;
 
 /// The number of the object's next version, where it may have one more.
-fn next_number(features: &Merged, object: ObjectId) -> Option<u32>
+fn next_number(features: &Layer, object: ObjectId) -> Option<u32>
     ensures number { result ≡ spec.number_after (spec.count_of object features.now.features) }
     ensures in_range { IfSome result (λ number. (1 ≤ number) × (number ≤ 2147483647)) }
 {
@@ -76,7 +76,7 @@ fn name_in(alloc: Global, feature: &Feature) -> Result<Value, AllocError>
 /// What the object is called on the day, among units or parties.
 fn name_among(
     alloc: Global,
-    features: &Merged,
+    features: &Layer,
     day: Day,
     object: ObjectId,
 ) -> Result<Value, AllocError>
@@ -93,7 +93,7 @@ fn name_among(
 
 fn name_if_any(
     alloc: Global,
-    features: &Merged,
+    features: &Layer,
     day: Day,
     object: Option<ObjectId>,
 ) -> Result<Option<Value>, AllocError>
@@ -111,7 +111,7 @@ fn name_if_any(
 /// The object's next version, where it may have one more.
 fn begun(
     alloc: Global,
-    features: &Merged,
+    features: &Layer,
     object: ObjectId,
     first: Day,
     body: &Body,
@@ -136,7 +136,7 @@ fn begun(
 fn version_begun(
     alloc: Global,
     command: &Command,
-    features: &Merged,
+    features: &Layer,
 ) -> Result<Option<Version>, AllocError>
     ensures version { IfOk result (λ version. version ≡ spec.version_begun features.now.features command.now) }
     ensures sound { IfOk result (λ version. IfSome version IsVersion) }
@@ -175,8 +175,8 @@ fn joined(
     alloc: Global,
     version: &Version,
     feature: &Feature,
-    units: &Merged,
-    parties: &Merged,
+    units: &Layer,
+    parties: &Layer,
     collection: Collection,
 ) -> Result<Feature, AllocError>
     ensures { IfOk result (λ x. x ≡ spec.edited (spec.names_joined units.now.features parties.now.features version.now) collection feature.now) }
@@ -193,7 +193,7 @@ fn joined(
 }
 
 /// What it lists are features of its collection.
-pub(crate) fn are_listed(features: &Merged)
+pub(crate) fn are_listed(features: &Layer)
     ensures { AreFeaturesOf features.now.collection features.now.features }
 {
     let _listed = features.collection();
@@ -203,8 +203,8 @@ pub(crate) fn are_listed(features: &Merged)
 fn feature_of(
     alloc: Global,
     version: &Version,
-    units: &Merged,
-    parties: &Merged,
+    units: &Layer,
+    parties: &Layer,
     collection: Collection,
 ) -> Result<Option<Feature>, AllocError>
     requires sound { IsVersion version.now }
@@ -227,9 +227,9 @@ fn feature_of(
 pub(crate) fn feature_added(
     alloc: Global,
     command: &Command,
-    features: &Merged,
-    units: &Merged,
-    parties: &Merged,
+    features: &Layer,
+    units: &Layer,
+    parties: &Layer,
 ) -> Result<Option<Feature>, AllocError>
     requires units { units.now.collection ≡ Units }
     requires parties { parties.now.collection ≡ Parties }

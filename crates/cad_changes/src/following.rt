@@ -8,20 +8,19 @@ ghost use Rattle.cad_schema.specs.declared.collection.Collection.TheVariants.{Un
 ghost use Rattle.cad_feature.specs.Flatten.{features_in};
 
 use crate::touching::touched;
-use cad_merged::Merged;
+use cad_merged::Layer;
 use cad_versions::Command;
 use std::alloc::{AllocError, Global};
 
-/// The features of a collection after the command, told by those of the collection, the units and the parties before it. They share
-/// the base where there are no more changes than `most`. An error is want of memory.
+/// The features of a collection after the command, told by those of the collection, the units and the parties before it, over the
+/// same base. An error is want of memory.
 pub fn features_after(
     alloc: Global,
     command: &Command,
-    features: &Merged,
-    units: &Merged,
-    parties: &Merged,
-    most: usize,
-) -> Result<Merged, AllocError>
+    features: &Layer,
+    units: &Layer,
+    parties: &Layer,
+) -> Result<Layer, AllocError>
     requires units { units.now.collection ≡ Units }
     requires parties { parties.now.collection ≡ Parties }
     ensures collection { IfOk result (λ after. after.collection ≡ features.now.collection) }
@@ -32,6 +31,6 @@ pub fn features_after(
         → after.features ≡ features_in (as_of (length commands + 1) (commands ++ command.now ∷ [])) features.now.collection) }
 {
     let touched = touched(alloc, command, features, units, parties)?;
-    let after = features.with(alloc, &touched, most)?;
+    let after = features.with(alloc, &touched)?;
     Ok(after)
 }

@@ -13,7 +13,7 @@ use crate::edits::{NewValues, edited};
 use crate::reading::{first_of, last_of, party_of, unit_of};
 use cad_day::Day;
 use cad_feature::{Feature, Value};
-use cad_merged::Merged;
+use cad_merged::Layer;
 use cad_schema::Collection;
 use cad_versions::{Command, ObjectId};
 use std::alloc::{AllocError, Global};
@@ -203,7 +203,7 @@ fn push_left(
 pub(crate) fn features_left(
     alloc: Global,
     command: &Command,
-    features: &Merged,
+    features: &Layer,
 ) -> Result<Vec<Feature>, AllocError>
     ensures { IfOk result (λ all. all.items ≡ spec.items_left command.now features.now.collection features.now.features) }
 {

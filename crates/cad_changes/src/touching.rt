@@ -15,7 +15,7 @@ ghost use Rattle.cad_changes.specs.Touching.{items_touched};
 use crate::adding::{are_listed, feature_added};
 use crate::leaving::features_left;
 use cad_feature::Feature;
-use cad_merged::{Merged, merge};
+use cad_merged::{Layer, merge};
 use cad_versions::Command;
 use std::alloc::{AllocError, Global};
 
@@ -43,9 +43,9 @@ fn with_added(
 pub fn touched(
     alloc: Global,
     command: &Command,
-    features: &Merged,
-    units: &Merged,
-    parties: &Merged,
+    features: &Layer,
+    units: &Layer,
+    parties: &Layer,
 ) -> Result<Vec<Feature>, AllocError>
     requires units { units.now.collection ≡ Units }
     requires parties { parties.now.collection ≡ Parties }

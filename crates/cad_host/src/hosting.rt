@@ -5,6 +5,7 @@ use crate::log::Log;
 use crate::office::{Office, Told};
 use crate::peers::Peers;
 use crate::readiness::{CLIENTS_DOOR, OFFICE, OFFICE_DOOR, Readiness, SOCKETS};
+use cad_clients::ROOM;
 use cad_desk::Desk;
 use cad_stream::Responder;
 use mio::net::{TcpListener, UnixListener};
@@ -110,6 +111,40 @@ impl Rounds {
         None
     }
 
+    /// A turn of the land office between those of two clients: what it said meanwhile is heard.
+    fn serve_office_between<N: Clock, R: Responder>(
+        &mut self,
+        rt: &N,
+        desk: &mut Desk<R>,
+    ) -> Result<Option<Stopped>> {
+        if self.office.is_none() {
+            return Ok(None);
+        }
+        self.wait(rt, 0)?;
+        Ok(self.serve_office(desk))
+    }
+
+    /// Each client that may go on is served once, and the land office after each of them.
+    fn serve_clients<N: Clock, E: Write, R: Responder>(
+        &mut self,
+        rt: &N,
+        log: &mut Log<E>,
+        desk: &mut Desk<R>,
+    ) -> Result<Option<Stopped>> {
+        for c in 0..ROOM {
+            if !self.peers.is_ready(c) {
+                continue;
+            }
+            if !self.peers.serve_one(self.alloc, c, self.now, desk, log) {
+                return Ok(Some(Stopped::StoreRefused));
+            }
+            if let Some(stopped) = self.serve_office_between(rt, desk)? {
+                return Ok(Some(stopped));
+            }
+        }
+        Ok(None)
+    }
+
     /// Takes the clients that wait. Where one cannot be taken for want of descriptors, it waits until the next round.
     fn take_clients<E: Write, R: Responder>(&mut self, log: &mut Log<E>, desk: &mut Desk<R>) {
         for _ in 0..TAKEN {
@@ -150,7 +185,7 @@ impl Rounds {
         }
     }
 
-    /// A round: each client that may go on is served once, and so is the land office.
+    /// A round: each client that may go on is served once, and the land office after each of them, and once more.
     fn round<N: Clock, E: Write, R: Responder>(
         &mut self,
         rt: &N,
@@ -162,8 +197,8 @@ impl Rounds {
         if log.is_on() {
             log.set_time(wall_seconds(rt));
         }
-        if !self.peers.serve_ready(self.alloc, self.now, desk, log) {
-            return Ok(Some(Stopped::StoreRefused));
+        if let Some(stopped) = self.serve_clients(rt, log, desk)? {
+            return Ok(Some(stopped));
         }
         if let Some(stopped) = self.serve_office(desk) {
             return Ok(Some(stopped));

@@ -20,7 +20,7 @@
 //!   gave that number, and takes it out before the number is free; `serve_one` and `send_one` hand both to one call;
 //! - that a socket that may give or take something is served: a client is marked when `mio` tells of it and when it comes, and
 //!   is passed over only after a turn at which its socket gave and took nothing;
-//! - that each round gives a turn to all that are marked, and to the office;
+//! - that each round gives a turn to all that are marked, and to the office after each of them;
 //! - the times, 60 and 300 seconds for a client, two for a socket that is over, five for replies at a stop;
 //! - that the office's socket has the rights that it should, and is removed at the end.
 //!

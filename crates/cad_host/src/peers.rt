@@ -48,6 +48,11 @@ impl Peers {
         self.clients.mark(c);
     }
 
+    /// Whether this client may go on at once.
+    pub(crate) fn is_ready(&self, c: u32) -> bool {
+        self.clients.is_ready(c)
+    }
+
     /// Whether a client may go on at once.
     pub(crate) fn any_ready(&self) -> bool {
         (0..ROOM).any(|c| self.clients.is_ready(c))
@@ -69,7 +74,7 @@ impl Peers {
     }
 
     /// Serves a client. `false`: the register's database refused.
-    fn serve_one<R: Responder, L: AccessLog>(
+    pub(crate) fn serve_one<R: Responder, L: AccessLog>(
         &mut self,
         alloc: Global,
         c: u32,
@@ -94,22 +99,6 @@ impl Peers {
                 !refused_by_store(ending)
             }
         }
-    }
-
-    /// Each client that may go on is served once. `false`: the register's database refused.
-    pub(crate) fn serve_ready<R: Responder, L: AccessLog>(
-        &mut self,
-        alloc: Global,
-        now: u64,
-        desk: &mut Desk<R>,
-        log: &mut L,
-    ) -> bool {
-        for c in 0..ROOM {
-            if self.clients.is_ready(c) && !self.serve_one(alloc, c, now, desk, log) {
-                return false;
-            }
-        }
-        true
     }
 
     /// A write of what has not gone out to a client.

@@ -127,6 +127,17 @@ impl Indexes {
         }
     }
 
+    /// How many positions have a value in the range. No memory is taken.
+    pub fn range_count(&self, range: &Range) -> u64
+        ensures { (collection : CollectionOf) (xs : List Item) → AreFeaturesOf collection xs → AreIndexesOf collection xs self.now
+            → result ≡ length (range_positions (column range.now.property xs) (limit_of range.now.low) (limit_of range.now.high)) }
+    {
+        match self.range(range) {
+            None => 0,
+            Some(found) => u64::from(found.count()),
+        }
+    }
+
     /// The positions near the box, as they ascend; none where the property has no grid, for then nothing is near. An error is
     /// want of memory.
     pub fn near(

@@ -4,20 +4,20 @@
 //! - [`Grid`]: the positions of a property's shapes by the cells that they touch.
 //! - [`Indexes`]: an ordered index for each property of kind text, whole number or day, and a grid for each of kind spot or
 //!   area.
-//! - [`Layer`]: the features of a collection with their indexes.
+//! - [`Base`]: features of a collection with their indexes.
 //! - [`laws`]: which features the positions of a range, or near a box, are of.
 //!
 //! Of the parcels 1 to 5, `object` is the property at place 0: its index gives the position 2 for the range from 3 to 3.
 #![tactic(auto)]
 
+mod base;
 mod index;
 mod indexes;
 pub mod laws;
-mod layer;
 
+pub use base::Base;
 pub use cad_grid::Grid;
 pub use cad_ordered::Ordered;
 pub use cad_positions::Found;
 pub use index::Index;
 pub use indexes::Indexes;
-pub use layer::Layer;

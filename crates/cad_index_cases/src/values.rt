@@ -30,9 +30,7 @@ pub fn region(alloc: Global, corners: Vec<Point>) -> Result<Option<Region>, Allo
     let Some(ring) = Ring::new(corners).ok() else {
         return Ok(None);
     };
-    let mut rings = Vec::with_capacity(alloc, 1)?;
-    rings.push(ring)?;
-    Ok(Region::new(rings).ok())
+    Ok(Some(Region::of(alloc, ring)?))
 }
 
 /// The rectangle of a box that is not flat.

@@ -1,6 +1,6 @@
 //! Desks over registers in databases: a walk over a restart, and a register with a damaged row.
 
-use crate::disks::{made, opened};
+use crate::disks::{File, made, opened};
 use crate::register::{created, in_memory};
 use cad_desk::Desk;
 use cad_register::Register;
@@ -9,7 +9,6 @@ use cad_server::Server;
 use cad_stream::Responder;
 use desk_script::{Memory as Want, answer, line_of};
 use sqlite::{Alter, FileStore};
-use sqlite_disk::Memory;
 use std::alloc::Global;
 use std::process::Abort;
 use std::test::Fail;
@@ -39,8 +38,8 @@ fn filled<S: Alter + Drop>(alloc: Global, register: Register<S>) -> Result<Regis
 /// Releases the desk and the register, closes the files, opens them again, and makes another desk.
 fn restarted(
     alloc: Global,
-    desk: RegisterDesk<FileStore<Memory>>,
-) -> Result<RegisterDesk<FileStore<Memory>>, Fail> {
+    desk: RegisterDesk<FileStore<File>>,
+) -> Result<RegisterDesk<FileStore<File>>, Fail> {
     let register = desk.release().release();
     let files = register.release().close_files().ok().ok_or("closed")?;
     let register = opened(alloc, files).ok().ok_or("opened")?;

@@ -1,8 +1,5 @@
 //! Files in memory, databases over them, and what a stop in the middle of a command leaves of a register.
 
-ghost use Rattle.std.specs.Prelude.{IsTrue, IfOk};
-ghost use Rattle.sqlite_disk.specs.Memory.{memory_is_usable};
-
 use crate::register::{Y2000, Y2001, Y2003, amend, applied, enter, listed, retire, unit};
 use cad_register::{Command, Register};
 use sqlite::{Connection, FileStore, Files, Options};
@@ -14,22 +11,24 @@ use std::test::Fail;
 /// The calls of a file before which a run of a command has ended.
 const MOST_CALLS: u64 = 1000;
 
-/// A file of these bytes, which a crash leaves.
-fn file_of(alloc: Global, bytes: &[u8]) -> Result<Memory, Fail>
-    ensures { IfOk result (λ file. IsTrue (memory_is_usable file)) }
-{
+/// A file in memory that fails behind so many calls, or at none: all tests of files go by this one type, since each type of a file
+/// costs the proof of a database over it.
+pub(crate) type File = Fuse<Memory>;
+
+/// A file of these bytes, which a crash leaves, and which fails behind so many calls.
+fn file_of(alloc: Global, bytes: &[u8], calls: u64) -> Result<File, Fail> {
     let mut file = Memory::new(alloc);
     file.write_at(0, bytes)?;
     file.sync()?;
-    Ok(file)
+    Ok(Fuse::new(file, calls))
 }
 
 /// The database in the files, or the files back. Before it commits, it copies what the log holds into the database file, so that a
 /// command writes to both.
-fn connected<D: Disk + Drop>(
+fn connected(
     alloc: Global,
-    files: Files<D>,
-) -> Result<Connection<FileStore<D>>, Files<D>> {
+    files: Files<File>,
+) -> Result<Connection<FileStore<File>>, Files<File>> {
     if !files.may_be_used() {
         return Err(files);
     }
@@ -44,10 +43,10 @@ fn connected<D: Disk + Drop>(
 }
 
 /// The register in the files, or the files back.
-pub(crate) fn opened<D: Disk + Drop>(
+pub(crate) fn opened(
     alloc: Global,
-    files: Files<D>,
-) -> Result<Register<FileStore<D>>, Files<D>> {
+    files: Files<File>,
+) -> Result<Register<FileStore<File>>, Files<File>> {
     match Register::open(alloc, connected(alloc, files)?) {
         Ok(register) => Ok(register),
         Err((_, connection)) => Err(connection.into_store().close()),
@@ -55,10 +54,10 @@ pub(crate) fn opened<D: Disk + Drop>(
 }
 
 /// A register of no commands, in files of no bytes.
-pub(crate) fn made(alloc: Global) -> Result<Register<FileStore<Memory>>, Fail> {
+pub(crate) fn made(alloc: Global) -> Result<Register<FileStore<File>>, Fail> {
     let files = Files {
-        log: Memory::new(alloc),
-        db: Memory::new(alloc),
+        log: Fuse::new(Memory::new(alloc), u64::MAX),
+        db: Fuse::new(Memory::new(alloc), u64::MAX),
     };
     let connection = connected(alloc, files).ok().ok_or("connected")?;
     Ok(Register::create(alloc, connection).ok().ok_or("created")?)
@@ -79,13 +78,13 @@ fn bytes_of_one(alloc: Global) -> Result<Bytes, Fail> {
     }
     let files = register.release().into_store().close();
     Ok(Bytes {
-        log: Vec::from_slice(alloc, files.log.bytes())?,
-        db: Vec::from_slice(alloc, files.db.bytes())?,
+        log: Vec::from_slice(alloc, files.log.inner().bytes())?,
+        db: Vec::from_slice(alloc, files.db.inner().bytes())?,
     })
 }
 
 /// The revision of the register in the files, and its versions.
-fn found_in<D: Disk + Drop>(alloc: Global, files: Files<D>) -> Result<String, Fail> {
+fn found_in(alloc: Global, files: Files<File>) -> Result<String, Fail> {
     let mut register = opened(alloc, files).ok().ok_or("opened")?;
     let revision = register.revision();
     let found = listed(alloc, &mut register, revision)?;
@@ -93,10 +92,10 @@ fn found_in<D: Disk + Drop>(alloc: Global, files: Files<D>) -> Result<String, Fa
 }
 
 /// What is found where a stop left all that was written, and where it left what was synced alone.
-fn found_after(alloc: Global, files: Files<Fuse<Memory>>) -> Result<[String; 2], Fail> {
+fn found_after(alloc: Global, files: Files<File>) -> Result<[String; 2], Fail> {
     let written = Files {
-        log: file_of(alloc, files.log.inner().bytes())?,
-        db: file_of(alloc, files.db.inner().bytes())?,
+        log: file_of(alloc, files.log.inner().bytes(), u64::MAX)?,
+        db: file_of(alloc, files.db.inner().bytes(), u64::MAX)?,
     };
     let mut synced = files;
     synced.log.crash();
@@ -134,14 +133,14 @@ fn failing_files(
     stored: &Bytes,
     failing: Failing,
     calls: u64,
-) -> Result<Files<Fuse<Memory>>, Fail> {
+) -> Result<Files<File>, Fail> {
     let (log_calls, db_calls) = match failing {
         Failing::Log => (calls, u64::MAX),
         Failing::Database => (u64::MAX, calls),
     };
     Ok(Files {
-        log: Fuse::new(file_of(alloc, &stored.log)?, log_calls),
-        db: Fuse::new(file_of(alloc, &stored.db)?, db_calls),
+        log: file_of(alloc, &stored.log, log_calls)?,
+        db: file_of(alloc, &stored.db, db_calls)?,
     })
 }
 
@@ -155,7 +154,7 @@ fn opening_calls(alloc: Global, stored: &Bytes, failing: Failing) -> Result<u64,
     Err("the register is opened by more calls")?
 }
 
-fn has_failed<D: Disk>(file: &mut D) -> bool {
+fn has_failed(file: &mut File) -> bool {
     !file.may_be_used() || file.len().is_err()
 }
 

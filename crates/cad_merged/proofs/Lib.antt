@@ -1,4 +1,7 @@
 mod AfterLemmas
+mod CountedLemmas
 mod MergedLemmas
+mod ReplacedLemmas
+mod ReplacingLemmas
 mod RunLemmas
 mod WalkLemmas

@@ -1,5 +1,5 @@
 -- One step of a walk.
-use Rattle.std.proofs.Common.{◌≡◌, List, [], ◌∷◌, length, ◌+◌, ℕ, refl, sym, ap, ◌∙◌, subst, arith, Ordering, Less, Equal, Greater}
+use Rattle.std.proofs.Common.{◌≡◌, List, [], ◌∷◌, length, refl, subst, arith, Less, Equal, Greater}
 use Rattle.std.specs.List.Sorted.{IsStrictlySortedBy}
 use Rattle.cad_feature.specs.Features.{Item, by_identifier}
 use Rattle.cad_merged.specs.ItemLemmas.{items_total}

@@ -1,4 +1,5 @@
-pub mod Features
+pub mod CountLemmas
+pub mod FilterLemmas
 pub mod Identifiers
 pub mod ItemLemmas
 pub mod Laws
@@ -6,5 +7,6 @@ pub mod ListedLemmas
 pub mod LookupLemmas
 pub mod MergeLemmas
 pub mod Merging
+pub mod Replaced
 pub mod SearchLemmas
 pub mod Walks

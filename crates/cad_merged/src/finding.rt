@@ -12,7 +12,7 @@ use cad_versions::ObjectId;
 use std::cmp::Ordering;
 
 /// How the feature stands to the one with that identifier.
-fn compare(feature: &Feature, object: ObjectId, number: u32) -> Ordering
+pub(crate) fn compare(feature: &Feature, object: ObjectId, number: u32) -> Ordering
     ensures { result ≡ compared (identifier object number) feature.now }
 {
     let by_object = feature.object.number().cmp(&object.number());

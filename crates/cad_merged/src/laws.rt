@@ -1,8 +1,13 @@
-//! What holds of changes. The contract is a law; the function does nothing.
+//! What holds of changes and of features in their order. Each contract is a law; the functions do nothing.
 
-ghost use Rattle.cad_merged.specs.Laws.{ChangesAdd};
+ghost use Rattle.cad_merged.specs.Laws.{ChangesAdd, IdentifiersAreUnique};
 
 /// Changes may be merged with one another before they are merged with what they change.
 pub fn changes_add()
     ensures { ChangesAdd }
+{}
+
+/// In a list that ascends one feature alone has an identifier.
+pub fn identifiers_are_unique()
+    ensures { IdentifiersAreUnique }
 {}

@@ -1,15 +1,26 @@
-//! The features of one collection as a base and the changes to it.
+//! The features of one collection at one revision of several: a base with its indexes, which revisions share, and the changes to it.
+//!
+//! - [`Layer`]: a base and its changes, seen as the features with the changes merged, which it counts by the base's indexes
+//! - [`Walk`]: a walk through both, in the order of identifiers
+//! - [`merge`], [`find`]: all of both, and one of them
+//! - `laws`: that changes may be merged with one another first, and that identifiers are unique
+//!
+//! A base of the parcels 1.1 and 2.1 with the changes 1.1, which is closed, and 1.2, has the features 1.1 as it was changed, 1.2 and
+//! 2.1.
 #![tactic(auto)]
 
 mod copies;
+mod counting;
+mod criterion;
 mod finding;
 pub mod laws;
-mod merged;
+mod layer;
 mod merging;
+mod replacing;
 mod walk;
 
 pub use copies::{copy_feature, copy_value};
 pub use finding::find;
-pub use merged::Merged;
+pub use layer::Layer;
 pub use merging::merge;
 pub use walk::Walk;

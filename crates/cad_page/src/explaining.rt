@@ -33,7 +33,7 @@ pub fn explain(alloc: Global, ask: &Ask, snapshot: &Snapshot) -> Result<Report, 
 {
     let Planned { plan, page } = planned_asked(alloc, ask, snapshot)?;
     let layer = snapshot.layer(ask.collection);
-    let cost = estimate(&plan, layer.indexes());
+    let cost = estimate(&plan, layer);
     let candidates = candidate_count(alloc, &plan, layer)?;
     Ok(Report {
         plan,

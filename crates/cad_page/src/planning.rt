@@ -50,7 +50,9 @@ fn plan_for(
 {
     let layer = snapshot.layer(ask.collection);
     features_are_written(ask.collection);
-    let plan = choose(alloc, form, layer.indexes())?;
+    // The layer's features are the collection's.
+    let _ = layer.collection();
+    let plan = choose(alloc, form, layer)?;
     Ok(plan)
 }
 

@@ -37,12 +37,8 @@ fn outline(alloc: Global, x: i64, y: i64) -> Result<Ring> {
 /// The region of the parcel with that number, without holes: a thousand parcels stand side by side.
 fn region(alloc: Global, number: u32) -> Result<Region> {
     let place = i64::from(number);
-    let mut rings = Vec::with_capacity(alloc, 1)?;
-    rings.push(outline(alloc, place % 1000 * 20_000, place / 1000 * 20_000)?)?;
-    match Region::new(rings) {
-        Ok(region) => Ok(region),
-        Err(_) => bail!("no region"),
-    }
+    let ring = outline(alloc, place % 1000 * 20_000, place / 1000 * 20_000)?;
+    Ok(Region::of(alloc, ring)?)
 }
 
 fn label(alloc: Global, number: u32) -> Result<Words> {

@@ -19,6 +19,10 @@ pub record HasLedger (desk : Desk (Server PlainLedger)) (ledger : PlainLedger) :
 abbrev pub IsDeskOf : Desk (Server PlainLedger) → List Command → Type 0
 IsDeskOf desk commands = (ledger : PlainLedger) × HasLedger desk ledger × IsLedgerOf ledger commands
 
+-- the ledger is that of the sample's commands
+abbrev pub IsSampleLedger : PlainLedger → Type 0
+IsSampleLedger ledger = (commands : List Command) × AreSample commands × IsLedgerOf ledger commands
+
 -- the commands are those of the sample
 abbrev pub IsSampleDesk : Desk (Server PlainLedger) → Type 0
 IsSampleDesk desk = (commands : List Command) × AreSample commands × IsDeskOf desk commands

@@ -1,7 +1,7 @@
 //! Desks to begin with.
 
 ghost use Rattle.std.specs.Prelude.{[], IfOk};
-ghost use Rattle.cad_plain_desk.specs.Desks.{HasLedger, IsDeskOf, IsSampleDesk};
+ghost use Rattle.cad_plain_desk.specs.Desks.{HasLedger, IsDeskOf, IsSampleDesk, IsSampleLedger};
 
 use cad_desk::Desk;
 use cad_plain::PlainLedger;
@@ -12,10 +12,25 @@ use std::alloc::{AllocError, Global};
 /// A desk of the server over a ledger in memory.
 pub type PlainDesk = Desk<Server<PlainLedger>>;
 
-fn desk_over(alloc: Global, ledger: PlainLedger) -> Result<PlainDesk, AllocError>
+/// A desk over the ledger.
+pub fn desk_over(alloc: Global, ledger: PlainLedger) -> Result<PlainDesk, AllocError>
     ensures { IfOk result (λ desk. HasLedger desk ledger) }
 {
     match Server::new(alloc, ledger) {
+        Ok(server) => Ok(Desk::new(alloc, server)),
+        Err(_) => Err(AllocError),
+    }
+}
+
+/// A desk over the ledger, whose server gives a base of a collection at most so many changes.
+pub fn desk_with_changes(
+    alloc: Global,
+    ledger: PlainLedger,
+    most_changes: usize,
+) -> Result<PlainDesk, AllocError>
+    ensures { IfOk result (λ desk. HasLedger desk ledger) }
+{
+    match Server::with_changes(alloc, ledger, most_changes) {
         Ok(server) => Ok(Desk::new(alloc, server)),
         Err(_) => Err(AllocError),
     }
@@ -28,13 +43,21 @@ pub fn empty_desk(alloc: Global) -> Result<PlainDesk, AllocError>
     desk_over(alloc, PlainLedger::new(alloc))
 }
 
+/// The sample register.
+pub fn sample_ledger(alloc: Global) -> Result<PlainLedger, AllocError>
+    ensures { IfOk result IsSampleLedger }
+{
+    let mut ledger = PlainLedger::new(alloc);
+    match fill(alloc, &mut ledger) {
+        Ok(_) => Ok(ledger),
+        Err(_) => Err(AllocError),
+    }
+}
+
 /// A desk over the sample register.
 pub fn sample_desk(alloc: Global) -> Result<PlainDesk, AllocError>
     ensures { IfOk result IsSampleDesk }
 {
-    let mut ledger = PlainLedger::new(alloc);
-    match fill(alloc, &mut ledger) {
-        Ok(_) => desk_over(alloc, ledger),
-        Err(_) => Err(AllocError),
-    }
+    let ledger = sample_ledger(alloc)?;
+    desk_over(alloc, ledger)
 }

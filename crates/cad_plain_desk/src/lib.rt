@@ -1,7 +1,8 @@
 //! Desks of the server over a ledger in memory, to begin with.
 //!
 //! - `empty_desk`: over a register of no commands
-//! - `sample_desk`: over the sample register
+//! - `sample_desk`: over the sample register, which `sample_ledger` gives
+//! - `desk_over`, `desk_with_changes`: over any ledger, the second with a bound for the changes of a base
 //!
 //! ```text
 //! let mut desk = sample_desk(alloc)?;
@@ -12,4 +13,4 @@
 
 mod desks;
 
-pub use desks::{PlainDesk, empty_desk, sample_desk};
+pub use desks::{PlainDesk, desk_over, desk_with_changes, empty_desk, sample_desk, sample_ledger};

@@ -1,3 +1,1 @@
-pub mod Counted
 pub mod Gathered
-pub mod Laws

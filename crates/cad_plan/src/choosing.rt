@@ -1,22 +1,17 @@
 //! The choice of a plan.
 
-ghost use Rattle.std.specs.Prelude.{◌≡◌, ◌≤◌, List, IfOk, IsTrue, filter, map};
-ghost use Rattle.cad_schema.specs.declared.collection.Collection.{Collection};
+ghost use Rattle.std.specs.Prelude.{◌≡◌, IfOk, IsTrue, filter, length, map};
 ghost use Rattle.cad_cells.specs.Blocks.{block_around};
 ghost use Rattle.cad_shape.specs.Shapes.{shape_corners};
-ghost use Rattle.cad_feature.specs.Features.{AreFeaturesOf, Item};
-ghost use Rattle.cad_index.specs.Indexed.{AreIndexesOf};
+ghost use Rattle.cad_feature.specs.Features.{Item};
 ghost use Rattle.cad_lookup.specs.Candidates.{is_candidate};
 ghost use Rattle.cad_lookup.specs.Ways.{all_features, cost, counts_of, join_of, min_of, near_block, no_feature, range_way, way_of, ways_in};
 ghost use Rattle.cql_rewrite.specs.Choices.{met as met_of};
 ghost use Rattle.cql_rewrite.specs.Meets.{meets};
 ghost use Rattle.cql_rewrite.specs.Menus.{cheaper, choice, is_narrow};
-ghost use Rattle.cad_plan.specs.Counted.{counts_in};
 
-use crate::estimating::{count_in_range, count_near};
-use crate::laws::indexes_count_features;
-use cad_index::Indexes;
 use cad_lookup::Plan;
+use cad_merged::Layer;
 use cad_range::Range;
 use cad_shape::{Shape, bounds};
 use cql_rewrite::Normal;
@@ -56,26 +51,26 @@ impl NarrowPlans {
     }
 }
 
-fn all(indexes: &Indexes) -> Priced
+fn all(layer: &Layer) -> Priced
     ensures way { way_of result.plan ≡ all_features }
-    ensures cost { result.cost ≡ cost (counts_in indexes.now) (way_of result.plan) }
+    ensures cost { result.cost ≡ cost (counts_of layer.now.features) (way_of result.plan) }
 {
     Priced {
         plan: Plan::All,
-        cost: indexes.count() as u64,
+        cost: layer.count(),
     }
 }
 
 // All, or the plan that is offered where it costs less.
-fn all_or(offered: Priced, indexes: &Indexes) -> Priced
-    requires { offered.cost ≡ cost (counts_in indexes.now) (way_of offered.plan) }
-    ensures way { way_of result.plan ≡ cheaper (counts_in indexes.now) all_features (way_of offered.plan) }
-    ensures cost { result.cost ≡ cost (counts_in indexes.now) (way_of result.plan) }
+fn all_or(offered: Priced, layer: &Layer) -> Priced
+    requires { offered.cost ≡ cost (counts_of layer.now.features) (way_of offered.plan) }
+    ensures way { way_of result.plan ≡ cheaper (counts_of layer.now.features) all_features (way_of offered.plan) }
+    ensures cost { result.cost ≡ cost (counts_of layer.now.features) (way_of result.plan) }
 {
-    if offered.cost < indexes.count() as u64 {
+    if offered.cost < layer.count() {
         offered
     } else {
-        all(indexes)
+        all(layer)
     }
 }
 
@@ -102,33 +97,33 @@ pub(crate) fn near_plan(property: usize, shape: &Shape) -> Plan
     }
 }
 
-fn of_nothing(indexes: &Indexes) -> Priced
-    ensures way { way_of result.plan ≡ cheaper (counts_in indexes.now) all_features no_feature }
-    ensures cost { result.cost ≡ cost (counts_in indexes.now) (way_of result.plan) }
+fn of_nothing(layer: &Layer) -> Priced
+    ensures way { way_of result.plan ≡ cheaper (counts_of layer.now.features) all_features no_feature }
+    ensures cost { result.cost ≡ cost (counts_of layer.now.features) (way_of result.plan) }
 {
     let nothing = Priced {
         plan: Plan::Empty,
         cost: 0,
     };
-    all_or(nothing, indexes)
+    all_or(nothing, layer)
 }
 
-fn of_range(alloc: Global, range: &Range, indexes: &Indexes) -> Result<Priced, AllocError>
-    ensures way { IfOk result (λ chosen. way_of chosen.plan ≡ cheaper (counts_in indexes.now) all_features (range_way range.now)) }
-    ensures cost { IfOk result (λ chosen. chosen.cost ≡ cost (counts_in indexes.now) (way_of chosen.plan)) }
+fn of_range(alloc: Global, range: &Range, layer: &Layer) -> Result<Priced, AllocError>
+    ensures way { IfOk result (λ chosen. way_of chosen.plan ≡ cheaper (counts_of layer.now.features) all_features (range_way range.now)) }
+    ensures cost { IfOk result (λ chosen. chosen.cost ≡ cost (counts_of layer.now.features) (way_of chosen.plan)) }
 {
     let plan = range_plan(alloc, range)?;
-    let cost = count_in_range(range, indexes);
-    Ok(all_or(Priced { plan, cost }, indexes))
+    let cost = layer.count_in(range);
+    Ok(all_or(Priced { plan, cost }, layer))
 }
 
-fn of_shape(property: usize, shape: &Shape, indexes: &Indexes) -> Priced
-    ensures way { way_of result.plan ≡ cheaper (counts_in indexes.now) all_features (near_block property (block_around (shape_corners shape.now))) }
-    ensures cost { result.cost ≡ cost (counts_in indexes.now) (way_of result.plan) }
+fn of_shape(property: usize, shape: &Shape, layer: &Layer) -> Priced
+    ensures way { way_of result.plan ≡ cheaper (counts_of layer.now.features) all_features (near_block property (block_around (shape_corners shape.now))) }
+    ensures cost { result.cost ≡ cost (counts_of layer.now.features) (way_of result.plan) }
 {
     let plan = near_plan(property, shape);
-    let cost = count_near(property, bounds(shape), indexes);
-    all_or(Priced { plan, cost }, indexes)
+    let cost = layer.count_near(property, bounds(shape));
+    all_or(Priced { plan, cost }, layer)
 }
 
 // The meet of two plans or more, else the one, or all.
@@ -148,38 +143,38 @@ fn meet(plans: Vec<Plan>) -> Plan
 
 /// The choice of the form's menu, with its cost.
 #[cycle(choose)]
-pub(crate) fn chosen(alloc: Global, form: &Normal, indexes: &Indexes) -> Result<Priced, AllocError>
-    ensures way { IfOk result (λ chosen. way_of chosen.plan ≡ choice (counts_in indexes.now) form.now) }
-    ensures cost { IfOk result (λ chosen. chosen.cost ≡ cost (counts_in indexes.now) (way_of chosen.plan)) }
+pub(crate) fn chosen(alloc: Global, form: &Normal, layer: &Layer) -> Result<Priced, AllocError>
+    ensures way { IfOk result (λ chosen. way_of chosen.plan ≡ choice (counts_of layer.now.features) form.now) }
+    ensures cost { IfOk result (λ chosen. chosen.cost ≡ cost (counts_of layer.now.features) (way_of chosen.plan)) }
 {
     match form {
-        Normal::Constant(true) => Ok(all(indexes)),
-        Normal::Constant(false) => Ok(of_nothing(indexes)),
+        Normal::Constant(true) => Ok(all(layer)),
+        Normal::Constant(false) => Ok(of_nothing(layer)),
         Normal::Range(range) => {
-            let chosen = of_range(alloc, range, indexes)?;
+            let chosen = of_range(alloc, range, layer)?;
             Ok(chosen)
         }
         Normal::Like { range, .. } => {
-            let chosen = of_range(alloc, range, indexes)?;
+            let chosen = of_range(alloc, range, layer)?;
             Ok(chosen)
         }
-        Normal::Atom { .. } => Ok(all(indexes)),
-        Normal::Folded { .. } => Ok(all(indexes)),
+        Normal::Atom { .. } => Ok(all(layer)),
+        Normal::Folded { .. } => Ok(all(layer)),
         Normal::Near {
             property,
             shape,
             ..
-        } => Ok(of_shape(*property, shape, indexes)),
+        } => Ok(of_shape(*property, shape, layer)),
         Normal::And(parts) => {
-            let narrow = narrow(alloc, parts, indexes)?;
+            let narrow = narrow(alloc, parts, layer)?;
             Ok(Priced {
                 plan: meet(narrow.plans),
                 cost: narrow.cost,
             })
         }
         Normal::Or(parts) => {
-            let joined = joined(alloc, parts, indexes)?;
-            Ok(all_or(joined, indexes))
+            let joined = joined(alloc, parts, layer)?;
+            Ok(all_or(joined, layer))
         }
     }
 }
@@ -189,18 +184,18 @@ pub(crate) fn chosen(alloc: Global, form: &Normal, indexes: &Indexes) -> Result<
 pub(crate) fn narrow(
     alloc: Global,
     parts: &[Normal],
-    indexes: &Indexes,
+    layer: &Layer,
 ) -> Result<NarrowPlans, AllocError>
-    ensures ways { IfOk result (λ narrow. map way_of narrow.plans.items ≡ filter is_narrow (map (choice (counts_in indexes.now)) parts.now)) }
-    ensures cost { IfOk result (λ narrow. narrow.cost ≡ min_of indexes.now.count (map (cost (counts_in indexes.now)) (map way_of narrow.plans.items))) }
+    ensures ways { IfOk result (λ narrow. map way_of narrow.plans.items ≡ filter is_narrow (map (choice (counts_of layer.now.features)) parts.now)) }
+    ensures cost { IfOk result (λ narrow. narrow.cost ≡ min_of (length layer.now.features) (map (cost (counts_of layer.now.features)) (map way_of narrow.plans.items))) }
 {
-    let all = indexes.count() as u64;
+    let all = layer.count();
     let mut narrow = NarrowPlans {
         plans: Vec::new(alloc),
         cost: all,
     };
     for part in parts {
-        let chosen = chosen(alloc, part, indexes)?;
+        let chosen = chosen(alloc, part, layer)?;
         narrow.add(chosen, all)?;
     }
     Ok(narrow)
@@ -208,18 +203,14 @@ pub(crate) fn narrow(
 
 // The join of the parts' choices.
 #[cycle(choose)]
-pub(crate) fn joined(
-    alloc: Global,
-    parts: &[Normal],
-    indexes: &Indexes,
-) -> Result<Priced, AllocError>
-    ensures way { IfOk result (λ chosen. way_of chosen.plan ≡ join_of (ways_in (map (choice (counts_in indexes.now)) parts.now))) }
-    ensures cost { IfOk result (λ chosen. chosen.cost ≡ cost (counts_in indexes.now) (way_of chosen.plan)) }
+pub(crate) fn joined(alloc: Global, parts: &[Normal], layer: &Layer) -> Result<Priced, AllocError>
+    ensures way { IfOk result (λ chosen. way_of chosen.plan ≡ join_of (ways_in (map (choice (counts_of layer.now.features)) parts.now))) }
+    ensures cost { IfOk result (λ chosen. chosen.cost ≡ cost (counts_of layer.now.features) (way_of chosen.plan)) }
 {
     let mut plans = Vec::new(alloc);
     let mut cost: u64 = 0;
     for part in parts {
-        let chosen = chosen(alloc, part, indexes)?;
+        let chosen = chosen(alloc, part, layer)?;
         cost = cost.saturating_add(chosen.cost);
         plans.push(chosen.plan)?;
     }
@@ -229,14 +220,13 @@ pub(crate) fn joined(
     })
 }
 
-/// The first plan of least cost of the form's menu, by the indexes of a collection's features. Each feature that meets the
-/// form is one of its candidates, whatever the indexes are. An error is want of memory.
-pub fn choose(alloc: Global, form: &Normal, indexes: &Indexes) -> Result<Plan, AllocError>
-    ensures way { IfOk result (λ plan. (collection : Collection) (xs : List Item) → AreFeaturesOf collection xs → AreIndexesOf collection xs indexes.now → way_of plan ≡ choice (counts_of xs) form.now) }
+/// The first plan of least cost of the form's menu, for the features of the layer. Each feature that meets the form is one of
+/// its candidates, in the layer or not. An error is want of memory.
+pub fn choose(alloc: Global, form: &Normal, layer: &Layer) -> Result<Plan, AllocError>
+    ensures way { IfOk result (λ plan. way_of plan ≡ choice (counts_of layer.now.features) form.now) }
     ensures covers { IfOk result (λ plan. (x : Item) → IsTrue (meets x form.now) → IsTrue (is_candidate plan x)) }
 {
-    indexes_count_features();
     menus_cover();
-    let chosen = chosen(alloc, form, indexes)?;
+    let chosen = chosen(alloc, form, layer)?;
     Ok(chosen.plan)
 }

@@ -4,7 +4,7 @@
 //! - [`estimate`]: how many features a plan looks at. No memory is taken.
 //! - [`choose`]: the first plan of least cost of the menu
 //! - [`Plan`]: which features of a collection are looked at
-//! - [`laws`]: what holds of indexes and plans, beyond what each call says
+//! - [`Layer`]: the features of a collection, which count themselves by their indexes
 //!
 //! Of the five parcels 1.1, 1.2, 2.1, 3.1 and 4.1, the menu of `object = 3` is all, which costs 5, and the range of `object`
 //! from 3 to 3, which costs 1 and is chosen.
@@ -12,10 +12,10 @@
 
 mod choosing;
 mod estimating;
-pub mod laws;
 mod menus;
 
 pub use cad_lookup::Plan;
+pub use cad_merged::Layer;
 pub use choosing::choose;
 pub use estimating::estimate;
 pub use menus::menu;

@@ -1,20 +1,16 @@
 //! The plans for a normal form.
 
-ghost use Rattle.std.specs.Prelude.{◌≡◌, [], ◌∷◌, ◌++◌, List, IfOk, IsTrue, OnOk, map};
+ghost use Rattle.std.specs.Prelude.{◌≡◌, [], ◌∷◌, ◌++◌, IfOk, IsTrue, OnOk, map};
 ghost use Rattle.std.specs.List.{list_all};
-ghost use Rattle.cad_schema.specs.declared.collection.Collection.{Collection};
-ghost use Rattle.cad_feature.specs.Features.{AreFeaturesOf, Item};
-ghost use Rattle.cad_index.specs.Indexed.{AreIndexesOf};
+ghost use Rattle.cad_feature.specs.Features.{Item};
 ghost use Rattle.cad_lookup.specs.Candidates.{is_candidate};
 ghost use Rattle.cad_lookup.specs.Ways.{all_features, counts_of, way_of};
 ghost use Rattle.cql_rewrite.specs.Meets.{meets};
 ghost use Rattle.cql_rewrite.specs.Menus.{and_menu, choice, menu as menu_of};
-ghost use Rattle.cad_plan.specs.Counted.{counts_in};
 
 use crate::choosing::{chosen, joined, narrow, near_plan, range_plan};
-use crate::laws::indexes_count_features;
-use cad_index::Indexes;
 use cad_lookup::Plan;
+use cad_merged::Layer;
 use cql_rewrite::Normal;
 use cql_rewrite::laws::menus_cover;
 use std::alloc::{AllocError, Global};
@@ -24,28 +20,28 @@ fn add_choices(
     alloc: Global,
     plans: &mut Vec<Plan>,
     parts: &[Normal],
-    indexes: &Indexes,
+    layer: &Layer,
 ) -> Result<(), AllocError>
-    ensures { OnOk result (map way_of plans.new.items ≡ map way_of plans.old.items ++ map (choice (counts_in indexes.now)) parts.now) }
+    ensures { OnOk result (map way_of plans.new.items ≡ map way_of plans.old.items ++ map (choice (counts_of layer.now.features)) parts.now) }
 {
     for part in parts {
-        let chosen = chosen(alloc, part, indexes)?;
+        let chosen = chosen(alloc, part, layer)?;
         plans.push(chosen.plan)?;
     }
     Ok(())
 }
 
 // All, the meet of the parts' choices that are other than all, where they are two or more, and each part's choice.
-fn of_all(alloc: Global, parts: &[Normal], indexes: &Indexes) -> Result<Vec<Plan>, AllocError>
-    ensures { IfOk result (λ plans. map way_of plans.items ≡ and_menu (map (choice (counts_in indexes.now)) parts.now)) }
+fn of_all(alloc: Global, parts: &[Normal], layer: &Layer) -> Result<Vec<Plan>, AllocError>
+    ensures { IfOk result (λ plans. map way_of plans.items ≡ and_menu (map (choice (counts_of layer.now.features)) parts.now)) }
 {
-    let narrow = narrow(alloc, parts, indexes)?;
+    let narrow = narrow(alloc, parts, layer)?;
     let mut plans = Vec::new(alloc);
     plans.push(Plan::All)?;
     if narrow.plans.len() >= 2 {
         plans.push(Plan::Meet(narrow.plans))?;
     }
-    add_choices(alloc, &mut plans, parts, indexes)?;
+    add_choices(alloc, &mut plans, parts, layer)?;
     Ok(plans)
 }
 
@@ -66,8 +62,8 @@ fn only_all(alloc: Global) -> Result<Vec<Plan>, AllocError>
     Ok(plans)
 }
 
-fn plans_for(alloc: Global, form: &Normal, indexes: &Indexes) -> Result<Vec<Plan>, AllocError>
-    ensures { IfOk result (λ plans. map way_of plans.items ≡ menu_of (counts_in indexes.now) form.now) }
+fn plans_for(alloc: Global, form: &Normal, layer: &Layer) -> Result<Vec<Plan>, AllocError>
+    ensures { IfOk result (λ plans. map way_of plans.items ≡ menu_of (counts_of layer.now.features) form.now) }
 {
     match form {
         Normal::Constant(true) => {
@@ -105,25 +101,24 @@ fn plans_for(alloc: Global, form: &Normal, indexes: &Indexes) -> Result<Vec<Plan
             Ok(plans)
         }
         Normal::And(parts) => {
-            let plans = of_all(alloc, parts, indexes)?;
+            let plans = of_all(alloc, parts, layer)?;
             Ok(plans)
         }
         Normal::Or(parts) => {
-            let joined = joined(alloc, parts, indexes)?;
+            let joined = joined(alloc, parts, layer)?;
             let plans = pair(alloc, joined.plan)?;
             Ok(plans)
         }
     }
 }
 
-/// The plans for the form, in order, by the indexes of a collection's features. Each feature that meets the form is a
-/// candidate of each, whatever the indexes are. An error is want of memory.
-pub fn menu(alloc: Global, form: &Normal, indexes: &Indexes) -> Result<Vec<Plan>, AllocError>
-    ensures ways { IfOk result (λ plans. (collection : Collection) (xs : List Item) → AreFeaturesOf collection xs → AreIndexesOf collection xs indexes.now → map way_of plans.items ≡ menu_of (counts_of xs) form.now) }
+/// The plans for the form, in order, for the features of the layer. Each feature that meets the form is a candidate of each, in
+/// the layer or not. An error is want of memory.
+pub fn menu(alloc: Global, form: &Normal, layer: &Layer) -> Result<Vec<Plan>, AllocError>
+    ensures ways { IfOk result (λ plans. map way_of plans.items ≡ menu_of (counts_of layer.now.features) form.now) }
     ensures covers { IfOk result (λ plans. (x : Item) → IsTrue (meets x form.now) → IsTrue (list_all (λ plan. is_candidate plan x) plans.items)) }
 {
-    indexes_count_features();
     menus_cover();
-    let plans = plans_for(alloc, form, indexes)?;
+    let plans = plans_for(alloc, form, layer)?;
     Ok(plans)
 }

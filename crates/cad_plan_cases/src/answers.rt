@@ -1,13 +1,11 @@
 //! What is answered of a filter's plans.
 
-use crate::pages::{Meeting, fault_of};
+use crate::pages::{Meeting, count, fault_of};
 use crate::plans::{has, put_plan};
 use cad_feature::Feature;
-use cad_index::Indexes;
 use cad_lookup::Plan;
 use cad_plan::{choose, estimate, menu};
 use cad_run::Layer;
-use cad_schema::Collection;
 use cql_rewrite::normal;
 use cql_truth::{Truth, truth};
 use cql_types::Filter;
@@ -15,28 +13,24 @@ use std::alloc::{AllocError, Global};
 
 fn put_priced(
     alloc: Global,
-    collection: Collection,
     plan: &Plan,
-    indexes: &Indexes,
+    layer: &Layer,
     line: &mut String,
 ) -> Result<(), AllocError> {
-    put_plan(alloc, collection, plan, line)?;
-    let cost = estimate(plan, indexes);
+    put_plan(alloc, layer.collection(), plan, line)?;
+    let cost = estimate(plan, layer);
     line.push_str(&format!(in alloc; " {cost}")?)
-}
-
-fn count_candidates(plan: &Plan, features: &[Feature]) -> usize {
-    features.iter().filter(|feature| has(plan, feature)).count()
 }
 
 // The features of which the filter is true.
 fn taken<'a>(
     alloc: Global,
     filter: &Filter,
-    features: &'a [Feature],
+    layer: &'a Layer,
 ) -> Result<Vec<&'a Feature>, AllocError> {
     let mut taken = Vec::new(alloc);
-    for feature in features {
+    let mut walk = layer.walk();
+    while let Some(feature) = walk.next() {
         if truth(alloc, filter, feature)? == Truth::Yes {
             taken.push(feature)?;
         }
@@ -56,18 +50,13 @@ fn uncovered<'a>(plans: &[Plan], taken: &[&'a Feature]) -> Option<&'a Feature> {
     None
 }
 
-fn menu_line(
-    alloc: Global,
-    collection: Collection,
-    plans: &[Plan],
-    indexes: &Indexes,
-) -> Result<String, AllocError> {
+fn menu_line(alloc: Global, plans: &[Plan], layer: &Layer) -> Result<String, AllocError> {
     let mut line = String::new(alloc);
     for (place, plan) in plans.iter().enumerate() {
         if place > 0 {
             line.push_str(", ")?;
         }
-        put_priced(alloc, collection, plan, indexes, &mut line)?;
+        put_priced(alloc, plan, layer, &mut line)?;
     }
     Ok(line)
 }
@@ -101,11 +90,10 @@ fn choice_line(
     chosen: &Plan,
     taken: &[&Feature],
 ) -> Result<String, AllocError> {
-    let (collection, indexes) = (layer.collection(), layer.indexes());
-    let mut line = menu_line(alloc, collection, plans, indexes)?;
+    let mut line = menu_line(alloc, plans, layer)?;
     line.push_str(" -> ")?;
-    put_priced(alloc, collection, chosen, indexes, &mut line)?;
-    let count = count_candidates(chosen, layer.features());
+    put_priced(alloc, chosen, layer, &mut line)?;
+    let count = count(chosen, layer);
     line.push_str(&format!(in alloc; " has {count}")?)?;
     put_taken(alloc, taken, &mut line)?;
     Ok(line)
@@ -114,9 +102,9 @@ fn choice_line(
 /// The menu, and the choice with its candidates and the features of its page, which each plan of the menu has to give.
 pub fn plans_answer(alloc: Global, filter: &Filter, layer: &Layer) -> Result<String, AllocError> {
     let form = normal(alloc, filter)?;
-    let plans = menu(alloc, &form, layer.indexes())?;
-    let chosen = choose(alloc, &form, layer.indexes())?;
-    let taken = taken(alloc, filter, layer.features())?;
+    let plans = menu(alloc, &form, layer)?;
+    let chosen = choose(alloc, &form, layer)?;
+    let taken = taken(alloc, filter, layer)?;
     if let Some(feature) = uncovered(&plans, &taken) {
         let mut line = String::from_str(alloc, "uncovered")?;
         put_identifier(alloc, feature, &mut line)?;

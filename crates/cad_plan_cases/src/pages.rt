@@ -41,9 +41,16 @@ fn are_same(rows: &[&Feature], wanted: &[&Feature]) -> bool {
     true
 }
 
-fn count(plan: &Plan, layer: &Layer) -> u64 {
-    let features = layer.features();
-    features.iter().filter(|feature| has(plan, feature)).count() as u64
+/// How many candidates the plan has.
+pub fn count(plan: &Plan, layer: &Layer) -> u64 {
+    let mut count = 0;
+    let mut walk = layer.walk();
+    while let Some(feature) = walk.next() {
+        if has(plan, feature) {
+            count += 1;
+        }
+    }
+    count
 }
 
 /// What is wrong with the page by a plan, in a word, if something is. It is to list the wanted features, each once, and to

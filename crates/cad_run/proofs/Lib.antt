@@ -2,3 +2,4 @@ pub mod PositionLemmas
 pub mod IndexLemmas
 pub mod PlanLemmas
 pub mod PageLemmas
+pub mod LeftLemmas

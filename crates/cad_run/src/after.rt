@@ -36,3 +36,12 @@ pub(crate) fn first_after(features: &[Feature], after: Option<(ObjectId, u32)>) 
         Some(last) => first_later(features, last),
     }
 }
+
+/// The features after that one.
+pub(crate) fn rest_after(features: &[Feature], after: Option<(ObjectId, u32)>) -> &[Feature]
+    requires { IsStrictlySortedBy by_identifier features.now }
+    ensures { result.now ≡ later (option_map identifier after) features.now }
+{
+    let first = first_after(features, after);
+    &features[first..]
+}

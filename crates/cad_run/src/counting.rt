@@ -3,18 +3,18 @@
 ghost use Rattle.std.specs.Prelude.{◌≡◌, IfOk, length};
 ghost use Rattle.cad_lookup.specs.Candidates.{candidates};
 
-use crate::planned::source_of;
-use cad_index::Layer;
+use crate::candidates::Candidates;
+use crate::feature_source::FeatureSource;
 use cad_lookup::Plan;
-use cad_rows::{RowSource, Rows};
+use cad_merged::Layer;
 use std::alloc::{AllocError, Global};
 
-fn count_left<S: RowSource + Drop>(source: S) -> u64
+fn count_left<'a, S: FeatureSource<'a> + Drop>(source: S) -> u64
     ensures { result ≡ length (S.left source) }
 {
     let mut source = source;
     let mut count = 0;
-    while let Some(_row) = source.next() {
+    while let Some(_feature) = source.next() {
         count += 1;
     }
     count
@@ -24,9 +24,6 @@ fn count_left<S: RowSource + Drop>(source: S) -> u64
 pub fn candidate_count(alloc: Global, plan: &Plan, layer: &Layer) -> Result<u64, AllocError>
     ensures { IfOk result (λ count. count ≡ length (candidates plan.now layer.now.features)) }
 {
-    if layer.features().is_empty() {
-        return Ok(0);
-    }
-    let source = source_of(alloc, plan, layer)?;
-    Ok(count_left(Rows::of(source)))
+    let left = Candidates::of(alloc, plan, layer, None)?;
+    Ok(count_left(left))
 }

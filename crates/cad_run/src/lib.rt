@@ -11,18 +11,22 @@
 #![tactic(auto)]
 
 mod after;
-mod at_positions;
+mod bases;
+mod candidacy;
+mod candidates;
 mod counting;
+mod feature_source;
 mod feature_test;
+mod finding;
 mod joining;
-mod lending;
+mod kept;
 mod paging;
 mod parts;
 mod planned;
 mod rows;
 
-pub use cad_index::Layer;
 pub use cad_lookup::Plan;
+pub use cad_merged::Layer;
 pub use counting::candidate_count;
 pub use feature_test::FeatureTest;
 pub use paging::page;

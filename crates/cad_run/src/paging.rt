@@ -5,15 +5,12 @@ ghost use Rattle.cad_lookup.specs.Candidates.{candidates};
 ghost use Rattle.cad_rows.specs.Pages.{examined_of};
 ghost use Rattle.cad_run.specs.Slices.{identifier, slice, is_more, later, rows_of};
 
-use crate::after::first_after;
-use crate::at_positions::AtPositions;
+use crate::candidates::Candidates;
 use crate::feature_test::FeatureTest;
-use crate::lending::lend;
-use crate::planned::source_of;
+use crate::finding::find;
 use crate::rows::Page;
-use cad_index::Layer;
 use cad_lookup::Plan;
-use cad_rows::{Rows, find};
+use cad_merged::Layer;
 use cad_versions::ObjectId;
 use std::alloc::{AllocError, Global};
 
@@ -36,21 +33,7 @@ pub fn page<'a, T: FeatureTest>(
     ensures examined { IfOk result (λ page. page.examined
         ≡ examined_of (T.passes test.now) limit (later (option_map identifier after) (candidates plan.now layer.now.features))) }
 {
-    let features = layer.features();
-    let start = first_after(features, after);
-    let judge = AtPositions { features, test };
-    let source = source_of(alloc, plan, layer)?;
-    let found = find(
-        alloc,
-        Rows::of(source),
-        &judge,
-        start as u32,
-        limit as usize,
-    )?;
-    let rows = lend(alloc, features, &found.rows)?;
-    Ok(Page {
-        rows,
-        more: found.more,
-        examined: found.examined,
-    })
+    let left = Candidates::of(alloc, plan, layer, after)?;
+    let page = find(alloc, left, test, limit as usize)?;
+    Ok(page)
 }

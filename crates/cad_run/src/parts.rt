@@ -10,7 +10,7 @@ ghost use Rattle.cad_rows.specs.Held.{is_among};
 ghost use Rattle.cad_run.specs.Parts.{has_part, has_wide, PartStands};
 
 use cad_feature::Range;
-use cad_index::{Found, Layer};
+use cad_index::{Base, Found};
 use cad_positions::Positions;
 use cad_rows::Source;
 use cad_shape::Bounds;
@@ -52,12 +52,12 @@ fn found_part<'a>(alloc: Global, found: &Found<'a>) -> Result<Part<'a>, AllocErr
 /// The positions of the features with a value in the range.
 pub(crate) fn range_part<'a>(
     alloc: Global,
-    layer: &'a Layer,
+    base: &'a Base,
     range: &Range,
 ) -> Result<Part<'a>, AllocError>
-    ensures { IfOk result (PartStands layer.now.features (λ x. lies_in x range.now)) }
+    ensures { IfOk result (PartStands base.now.features (λ x. lies_in x range.now)) }
 {
-    match layer.indexes().range(range) {
+    match base.indexes().range(range) {
         None => Ok(Part::Walked(Source::Empty)),
         Some(found) => {
             let part = found_part(alloc, &found)?;
@@ -69,13 +69,13 @@ pub(crate) fn range_part<'a>(
 /// The positions of the features near the box.
 pub(crate) fn near_part<'a>(
     alloc: Global,
-    layer: &'a Layer,
+    base: &'a Base,
     property: usize,
     bounds: Bounds,
 ) -> Result<Part<'a>, AllocError>
-    ensures { IfOk result (PartStands layer.now.features (is_near property (block_of bounds))) }
+    ensures { IfOk result (PartStands base.now.features (is_near property (block_of bounds))) }
 {
-    let rows = layer.indexes().near(alloc, property, bounds)?;
+    let rows = base.indexes().near(alloc, property, bounds)?;
     Ok(Part::Walked(Source::listed(rows)))
 }
 

@@ -1,2 +1,1 @@
 pub mod FillingLemmas
-pub mod RingLemmas

@@ -56,13 +56,7 @@ pub(crate) fn region(alloc: Global, corners: &[(i32, i32)]) -> Result<Region, Al
     requires { IsTrue (is_plain_ring corners.now) }
     ensures { IfOk result (λ region. outlines_of region ≡ corners.now ∷ []) }
 {
-    let ring = ring(alloc, corners)?;
-    let mut rings = Vec::new(alloc);
-    rings.push(ring)?;
-    match Region::new(rings) {
-        Ok(region) => Ok(region),
-        Err(_) => unreachable!(),
-    }
+    Region::of(alloc, ring(alloc, corners)?)
 }
 
 fn points(alloc: Global, corners: &[(i32, i32)]) -> Result<Vec<Point>, AllocError>

@@ -8,7 +8,8 @@ use Rattle.std.proofs.lemmas.List.Elements.{All-nil, All-cons, Contains-append_r
 use Rattle.cad_versions.specs.Objects.{object_number}
 use Rattle.cad_feature.specs.Features.{Item, identifier_of, by_identifier}
 use Rattle.cad_query.specs.Identifiers.{Numbers}
-use Rattle.cad_snapshot.specs.Identifiers.{IsTheOne, IdentifiersAreUnique}
+use Rattle.cad_merged.specs.Identifiers.{IsTheOne}
+use Rattle.cad_merged.specs.Laws.{IdentifiersAreUnique}
 use Rattle.cad_server.specs.Contents.{has_numbers, feature_with}
 
 abbrev wanted : Numbers → ℤ × ℤ

@@ -68,6 +68,11 @@ module _ {L : Type 0} (g : Ghosts L) where
     pub unchanged : g.counts (ledger_in new) → IfErr result (λ fault. MayClose fault → g.lives (ledger_in new)) → OnErr result ((commands : List Command) → AreRecordsOf old commands → AreRecordsOf new commands)
     pub clean : g.counts (ledger_in new) → g.counts (ledger_in old)
 
+  -- more is kept, or less, and the ledger is not touched
+  pub record Keeps (snapshot : RevisionFeatures) (old new : Records L) : Type 0 where
+    pub same : ledger_in new ≡ ledger_in old
+    pub kept : (commands : List Command) → AreKept commands old.kept.entries → IsKept commands (snapshot.revision, snapshot) → AreKept commands new.kept.entries
+
   -- what is kept of a revision tells what is sought; only the order of what is kept changes
   pub record Recalls {E : Type 0} (revision : ℕ) (sought : Sought) (old : Records L) (result : Result (Option Told) E) (new : Records L) : Type 0 where
     pub told : IfOk result (λ found. IfSome found (λ told. (commands : List Command) → AreKept commands old.kept.entries → content_told told ≡ content_in sought (snapshot_at revision commands)))

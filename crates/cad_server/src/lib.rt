@@ -4,8 +4,10 @@
 //!   stands on it (`cad_desk`), and so does serving over a reader and a writer (`cad_serve`)
 //! - `laws`: that a request has one reply
 //!
-//! What is read of the ledger at a revision is kept, for the four revisions that were asked for last: a page after another
-//! of the same revision reads nothing. Keeping changes no reply.
+//! What is read of the ledger at a revision is kept, and after a command what was kept of the revision before it, with what the
+//! command touches: so a page of the newest revision, or after another of the same revision, reads nothing of the ledger. At most
+//! 132 revisions are kept, most of which share their bases; four at most are old ones that were read of the ledger. Keeping changes
+//! no reply.
 //!
 //! Of the ledger of no commands, the request
 //!

@@ -1,6 +1,7 @@
 //! A ledger, and what was read of it.
 
-ghost use Rattle.std.specs.Prelude.{◌≡◌, codes, IfOk};
+ghost use Rattle.std.specs.Prelude.{◌≡◌, ◌<◌, [], codes, IfOk};
+ghost use Rattle.lru.specs.LruCache.{lru_cache};
 ghost use Rattle.cad_reply.specs.declared.status.Status.TheVariants.{BadRequest};
 ghost use Rattle.cad_server.specs.Contents.{content_told, refusal};
 
@@ -15,13 +16,26 @@ use lru::LruCache;
 use std::alloc::{AllocError, Global};
 use std::num::NonZeroUsize;
 
-/// Of how many revisions the features are kept at most.
-const MOST_KEPT: usize = 4;
+/// Of how many revisions the features are kept at most. Most of them share the bases of others, and cost their changes alone.
+const MOST_KEPT: usize = 132;
 
-/// A ledger, and the features at the revisions that were asked for last.
+/// Of how many old revisions that were read of the ledger the features are kept at most, each on bases of its own.
+const MOST_READ: usize = 4;
+
+/// How many changes a base of a collection gets before a new one is made, where nothing else is asked for.
+pub(crate) const MOST_CHANGES: usize = 512;
+
+/// A ledger, and the features at the revisions that were asked for last or entered last.
 pub(crate) struct Records<L: Ledger> {
     ledger: L,
     kept: LruCache<u64, Snapshot>,
+    /// Which of those that are kept were read of the ledger when they were old.
+    read: LruCache<u64, ()>,
+    /// The revision from which on the kept ones share the newest bases, and the one before from which on they share the bases before.
+    based: u64,
+    based_before: u64,
+    /// How many changes a base of a collection gets before a new one is made.
+    most_changes: usize,
     alloc: Global,
 }
 
@@ -30,35 +44,45 @@ impl<L: Ledger + Drop> Drop for Records<L> {
         let Records {
             ledger: _,
             kept: _,
+            read: _,
+            based: _,
+            based_before: _,
+            most_changes: _,
             alloc: _,
         } = self;
     }
 }
 
 impl<L: Ledger> Records<L> {
-    ghost use Rattle.std.specs.Prelude.{◌≡◌, List, length, IfOk, IfErr};
+    ghost use Rattle.std.specs.Prelude.{◌≡◌, List, [], ◌∷◌, ◌++◌, length, IfOk, IfErr, IfSome};
     ghost use Rattle.cad_versions.specs.declared.command.Command.{Command as CommandOf};
     ghost use Rattle.cad_versions.specs.Ledgers.{Applied};
-    ghost use Rattle.cad_server.specs.Servers.{ledger_in, AreRecordsOf, Recalls, Finds, Seeks, Tells};
+    ghost use Rattle.cad_versions.specs.Refusals.{AreAccepted};
+    ghost use Rattle.cad_server.specs.Servers.{ledger_in, AreRecordsOf, IsKept, Keeps, Recalls, Finds, Seeks, Tells};
 
     /// A ledger of which nothing was read yet, or the ledger back where there is no memory.
-    pub(crate) fn new(alloc: Global, ledger: L) -> Result<Records<L>, L>
+    pub(crate) fn new(alloc: Global, ledger: L, most_changes: usize) -> Result<Records<L>, L>
         ensures made { IfOk result (λ records. (commands : List CommandOf) → L.Ledger.stands_for ledger commands →
             AreRecordsOf L.Ledger records commands) }
         ensures same { IfOk result (λ records. ledger_in records ≡ ledger) }
         ensures back { IfErr result (λ back. back ≡ ledger) }
     {
-        let Some(most) = NonZeroUsize::new(MOST_KEPT) else {
+        let Ok(kept) = cache::<Snapshot>(alloc, MOST_KEPT) else {
             return Err(ledger);
         };
-        match LruCache::new(alloc, most) {
-            Ok(kept) => Ok(Records {
-                ledger,
-                kept,
-                alloc,
-            }),
-            Err(_) => Err(ledger),
-        }
+        let Ok(read) = cache::<()>(alloc, MOST_READ) else {
+            return Err(ledger);
+        };
+        let revision = ledger.revision();
+        Ok(Records {
+            ledger,
+            kept,
+            read,
+            based: revision,
+            based_before: revision,
+            most_changes,
+            alloc,
+        })
     }
 
     /// The ledger.
@@ -68,6 +92,10 @@ impl<L: Ledger> Records<L> {
         let Records {
             ledger,
             kept: _,
+            read: _,
+            based: _,
+            based_before: _,
+            most_changes: _,
             alloc: _,
         } = self;
         ledger
@@ -79,8 +107,92 @@ impl<L: Ledger> Records<L> {
             L.Ledger.fails_to_apply (λ old new. L.Ledger.refuses_command (ledger_in old) (ledger_in new))
             self.old command result self.new }
     {
+        let next = self.after(&command);
+        let revision = self.apply(command)?;
+        if let Some(next) = next {
+            self.keep_entered(next);
+        }
+        Ok(revision)
+    }
+
+    /// Has the ledger apply the command: what is kept stays right.
+    fn apply(&mut self, command: Command) -> Result<u64, RegisterFault>
+        ensures { Applied (AreRecordsOf L.Ledger) (λ records. L.Ledger.counts (ledger_in records)) (λ records. L.Ledger.lives (ledger_in records))
+            L.Ledger.fails_to_apply (λ old new. L.Ledger.refuses_command (ledger_in old) (ledger_in new))
+            self.old command result self.new }
+    {
         revisions_stay();
         self.ledger.apply(command)
+    }
+
+    /// The features after the command, by those of the revision in force: none where these are not kept, or memory is wanting.
+    fn after(&self, command: &Command) -> Option<Snapshot>
+        ensures { IfSome result (λ next. (commands : List CommandOf) → AreRecordsOf L.Ledger self.now commands → AreAccepted [] (commands ++ command.now ∷ [])
+            → IsKept (commands ++ command.now ∷ []) (next.revision, next)) }
+    {
+        let newest = self.ledger.revision();
+        let revision = newest.checked_add(1)?;
+        let snapshot = self.kept.peek(&newest)?;
+        snapshot.next(self.alloc, command, revision).ok()
+    }
+
+    /// Keeps the features of the revision in force, on new bases where there are many changes to the old ones.
+    fn keep_entered(&mut self, next: Snapshot)
+        ensures { Keeps L.Ledger next self.old self.new }
+    {
+        if next.is_settled(self.most_changes) {
+            self.put(next);
+            return;
+        }
+        if let Ok(settled) = next.settled(self.alloc, self.most_changes) {
+            self.keep_based(settled);
+        }
+    }
+
+    /// Keeps features of the revision in force that have bases of their own: those that share the bases before the last are dropped.
+    fn keep_based(&mut self, snapshot: Snapshot)
+        ensures { Keeps L.Ledger snapshot self.old self.new }
+    {
+        let revision = snapshot.revision();
+        for old in self.based_before..self.based {
+            drop(self.kept.pop(&old));
+        }
+        self.based_before = self.based;
+        self.based = revision;
+        self.put(snapshot);
+    }
+
+    /// Keeps features that were read of the ledger.
+    fn keep(&mut self, snapshot: Snapshot)
+        ensures { Keeps L.Ledger snapshot self.old self.new }
+    {
+        if snapshot.revision() == self.ledger.revision() {
+            self.keep_based(snapshot);
+        } else {
+            self.keep_read(snapshot);
+        }
+    }
+
+    /// Keeps features of an old revision, which were read of the ledger, in place of those that were not asked for longest.
+    fn keep_read(&mut self, snapshot: Snapshot)
+        ensures { Keeps L.Ledger snapshot self.old self.new }
+    {
+        let revision = snapshot.revision();
+        let Ok(displaced) = self.read.push(revision, ()) else {
+            return;
+        };
+        if let Some((old, ())) = displaced {
+            drop(self.kept.pop(&old));
+        }
+        self.put(snapshot);
+    }
+
+    /// Keeps features under their revision, if there is memory.
+    fn put(&mut self, snapshot: Snapshot)
+        ensures { Keeps L.Ledger snapshot self.old self.new }
+    {
+        let revision = snapshot.revision();
+        drop(self.kept.put(revision, snapshot));
     }
 
     /// What is kept of the revision tells what is sought, if it is kept.
@@ -90,6 +202,7 @@ impl<L: Ledger> Records<L> {
         if !self.kept.promote(&revision) {
             return Ok(None);
         }
+        let _ = self.read.promote(&revision);
         match self.kept.peek(&revision) {
             None => Ok(None),
             Some(snapshot) => {
@@ -106,7 +219,7 @@ impl<L: Ledger> Records<L> {
         let versions = self.ledger.as_of(revision)?;
         let snapshot = Snapshot::build(self.alloc, revision, &versions)?;
         let told = sought.told_in(self.alloc, &snapshot)?;
-        drop(self.kept.put(revision, snapshot));
+        self.keep(snapshot);
         Ok(told)
     }
 
@@ -157,6 +270,17 @@ impl<L: Ledger> Records<L> {
             }),
         }
     }
+}
+
+/// A cache of so many values by revision.
+fn cache<V>(alloc: Global, most: usize) -> Result<LruCache<u64, V>, AllocError>
+    requires { 0 < most }
+    ensures { IfOk result (λ cache. cache ≡ lru_cache [] most) }
+{
+    let Some(most) = NonZeroUsize::new(most) else {
+        unreachable!()
+    };
+    LruCache::new(alloc, most)
 }
 
 /// The refusal of a revision above the one in force.

@@ -1,7 +1,7 @@
 //! The server.
 
 use crate::laws::requests_have_one_reply;
-use crate::records::Records;
+use crate::records::{MOST_CHANGES, Records};
 use cad_bodies::word_body;
 use cad_reply::reply_bytes;
 use cad_resource::{Check, Routes, decide};
@@ -11,7 +11,8 @@ use cad_wanted::Wanted;
 use httparse::spans::{HeaderSpan, RequestSpans};
 use std::alloc::{AllocError, Global};
 
-/// Answers requests over a ledger. It keeps what was read of the ledger at the four revisions that were asked for last.
+/// Answers requests over a ledger. It keeps the features of the revisions that were asked for last or entered last: those of the
+/// newest revision follow those of the one before it, and only of a revision that is older than what is kept is the ledger read.
 pub struct Server<L: Ledger> {
     records: Records<L>,
     routes: Routes,
@@ -40,10 +41,20 @@ impl<L: Ledger> Server<L> {
         ensures same { IfOk result (λ server. ledger_of server ≡ ledger) }
         ensures back { IfErr result (λ back. back ≡ ledger) }
     {
+        Server::with_changes(alloc, ledger, MOST_CHANGES)
+    }
+
+    /// The same, where a base of a collection gets at most so many changes before a new one is made.
+    pub fn with_changes(alloc: Global, ledger: L, most_changes: usize) -> Result<Server<L>, L>
+        ensures made { IfOk result (λ server. (commands : List CommandOf) → L.Ledger.stands_for ledger commands →
+            IsServerOf L.Ledger server commands) }
+        ensures same { IfOk result (λ server. ledger_of server ≡ ledger) }
+        ensures back { IfErr result (λ back. back ≡ ledger) }
+    {
         let Ok(routes) = Routes::new(alloc) else {
             return Err(ledger);
         };
-        let records = Records::new(alloc, ledger)?;
+        let records = Records::new(alloc, ledger, most_changes)?;
         Ok(Server {
             records,
             routes,

@@ -8,12 +8,12 @@ ghost use Rattle.cad_server.specs.Contents.{content_told, feature_with, feature_
 use cad_ask::Ask;
 use cad_bodies::word_body;
 use cad_feature::Feature;
+use cad_merged::laws::identifiers_are_unique;
 use cad_page::{body, feature_body};
 use cad_query::Identifier;
 use cad_reply::Status;
 use cad_schema::Collection;
 use cad_snapshot::Snapshot;
-use cad_snapshot::laws::identifiers_are_unique;
 use cad_wanted::Told;
 use std::alloc::{AllocError, Global};
 
@@ -75,8 +75,6 @@ fn feature_in(
     ensures { option_copied result ≡ feature_with (numbers_of identifier) (features_at snapshot.now collection) }
 {
     identifiers_are_unique();
-    // What the snapshot lists ascends.
-    let _ = snapshot.features(collection);
     snapshot.feature(collection, identifier.object, identifier.number)
 }
 

@@ -1,5 +1,5 @@
 -- Rings of a region.
-use Rattle.std.proofs.Common.{◌≡◌, ◌↔◌, ℕ, suc, ◌+◌, ◌%◌, ◌<◌, ℤ, ◌≤ℤ◌, inl, inr, ⊎_elim, List, [], ◌∷◌, ◌++◌, length, get_or, drop, sym, ap, ◌∙◌, subst, arith}
+use Rattle.std.proofs.Common.{◌≡◌, ◌↔◌, ℕ, suc, ◌+◌, ◌%◌, ◌<◌, ℤ, ◌≤ℤ◌, inl, inr, ⊎_elim, List, [], ◌∷◌, ◌++◌, length, get_or, drop, sym, ap, ◌∙◌, subst, append-nil, arith}
 use Rattle.std.specs.List.{All, AllByRecursion}
 use Rattle.std.proofs.lemmas.Int.{by_lt_z}
 use Rattle.std.proofs.lemmas.List.{get_or-map, at_drop_more}
@@ -9,7 +9,7 @@ use Rattle.cad_shape.specs.declared.boxes.Bounds.{Bounds}
 use Rattle.cad_shape.specs.declared.ring.Ring.{Ring}
 use Rattle.cad_shape.specs.Edges.{Edge, AnyOf, edges_of}
 use Rattle.cad_shape.specs.Frames.{IsHeld, IsLeastBounds}
-use Rattle.cad_shape.specs.Polygons.{rings_corners, rings_edges, ring_at, ReachesOut, IsOutside, NoneOutside}
+use Rattle.cad_shape.specs.Polygons.{rings_corners, rings_edges, ring_at, ReachesOut, IsOutside, NoneOutside, IsRegion}
 use Rattle.cad_shape.specs.Regions.{IsOnEdge, IsOnSome, crossings, IsInRegion}
 use Rattle.cad_shape.specs.Rings.{corners_of}
 use Rattle.std.proofs.lemmas.Bool.{cases_lt}
@@ -43,6 +43,17 @@ pub outer_inside : (rings : List Ring) → ¬ (IsOutside rings 0)
 outer_inside rings =
     let cs = ring_at rings 0 in
     none_out cs cs (all_mapped (λ (c : Point). IsOnSome c (edges_of cs)) (λ (c : Point). IsInRegion c (edges_of cs)) (λ c h. inl h) cs (corners_on cs))
+
+-- a ring alone is a region
+pub ring_alone : (ring : Ring) → IsRegion (ring ∷ [])
+ring_alone ring =
+    let few = ring.not_too_many in
+    let one : length (rings_corners (ring ∷ [])) ≡ length (corners_of ring) = ap length (append-nil (corners_of ring)) in
+    record {
+      some = omega arith;
+      few = (omega arith, omega (arith, few, one));
+      inside = λ i h. let e : 0 ≡ i = omega (arith, h) in subst (λ k. ¬ (IsOutside (ring ∷ []) k)) e (outer_inside (ring ∷ []));
+    }
 
 -- a corner that lies in the region
 pub in_step : (outer corners : List Point) (i : ℕ) (c : Point) → i < length corners → c ≡ get_or corners i c → IsInRegion c (edges_of outer) → ReachesOut outer (drop i corners) ↔ ReachesOut outer (drop (i + 1) corners)

@@ -76,7 +76,7 @@ impl Rings {
 }
 
 impl Region {
-    ghost use Rattle.std.specs.Prelude.{IfOk, MatchResult};
+    ghost use Rattle.std.specs.Prelude.{[], ◌∷◌, IfOk, MatchResult};
     ghost use Rattle.cad_shape.specs.Frames.{IsLeastBounds};
     ghost use Rattle.cad_shape.specs.RegionRings.{rings_of, outer_corners, region_corners, IsRegionFault};
 
@@ -93,6 +93,16 @@ impl Region {
         Ok(Region { rings })
     }
 
+    /// The region of one ring, without holes.
+    pub fn of(alloc: Global, ring: Ring) -> Result<Region, AllocError>
+        ensures { IfOk result (λ region. rings_of region ≡ ring ∷ []) }
+    {
+        let mut list = Vec::with_capacity(alloc, 1)?;
+        list.push(ring)?;
+        let rings = Rings { list };
+        Ok(Region { rings })
+    }
+
     /// The rings in order, the exterior boundary first.
     pub fn rings(&self) -> &[Ring]
         ensures { result.now ≡ rings_of self.now }
@@ -100,12 +110,19 @@ impl Region {
         self.rings.as_slice()
     }
 
+    // The exterior boundary.
+    fn outer(&self) -> &Ring
+        ensures { corners_of result.now ≡ outer_corners self.now }
+    {
+        &self.rings()[0]
+    }
+
     /// The least box that holds the exterior boundary, and with it all rings.
     pub fn bounds(&self) -> Bounds
         ensures outer { IsLeastBounds result (outer_corners self.now) }
         ensures all { IsLeastBounds result (region_corners self.now) }
     {
-        self.rings()[0].bounds()
+        self.outer().bounds()
     }
 
     /// The same region once more.

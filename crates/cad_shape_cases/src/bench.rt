@@ -44,12 +44,7 @@ fn ring(corners: Vec<Point>) -> Result<Ring> {
 
 // The region of the ring through these corners, without holes.
 fn region(alloc: Global, corners: Vec<Point>) -> Result<Region> {
-    let mut rings = Vec::new(alloc);
-    rings.push(ring(corners)?)?;
-    match Region::new(rings) {
-        Ok(region) => Ok(region),
-        Err((fault, _rings)) => bail!("{fault}"),
-    }
+    Ok(Region::of(alloc, ring(corners)?)?)
 }
 
 fn tell_ring(rt: &HostRuntime, name: &str, corners: &[Point], times: u32) -> Result<()> {

@@ -1,2 +1,1 @@
-pub mod Identifiers
 pub mod Snapshots

@@ -5,12 +5,12 @@ ghost use Rattle.cad_versions.specs.Listing.{IsListing};
 ghost use Rattle.cad_feature.specs.Flatten.{features_in};
 
 use cad_feature::flatten;
-use cad_index::Layer;
+use cad_merged::Layer;
 use cad_schema::Collection;
 use cad_versions::Version;
 use std::alloc::{AllocError, Global};
 
-/// The features of the collection among these versions, with their indexes.
+/// The features of the collection among these versions, with their indexes and without changes.
 pub(crate) fn layer(
     alloc: Global,
     versions: &[Version],

@@ -3,15 +3,16 @@
 ghost use Rattle.std.specs.Prelude.{◌≡◌};
 
 use crate::building::layer;
-use crate::finding::feature_with;
+use crate::following::layer_after;
+use crate::rebasing::{has_few_changes, settled_layer};
 use cad_feature::Feature;
-use cad_index::Layer;
+use cad_merged::Layer;
 use cad_schema::Collection;
-use cad_versions::{ObjectId, Version};
+use cad_versions::{Command, ObjectId, Version};
 use std::alloc::{AllocError, Global};
 use std::marker::Model;
 
-/// The features of each collection at a revision, by identifier.
+/// The features of each collection at a revision, by identifier, over bases which other revisions may share.
 ///
 /// Contracts see the revision, and the features of each collection as a list of items.
 #[derive(Drop)]
@@ -52,11 +53,14 @@ impl Model for Snapshot {
 }
 
 impl Snapshot {
-    ghost use Rattle.std.specs.Prelude.{◌≡◌, IfOk};
+    ghost use Rattle.std.specs.Prelude.{◌≡◌, ◌+◌, List, [], ◌∷◌, ◌++◌, length, IfOk};
     ghost use Rattle.std.specs.Option.{option_copied};
+    ghost use Rattle.cad_versions.specs.declared.command.Command.{Command as CommandOf};
+    ghost use Rattle.cad_versions.specs.AsOf.{as_of};
     ghost use Rattle.cad_versions.specs.Listing.{IsListing};
+    ghost use Rattle.cad_versions.specs.Refusals.{AreAccepted};
     ghost use Rattle.cad_feature.specs.Features.{AreFeaturesOf};
-    ghost use Rattle.cad_snapshot.specs.Identifiers.{identifier, IsTheOne};
+    ghost use Rattle.cad_merged.specs.Identifiers.{identifier, IsTheOne};
     ghost use Rattle.cad_snapshot.specs.Snapshots.{features_at, IsSnapshotOf};
 
     /// The features of these versions, which are those of the revision. An error is want of memory.
@@ -81,6 +85,65 @@ impl Snapshot {
         })
     }
 
+    /// The features after the command, over the same bases, as those of the revision with this number. An error is want of memory.
+    pub fn next(
+        &self,
+        alloc: Global,
+        command: &Command,
+        revision: u64,
+    ) -> Result<Snapshot, AllocError>
+        ensures { IfOk result (λ next. (commands : List CommandOf) → AreAccepted [] (commands ++ command.now ∷ [])
+            → IsSnapshotOf (length commands) (as_of (length commands) commands) self.now
+            → IsSnapshotOf revision (as_of (length commands + 1) (commands ++ command.now ∷ [])) next) }
+    {
+        let parcels = layer_after(alloc, self, command, Collection::Parcels)?;
+        let rights = layer_after(alloc, self, command, Collection::Rights)?;
+        let restrictions = layer_after(alloc, self, command, Collection::Restrictions)?;
+        let units = layer_after(alloc, self, command, Collection::Units)?;
+        let parties = layer_after(alloc, self, command, Collection::Parties)?;
+        let responsibilities = layer_after(alloc, self, command, Collection::Responsibilities)?;
+        Ok(Snapshot {
+            revision,
+            parcels,
+            rights,
+            restrictions,
+            units,
+            parties,
+            responsibilities,
+        })
+    }
+
+    /// Whether no collection has more changes to its base than `most`.
+    pub fn is_settled(&self, most: usize) -> bool {
+        has_few_changes(&self.parcels, most)
+            && has_few_changes(&self.rights, most)
+            && has_few_changes(&self.restrictions, most)
+            && has_few_changes(&self.units, most)
+            && has_few_changes(&self.parties, most)
+            && has_few_changes(&self.responsibilities, most)
+    }
+
+    /// The same features, with a new base for each collection that has more changes than `most`. An error is want of memory.
+    pub fn settled(&self, alloc: Global, most: usize) -> Result<Snapshot, AllocError>
+        ensures { IfOk result (λ settled. settled ≡ self.now) }
+    {
+        let parcels = settled_layer(alloc, &self.parcels, most)?;
+        let rights = settled_layer(alloc, &self.rights, most)?;
+        let restrictions = settled_layer(alloc, &self.restrictions, most)?;
+        let units = settled_layer(alloc, &self.units, most)?;
+        let parties = settled_layer(alloc, &self.parties, most)?;
+        let responsibilities = settled_layer(alloc, &self.responsibilities, most)?;
+        Ok(Snapshot {
+            revision: self.revision,
+            parcels,
+            rights,
+            restrictions,
+            units,
+            parties,
+            responsibilities,
+        })
+    }
+
     /// How many commands had been accepted.
     pub fn revision(&self) -> u64
         ensures { result ≡ self.now.revision }
@@ -88,22 +151,18 @@ impl Snapshot {
         self.revision
     }
 
-    /// The features of the collection, by object and number.
-    pub fn features(&self, collection: Collection) -> &[Feature]
-        ensures features { result.now ≡ features_at self.now collection }
-        ensures listed { AreFeaturesOf collection result.now }
-    {
-        self.layer(collection).features()
-    }
-
     /// The collection's feature that is the version of that object with that number. No memory is taken.
     pub fn feature(&self, collection: Collection, object: ObjectId, number: u32) -> Option<&Feature>
-        ensures { IsTheOne (identifier object number) (features_at self.now collection) (option_copied result) }
+        ensures one { IsTheOne (identifier object number) (features_at self.now collection) (option_copied result) }
+        ensures listed { AreFeaturesOf collection (features_at self.now collection) }
     {
-        feature_with(self.layer(collection).features(), object, number)
+        let layer = self.layer(collection);
+        // The layer's features ascend.
+        let _ = layer.collection();
+        layer.feature(object, number)
     }
 
-    /// The features of the collection with their indexes.
+    /// The features of the collection: a base with its indexes, and the changes to it.
     pub fn layer(&self, collection: Collection) -> &Layer
         ensures collection { result.now.collection ≡ collection }
         ensures features { result.now.features ≡ features_at self.now collection }

@@ -53,14 +53,19 @@ fn with_most<'a>(
 ) -> Result<Option<Normal<'a>>, AllocError>
     ensures { IfOk result (λ o. (x : Item) → met_or x o (joined_test side (meets x least.entry) (side_of side (whole_sides AtMost x value.now high.now))) ≡ joined_test side (meets x least.entry) (side_of side (whole_sides AtMost x value.now high.now))) }
 {
-    let most = exact_form(alloc, plain_wholes(Comparison::AtMost, value, high), side)?;
-    match most {
-        Some(most) => {
-            let form = pair(alloc, least, most, side)?;
-            Ok(Some(form))
+    let most = match exact_form(alloc, plain_wholes(Comparison::AtMost, value, high), side) {
+        Ok(most) => most,
+        Err(error) => {
+            drop(least);
+            return Err(error);
         }
-        None => Ok(None),
-    }
+    };
+    let Some(most) = most else {
+        drop(least);
+        return Ok(None);
+    };
+    let form = pair(alloc, least, most, side)?;
+    Ok(Some(form))
 }
 
 // Both comparisons, where each comes to a constant or a range.

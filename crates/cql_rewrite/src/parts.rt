@@ -44,6 +44,7 @@ fn add_one<'a>(parts: &mut Vec<Normal<'a>>, part: Normal<'a>) -> Result<(), Allo
     ensures costs { OnOk result (CostsPart parts.old.items parts.new.items part.entry) }
 {
     if is_always(&part) {
+        drop(part);
         return Ok(());
     }
     add_kept(parts, part)?;
@@ -171,6 +172,7 @@ pub(crate) fn add_either<'a>(
     ensures costs { OnOk result (CostsEither parts.old.items parts.new.items part.entry) }
 {
     if is_never(&part) {
+        drop(part);
         return Ok(());
     }
     parts.push(part)?;
@@ -249,7 +251,10 @@ pub fn both<'a>(
     ensures costs { IfOk result (λ n. (t : List Written) → least t n ≤ min (least t first.entry) (least t second.entry)) }
 {
     let mut parts = Vec::new(alloc);
-    add(&mut parts, first)?;
+    if let Err(error) = add(&mut parts, first) {
+        drop(second);
+        return Err(error);
+    }
     add(&mut parts, second)?;
     Ok(all_of(parts))
 }
@@ -262,7 +267,10 @@ fn either<'a>(
     ensures { IfOk result (λ n. (x : Item) → meets x n ≡ (meets x first.entry || meets x second.entry)) }
 {
     let mut parts = Vec::new(alloc);
-    add_either(&mut parts, first)?;
+    if let Err(error) = add_either(&mut parts, first) {
+        drop(second);
+        return Err(error);
+    }
     add_either(&mut parts, second)?;
     Ok(some_of(parts))
 }

@@ -1,5 +1,5 @@
 use Rattle.std.proofs.Common.{ap}
-use Rattle.cad_merged.specs.Features.{CollectionFeatures}
+use Rattle.cad_index.specs.Layers.{LayerFeatures}
 use Rattle.cad_changes.proofs.FollowLemmas.{after_is}
 use Rattle.cad_changes.proofs.following.features_after.Goals as goal
 
@@ -7,7 +7,7 @@ pub with-requires : goal.with-requires
 with-requires c = rw c.deref.ensures.value c.in_ok-touched.ensures.listed
 
 pub returns-clause-collection : goal.returns-clause-collection
-returns-clause-collection c = ap (λ (m : CollectionFeatures). m.collection) c.in_ok-after.ensures
+returns-clause-collection c = ap (λ (m : LayerFeatures). m.collection) c.in_ok-after.ensures
 
 pub returns-clause-features : goal.returns-clause-features
 returns-clause-features c = λ commands accepted f u p.

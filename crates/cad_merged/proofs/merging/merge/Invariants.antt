@@ -1,4 +1,4 @@
-use Rattle.std.proofs.Common.{◌≡◌, ◌++◌, ◌+◌, length}
+use Rattle.std.proofs.Common.{◌≡◌, ◌++◌, length}
 use Rattle.cad_merged.specs.Walks.{all_in, IsInOrder}
 use Rattle.cad_merged.proofs.merging.merge.Given as goal
 

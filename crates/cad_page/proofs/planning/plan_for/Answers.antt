@@ -8,14 +8,13 @@ pub returns-clause-covers : goal.returns-clause-covers
 returns-clause-covers c =
     let ask = c.args.ask.now in
     let xs = c.layer-layer.result.now.features in
-    let listed = rw c.layer-layer.ensures.collection at c.indexes.ensures.listed in
+    let listed = rw (c.collection.ensures.collection, c.layer-layer.ensures.collection) at c.collection.ensures.listed in
     rw c.layer-layer.ensures.features at (all_covered ask xs c.args.form.now c.in_ok-plan.plan c.features_are_written.ensures listed c.requires c.in_ok-plan.ensures.covers)
 
 pub returns-clause-chosen : goal.returns-clause-chosen
 returns-clause-chosen c =
-    let layer = c.layer-layer.result.now in
     record {
       form = c.args.form.now;
       is_form = c.requires;
-      way = c.in_ok-plan.ensures.way layer.collection layer.features c.indexes.ensures.listed c.indexes.ensures.indexes ∙ ap (λ xs. choice (counts_of xs) c.args.form.now) c.layer-layer.ensures.features;
+      way = c.in_ok-plan.ensures.way ∙ ap (λ xs. choice (counts_of xs) c.args.form.now) c.layer-layer.ensures.features;
     }

@@ -6,12 +6,12 @@ use Rattle.cad_run.proofs.parts.near_part.Goals as goal
 
 pub listed-requires : goal.listed-requires
 listed-requires c =
-    let layer = c.args.layer.now in
-    let is = c.in_ok-rows.ensures layer.collection layer.features c.indexes.ensures.listed c.indexes.ensures.indexes in
-    rw is (near_rises c.args.property (block_of c.args.bounds) layer.features)
+    let base = c.args.base.now in
+    let is = c.in_ok-rows.ensures base.collection base.features c.indexes.ensures.listed c.indexes.ensures.indexes in
+    rw is (near_rises c.args.property (block_of c.args.bounds) base.features)
 
 pub returns : goal.returns
 returns c = λ k.
-    let layer = c.args.layer.now in
-    let is = c.in_ok-rows.ensures layer.collection layer.features c.indexes.ensures.listed c.indexes.ensures.indexes in
-    c.listed.ensures k ∙ ap (λ rows. is_among rows k) is ∙ near_has c.args.property (block_of c.args.bounds) layer.features k
+    let base = c.args.base.now in
+    let is = c.in_ok-rows.ensures base.collection base.features c.indexes.ensures.listed c.indexes.ensures.indexes in
+    c.listed.ensures k ∙ ap (λ rows. is_among rows k) is ∙ near_has c.args.property (block_of c.args.bounds) base.features k

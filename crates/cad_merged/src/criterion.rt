@@ -1,0 +1,90 @@
+//! What features are counted by.
+
+ghost use Rattle.std.specs.Prelude.{◌≡◌, Bool, option_map};
+ghost use Rattle.cad_feature.specs.Features.{Item};
+ghost use Rattle.cad_cells.specs.Blocks.{block_of};
+ghost use Rattle.cad_cells.specs.Counted.{block_at};
+ghost use Rattle.cad_cells.specs.Near.{is_candidate};
+
+use cad_cells::{Cells, bounds_of};
+use cad_feature::{Feature, Range};
+use cad_range::lies_in;
+use cad_shape::Bounds;
+
+/// What a feature meets or not.
+pub(crate) trait Criterion {
+    /// Whether a feature meets it.
+    ghost passes: { Self → Item → Bool };
+
+    /// Whether the feature meets it.
+    fn is_met_by(&self, feature: &Feature) -> bool
+        ensures { result ≡ passes self.now feature.now };
+}
+
+/// A value in the range.
+#[derive(Clone, Copy)]
+pub(crate) struct InRange<'a> {
+    pub(crate) range: &'a Range,
+}
+
+impl Criterion for InRange<'_> {
+    ghost use Rattle.cad_range.specs.Ranges.{lies_in as lies_in_of};
+
+    ghost passes = { λ t x. lies_in_of x t.range.now };
+
+    fn is_met_by(&self, feature: &Feature) -> bool {
+        lies_in(self.range, feature)
+    }
+}
+
+/// A shape of the property near the cells.
+#[derive(Clone, Copy)]
+pub(crate) struct NearCells {
+    property: usize,
+    asked: Cells,
+}
+
+impl NearCells {
+    ghost use Rattle.std.specs.Prelude.{◌≡◌};
+    ghost use Rattle.cad_cells.specs.Blocks.{block_of};
+    ghost use Rattle.cad_cells.specs.Counted.{block_at};
+
+    /// Near the box.
+    pub(crate) fn to(property: usize, bounds: Bounds) -> NearCells
+        ensures property { result.property ≡ property }
+        ensures asked { block_at result.asked ≡ block_of bounds }
+    {
+        NearCells {
+            property,
+            asked: Cells::of(bounds),
+        }
+    }
+}
+
+/// Whether a shape with that box is near the cells.
+fn is_near(asked: Cells, bounds: Option<Bounds>) -> bool
+    ensures { result ≡ is_candidate (block_at asked) (option_map block_of bounds) }
+{
+    match bounds {
+        None => false,
+        Some(bounds) => {
+            let own = Cells::of(bounds);
+            own.is_wide() || own.share_a_cell(asked)
+        }
+    }
+}
+
+impl Criterion for NearCells {
+    ghost use Rattle.cad_cells.specs.Counted.{block_at};
+    ghost use Rattle.cad_cells.specs.Near.{is_near as is_near_of};
+
+    ghost passes = { λ t. is_near_of t.property (block_at t.asked) };
+
+    fn is_met_by(&self, feature: &Feature) -> bool {
+        if self.property < feature.values.len() {
+            is_near(self.asked, bounds_of(&feature.values[self.property]))
+        } else {
+            false
+        }
+    }
+}

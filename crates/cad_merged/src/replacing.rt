@@ -1,0 +1,48 @@
+//! Where the features of a base stand in whose place a change stands.
+
+ghost use Rattle.std.specs.Prelude.{◌≡◌, ◌≤◌, ◌++◌, IfOk, OnOk, Some, length, map};
+ghost use Rattle.std.specs.List.Sorted.{IsStrictlySortedBy};
+ghost use Rattle.cad_feature.specs.Features.{by_identifier};
+ghost use Rattle.cad_merged.specs.Replaced.{StandAt, replaced_in, standing_at, twins};
+
+use crate::finding::compare;
+use cad_feature::Feature;
+use std::alloc::{AllocError, Global};
+
+/// One more position, if the change stands in the place of a feature.
+fn add_replaced(
+    positions: &mut Vec<u32>,
+    base: &[Feature],
+    change: &Feature,
+) -> Result<(), AllocError>
+    requires few { length base.now ≤ 4294967295 }
+    requires order { IsStrictlySortedBy by_identifier base.now }
+    ensures { OnOk result (standing_at base.now positions.new.items ≡ standing_at base.now positions.old.items ++ map Some (twins by_identifier change.now base.now)) }
+{
+    let place = base.binary_search_by(|feature| compare(feature, change.object, change.number));
+    match place {
+        Ok(at) => {
+            positions.push(at as u32)?;
+            Ok(())
+        }
+        Err(_) => Ok(()),
+    }
+}
+
+/// The positions of the features of the base in whose place a change stands, found by a search for each change. An error is want
+/// of memory.
+pub(crate) fn replaced_by(
+    alloc: Global,
+    base: &[Feature],
+    changes: &[Feature],
+) -> Result<Vec<u32>, AllocError>
+    requires few { length base.now ≤ 4294967295 }
+    requires order { IsStrictlySortedBy by_identifier base.now }
+    ensures { IfOk result (λ positions. StandAt base.now positions.items (replaced_in by_identifier base.now changes.now)) }
+{
+    let mut positions = Vec::new(alloc);
+    for change in changes {
+        add_replaced(&mut positions, base, change)?;
+    }
+    Ok(positions)
+}

@@ -1,0 +1,185 @@
+-- The candidates that are left of a base and of the changes to it, from their front.
+use Rattle.std.proofs.Common.{◌≡◌, ◌∙◌, ℤ, Bool, true, false, cond, not, List, [], ◌∷◌, Bor, length, filter, ap, sym, refl, subst, arith, true≢false, MatchOption, Option, Some, None, Ordering, Less, Equal, Greater, is_eq, is_gt}
+use Rattle.std.specs.Prelude.{if◌then◌else◌}
+use Rattle.std.specs.List.{All, AllByRecursion}
+use Rattle.std.specs.List.Sorted.{IsStrictlySortedBy}
+use Rattle.std.proofs.lemmas.List.Elements.{All-from_recursion, All-tail}
+use Rattle.std.proofs.lemmas.List.Kept.{IsStrictlySortedBy-filter}
+use Rattle.cad_versions.specs.Identifiers.{identifier_cmp}
+use Rattle.cad_feature.specs.Features.{Item, identifier_of, by_identifier}
+use Rattle.cad_lookup.specs.declared.plan.Plan.{Plan}
+use Rattle.cad_lookup.specs.Candidates.{is_candidate, candidates}
+use Rattle.cad_merged.specs.FilterLemmas.{merged_filtered}
+use Rattle.cad_merged.specs.ItemLemmas.{items_total}
+use Rattle.cad_merged.specs.MergeLemmas.{change_first, change_before, change_in_place, change_behind, filter_merged}
+use Rattle.cad_merged.specs.SearchLemmas.{equal_is}
+use Rattle.cad_merged.specs.Walks.{all_in, IsInOrder}
+use Rattle.cad_run.specs.Bases.{stands_first, without}
+use Rattle.cad_run.specs.Slices.{is_later, later}
+
+rest_rises : (x : Item) (xs ys : List Item) → ys ≡ x ∷ xs → IsStrictlySortedBy by_identifier ys → IsStrictlySortedBy by_identifier xs
+unfolding IsStrictlySortedBy
+rest_rises x xs ys e up = (subst (IsStrictlySortedBy by_identifier) e up).1
+
+nothing_rises : IsStrictlySortedBy by_identifier []
+unfolding IsStrictlySortedBy
+nothing_rises = tt
+
+none_left : (xs : List Item) → length xs ≡ 0 → xs ≡ []
+none_left [] e = refl
+none_left (x ∷ xs) e = absurd (omega (arith, e))
+
+-- ---- two filters
+
+module _ (p q : Item → Bool) where
+  turned_here : (a b : Bool) (x : Item) (ys zs : List Item) → p x ≡ a → q x ≡ b → filter p ys ≡ filter q zs → filter p (cond b (x ∷ ys) ys) ≡ filter q (cond a (x ∷ zs) zs)
+  turned_here true true x ys zs e f h = rw (e, f) (ap (λ us. x ∷ us) h)
+  turned_here true false x ys zs e f h = rw f h
+  turned_here false true x ys zs e f h = rw e h
+  turned_here false false x ys zs e f h = h
+
+  pub turned : (xs : List Item) → filter p (filter q xs) ≡ filter q (filter p xs)
+  turned [] = refl
+  turned (x ∷ xs) = turned_here (p x) (q x) x (filter q xs) (filter p xs) refl refl (turned xs)
+
+passing_one : (p : Item → Bool) (b : Bool) (x : Item) (ys : List Item) → p x ≡ b → AllByRecursion (λ y. p y ≡ true) ys → AllByRecursion (λ y. p y ≡ true) (cond b (x ∷ ys) ys)
+passing_one p true x ys is all = (is, all)
+passing_one p false x ys is all = all
+
+all_passing : (p : Item → Bool) (xs : List Item) → AllByRecursion (λ y. p y ≡ true) (filter p xs)
+all_passing p [] = tt
+all_passing p (x ∷ xs) = passing_one p (p x) x (filter p xs) refl (all_passing p xs)
+
+module _ (plan : Plan) where
+  abbrev test : Item → Bool
+  test = is_candidate plan
+
+  abbrev pub AllPass : List Item → Type 0
+  AllPass xs = All (λ x. test x ≡ true) xs
+
+  -- ---- at the beginning
+
+  same_later : (last : Option (ℤ × ℤ)) (x y : Item) → by_identifier x y ≡ Equal → is_later last x ≡ is_later last y
+  same_later None x y e = refl
+  same_later (Some named) x y e = ap (λ i. is_gt (identifier_cmp i named)) (equal_is (identifier_of x) (identifier_of y) e)
+
+  module _ (last : Option (ℤ × ℤ)) (base changes bs cs : List Item) (is_base : bs ≡ filter test (later last base)) (is : cs ≡ later last changes) (up : IsInOrder base changes) where
+    later_rises : IsStrictlySortedBy by_identifier (later last base)
+    later_rises = IsStrictlySortedBy-filter by_identifier (is_later last) base up.0
+
+    pub begins_in_order : IsInOrder bs cs
+    begins_in_order = (
+      subst (IsStrictlySortedBy by_identifier) (sym is_base) (IsStrictlySortedBy-filter by_identifier test (later last base) later_rises),
+      subst (IsStrictlySortedBy by_identifier) (sym is) (IsStrictlySortedBy-filter by_identifier (is_later last) changes up.1),
+    )
+
+    pub begins_passing : AllPass bs
+    begins_passing = subst AllPass (sym is_base) (All-from_recursion (λ x. test x ≡ true) (filter test (later last base)) (all_passing test (later last base)))
+
+    pub begins_with : (xs : List Item) → all_in base changes ≡ xs → filter test (all_in bs cs) ≡ later last (candidates plan xs)
+    begins_with xs all =
+        rw (is_base, is) (merged_filtered by_identifier items_total test (later last base) (later last changes) later_rises)
+        ∙ ap (filter test) (sym (filter_merged by_identifier items_total (is_later last) (same_later last) base changes up.0) ∙ ap (later last) all)
+        ∙ turned test (is_later last) xs
+
+  -- ---- a change that stands first
+
+  first_change : (bases changes : List Item) (c : Item) (cs : List Item) → changes ≡ c ∷ cs → true ≡ stands_first c bases → IsInOrder bases changes → all_in bases changes ≡ c ∷ all_in (without c bases) cs
+  first_change [] changes c cs is h up = rw is (change_first by_identifier items_total [] c cs tt (subst (IsStrictlySortedBy by_identifier) is up.1))
+  first_change (b ∷ bs) changes c cs is h up = rw is (go (by_identifier c b) refl h)
+    where
+      go : (o : Ordering) → by_identifier c b ≡ o → true ≡ not (is_gt o) → all_in (b ∷ bs) (c ∷ cs) ≡ c ∷ all_in (if is_eq o then bs else (b ∷ bs)) cs
+      go Less e h = change_before by_identifier items_total b bs c cs e up.0 (subst (IsStrictlySortedBy by_identifier) is up.1)
+      go Equal e h = change_in_place by_identifier items_total b bs c cs e (subst (IsStrictlySortedBy by_identifier) is up.1)
+      go Greater e h = absurd (true≢false h)
+
+  without_rises : (c : Item) (bases : List Item) → IsStrictlySortedBy by_identifier bases → IsStrictlySortedBy by_identifier (without c bases)
+  without_rises c [] up = up
+  without_rises c (b ∷ bs) up = go (is_eq (by_identifier c b))
+    where
+      go : (d : Bool) → IsStrictlySortedBy by_identifier (if d then bs else (b ∷ bs))
+      go true = rest_rises b bs (b ∷ bs) refl up
+      go false = up
+
+  without_passes : (c : Item) (bases : List Item) → AllPass bases → AllPass (without c bases)
+  without_passes c [] all = all
+  without_passes c (b ∷ bs) all = go (is_eq (by_identifier c b))
+    where
+      go : (d : Bool) → AllPass (if d then bs else (b ∷ bs))
+      go true = All-tail (λ x. test x ≡ true) b bs all
+      go false = all
+
+  module _ (bases changes rest : List Item) (c : Item) (cs : List Item) (is : changes ≡ c ∷ cs) (is_rest : rest ≡ without c bases) where
+    pub still_in_order : IsInOrder bases changes → IsInOrder rest cs
+    still_in_order up = (subst (IsStrictlySortedBy by_identifier) (sym is_rest) (without_rises c bases up.0), rest_rises c cs changes is up.1)
+
+    pub still_passing : AllPass bases → AllPass rest
+    still_passing all = subst AllPass (sym is_rest) (without_passes c bases all)
+
+    front_is : true ≡ stands_first c bases → IsInOrder bases changes → filter test (all_in bases changes) ≡ cond (test c) (c ∷ filter test (all_in rest cs)) (filter test (all_in rest cs))
+    front_is first up = rw is_rest (ap (filter test) (first_change bases changes c cs is first up))
+
+    pub change_given : true ≡ stands_first c bases → IsInOrder bases changes → test c ≡ true → filter test (all_in bases changes) ≡ c ∷ filter test (all_in rest cs)
+    change_given first up h = front_is first up ∙ ap (λ b. cond b (c ∷ filter test (all_in rest cs)) (filter test (all_in rest cs))) h
+
+    pub change_skipped : true ≡ stands_first c bases → IsInOrder bases changes → test c ≡ false → filter test (all_in bases changes) ≡ filter test (all_in rest cs)
+    change_skipped first up h = front_is first up ∙ ap (λ b. cond b (c ∷ filter test (all_in rest cs)) (filter test (all_in rest cs))) h
+
+  -- ---- the first of the base
+
+  abbrev pub IsTaken : Option (Bor Item) → List Item → List Item → Type 0
+  IsTaken found bases rest = MatchOption found ((bases ≡ []) × (rest ≡ [])) (λ x. bases ≡ x.now ∷ rest)
+
+  -- a change that stands behind the first leaves it there
+  stays : (c : Item) (bases : List Item) → false ≡ stands_first c bases → without c bases ≡ bases
+  stays c [] h = absurd (true≢false (sym h))
+  stays c (b ∷ bs) h = go (by_identifier c b) h
+    where
+      go : (o : Ordering) → false ≡ not (is_gt o) → (if is_eq o then bs else (b ∷ bs)) ≡ b ∷ bs
+      go Less h = absurd (true≢false (sym h))
+      go Equal h = absurd (true≢false (sym h))
+      go Greater h = refl
+
+  pub taken_behind : (found : Option (Bor Item)) (c : Item) (bases kept rest : List Item) → false ≡ stands_first c bases → kept ≡ without c bases → IsTaken found kept rest → IsTaken found bases rest
+  taken_behind found c bases kept rest h is taken = subst (λ xs. IsTaken found xs rest) (is ∙ stays c bases h) taken
+
+  -- what comes out is the front of what is left
+  abbrev pub IsGiven : Option (Bor Item) → List Item → List Item → Type 0
+  IsGiven found old new = MatchOption found (filter test old ≡ []) (λ x. filter test old ≡ x.now ∷ filter test new)
+
+  -- the same of a list that is known to be as much
+  pub given_of : (found : Option (Bor Item)) (all old new : List Item) → filter test all ≡ old → IsGiven found all new → MatchOption found (old ≡ []) (λ x. old ≡ x.now ∷ filter test new)
+  given_of None all old new e given = sym e ∙ given
+  given_of (Some x) all old new e given = sym e ∙ given
+
+  base_given : (x : Item) (rest : List Item) (all new : List Item) → AllPass (x ∷ rest) → all ≡ x ∷ new → filter test all ≡ x ∷ filter test new
+  base_given x rest all new passing is = ap (filter test) is ∙ ap (λ b. cond b (x ∷ filter test new) (filter test new)) (passing 0 x (omega arith))
+
+  behind_is : (x : Item) (rest changes : List Item) (c : Item) (cs : List Item) → changes ≡ c ∷ cs → false ≡ stands_first c (x ∷ rest) → IsInOrder (x ∷ rest) changes → all_in (x ∷ rest) changes ≡ x ∷ all_in rest changes
+  behind_is x rest changes c cs is h up = rw is (go (by_identifier c x) refl h)
+    where
+      go : (o : Ordering) → by_identifier c x ≡ o → false ≡ not (is_gt o) → all_in (x ∷ rest) (c ∷ cs) ≡ x ∷ all_in rest (c ∷ cs)
+      go Less e h = absurd (true≢false (sym h))
+      go Equal e h = absurd (true≢false (sym h))
+      go Greater e h = change_behind by_identifier items_total x rest c cs e (subst (IsStrictlySortedBy by_identifier) is up.1)
+
+  module _ (bases changes rest : List Item) (up : IsInOrder bases changes) (passing : AllPass bases) where
+    pub taken_in_order : (found : Option (Bor Item)) → IsTaken found bases rest → IsInOrder rest changes
+    taken_in_order None e = (subst (IsStrictlySortedBy by_identifier) (sym e.1) nothing_rises, up.1)
+    taken_in_order (Some x) e = (rest_rises x.now rest bases e up.0, up.1)
+
+    pub taken_passing : (found : Option (Bor Item)) → IsTaken found bases rest → AllPass rest
+    taken_passing None e = subst AllPass (sym e.1) (λ k d h. absurd (omega (arith, h)))
+    taken_passing (Some x) e = All-tail (λ y. test y ≡ true) x.now rest (subst AllPass e passing)
+
+    -- it stands before the change
+    pub base_before : (found : Option (Bor Item)) (c : Item) (cs : List Item) → changes ≡ c ∷ cs → false ≡ stands_first c bases → IsTaken found bases rest → IsGiven found (all_in bases changes) (all_in rest changes)
+    base_before None c cs is h e = absurd (true≢false (sym (h ∙ ap (stands_first c) e.0)))
+    base_before (Some x) c cs is h e =
+        base_given x.now rest (all_in bases changes) (all_in rest changes) (subst AllPass e passing)
+        (ap (λ xs. all_in xs changes) e ∙ behind_is x.now rest changes c cs is (h ∙ ap (stands_first c) e) (subst (λ xs. IsInOrder xs changes) e up))
+
+    -- no change is left
+    pub base_alone : (found : Option (Bor Item)) → length changes ≡ 0 → IsTaken found bases rest → IsGiven found (all_in bases changes) (all_in rest changes)
+    base_alone None none e = rw (none_left changes none) (ap (filter test) e.0)
+    base_alone (Some x) none e = rw (none_left changes none) (base_given x.now rest bases rest (subst AllPass e passing) e)
