@@ -40,6 +40,7 @@ test: cases
 	scripts/crate_rows --check
 	scripts/chain
 	$(RT) ci
+	scripts/check_changes
 	scripts/check_office
 	scripts/check_old_register
 	scripts/check_damage

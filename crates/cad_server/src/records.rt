@@ -19,8 +19,9 @@ use std::num::NonZeroUsize;
 /// Of how many revisions the features are kept at most. Most of them share the bases of others, and cost their changes alone.
 const MOST_KEPT: usize = 132;
 
-/// Of how many old revisions that were read of the ledger the features are kept at most, each on bases of its own.
-const MOST_READ: usize = 4;
+/// Of how many old revisions that were read of the ledger the features are kept at most, each on bases of its own. With the newest
+/// bases and those before them there are four at most.
+const MOST_READ: usize = 2;
 
 /// How many changes a base of a collection gets before a new one is made, where nothing else is asked for.
 pub(crate) const MOST_CHANGES: usize = 512;
