@@ -77,6 +77,7 @@ bench: sample cadastred
 	scripts/bench
 	scripts/bench_serve
 	scripts/bench_host
+	scripts/bench_changes
 
 # Has the real sqlite3 look at a file that the program wrote.
 register-file: sample

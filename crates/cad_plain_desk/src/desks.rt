@@ -3,10 +3,9 @@
 ghost use Rattle.std.specs.Prelude.{[], IfOk};
 ghost use Rattle.cad_plain_desk.specs.Desks.{HasLedger, IsDeskOf, IsSampleDesk, IsSampleLedger};
 
-use cad_desk::Desk;
+use cad_http::{Desk, Server};
 use cad_plain::PlainLedger;
 use cad_sample::fill;
-use cad_server::Server;
 use std::alloc::{AllocError, Global};
 
 /// A desk of the server over a ledger in memory.
