@@ -1,7 +1,6 @@
 -- What the calls of records and servers do, from what the calls inside them do.
-use Rattle.std.proofs.Common.{◌≡◌, ◌≤◌, ◌⊎◌, inl, inr, ℕ, Bool, List, length, Option, Some, None, Result, Ok, Err, Vec, sym, ap, ◌∙◌, subst, nat_eq}
+use Rattle.std.proofs.Common.{◌≡◌, inl, inr, ℕ, Bool, List, Option, Some, None, Result, Ok, Err, sym, ap, ◌∙◌, subst, nat_eq}
 use Rattle.std.specs.Prelude.{string_bytes}
-use Rattle.std.specs.Global.{Global}
 use Rattle.std.specs.Map.{lookup}
 use Rattle.lru.specs.LruCache.{LruCache, lru_cache, promoted}
 use Rattle.cad_versions.specs.declared.command.Command.{Command}
@@ -20,7 +19,7 @@ use Rattle.cad_wanted.specs.Wants.{IsWanted}
 use Rattle.cad_server.specs.declared.records.Records.{Records}
 use Rattle.cad_server.specs.declared.server.Server.{Server}
 use Rattle.cad_server.specs.declared.sought.Sought.{Sought}
-use Rattle.cad_server.specs.Contents.{content_told, content_in, content_wanted}
+use Rattle.cad_server.specs.Contents.{content_told, content_in}
 use Rattle.cad_server.specs.Replies.{reply_of, IsReply, Asks, FailsToAnswer}
 use Rattle.cad_server.specs.Servers.{AreKept, ledger_in, ledger_of, AreRecordsOf, IsServerOf, RefusesToAnswer, Recalls, Finds, Tells}
 use Rattle.cad_server.proofs.KeptLemmas.{kept_promoted, kept_found}
@@ -102,6 +101,25 @@ module _ {L : Type 0} (g : Ghosts L) where
       kept = λ counts. tt;
       unchanged = λ counts lives. moved old new r.same r.kept;
       clean = subst g.counts r.same;
+    };
+  })
+
+  -- there was no memory for what was listed
+  pub read_nothing : (revision : ℕ) (sought : Sought) (old new : Records L) (fault : RegisterFault) (given : Result Told RegisterFault) → given ≡ Err fault → fault ≡ Memory
+      → new.kept ≡ old.kept → (g.counts (ledger_in new) → (commands : List Command) → g.stands_for (ledger_in old) commands → g.stands_for (ledger_in new) commands)
+      → (g.counts (ledger_in new) → g.counts (ledger_in old)) → Finds g revision sought old given new
+  read_nothing revision sought old new fault given e m same stays clean = subst (λ (given : Result Told RegisterFault). Finds g revision sought old given new) (sym e) (record {
+    told = λ counts. tt;
+    cause = λ counts commands records within. inl m;
+    reads = record {
+      store = λ counts s. absurd (not_store fault m s);
+      still = λ counts. tt;
+      kept = λ counts. tt;
+      unchanged = λ counts lives commands records. record {
+        ledger = stays counts commands records.ledger;
+        kept = subst (λ (k : LruCache ℕ RevisionFeatures). AreKept commands k.entries) (sym same) records.kept;
+      };
+      clean = clean;
     };
   })
 

@@ -2,6 +2,8 @@
 use Rattle.std.proofs.Common.{◌≡◌, ◌≤◌, ℕ, ◌+◌, Bool, true, List, [], ◌∷◌, ◌++◌, length, Contains, Option, Some, Result, Ok, Err, OnOk, OnErr, refl, sym, ap, ap₂, ◌∙◌, subst, inl, inr, arith, nat_eq}
 use Rattle.std.proofs.lemmas.List.{length-append}
 use Rattle.std.proofs.lemmas.Bool.Decides.{nat_tests}
+use Rattle.std.specs.Option.{IfSome}
+use Rattle.std.specs.Result.{IfOk, result_ok}
 use Rattle.std.specs.Map.{lookup, remove_entry}
 use Rattle.lru.specs.LruCache.{LruCache, lru_cache, promoted, put_entries}
 use Rattle.lru.proofs.CallerLemmas.{Contains-promoted, Contains-put_entries, Contains-lookup, Contains-remove_entry}
@@ -75,6 +77,11 @@ kept_found commands entries revision snapshot all found =
 
 -- ---- the next revision
 
+-- what holds of a value that is there holds of it as an option
+pub some_of_ok : {A : Type 0} {E : Type 0} (P Q : A → Type 0) (r : Result A E) (o : Option A) → o ≡ result_ok r → ((x : A) → P x → Q x) → IfOk r P → IfSome o Q
+some_of_ok P Q (Ok x) o is f h = subst (λ o. IfSome o Q) (sym is) (f x h)
+some_of_ok P Q (Err e) o is f h = subst (λ o. IfSome o Q) (sym is) tt
+
 is_snapshot : (revision : ℕ) (versions : List VersionedObject) (s : RevisionFeatures) → s ≡ snapshot_of revision versions → IsSnapshotOf revision versions s
 is_snapshot revision versions s is = subst (IsSnapshotOf revision versions) (sym is) (record { of_revision = refl; features = told_at revision (features_in versions) })
 
@@ -113,12 +120,15 @@ module _ {L : Type 0} (g : Ghosts L) where
   }
 
   -- and what is kept of the revision since is right
-  pub then_kept : (command : Command) (revision : ℕ) (old mid new : Records L) (next : RevisionFeatures)
-      → Applied (AreRecordsOf g) (λ (r : Records L). g.counts (ledger_in r)) (λ (r : Records L). g.lives (ledger_in r)) g.fails_to_apply (λ (o n : Records L). g.refuses_command (ledger_in o) (ledger_in n)) old command (Ok revision) mid
+  pub then_kept : ((ledger : L) (commands : List Command) → g.stands_for ledger commands → AreAccepted [] commands)
+      → (command : Command) (revision : ℕ) (given : Result ℕ RegisterFault) (old mid new : Records L) (next : RevisionFeatures) → given ≡ Ok revision
+      → Applied (AreRecordsOf g) (λ (r : Records L). g.counts (ledger_in r)) (λ (r : Records L). g.lives (ledger_in r)) g.fails_to_apply (λ (o n : Records L). g.refuses_command (ledger_in o) (ledger_in n)) old command given mid
       → ((commands : List Command) → AreRecordsOf g old commands → AreAccepted [] (commands ++ command ∷ []) → IsKept (commands ++ command ∷ []) (next.revision, next))
       → Keeps g next mid new
       → Applied (AreRecordsOf g) (λ (r : Records L). g.counts (ledger_in r)) (λ (r : Records L). g.lives (ledger_in r)) g.fails_to_apply (λ (o n : Records L). g.refuses_command (ledger_in o) (ledger_in n)) old command (Ok revision) new
-  then_kept command revision old mid new next a follows keeps =
+  then_kept were_accepted command revision given old mid new next is given_so follows keeps =
+      let a : Applied (AreRecordsOf g) (λ (r : Records L). g.counts (ledger_in r)) (λ (r : Records L). g.lives (ledger_in r)) g.fails_to_apply (λ (o n : Records L). g.refuses_command (ledger_in o) (ledger_in n)) old command (Ok revision) mid
+      = subst (λ (r : Result ℕ RegisterFault). Applied (AreRecordsOf g) (λ (r : Records L). g.counts (ledger_in r)) (λ (r : Records L). g.lives (ledger_in r)) g.fails_to_apply (λ (o n : Records L). g.refuses_command (ledger_in o) (ledger_in n)) old command r mid) is given_so in
       let counted : g.counts (ledger_in new) → g.counts (ledger_in mid) = subst g.counts keeps.same in
       record {
         accepted = λ counts commands records.
@@ -128,7 +138,7 @@ module _ {L : Type 0} (g : Ghosts L) where
               t.1,
               record {
                 ledger = subst (λ l. g.stands_for l all) (sym keeps.same) t.2.ledger;
-                kept = keeps.kept all t.2.kept (follows commands records (g.were_accepted (ledger_in mid) all t.2.ledger));
+                kept = keeps.kept all t.2.kept (follows commands records (were_accepted (ledger_in mid) all t.2.ledger));
               },
             );
         refused = λ counts. tt;

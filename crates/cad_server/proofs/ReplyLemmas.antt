@@ -1,5 +1,5 @@
 -- A request has one reply.
-use Rattle.std.proofs.Common.{◌≡◌, ℕ, Bool, true, false, cond, nat_lt, List, length, Option, Some, None, Result, Ok, Err, refl, sym, ap, ap₂, subst, ◌∙◌}
+use Rattle.std.proofs.Common.{◌≡◌, ℕ, Bool, true, false, cond, nat_lt, List, length, Option, Some, None, Result, Ok, Err, sym, ap, ap₂, subst, ◌∙◌}
 use Rattle.std.specs.Prelude.{codes, IfSome, MatchOption, unwrap_or}
 use Rattle.std.specs.Bool.{MatchBool}
 use Rattle.serde_json.specs.Data.{Data}
@@ -9,13 +9,11 @@ use Rattle.cad_schema.specs.declared.collection.Collection.{Collection}
 use Rattle.cad_schema.specs.Schema.{schema_of}
 use Rattle.cql_types.specs.declared.filter.Filter.{Filter}
 use Rattle.cql_filter.specs.Filters.{IsAccepted}
-use Rattle.cad_head.specs.Request.{Request}
 use Rattle.cad_query.specs.Pairs.{PairText, pairs_of}
-use Rattle.cad_query.specs.Identifiers.{Numbers, numbers_of, identifier_named}
-use Rattle.cad_query.specs.declared.identifier.Identifier.{Identifier}
+use Rattle.cad_query.specs.Identifiers.{Numbers, identifier_named}
 use Rattle.cad_ask.specs.declared.ask.Ask.{Ask}
 use Rattle.cad_ask.specs.declared.fault.AskFault.{AskFault}
-use Rattle.cad_ask.specs.Answers.{IsAsk, AsksWell, IsFirstFault, IsFilterGiven, FiltersWell, filter_given}
+use Rattle.cad_ask.specs.Answers.{IsAsk, AsksWell, IsFilterGiven, filter_given}
 use Rattle.cad_ask.specs.Laws.{AskTheSame, PairsAskOneThing, HasOneFirstFault, HasFaultOrAsks}
 use Rattle.cad_page.specs.Laws.{TheSameIsAnswered}
 use Rattle.cad_bodies.specs.Faults.{word_data}
@@ -32,10 +30,9 @@ use Rattle.cad_wanted.specs.declared.request.Wanted.{Wanted}
 use Rattle.cad_wanted.specs.declared.request.Wanted.TheVariants as wants
 use Rattle.cad_wanted.specs.declared.told.Told.{Told}
 use Rattle.cad_wanted.specs.Wants.{IsTold, IsRefusal, IsPlain, IsTellingOf, has_pairs, fault_text, IsPageWanted, IsFeatureOf, IsIdentified, IsFeatureWanted, IsWantedAt, IsWanted}
-use Rattle.cad_server.specs.declared.sought.Sought.{Sought}
-use Rattle.cad_server.specs.declared.sought.Sought.TheVariants.{Page, Feature}
-use Rattle.cad_server.specs.Contents.{Content, content_told, feature_content, feature_with, refusal, snapshot_at, revision_sought, content_in, content_of, content_wanted}
-use Rattle.cad_server.specs.Replies.{reply_of, IsReply}
+use Rattle.cad_server.specs.declared.sought.Sought.TheVariants.{Page}
+use Rattle.cad_server.specs.Contents.{content_told, feature_content, feature_with, refusal, snapshot_at, revision_sought, content_in, content_of, content_wanted}
+use Rattle.cad_server.specs.Replies.{reply_of}
 use Rattle.cad_server.specs.Laws.{RequestsHaveOneReply}
 
 -- two values that are wanted tell the same

@@ -68,6 +68,11 @@ module _ {L : Type 0} (g : Ghosts L) where
     pub unchanged : g.counts (ledger_in new) → IfErr result (λ fault. MayClose fault → g.lives (ledger_in new)) → OnErr result ((commands : List Command) → AreRecordsOf old commands → AreRecordsOf new commands)
     pub clean : g.counts (ledger_in new) → g.counts (ledger_in old)
 
+  -- less is kept, and the ledger is not touched
+  pub record Forgets (old new : Records L) : Type 0 where
+    pub same : ledger_in new ≡ ledger_in old
+    pub kept : (commands : List Command) → AreKept commands old.kept.entries → AreKept commands new.kept.entries
+
   -- more is kept, or less, and the ledger is not touched
   pub record Keeps (snapshot : RevisionFeatures) (old new : Records L) : Type 0 where
     pub same : ledger_in new ≡ ledger_in old

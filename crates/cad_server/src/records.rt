@@ -59,7 +59,7 @@ impl<L: Ledger> Records<L> {
     ghost use Rattle.cad_versions.specs.declared.command.Command.{Command as CommandOf};
     ghost use Rattle.cad_versions.specs.Ledgers.{Applied};
     ghost use Rattle.cad_versions.specs.Refusals.{AreAccepted};
-    ghost use Rattle.cad_server.specs.Servers.{ledger_in, AreRecordsOf, IsKept, Keeps, Recalls, Finds, Seeks, Tells};
+    ghost use Rattle.cad_server.specs.Servers.{ledger_in, AreRecordsOf, IsKept, Forgets, Keeps, Recalls, Finds, Seeks, Tells};
 
     /// A ledger of which nothing was read yet, or the ledger back where there is no memory.
     pub(crate) fn new(alloc: Global, ledger: L, most_changes: usize) -> Result<Records<L>, L>
@@ -150,13 +150,29 @@ impl<L: Ledger> Records<L> {
         }
     }
 
+    /// Keeps nothing of the revision any more.
+    fn forget(&mut self, revision: u64)
+        ensures { Forgets L.Ledger self.old self.new }
+    {
+        drop(self.kept.pop(&revision));
+    }
+
+    /// Keeps nothing any more of the revision that another one was read in place of.
+    fn forget_displaced(&mut self, displaced: Option<(u64, ())>)
+        ensures { Forgets L.Ledger self.old self.new }
+    {
+        if let Some((old, ())) = displaced {
+            self.forget(old);
+        }
+    }
+
     /// Keeps features of the revision in force that have bases of their own: those that share the bases before the last are dropped.
     fn keep_based(&mut self, snapshot: Snapshot)
         ensures { Keeps L.Ledger snapshot self.old self.new }
     {
         let revision = snapshot.revision();
         for old in self.based_before..self.based {
-            drop(self.kept.pop(&old));
+            self.forget(old);
         }
         self.based_before = self.based;
         self.based = revision;
@@ -182,9 +198,7 @@ impl<L: Ledger> Records<L> {
         let Ok(displaced) = self.read.push(revision, ()) else {
             return;
         };
-        if let Some((old, ())) = displaced {
-            drop(self.kept.pop(&old));
-        }
+        self.forget_displaced(displaced);
         self.put(snapshot);
     }
 
