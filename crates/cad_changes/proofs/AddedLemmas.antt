@@ -1,24 +1,20 @@
 -- The feature that a command adds, told from the features before it.
-use Rattle.std.proofs.Common.{◌≡◌, ℕ, ◌+◌, ◌≤◌, ◌<◌, ℤ, pos, Bool, true, false, cond, not, ◌&&◌, ◌==◌, List, [], ◌∷◌, length, map, filter, find, Option, Some, None, option_map, option_and_then, refl, sym, ap, ap₂, ◌∙◌, subst, arith, int_eq, int_le, nat_le, nat_lt, true≢false}
+use Rattle.std.proofs.Common.{◌≡◌, ℕ, ◌+◌, ◌≤◌, Bool, true, false, cond, ◌&&◌, ◌==◌, List, [], ◌∷◌, length, map, filter, find, Option, Some, None, option_map, option_and_then, refl, sym, ap, ap₂, ◌∙◌, subst, arith, nat_le, nat_lt}
 use Rattle.std.specs.List.{AllByRecursion}
-use Rattle.std.proofs.lemmas.Int.{ints}
 use Rattle.std.proofs.lemmas.Bool.Decides.{nat_tests}
 use Rattle.std.proofs.lemmas.List.{length-map}
 use Rattle.cad_day.specs.declared.day.Day.{Day}
-use Rattle.cad_day.specs.Days.{number_of}
 use Rattle.cad_versions.specs.declared.body.Body.{Body}
 use Rattle.cad_versions.specs.declared.body.Class.{Class}
 use Rattle.cad_versions.specs.declared.body.Class.TheVariants as class
 use Rattle.cad_versions.specs.declared.command.Command.{Command}
-use Rattle.cad_versions.specs.declared.command.Command.TheVariants.{Enter, Amend, Retire}
 use Rattle.cad_versions.specs.declared.object_id.ObjectId.{ObjectId}
 use Rattle.cad_versions.specs.BodyParts.{name_in, unit_named, party_named}
 use Rattle.cad_versions.specs.Class.{class_of, class_number}
 use Rattle.cad_versions.specs.Command.{object_named}
 use Rattle.cad_versions.specs.Identifiers.{by_identifier as by_version}
 use Rattle.cad_versions.specs.ListLemmas.{all_weaker, filter-map}
-use Rattle.cad_versions.specs.Objects.{object_number}
-use Rattle.cad_versions.specs.Refusals.{class_at, is_class, is_entered, is_full, most_versions}
+use Rattle.cad_versions.specs.Refusals.{class_at, is_class, is_entered, most_versions}
 use Rattle.cad_versions.specs.Sorting.{sort_by}
 use Rattle.cad_versions.specs.SortLemmas.{all_sorted, length-sort_by}
 use Rattle.cad_versions.specs.VersionedObject.{VersionedObject}
@@ -33,7 +29,7 @@ use Rattle.cad_feature.specs.Flatten.{class_for, is_in, joined_name, or_null, as
 use Rattle.cad_feature.specs.Lifespans.{is_up_to, holds_on}
 use Rattle.cad_merged.specs.Identifiers.{is_item_of, of_object}
 use Rattle.cad_changes.specs.Changes.{next, renames_on, is_object, feature_if_in}
-use Rattle.cad_changes.specs.Touching.{first_of, last_of, Edits, or_kept, edited_datum, edited_data, edited, begins_by, has_day, name_of, name_among, count_of, begun_after, names_joined, item_of}
+use Rattle.cad_changes.specs.Touching.{or_kept, edited_datum, edited_data, edited, begins_by, has_day, name_of, name_among, count_of, begun_after, names_joined, item_of}
 use Rattle.cad_changes.proofs.ClassLemmas.{AreOf, Adds, ClassesStand, are_of, same_class_at, below, no_unit, no_party}
 use Rattle.cad_changes.proofs.FeatureLemmas.{name_next}
 use Rattle.cad_changes.proofs.ItemLemmas.{first_is, last_is, edited_is}

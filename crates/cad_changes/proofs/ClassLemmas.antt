@@ -1,5 +1,5 @@
 -- All versions of an object are of one class, and what is named as a unit or a party is one.
-use Rattle.std.proofs.Common.{◌≡◌, ℕ, ◌+◌, ◌≤◌, ◌<◌, pos, Bool, true, false, cond, not, ◌&&◌, ◌==◌, List, [], ◌∷◌, ◌++◌, length, map, filter, find, fold, Option, Some, None, option_map, refl, sym, ap, ◌∙◌, subst, arith, int_eq, nat_le, nat_lt, true≢false}
+use Rattle.std.proofs.Common.{◌≡◌, ℕ, pos, Bool, true, false, cond, not, ◌==◌, List, [], ◌∷◌, ◌++◌, map, find, fold, Option, Some, None, option_map, refl, sym, ap, ◌∙◌, subst, arith, int_eq, nat_lt, true≢false}
 use Rattle.std.specs.List.{AllByRecursion}
 use Rattle.std.proofs.lemmas.Int.{ints}
 use Rattle.std.proofs.lemmas.Bool.Decides.{nat_tests}
@@ -10,7 +10,6 @@ use Rattle.cad_versions.specs.declared.body.Class.{Class}
 use Rattle.cad_versions.specs.declared.body.Class.TheVariants as class
 use Rattle.cad_versions.specs.declared.command.Command.{Command}
 use Rattle.cad_versions.specs.declared.command.Command.TheVariants.{Enter, Amend, Retire}
-use Rattle.cad_versions.specs.declared.fault.RegisterFault.{RegisterFault}
 use Rattle.cad_versions.specs.declared.object_id.ObjectId.{ObjectId}
 use Rattle.cad_versions.specs.BodyParts.{unit_named, party_named}
 use Rattle.cad_versions.specs.Class.{class_of, class_number}
@@ -18,7 +17,7 @@ use Rattle.cad_versions.specs.DayBefore.{day_before}
 use Rattle.cad_versions.specs.HistoryLemmas.{unrefused, neither}
 use Rattle.cad_versions.specs.ListLemmas.{all_weaker, all_mapped}
 use Rattle.cad_versions.specs.Objects.{object_number}
-use Rattle.cad_versions.specs.Refusals.{class_at, open_since, is_class, is_entered, are_entered, is_full, most_versions, refuse_if, refuses_closing, refuses_object, refuses_addition, or_else, refusal, AreAccepted}
+use Rattle.cad_versions.specs.Refusals.{class_at, open_since, is_class, is_entered, are_entered, is_full, refuses_object, refuses_addition, refusal, AreAccepted}
 use Rattle.cad_versions.specs.VersionedObject.{VersionedObject}
 use Rattle.cad_versions.specs.Versions.{is_of, is_open_of, closed_on, closed_if_open, begun, next_number, after, versions}
 use Rattle.cad_changes.proofs.TestLemmas.{left_true, right_true, find_map}

@@ -1,15 +1,13 @@
 -- The features of the next revision.
-use Rattle.std.proofs.Common.{◌≡◌, ℕ, ℤ, pos, ◌≤ℤ◌, ◌<ℤ◌, ◌-ℤ◌, Bool, true, false, cond, ◌&&◌, ◌||◌, List, [], ◌∷◌, length, map, filter, find, Option, Some, None, IfSome, is_none, option_map, option_and_then, refl, sym, ap, ap₂, ◌∙◌, subst, arith, Ordering, Less, Equal, Greater, is_eq, int_le, int_lt, int_eq, true≢false}
+use Rattle.std.proofs.Common.{◌≡◌, ℕ, ℤ, pos, ◌<ℤ◌, ◌-ℤ◌, Bool, true, false, cond, ◌&&◌, List, [], ◌∷◌, map, filter, find, Option, Some, None, IfSome, is_none, option_map, option_and_then, refl, sym, ap, ◌∙◌, arith, Less, int_le, int_lt, int_eq}
 use Rattle.std.specs.List.{AllByRecursion}
 use Rattle.std.specs.List.Sorted.{IsStrictlySortedBy}
-use Rattle.std.specs.Cmp.{IsTotalOrder}
-use Rattle.std.proofs.lemmas.Cmp.{on_total, tied_itself}
+use Rattle.std.proofs.lemmas.Cmp.{tied_itself}
 use Rattle.std.proofs.lemmas.Int.{ints}
 use Rattle.std.proofs.lemmas.List.Kept.{IsStrictlySortedBy-filter}
 use Rattle.cad_day.specs.declared.day.Day.{Day}
 use Rattle.cad_day.specs.Days.{number_of}
 use Rattle.cad_versions.specs.declared.object_id.ObjectId.{ObjectId}
-use Rattle.cad_versions.specs.declared.words.Words.{Words}
 use Rattle.cad_versions.specs.declared.command.Command.{Command}
 use Rattle.cad_versions.specs.declared.command.Command.TheVariants.{Enter, Amend, Retire}
 use Rattle.cad_versions.specs.BodyParts.{name_in, unit_named, party_named}
@@ -19,7 +17,7 @@ use Rattle.cad_versions.specs.Identifiers.{identifier_cmp, by_identifier as by_v
 use Rattle.cad_versions.specs.ListLemmas.{map-map, map_same, filter-map, filter_same}
 use Rattle.cad_versions.specs.Objects.{object_number}
 use Rattle.cad_versions.specs.VersionedObject.{VersionedObject}
-use Rattle.cad_versions.specs.Versions.{is_of, is_open_of, history, closed_on, closed_if_open, begun, next_number}
+use Rattle.cad_versions.specs.Versions.{is_of, is_open_of, closed_on, closed_if_open, begun, next_number}
 use Rattle.cad_schema.specs.declared.attribute.Attribute.{Attribute}
 use Rattle.cad_schema.specs.declared.attribute.Attribute.TheVariants as attribute
 use Rattle.cad_schema.specs.declared.collection.Collection.{Collection}
@@ -28,7 +26,7 @@ use Rattle.cad_feature.specs.Features.{Item, identifier_of, by_identifier}
 use Rattle.cad_feature.specs.Flatten.{is_in, joined_name, or_null, as_text, value_in, feature_in, features_in}
 use Rattle.cad_feature.specs.Lifespans.{holds_on, is_up_to}
 use Rattle.cad_feature.specs.Values.{Datum}
-use Rattle.cad_changes.specs.Changes.{version_added, left_by, next, is_closed_by, renames_on, is_object, names, is_touched_by, feature_if_in, features_left, feature_added, touched}
+use Rattle.cad_changes.specs.Changes.{version_added, left_by, next, is_closed_by, renames_on, is_object, names, is_touched_by, feature_if_in, features_left, touched}
 use Rattle.cad_versions.specs.OrderLemmas.{identifiers_total, versions_total}
 use Rattle.cad_merged.specs.ItemLemmas.{items_total}
 use Rattle.cad_merged.specs.Merging.{put, put_if, merged}

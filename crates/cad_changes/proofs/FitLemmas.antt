@@ -1,12 +1,11 @@
 -- Edits that fit keep the kinds of values.
-use Rattle.std.proofs.Common.{◌≡◌, ℕ, zero, suc, ◌+◌, ◌≤◌, ◌<◌, Bool, true, false, cond, ◌&&◌, List, [], ◌∷◌, ◌++◌, length, map, filter, take, find, get_or, Option, Some, None, IfSome, option_map, option_and_then, append_assoc, lit<, refl, sym, ap, ◌∙◌, subst, arith}
-use Rattle.std.specs.List.{All, AllByRecursion}
+use Rattle.std.proofs.Common.{◌≡◌, ℕ, zero, suc, ◌+◌, ◌<◌, Bool, true, false, cond, ◌&&◌, List, [], ◌∷◌, ◌++◌, length, map, filter, take, find, get_or, Option, Some, None, IfSome, option_map, option_and_then, append_assoc, lit<, refl, sym, ap, ◌∙◌, subst, arith}
+use Rattle.std.specs.List.{AllByRecursion}
 use Rattle.std.specs.List.Sorted.{IsStrictlySortedBy}
 use Rattle.std.specs.Option.{option_to_list}
 use Rattle.std.proofs.lemmas.List.{map_push}
 use Rattle.std.proofs.lemmas.List.Elements.{All-from_recursion, recursion_from_All}
 use Rattle.std.proofs.lemmas.List.Kept.{IsStrictlySortedBy-filter}
-use Rattle.std.specs.Str.{chars}
 use Rattle.std.proofs.lemmas.Str.{scalars-chars, IsUtf8-had}
 use Rattle.cad_day.specs.declared.day.Day.{Day}
 use Rattle.cad_day.specs.declared.interval.Interval.{Interval}
@@ -21,7 +20,6 @@ use Rattle.cad_schema.specs.declared.attribute.Attribute.{Attribute}
 use Rattle.cad_schema.specs.declared.attribute.Attribute.TheVariants as attribute
 use Rattle.cad_schema.specs.declared.collection.Collection.{Collection}
 use Rattle.cad_schema.specs.declared.collection.Collection.TheVariants.{Units, Parties}
-use Rattle.cad_schema.specs.declared.property.PropertyKind.{PropertyKind}
 use Rattle.cad_schema.specs.declared.property.PropertyKind.TheVariants as kind
 use Rattle.cad_schema.specs.declared.property.Property.{Property}
 use Rattle.cad_schema.specs.Attributes.{Named, named, attribute_of, attributes_of}

@@ -1,5 +1,5 @@
 -- What a feature says of its version, and the features that a command leaves.
-use Rattle.std.proofs.Common.{◌≡◌, ℕ, ℤ, pos, Bool, true, false, cond, ◌&&◌, ◌||◌, ◌==◌, List, [], ◌∷◌, map, filter, Option, Some, None, is_none, option_map, option_and_then, refl, sym, ap, ap₂, ◌∙◌, subst, int_eq}
+use Rattle.std.proofs.Common.{◌≡◌, pos, Bool, true, false, cond, ◌&&◌, ◌||◌, List, [], ◌∷◌, map, filter, Option, Some, None, is_none, option_map, refl, sym, ap, ap₂, ◌∙◌}
 use Rattle.std.specs.List.{AllByRecursion}
 use Rattle.cad_day.specs.declared.day.Day.{Day}
 use Rattle.cad_day.specs.Intervals.{interval_of}
@@ -19,12 +19,10 @@ use Rattle.cad_schema.specs.declared.attribute.Attribute.TheVariants as attribut
 use Rattle.cad_schema.specs.declared.collection.Collection.{Collection}
 use Rattle.cad_schema.specs.declared.collection.Collection.TheVariants.{Parcels, Rights, Restrictions, Units, Parties, Responsibilities}
 use Rattle.cad_schema.specs.Attributes.{attributes_of}
-use Rattle.cad_feature.specs.Features.{Item, datum_at}
-use Rattle.cad_feature.specs.Flatten.{class_for, is_in, joined_name, or_null, as_text, as_whole, value_in, feature_in, features_in}
+use Rattle.cad_feature.specs.Flatten.{is_in, joined_name, or_null, as_text, as_whole, value_in, feature_in, features_in}
 use Rattle.cad_feature.specs.Values.{Datum, a_day, a_span}
-use Rattle.cad_merged.specs.Identifiers.{is_item_of}
-use Rattle.cad_changes.specs.Changes.{left_by, next, is_closed_by, renames_on, is_object, names, is_touched_by, features_left}
-use Rattle.cad_changes.specs.Touching.{day_in, whole_in, first_of, last_of, unit_place, party_place, number_at, is_numbered, Edits, or_kept, span_to, edited_datum, edited_data, edited, closing_day, is_closing, closes, renames_if, renames, names_unit, names_party, touches, name_after, edits_by, item_left, items_left}
+use Rattle.cad_changes.specs.Changes.{left_by, next, is_closed_by, renames_on, is_object, is_touched_by, features_left}
+use Rattle.cad_changes.specs.Touching.{day_in, whole_in, first_of, last_of, unit_place, party_place, number_at, is_numbered, Edits, or_kept, span_to, edited_datum, edited_data, closing_day, closes, renames_if, renames, names_unit, names_party, touches, name_after, edits_by, item_left, items_left}
 use Rattle.cad_changes.proofs.ClassLemmas.{below, no_unit, no_party}
 use Rattle.cad_changes.proofs.FeatureLemmas.{name_next}
 use Rattle.cad_changes.proofs.StandingLemmas.{IsOver, renamed}

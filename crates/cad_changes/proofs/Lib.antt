@@ -1,10 +1,12 @@
 mod AddedLemmas
 mod AloneLemmas
 mod ClassLemmas
+mod DependentLemmas
 mod FeatureLemmas
 mod FitLemmas
 mod FollowLemmas
 mod ItemLemmas
+mod PartLemmas
 mod RevisionLemmas
 mod StandingLemmas
 mod TestLemmas

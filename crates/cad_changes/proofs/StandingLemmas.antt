@@ -24,7 +24,7 @@ use Rattle.cad_feature.specs.Values.{Datum}
 use Rattle.cad_changes.specs.Changes.{left_by, next, renames_on, is_object}
 use Rattle.cad_changes.specs.Touching.{name_after}
 use Rattle.cad_changes.proofs.FeatureLemmas.{holds}
-use Rattle.cad_changes.proofs.TestLemmas.{right_true, no_last, find_filter, none_found, found_put, none_kept}
+use Rattle.cad_changes.proofs.TestLemmas.{find_filter, none_found, found_put, none_kept}
 use Rattle.cad_changes.proofs.VersionLemmas.{left_keeps}
 
 -- ---- days

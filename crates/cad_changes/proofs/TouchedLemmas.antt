@@ -1,5 +1,5 @@
 -- What a command touches: its order, where it stands, and that the features before it tell it.
-use Rattle.std.proofs.Common.{◌≡◌, ℕ, ◌+◌, List, [], ◌∷◌, ◌++◌, length, map, filter, get_or, Contains, Option, Some, None, option_and_then, refl, sym, ap, ap₂, ◌∙◌, subst, Ordering, Less}
+use Rattle.std.proofs.Common.{◌≡◌, ◌+◌, List, [], ◌∷◌, ◌++◌, length, map, filter, get_or, Contains, Option, Some, None, refl, sym, ap, ap₂, ◌∙◌, subst, Ordering, Less}
 use Rattle.std.specs.List.{All, AllByRecursion}
 use Rattle.std.specs.List.Sorted.{IsStrictlySortedBy}
 use Rattle.std.proofs.lemmas.List.{get_or_default}
@@ -7,14 +7,13 @@ use Rattle.std.proofs.lemmas.List.Kept.{IsStrictlySortedBy-filter}
 use Rattle.cad_versions.specs.declared.command.Command.{Command}
 use Rattle.cad_versions.specs.declared.command.Command.TheVariants.{Enter, Amend, Retire}
 use Rattle.cad_versions.specs.AsOf.{as_of}
-use Rattle.cad_versions.specs.Command.{object_named}
-use Rattle.cad_versions.specs.HistoryLemmas.{HasHistories, histories, enters}
+use Rattle.cad_versions.specs.HistoryLemmas.{histories, enters}
 use Rattle.cad_versions.specs.Identifiers.{by_identifier as by_version}
 use Rattle.cad_versions.specs.Refusals.{refusal, AreAccepted}
 use Rattle.cad_versions.specs.Sorting.{sort_by}
 use Rattle.cad_versions.specs.SortLemmas.{all_sorted}
 use Rattle.cad_versions.specs.VersionedObject.{VersionedObject}
-use Rattle.cad_versions.specs.Versions.{after, versions, history}
+use Rattle.cad_versions.specs.Versions.{versions}
 use Rattle.cad_schema.specs.declared.collection.Collection.{Collection}
 use Rattle.cad_schema.specs.declared.collection.Collection.TheVariants.{Units, Parties}
 use Rattle.cad_feature.specs.Features.{Item, by_identifier}
@@ -24,13 +23,13 @@ use Rattle.cad_merged.specs.LookupLemmas.{has_change}
 use Rattle.cad_merged.specs.Merging.{put_if, merged}
 use Rattle.cad_merged.specs.MergeLemmas.{put_ascends}
 use Rattle.cad_changes.specs.Changes.{left_by, next, is_touched_by, features_left, feature_added, touched}
-use Rattle.cad_changes.specs.Touching.{item_added, items_left, items_touched}
+use Rattle.cad_changes.specs.Touching.{item_added, items_touched}
 use Rattle.cad_changes.proofs.AddedLemmas.{addition, sorted_addition, added_by}
 use Rattle.cad_changes.proofs.ClassLemmas.{classes_stand, enter_adds, amend_adds}
 use Rattle.cad_changes.proofs.ItemLemmas.{items_left_are}
 use Rattle.cad_changes.proofs.RevisionLemmas.{all_as_of, last_accepted, all_accepted, adds, rises, features_of_next}
 use Rattle.cad_changes.proofs.StandingLemmas.{IsOver, all_over}
-use Rattle.cad_changes.proofs.VersionLemmas.{left_order, AddsNew, adds_new_sorted, same_next_number}
+use Rattle.cad_changes.proofs.VersionLemmas.{left_order, adds_new_sorted, same_next_number}
 
 -- ---- in the order of identifiers
 

@@ -1,5 +1,5 @@
 -- What a command changes in the features of a register (ISO 19152:2012, VersionedObject; OGC 17-069r4, 7.15: items).
-use Rattle.std.specs.Prelude.{ℕ, Bool, true, false, ◌&&◌, ◌||◌, pos, int_le, int_lt, List, map, filter, Option, Some, None, option_and_then, if◌then◌else◌}
+use Rattle.std.specs.Prelude.{Bool, false, ◌&&◌, ◌||◌, pos, int_le, int_lt, List, map, filter, Option, Some, None, option_and_then, if◌then◌else◌}
 use Rattle.std.specs.Ordering.{int_eq}
 use Rattle.cad_day.specs.declared.day.Day.{Day}
 use Rattle.cad_day.specs.Days.{number_of}

@@ -1,5 +1,5 @@
 -- What holds of changes (ISO 19152:2012, VersionedObject; OGC 17-069r4, 7.15: items).
-use Rattle.std.specs.Prelude.{◌≡◌, ℕ, ◌+◌, List, [], ◌∷◌, ◌++◌, length, Contains}
+use Rattle.std.specs.Prelude.{◌≡◌, ◌+◌, List, [], ◌∷◌, ◌++◌, length, Contains}
 use Rattle.std.specs.List.{All}
 use Rattle.std.specs.List.Sorted.{IsStrictlySortedBy}
 use Rattle.cad_versions.specs.declared.command.Command.{Command}

@@ -1,5 +1,5 @@
 -- What a command changes, told from the features of the revision before it alone (ISO 19152:2012, VersionedObject; OGC 17-069r4, 7.15: items).
-use Rattle.std.specs.Prelude.{ℕ, ◌+◌, ℤ, pos, ◌==◌, Bool, true, false, ◌&&◌, ◌||◌, if◌then◌else◌, int_le, nat_lt, List, [], ◌∷◌, length, map, filter, find, Option, Some, None, is_none, option_map, option_and_then}
+use Rattle.std.specs.Prelude.{ℕ, ◌+◌, ℤ, pos, Bool, true, false, ◌&&◌, ◌||◌, if◌then◌else◌, int_le, nat_lt, List, [], ◌∷◌, length, map, filter, find, Option, Some, None, is_none, option_map, option_and_then}
 use Rattle.std.specs.Ordering.{int_eq}
 use Rattle.cad_day.specs.declared.day.Day.{Day}
 use Rattle.cad_day.specs.Days.{number_of}
@@ -23,7 +23,7 @@ use Rattle.cad_schema.specs.Attributes.{attributes_of}
 use Rattle.cad_feature.specs.Features.{Item, datum_at, by_identifier}
 use Rattle.cad_feature.specs.Flatten.{is_in, or_null, as_text, feature_in}
 use Rattle.cad_feature.specs.Lifespans.{is_up_to}
-use Rattle.cad_feature.specs.Values.{Datum, null, a_text, a_whole, a_flag, a_day, a_span, a_spot, an_area}
+use Rattle.cad_feature.specs.Values.{Datum, null, a_whole, a_day, a_span}
 use Rattle.cad_merged.specs.Identifiers.{is_item_of, of_object}
 use Rattle.cad_merged.specs.Merging.{put_if}
 use Rattle.cad_changes.specs.Changes.{renames_on}
@@ -144,9 +144,12 @@ names_unit c collection x = is_numbered (object_named c) (number_at x (unit_plac
 abbrev pub names_party : Command → Collection → Item → Bool
 names_party c collection x = is_numbered (object_named c) (number_at x (party_place collection))
 
+abbrev pub names_object : Command → Collection → Item → Bool
+names_object c collection x = names_unit c collection x || names_party c collection x
+
 -- it is closed, or joined with a name that may be another one now
 abbrev pub touches : Command → Collection → Item → Bool
-touches c collection x = closes c x || (renames c x && (names_unit c collection x || names_party c collection x))
+touches c collection x = closes c x || (renames c x && names_object c collection x)
 
 -- what the object is called on the days on which the command may change it
 abbrev pub name_after : Command → Datum

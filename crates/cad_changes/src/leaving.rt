@@ -1,19 +1,24 @@
 //! The features that a command leaves.
 
-ghost use Rattle.std.specs.Prelude.{◌≡◌, ◌&&◌, ◌||◌, is_none, ◌∷◌, [], ◌++◌, Some, None, IfOk, OnOk, if◌then◌else◌};
+ghost use Rattle.std.specs.Prelude.{◌≡◌, ◌&&◌, is_none, ◌∷◌, [], ◌++◌, filter, Some, None, IfOk, OnOk, if◌then◌else◌};
 ghost use Rattle.std.specs.Option.{option_copied};
 ghost use Rattle.cad_feature.specs.Values.{datum_of};
-ghost use Rattle.cad_merged.specs.Identifiers.{is_item_of};
+ghost use Rattle.cad_lookup.specs.Candidates.{candidates};
+ghost use Rattle.cad_merged.specs.Identifiers.{is_item_of, of_object};
+ghost use Rattle.cad_versions.specs.Command.{object_named};
 ghost use Rattle.cad_changes.specs.Changes as changes;
 ghost use Rattle.cad_changes.specs.Told.{datum_if_any};
 ghost use Rattle.cad_changes.specs.Touching as spec;
 
+use crate::adding::are_listed;
 use crate::days::day_before;
+use crate::dependents::dependents;
 use crate::edits::{NewValues, edited};
 use crate::reading::{first_of, last_of, party_of, unit_of};
 use cad_day::Day;
 use cad_feature::{Feature, Value};
-use cad_merged::Layer;
+use cad_merged::{Layer, merge};
+use cad_run::{Candidates, FeatureSource, Plan};
 use cad_schema::Collection;
 use cad_versions::{Command, ObjectId};
 use std::alloc::{AllocError, Global};
@@ -122,13 +127,13 @@ fn renames_party(command: &Command, collection: Collection, feature: &Feature) -
 }
 
 fn names(command: &Command, collection: Collection, feature: &Feature) -> bool
-    ensures { result ≡ (spec.names_unit command.now collection feature.now || spec.names_party command.now collection feature.now) }
+    ensures { result ≡ spec.names_object command.now collection feature.now }
 {
     names_unit(command, collection, feature) || names_party(command, collection, feature)
 }
 
 fn may_rename(command: &Command, collection: Collection, feature: &Feature) -> bool
-    ensures { result ≡ (spec.renames command.now feature.now && (spec.names_unit command.now collection feature.now || spec.names_party command.now collection feature.now)) }
+    ensures { result ≡ (spec.renames command.now feature.now && spec.names_object command.now collection feature.now) }
 {
     renames(command, feature) && names(command, collection, feature)
 }
@@ -199,7 +204,64 @@ fn push_left(
     Ok(())
 }
 
+/// The features of the command's own object that it touches, as it leaves them.
+fn own_left(
+    alloc: Global,
+    command: &Command,
+    name: &Value,
+    features: &Layer,
+) -> Result<Vec<Feature>, AllocError>
+    requires { datum_of name.now ≡ spec.name_after command.now }
+    ensures { IfOk result (λ all. all.items ≡ spec.items_left command.now features.now.collection (of_object (object_named command.now) features.now.features)) }
+{
+    let collection = features.collection();
+    let mut all = Vec::new(alloc);
+    let mut walk = features.walk().of_object(command.object());
+    while let Some(feature) = walk.next() {
+        push_left(alloc, command, collection, name, feature, &mut all)?;
+    }
+    Ok(all)
+}
+
+/// The plan's candidates that the command touches, as it leaves them.
+fn candidates_left(
+    alloc: Global,
+    command: &Command,
+    name: &Value,
+    plan: &Plan,
+    features: &Layer,
+) -> Result<Vec<Feature>, AllocError>
+    requires { datum_of name.now ≡ spec.name_after command.now }
+    ensures { IfOk result (λ all. all.items ≡ spec.items_left command.now features.now.collection (candidates plan.now features.now.features)) }
+{
+    let collection = features.collection();
+    let mut all = Vec::new(alloc);
+    let mut left = Candidates::of(alloc, plan, features, None)?;
+    while let Some(feature) = left.next() {
+        push_left(alloc, command, collection, name, feature, &mut all)?;
+    }
+    Ok(all)
+}
+
+/// The features that name the command's object, those that it touches, as it leaves them.
+fn named_left(
+    alloc: Global,
+    command: &Command,
+    name: &Value,
+    features: &Layer,
+) -> Result<Vec<Feature>, AllocError>
+    requires { datum_of name.now ≡ spec.name_after command.now }
+    ensures { IfOk result (λ all. all.items ≡ spec.items_left command.now features.now.collection (filter (spec.names_object command.now features.now.collection) features.now.features)) }
+{
+    let plan = dependents(alloc, command, features.collection())?;
+    let all = candidates_left(alloc, command, name, &plan, features)?;
+    Ok(all)
+}
+
 /// The features that the command touches, as it leaves them.
+///
+/// It closes features of its own object alone, and renames those alone that name the object: both are searched for, so that what it
+/// takes does not grow with the features that it leaves as they are.
 pub(crate) fn features_left(
     alloc: Global,
     command: &Command,
@@ -207,12 +269,10 @@ pub(crate) fn features_left(
 ) -> Result<Vec<Feature>, AllocError>
     ensures { IfOk result (λ all. all.items ≡ spec.items_left command.now features.now.collection features.now.features) }
 {
-    let collection = features.collection();
+    are_listed(features);
     let name = name_after(alloc, command)?;
-    let mut all = Vec::new(alloc);
-    let mut walk = features.walk();
-    while let Some(feature) = walk.next() {
-        push_left(alloc, command, collection, &name, feature, &mut all)?;
-    }
+    let own = own_left(alloc, command, &name, features)?;
+    let named = named_left(alloc, command, &name, features)?;
+    let all = merge(alloc, &own, &named)?;
     Ok(all)
 }

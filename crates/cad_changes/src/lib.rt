@@ -10,6 +10,7 @@
 
 mod adding;
 mod days;
+mod dependents;
 mod edits;
 mod following;
 pub mod laws;

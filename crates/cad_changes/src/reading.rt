@@ -71,7 +71,8 @@ pub(crate) fn last_of(feature: &Feature) -> Option<Day>
     day_at(feature, END)
 }
 
-fn unit_place(collection: Collection) -> Option<usize>
+/// Where a feature of the collection says the number of its unit, if it says one.
+pub(crate) fn unit_place(collection: Collection) -> Option<usize>
     ensures { result ≡ spec.unit_place collection }
 {
     match collection {
@@ -81,7 +82,8 @@ fn unit_place(collection: Collection) -> Option<usize>
     }
 }
 
-fn party_place(collection: Collection) -> Option<usize>
+/// And where that of its party.
+pub(crate) fn party_place(collection: Collection) -> Option<usize>
     ensures { result ≡ spec.party_place collection }
 {
     match collection {

@@ -19,7 +19,7 @@ use std::alloc::{AllocError, Global};
 
 /// What is left of a plan's candidates: those of the base, and changes, which may be candidates or not.
 #[derive(Drop)]
-pub(crate) struct Candidates<'a, 'p> {
+pub struct Candidates<'a, 'p> {
     plan: &'p Plan,
     bases: Bases<'a>,
     changes: &'a [Feature],
@@ -35,7 +35,7 @@ impl<'a, 'p> Candidates<'a, 'p> {
     ghost use Rattle.cad_run.specs.Slices.{identifier, later};
 
     /// Those of the layer after the one that is named. An error is want of memory.
-    pub(crate) fn of(
+    pub fn of(
         alloc: Global,
         plan: &'p Plan,
         layer: &'a Layer,

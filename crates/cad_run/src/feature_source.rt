@@ -6,7 +6,7 @@ ghost use Rattle.cad_feature.specs.Features.{Item};
 use cad_feature::Feature;
 
 /// Features that are taken one after the other, however they are found.
-pub(crate) trait FeatureSource<'a> {
+pub trait FeatureSource<'a> {
     /// What is left.
     ghost left: { Self → List Item };
 

@@ -2,6 +2,7 @@
 //!
 //! - [`page`]: the first of a plan's candidates that pass a test, after one that is named, and whether more are left: a
 //!   [`Page`], with how many were tested
+//! - [`Candidates`], a [`FeatureSource`]: a plan's candidates, taken one after the other
 //! - [`candidate_count`]: how many candidates a plan has
 //! - [`FeatureTest`]: a test of features
 //! - [`Layer`], [`Plan`]: the features with their indexes, and which of them are looked at
@@ -27,7 +28,9 @@ mod rows;
 
 pub use cad_lookup::Plan;
 pub use cad_merged::Layer;
+pub use candidates::Candidates;
 pub use counting::candidate_count;
+pub use feature_source::FeatureSource;
 pub use feature_test::FeatureTest;
 pub use paging::page;
 pub use rows::Page;
