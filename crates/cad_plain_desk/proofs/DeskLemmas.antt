@@ -6,5 +6,5 @@ use Rattle.cad_server.specs.declared.server.Server.{Server}
 use Rattle.cad_plain_desk.specs.Desks.{HasLedger, IsSampleDesk, IsSampleLedger}
 
 pub over_the_sample : {E : Type 0} (made : Result (Desk (Server PlainLedger)) E) (ledger : PlainLedger) → IsSampleLedger ledger → IfOk made (λ desk. HasLedger desk ledger) → IfOk made IsSampleDesk
-over_the_sample (Ok desk) ledger sample has = (sample.0, sample.1.0, (ledger, has, sample.1.1))
+over_the_sample (Ok desk) ledger sample has = (sample.0, sample.1, (ledger, has, sample.2))
 over_the_sample (Err error) ledger sample has = tt

@@ -1,6 +1,6 @@
 //! What is answered of a filter's plans.
 
-use crate::pages::{Meeting, count, fault_of};
+use crate::pages::{Meeting, count, fault_of, features_of};
 use crate::plans::{has, put_plan};
 use cad_feature::Feature;
 use cad_lookup::Plan;
@@ -22,15 +22,14 @@ fn put_priced(
     line.push_str(&format!(in alloc; " {cost}")?)
 }
 
-// The features of which the filter is true.
+// Those of the features of which the filter is true.
 fn taken<'a>(
     alloc: Global,
     filter: &Filter,
-    layer: &'a Layer,
+    features: &'a [Feature],
 ) -> Result<Vec<&'a Feature>, AllocError> {
     let mut taken = Vec::new(alloc);
-    let mut walk = layer.walk();
-    while let Some(feature) = walk.next() {
+    for feature in features {
         if truth(alloc, filter, feature)? == Truth::Yes {
             taken.push(feature)?;
         }
@@ -88,12 +87,12 @@ fn choice_line(
     layer: &Layer,
     plans: &[Plan],
     chosen: &Plan,
+    count: u64,
     taken: &[&Feature],
 ) -> Result<String, AllocError> {
     let mut line = menu_line(alloc, plans, layer)?;
     line.push_str(" -> ")?;
     put_priced(alloc, chosen, layer, &mut line)?;
-    let count = count(chosen, layer);
     line.push_str(&format!(in alloc; " has {count}")?)?;
     put_taken(alloc, taken, &mut line)?;
     Ok(line)
@@ -104,7 +103,8 @@ pub fn plans_answer(alloc: Global, filter: &Filter, layer: &Layer) -> Result<Str
     let form = normal(alloc, filter)?;
     let plans = menu(alloc, &form, layer)?;
     let chosen = choose(alloc, &form, layer)?;
-    let taken = taken(alloc, filter, layer)?;
+    let features = features_of(alloc, layer)?;
+    let taken = taken(alloc, filter, &features)?;
     if let Some(feature) = uncovered(&plans, &taken) {
         let mut line = String::from_str(alloc, "uncovered")?;
         put_identifier(alloc, feature, &mut line)?;
@@ -112,11 +112,12 @@ pub fn plans_answer(alloc: Global, filter: &Filter, layer: &Layer) -> Result<Str
     }
     let meeting = Meeting { alloc, form: &form };
     for plan in &plans {
-        if let Some(fault) = fault_of(alloc, plan, layer, &meeting, &taken)? {
+        if let Some(fault) = fault_of(alloc, plan, layer, &features, &meeting, &taken)? {
             let mut line = String::from_str(alloc, fault)?;
             put_plan(alloc, layer.collection(), plan, &mut line)?;
             return Ok(line);
         }
     }
-    choice_line(alloc, layer, &plans, &chosen, &taken)
+    let count = count(&chosen, &features);
+    choice_line(alloc, layer, &plans, &chosen, count, &taken)
 }

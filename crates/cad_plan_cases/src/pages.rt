@@ -5,6 +5,7 @@ ghost use Rattle.cql_rewrite.specs.Meets.{meets};
 use crate::plans::has;
 use cad_feature::Feature;
 use cad_lookup::Plan;
+use cad_merged::merge;
 use cad_run::{FeatureTest, Layer, candidate_count, page};
 use cql_rewrite::{Normal, test};
 use std::alloc::{AllocError, Global};
@@ -41,11 +42,16 @@ fn are_same(rows: &[&Feature], wanted: &[&Feature]) -> bool {
     true
 }
 
-/// How many candidates the plan has.
-pub fn count(plan: &Plan, layer: &Layer) -> u64 {
+/// The features of the layer, its changes merged into them.
+pub fn features_of(alloc: Global, layer: &Layer) -> Result<Vec<Feature>, AllocError> {
+    let (base, changes) = layer.parts();
+    merge(alloc, base.features(), changes)
+}
+
+/// How many of the features are candidates of the plan.
+pub fn count(plan: &Plan, features: &[Feature]) -> u64 {
     let mut count = 0;
-    let mut walk = layer.walk();
-    while let Some(feature) = walk.next() {
+    for feature in features {
         if has(plan, feature) {
             count += 1;
         }
@@ -59,11 +65,12 @@ pub fn fault_of(
     alloc: Global,
     plan: &Plan,
     layer: &Layer,
+    features: &[Feature],
     meeting: &Meeting,
     wanted: &[&Feature],
 ) -> Result<Option<&'static str>, AllocError> {
     let candidates = candidate_count(alloc, plan, layer)?;
-    if candidates != count(plan, layer) {
+    if candidates != count(plan, features) {
         return Ok(Some("counted otherwise "));
     }
     let page = page(alloc, plan, layer, meeting, None, LIMIT)?;
