@@ -50,13 +50,8 @@ pub fn features_of(alloc: Global, layer: &Layer) -> Result<Vec<Feature>, AllocEr
 
 /// How many of the features are candidates of the plan.
 pub fn count(plan: &Plan, features: &[Feature]) -> u64 {
-    let mut count = 0;
-    for feature in features {
-        if has(plan, feature) {
-            count += 1;
-        }
-    }
-    count
+    let candidates = features.iter().filter(|feature| has(plan, feature));
+    candidates.count() as u64
 }
 
 /// What is wrong with the page by a plan, in a word, if something is. It is to list the wanted features, each once, and to
