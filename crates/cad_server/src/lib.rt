@@ -6,8 +6,8 @@
 //!
 //! What is read of the ledger at a revision is kept, and after a command what was kept of the revision before it, with what the
 //! command touches: so a page of the newest revision, or after another of the same revision, reads nothing of the ledger. At most
-//! 132 revisions are kept, most of which share their bases; four at most are old ones that were read of the ledger. Keeping changes
-//! no reply.
+//! 132 revisions are kept, most of which share their bases; two at most are old ones that were read of the ledger. Those that share the
+//! bases before the last ones are dropped when new bases are made. Keeping changes no reply.
 //!
 //! Of the ledger of no commands, the request
 //!
