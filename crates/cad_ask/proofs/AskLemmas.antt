@@ -1,10 +1,8 @@
 -- What is answered to a query.
-use Rattle.std.proofs.Common.{◌≡◌, ◌≢◌, ℕ, ◌⊎◌, inl, inr, Bool, true, false, cond, List, [], ◌∷◌, Option, Some, None, Result, Ok, Err, refl, sym, ap, subst, ◌∙◌}
-use Rattle.std.specs.Prelude.{codes, IfSome, IsOk}
-use Rattle.std.specs.Option.{option_and_then, option_or}
+use Rattle.std.proofs.Common.{◌≡◌, ℕ, ◌⊎◌, inl, inr, false, cond, List, ◌∷◌, Option, Some, None, Result, Ok, Err, refl, sym, ap, subst, ◌∙◌}
+use Rattle.std.specs.Prelude.{codes, IfSome, IsOk, option_map}
+use Rattle.std.specs.Option.{option_or}
 use Rattle.std.specs.Result.{result_err}
-use Rattle.std.specs.List.{list_all, find}
-use Rattle.std.proofs.lemmas.Bool.{and_parts}
 use Rattle.std.proofs.lemmas.List.Folds.{find-append}
 use Rattle.cad_schema.specs.declared.collection.Collection.{Collection}
 use Rattle.cad_schema.specs.Schema.{schema_of}
@@ -26,39 +24,9 @@ use Rattle.cad_query.specs.Laws.{ContinuedGoesOn}
 use Rattle.cad_ask.specs.declared.ask.Ask.{Ask}
 use Rattle.cad_ask.specs.declared.fault.AskFault.{AskFault}
 use Rattle.cad_ask.specs.declared.fault.AskFault.TheVariants as fault
-use Rattle.cad_ask.specs.Faults.{of_parameter, of_filter as fault_of_filter, selection_fault}
+use Rattle.cad_ask.specs.Faults.{of_filter as fault_of_filter, selection_fault}
 use Rattle.cad_ask.specs.Answers.{filter_given, IsFilterGiven, IsFilterFault, IsAsk, FiltersWell, AsksWell, IsFirstFault, of_selection, of_filter, of_continuation, AnswersFilter, Answers, OrMemory}
 use Rattle.cad_ask.specs.Laws.{HasOneFirstFault, HasFaultOrAsks, NextAsksTheSame}
-
--- ---- faults of parameters
-
-is_plain : ParameterFault → Bool
-is_plain parameter.Unknown = true
-is_plain parameter.Repeated = true
-is_plain parameter.Limit = true
-is_plain parameter.Datetime = true
-is_plain parameter.Bbox = true
-is_plain parameter.FilterLang = true
-is_plain parameter.Filter = false
-is_plain parameter.Revision = true
-is_plain parameter.After = true
-
-found_plain : (p : ParameterFault → Bool) (faults : List ParameterFault) (f : ParameterFault) → list_all is_plain faults ≡ true → find p faults ≡ Some f → is_plain f ≡ true
-found_plain p [] f all e = absurd (let no_more : None ≡ Some f = e in cc)
-found_plain p (first ∷ faults) f all e =
-    let both = and_parts (is_plain first) (list_all is_plain faults) all in
-    go (p first) e both.0 (found_plain p faults f both.1)
-  where
-    go : (t : Bool) → cond t (Some first) (find p faults) ≡ Some f → is_plain first ≡ true → (find p faults ≡ Some f → is_plain f ≡ true) → is_plain f ≡ true
-    go true e plain later = let same : first ≡ f = cc in subst (λ g. is_plain g ≡ true) same plain
-    go false e plain later = later e
-
--- no fault of a selection is that of a filter
-pub selection_plain : (pairs : List PairText) (f : ParameterFault) → Some f ≡ first_of any_text selection_faults pairs → f ≢ parameter.Filter
-unfolding is_plain
-selection_plain pairs f told same =
-    let plain = found_plain (λ g. have any_text g pairs) selection_faults f refl (sym told) in
-    let no_more : true ≡ false = sym plain ∙ ap is_plain same in cc
 
 -- ---- answers
 
@@ -145,25 +113,9 @@ refused excludes one c pairs (Err g) (inr other) f first = inr (ap Err (one c pa
 
 -- ---- the next page
 
-none_plain : (p : ParameterFault → Bool) (faults : List ParameterFault) → list_all is_plain faults ≡ true
-    → option_and_then of_parameter (find p faults) ≡ None → find p faults ≡ None
-unfolding is_plain
-none_plain p faults all e = go (find p faults) refl e
-  where
-    told : (f : ParameterFault) → is_plain f ≡ true → of_parameter f ≡ None → ⊥
-    told parameter.Unknown plain e = let no_more : Some fault.Unknown ≡ None = e in cc
-    told parameter.Repeated plain e = let no_more : Some fault.Repeated ≡ None = e in cc
-    told parameter.Limit plain e = let no_more : Some fault.Limit ≡ None = e in cc
-    told parameter.Datetime plain e = let no_more : Some fault.Datetime ≡ None = e in cc
-    told parameter.Bbox plain e = let no_more : Some fault.Bbox ≡ None = e in cc
-    told parameter.FilterLang plain e = let no_more : Some fault.FilterLang ≡ None = e in cc
-    told parameter.Filter plain e = let no_more : false ≡ true = plain in cc
-    told parameter.Revision plain e = let no_more : Some fault.Revision ≡ None = e in cc
-    told parameter.After plain e = let no_more : Some fault.After ≡ None = e in cc
-
-    go : (o : Option ParameterFault) → find p faults ≡ o → option_and_then of_parameter o ≡ None → o ≡ None
-    go None is e = refl
-    go (Some f) is e = absurd (told f (found_plain p faults f all is) e)
+told_of_none : (o : Option ParameterFault) → option_map fault.Parameter o ≡ None → o ≡ None
+told_of_none None e = refl
+told_of_none (Some f) e = absurd (let no_more : Some (fault.Parameter f) ≡ None = e in cc)
 
 no_filter_judged : (o : Option (List ℕ)) → is_wrong any_text o ≡ false
 no_filter_judged None = refl
@@ -181,18 +133,17 @@ both_none None p e = (refl, e)
 both_none (Some f) p e = absurd (let no_more : Some f ≡ None = e in cc)
 
 pub next_asks_the_same : ContinuedGoesOn → NextAsksTheSame
-unfolding is_plain
 next_asks_the_same goes_on c pairs revision last small is well =
     let again = continued revision last pairs in
-    let selects = none_plain (λ f. have any_text f pairs) selection_faults refl well.selects in
-    let continues = none_plain (λ f. have any_text f pairs) continuation_faults refl well.continues in
+    let selects = told_of_none (first_of any_text selection_faults pairs) well.selects in
+    let continues = told_of_none (first_of any_text continuation_faults pairs) well.continues in
     let none = whole_order pairs ∙ ap (λ o. option_or o (first_of any_text continuation_faults pairs)) selects ∙ continues in
     let goes = goes_on any_text pairs revision last small is none in
     let later = both_none (first_of any_text selection_faults again) (first_of any_text continuation_faults again) (sym (whole_order again) ∙ goes.no_fault) in (
       record {
-        selects = ap (option_and_then of_parameter) later.0;
+        selects = ap (option_map fault.Parameter) later.0;
         filters_well = subst (λ o. IfSome o (IsAccepted (schema_of c))) (sym goes.same_filter) well.filters_well;
-        continues = ap (option_and_then of_parameter) later.1;
+        continues = ap (option_map fault.Parameter) later.1;
       },
       goes,
     )

@@ -1,8 +1,7 @@
 -- What two values are that are read of the same pairs.
-use Rattle.std.proofs.Common.{◌≡◌, ℕ, ℤ, ◌≤ℤ◌, Option, Some, None, List, refl, sym, ap, ap₂, subst, ◌∙◌}
+use Rattle.std.proofs.Common.{◌≡◌, ℕ, ℤ, Option, Some, None, List, refl, sym, ap, ap₂, subst, ◌∙◌}
 use Rattle.std.specs.Prelude.{option_map}
 use lib.Dec.{T_prop}
-use Rattle.cad_day.specs.declared.day.Day.{Day}
 use Rattle.cad_day.specs.declared.interval.Interval.{Interval}
 use Rattle.cad_day.specs.Days.{number_of}
 use Rattle.cad_day.specs.Moments.{numbers_of as ends_of}
@@ -16,10 +15,8 @@ use Rattle.cql_types.specs.declared.filter.Filter.{Filter}
 use Rattle.cql_types.specs.Conditions.{condition_in}
 use Rattle.cql_filter.specs.Laws.{HasOneFilter}
 use Rattle.cad_query.specs.Boxes.{box_numbers}
-use Rattle.cad_query.specs.Pairs.{PairText}
-use Rattle.cad_ask.specs.declared.ask.Ask.{Ask}
-use Rattle.cad_ask.specs.Answers.{filter_given, IsFilterGiven, IsAsk}
-use Rattle.cad_ask.specs.Laws.{AskTheSame, PairsAskOneThing}
+use Rattle.cad_ask.specs.Answers.{filter_given, IsFilterGiven}
+use Rattle.cad_ask.specs.Laws.{PairsAskOneThing}
 
 -- ---- values by their numbers
 

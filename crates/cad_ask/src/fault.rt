@@ -5,59 +5,31 @@ use cql_filter::{Cause, FilterFault};
 use std::alloc::AllocError;
 use thiserror::Error;
 
-/// Why a query is refused. The faults are looked for in this order.
+/// Why a query is refused. The faults are looked for in the order of their numbers.
 #[derive(Clone, Copy, Debug, PartialEq, Eq, Error)]
 pub enum AskFault {
-    /// A parameter has an unknown name.
-    #[error("a parameter has an unknown name")]
-    Unknown,
-    /// A parameter comes more than once.
-    #[error("a parameter comes more than once")]
-    Repeated,
-    /// `limit` is no number from 1.
-    #[error("the limit is no number from 1")]
-    Limit,
-    /// `datetime` is neither a moment nor an interval.
-    #[error("the datetime is neither a moment nor an interval")]
-    Datetime,
-    /// `bbox` is no box.
-    #[error("the bbox is no box")]
-    Bbox,
-    /// `filter-lang` is not `cql2-text`.
-    #[error("the language of the filter is unknown")]
-    FilterLang,
+    /// The pairs are wrong, or a parameter is; of `filter` the next one tells.
+    #[error(transparent)]
+    Parameter(ParameterFault),
     /// `filter` is no filter of the collection: the cause, and the byte of the filter's text at which it stands.
     #[error("the filter is not accepted")]
     Filter { place: usize, cause: Cause },
-    /// `revision` is no number of 1 to 18 digits.
-    #[error("the revision is no number of 1 to 18 digits")]
-    Revision,
-    /// `after` is no identifier.
-    #[error("the identifier to start after is none")]
-    After,
     /// A growth was refused, at any point.
     #[error("out of memory")]
     Memory,
 }
 
 impl AskFault {
-    ghost use Rattle.std.specs.Prelude.{◌≡◌, ◌≢◌, Some};
-    ghost use Rattle.cad_ask.specs.Faults.{fault_told, fault_number, fault_name, of_parameter};
+    ghost use Rattle.std.specs.Prelude.{◌≡◌};
+    ghost use Rattle.cad_ask.specs.Faults.{fault_told, fault_number, fault_name};
 
     /// The number and the name.
     fn told(self) -> (u8, &'static str)
         ensures { (result.0, result.1.now) ≡ fault_told self }
     {
         match self {
-            AskFault::Unknown => (1, "Unknown"),
-            AskFault::Repeated => (2, "Repeated"),
-            AskFault::Limit => (3, "Limit"),
-            AskFault::Datetime => (4, "Datetime"),
-            AskFault::Bbox => (5, "Bbox"),
-            AskFault::FilterLang => (6, "FilterLang"),
+            AskFault::Parameter(fault) => (fault.number(), fault.name()),
             AskFault::Filter { place: _, cause: _ } => (7, "Filter"),
-            AskFault::Revision => (8, "Revision"),
-            AskFault::After => (9, "After"),
             AskFault::Memory => (10, "Memory"),
         }
     }
@@ -74,24 +46,6 @@ impl AskFault {
         ensures { result.now ≡ fault_name self.now }
     {
         self.told().1
-    }
-
-    /// The same fault of a parameter; that of a filter has a place and a cause beside.
-    pub(crate) fn of(fault: ParameterFault) -> AskFault
-        requires { fault ≢ ParameterFault.Filter }
-        ensures { of_parameter fault ≡ Some result }
-    {
-        match fault {
-            ParameterFault::Unknown => AskFault::Unknown,
-            ParameterFault::Repeated => AskFault::Repeated,
-            ParameterFault::Limit => AskFault::Limit,
-            ParameterFault::Datetime => AskFault::Datetime,
-            ParameterFault::Bbox => AskFault::Bbox,
-            ParameterFault::FilterLang => AskFault::FilterLang,
-            ParameterFault::Filter => unreachable!(),
-            ParameterFault::Revision => AskFault::Revision,
-            ParameterFault::After => AskFault::After,
-        }
     }
 }
 

@@ -1,5 +1,6 @@
 //! The two tables.
 
+use crate::disks::empty;
 use cad_tables::{
     Change, Closing, Creation, MOST_REVISION, Stored, TableFault, create, history, listing, open,
     revision, write,
@@ -149,7 +150,7 @@ fn listed<S: Alter>(conn: &mut Connection<S>, revision: u32) -> Option<Vec<Row>>
 
 #[test]
 fn tables_are_made_once(rt: HostRuntime) -> Result<(), Fail> {
-    let mut conn = Connection::open_in_memory(rt.alloc())?;
+    let mut conn = empty(rt.alloc())?;
     assert_eq!(rt; opened(&mut conn), Some(None));
     assert_eq!(rt; made(&mut conn), Some(Creation::Made));
     assert_eq!(rt; opened(&mut conn), Some(Some(0)));
@@ -169,7 +170,7 @@ fn filled<S: Alter>(conn: &mut Connection<S>) -> bool {
 
 #[test]
 fn changes_are_read_back(rt: HostRuntime) -> Result<(), Fail> {
-    let mut conn = Connection::open_in_memory(rt.alloc())?;
+    let mut conn = empty(rt.alloc())?;
     assert!(rt; filled(&mut conn));
     assert_eq!(rt; told(&mut conn), Some(Some(4)));
     let rows = known(&mut conn, 11).ok_or("history")?;
@@ -181,7 +182,7 @@ fn changes_are_read_back(rt: HostRuntime) -> Result<(), Fail> {
 
 #[test]
 fn rows_are_listed_by_identifier(rt: HostRuntime) -> Result<(), Fail> {
-    let mut conn = Connection::open_in_memory(rt.alloc())?;
+    let mut conn = empty(rt.alloc())?;
     assert!(rt; filled(&mut conn));
     let rows = listed(&mut conn, 2).ok_or("listing")?;
     assert_eq!(rt; rows.len(), 2);
@@ -195,7 +196,7 @@ fn rows_are_listed_by_identifier(rt: HostRuntime) -> Result<(), Fail> {
 
 /// What `open` tells of tables that hold this row of `state`, if it is one.
 fn found_with(alloc: Global, row: &str) -> Option<Option<u32>> {
-    let mut conn = Connection::open_in_memory(alloc).ok()?;
+    let mut conn = empty(alloc).ok()?;
     let columns = "CREATE TABLE state (one INTEGER PRIMARY KEY, format INTEGER, revision INTEGER)";
     let version =
         "CREATE TABLE version (object, number, class, first, last, entered, closed, name, code, label, \
@@ -242,7 +243,7 @@ fn the_greatest_revision_is_opened(rt: HostRuntime) -> Result<(), Fail> {
 
 /// A database with a part of the columns.
 fn found_in(alloc: Global, sql: &str) -> Option<Option<u32>> {
-    let mut conn = Connection::open_in_memory(alloc).ok()?;
+    let mut conn = empty(alloc).ok()?;
     if run(&mut conn, sql) {
         opened(&mut conn)
     } else {
