@@ -195,37 +195,37 @@ fn rows_are_listed_by_identifier(rt: HostRuntime) -> Result<(), Fail> {
 }
 
 /// What `open` tells of tables that hold this row of `state`, if it is one.
-fn found_with(alloc: Global, row: &str) -> Option<Option<u32>> {
-    let mut conn = empty(alloc).ok()?;
+fn found_with(alloc: Global, row: &str) -> Result<Option<Option<u32>>, Fail> {
+    let mut conn = empty(alloc)?;
     let columns = "CREATE TABLE state (one INTEGER PRIMARY KEY, format INTEGER, revision INTEGER)";
     let version =
         "CREATE TABLE version (object, number, class, first, last, entered, closed, name, code, label, \
         area, unit, party, share_num, share_den, required, spot_x, spot_y, shape)";
     if run(&mut conn, columns) && run(&mut conn, version) && run(&mut conn, row) {
-        opened(&mut conn)
+        Ok(opened(&mut conn))
     } else {
-        None
+        Ok(None)
     }
 }
 
 #[test]
 fn only_a_register_is_opened(rt: HostRuntime) -> Result<(), Fail> {
     let alloc = rt.alloc();
-    assert_eq!(rt; found_with(alloc, ""), Some(None));
+    assert_eq!(rt; found_with(alloc, "")?, Some(None));
     assert_eq!(rt;
-        found_with(alloc, "INSERT INTO state VALUES (1, 1, 10)"),
+        found_with(alloc, "INSERT INTO state VALUES (1, 1, 10)")?,
         Some(Some(10))
     );
     assert_eq!(rt;
-        found_with(alloc, "INSERT INTO state VALUES (1, 2, 10)"),
+        found_with(alloc, "INSERT INTO state VALUES (1, 2, 10)")?,
         Some(None)
     );
     assert_eq!(rt;
-        found_with(alloc, "INSERT INTO state VALUES (2, 1, 10)"),
+        found_with(alloc, "INSERT INTO state VALUES (2, 1, 10)")?,
         Some(None)
     );
     assert_eq!(rt;
-        found_with(alloc, "INSERT INTO state VALUES (1, 1, -1)"),
+        found_with(alloc, "INSERT INTO state VALUES (1, 1, -1)")?,
         Some(None)
     );
     Ok(())
@@ -234,20 +234,20 @@ fn only_a_register_is_opened(rt: HostRuntime) -> Result<(), Fail> {
 #[test]
 fn the_greatest_revision_is_opened(rt: HostRuntime) -> Result<(), Fail> {
     let alloc = rt.alloc();
-    let most = found_with(alloc, "INSERT INTO state VALUES (1, 1, 4294967294)");
+    let most = found_with(alloc, "INSERT INTO state VALUES (1, 1, 4294967294)")?;
     assert_eq!(rt; most, Some(Some(MOST_REVISION)));
-    let more = found_with(alloc, "INSERT INTO state VALUES (1, 1, 4294967295)");
+    let more = found_with(alloc, "INSERT INTO state VALUES (1, 1, 4294967295)")?;
     assert_eq!(rt; more, Some(None));
     Ok(())
 }
 
 /// A database with a part of the columns.
-fn found_in(alloc: Global, sql: &str) -> Option<Option<u32>> {
-    let mut conn = empty(alloc).ok()?;
+fn found_in(alloc: Global, sql: &str) -> Result<Option<Option<u32>>, Fail> {
+    let mut conn = empty(alloc)?;
     if run(&mut conn, sql) {
-        opened(&mut conn)
+        Ok(opened(&mut conn))
     } else {
-        None
+        Ok(None)
     }
 }
 
@@ -255,11 +255,11 @@ fn found_in(alloc: Global, sql: &str) -> Option<Option<u32>> {
 fn a_missing_column_is_seen(rt: HostRuntime) -> Result<(), Fail> {
     let alloc = rt.alloc();
     assert_eq!(rt;
-        found_in(alloc, "CREATE TABLE version (object, number)"),
+        found_in(alloc, "CREATE TABLE version (object, number)")?,
         Some(None)
     );
     assert_eq!(rt;
-        found_in(alloc, "CREATE TABLE state (one, format)"),
+        found_in(alloc, "CREATE TABLE state (one, format)")?,
         Some(None)
     );
     Ok(())

@@ -18,7 +18,8 @@ use Rattle.cad_walks.specs.Walks.{Visit}
 use Rattle.cad_walks.specs.Visits.{Run, in_force, OpensAmong}
 use Rattle.cad_walks.specs.Restarts.{IsFound, AreStarts, in_force_after, IsVisitInOne}
 use Rattle.cad_walks.specs.Laws.{WalksShowTheAnswer, ConnectionsAreVisits, RestartsKeepAccepted, ConnectionsAmongRestartsAreVisits, WalksAmongRestartsShowTheAnswer}
-use Rattle.cad_walks.proofs.VisitLemmas.{IsFront, front_of_front, run_grows, accepted_then, accepted_front, run_accepts, visit_before, walks}
+use Rattle.cad_versions.specs.AcceptedLemmas.{accepted_then, accepted_front}
+use Rattle.cad_walks.proofs.VisitLemmas.{IsFront, front_of_front, run_grows, run_accepts, visit_before, walks}
 
 -- ---- what a start finds
 

@@ -8,6 +8,7 @@ use Rattle.httparse.specs.Grammar.{RequestHead}
 use Rattle.cad_versions.specs.declared.command.Command.{Command}
 use Rattle.cad_versions.specs.VersionedObject.{VersionedObject}
 use Rattle.cad_versions.specs.Refusals.{refusal, AreAccepted}
+use Rattle.cad_versions.specs.AcceptedLemmas.{accepted_then, accepted_front}
 use Rattle.cad_versions.specs.Versions.{after}
 use Rattle.cad_head.specs.Request.{Request, request_of}
 use Rattle.cad_stream.specs.Streams.{Outcome, waits, closed, refused}
@@ -204,14 +205,6 @@ told Replies of (head ∷ heads) last out e =
     }
 
 -- ---- accepted commands
-
-pub accepted_then : (vs : List VersionedObject) (cs : List Command) (c : Command) → AreAccepted vs cs → refusal (fold after vs cs) c ≡ None → AreAccepted vs (cs ++ c ∷ [])
-accepted_then vs [] c all fine = (fine, tt)
-accepted_then vs (d ∷ cs) c all fine = (all.0, accepted_then (after vs d) cs c all.1 fine)
-
-pub accepted_front : (vs : List VersionedObject) (cs more : List Command) → AreAccepted vs (cs ++ more) → AreAccepted vs cs
-accepted_front vs [] more all = tt
-accepted_front vs (c ∷ cs) more all = (all.0, accepted_front (after vs c) cs more all.1)
 
 module _ (rules : Rules) where
   entered : (commands : List Command) (old new : Connections) (command : Command) (answer : Result Reply DeskFault) → IsEntered rules (λ Holds. Holds commands) old command answer new

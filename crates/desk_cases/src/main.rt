@@ -1,19 +1,15 @@
 //! What a desk answers to a list of events: each line of standard input is an event, and a line is printed for it.
 //!
-//! The desk stands over a ledger in memory, and answers each request with its method, its target and the revision in
-//! force. Two targets have no reply: `/lost` is refused with `NotARegister`, and `/full` with `Memory`.
+//! The desk stands over the responder of `desk_echo`: each request is answered with its method, its target and the revision in
+//! force, and two targets have no reply: `/lost` is refused with `NotARegister`, and `/full` with `Memory`.
 //!
 //! The lines and what is printed for them are those of `desk_script`. Any other line is answered by `no case`, and one
 //! without bytes is passed over. Where memory is refused, and no `/full` asked for that, the program ends with status 7.
-//!
-//! - `echo`: what answers the requests
 #![tactic(auto)]
 
-mod echo;
-
 use cad_desk::Desk;
+use desk_echo::Echo;
 use desk_script::{Memory, answer, line_of};
-use echo::Echo;
 use std::alloc::{AllocError, Global};
 use std::io::{Error, ErrorKind, Read, Result};
 use std::process::ExitCode;
