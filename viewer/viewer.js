@@ -599,8 +599,13 @@ function choose(left, top) {
   Object.assign(chosen, { object: found?.properties.object ?? null, unit: found?.properties.unit ?? null, told: "" });
   draw();
   writeAddress();
-  if (found) tell();
-  else by("panel").replaceChildren(element("p", { className: "hint" }, "No parcel lies here. Click one to see its versions, and the rights, restrictions and responsibilities of its unit."));
+  if (found) {
+    tell();
+    return;
+  }
+  telling.abort();
+  by("panel").removeAttribute("aria-busy");
+  by("panel").replaceChildren(element("p", { className: "hint" }, "No parcel lies here. Click one to see its versions, and the rights, restrictions and responsibilities of its unit."));
 }
 
 function listenToControls() {
