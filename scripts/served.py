@@ -20,12 +20,19 @@ SERVICE = os.environ.get("CADASTRED") or str(TOP / "crates/cadastred/out/cadastr
 COLLECTIONS = ["parcels", "rights", "restrictions", "units", "parties", "responsibilities"]
 
 
-def need_program(*further):
-    """Ends the run where the program isn't built, or a further one."""
-    for it in (PROGRAM, *further):
-        if not os.access(it, os.X_OK):
-            print(f"build {it} first, by 'make sample{' cadastred' * bool(further)}'", file=sys.stderr)
-            sys.exit(2)
+def need(program, target):
+    """Ends the run where a program isn't built."""
+    if not os.access(program, os.X_OK):
+        print(f"build {program} first, by 'make {target}'", file=sys.stderr)
+        sys.exit(2)
+
+
+def need_program():
+    need(PROGRAM, "sample")
+
+
+def need_service():
+    need(SERVICE, "cadastred")
 
 
 def enter(file, lines):

@@ -3,6 +3,7 @@
 
 const ON_A_PAGE = 1000;
 const MOST_SHAPES = 5000;
+const MOST_ROWS = 5000;
 // The register's coordinates are whole millimetres, at most so many either way.
 const FARTHEST = 100000000000;
 
@@ -40,8 +41,8 @@ const slider = by("slider");
 
 /** What the map shows: its centre in millimetres, and how many of them a pixel has. */
 const view = { x: 0, y: 0, scale: 100 };
-/** What was drawn last: the parcels, their revision, the last revision that was told, the filter, how many came, and the pages that are left. */
-const shown = { parcels: [], revision: 0, inForce: 0, filter: "", came: 0, rest: null, target: "" };
+/** What was drawn last: the parcels, their revision, the last revision that was told, the filter, how many came, the pages that are left, and a box round all parcels where it was asked for. */
+const shown = { parcels: [], revision: 0, inForce: 0, filter: "", came: 0, rest: null, target: "", whole: null };
 /** The object of the parcel that was clicked, its unit, and of which object, day and revision the panel tells. */
 const chosen = { object: null, unit: null, told: "" };
 let loading = new AbortController();
@@ -65,7 +66,11 @@ function targetOf(collection, parameters) {
 
 async function page(target, signal) {
   const reply = await fetch(target, { signal });
-  const body = await reply.json().catch(() => ({}));
+  const body = await reply.json().catch((fault) => {
+    if (reply.ok) throw fault;
+    return {};
+  });
+  signal?.throwIfAborted();
   if (!reply.ok) throw new Refused(reply.status, body);
   return body;
 }
@@ -74,16 +79,16 @@ function nextOf(body) {
   return body.links.find((it) => it.rel === "next")?.href;
 }
 
-/** All features, page by page to the last one. */
-async function all(collection, parameters, signal) {
-  const found = [];
+/** The features, page by page, as many as are listed, and whether more are left. */
+async function listed(collection, parameters, signal) {
+  const features = [];
   let target = targetOf(collection, { ...parameters, limit: ON_A_PAGE });
-  while (target) {
+  while (target && features.length < MOST_ROWS) {
     const body = await page(target, signal);
-    found.push(...body.features);
+    features.push(...body.features);
     target = nextOf(body);
   }
-  return found;
+  return { features, isMore: target !== undefined };
 }
 
 function conditions() {
@@ -97,9 +102,14 @@ function size() {
   return { width: box.width, height: box.height };
 }
 
-function toScreen([x, y]) {
+/** Where points of the plane are on the canvas, as it stands now. */
+function placing() {
   const { width, height } = size();
-  return [(x - view.x) / view.scale + width / 2, height / 2 - (y - view.y) / view.scale];
+  return ([x, y]) => [(x - view.x) / view.scale + width / 2, height / 2 - (y - view.y) / view.scale];
+}
+
+function toScreen(point) {
+  return placing()(point);
 }
 
 function toPlane(left, top) {
@@ -180,18 +190,28 @@ function draw() {
   const pen = canvas.getContext("2d");
   pen.scale(ratio, ratio);
   pen.lineJoin = "round";
+  const place = placing();
+  if (shown.rest && shown.whole) drawWhole(pen, place);
   const isChosen = (it) => it.properties.object === chosen.object;
-  for (const parcel of shown.parcels) drawShape(pen, parcel, false);
-  for (const parcel of shown.parcels.filter(isChosen)) drawShape(pen, parcel, true);
-  drawLabels(pen);
+  for (const parcel of shown.parcels) drawShape(pen, place, parcel, false);
+  for (const parcel of shown.parcels.filter(isChosen)) drawShape(pen, place, parcel, true);
+  drawLabels(pen, place);
   drawScale();
 }
 
-function drawShape(pen, parcel, isChosen) {
+/** Tints where all parcels lie, of which some alone are drawn. */
+function drawWhole(pen, place) {
+  const { left, low, right, high } = shown.whole;
+  const [start, end] = [place([left, high]), place([right, low])];
+  pen.fillStyle = "#e3ded1";
+  pen.fillRect(...start, end[0] - start[0], end[1] - start[1]);
+}
+
+function drawShape(pen, place, parcel, isChosen) {
   const isOfUnit = parcel.properties.unit === chosen.unit;
   pen.beginPath();
   for (const ring of parcel.rings) {
-    ring.forEach((corner, at) => (at ? pen.lineTo(...toScreen(corner)) : pen.moveTo(...toScreen(corner))));
+    ring.forEach((corner, at) => (at ? pen.lineTo(...place(corner)) : pen.moveTo(...place(corner))));
     pen.closePath();
   }
   const hue = (parcel.properties.unit * 137.508) % 360;
@@ -202,7 +222,7 @@ function drawShape(pen, parcel, isChosen) {
   pen.stroke();
 }
 
-function drawLabels(pen) {
+function drawLabels(pen, place) {
   pen.font = '12px system-ui, "Noto Sans", "DejaVu Sans", sans-serif';
   pen.textAlign = "center";
   pen.textBaseline = "middle";
@@ -211,7 +231,7 @@ function drawLabels(pen) {
     if ((parcel.box.high - parcel.box.low) / view.scale < 16) continue;
     const way = wayThrough(parcel);
     if (!way || pen.measureText(parcel.properties.label).width + 8 > way.width / view.scale) continue;
-    pen.fillText(parcel.properties.label, ...toScreen([way.x, way.y]));
+    pen.fillText(parcel.properties.label, ...place([way.x, way.y]));
   }
 }
 
@@ -248,25 +268,36 @@ function move(x, y) {
 
 // ---- what is in view
 
+/** Ends what is asked for the view that was; the signal that ends what is asked for the next one. */
+function begin() {
+  clearTimeout(soon.timer);
+  loading.abort();
+  loading = new AbortController();
+  document.body.dataset.busy = "yes";
+  by("count").hidden = true;
+  return loading.signal;
+}
+
+function finish() {
+  delete document.body.dataset.busy;
+  by("count").hidden = !shown.rest;
+}
+
 /** Calls the work once nothing has asked for it for a moment. */
 function soon(work) {
-  clearTimeout(soon.timer);
-  document.body.dataset.busy = "yes";
+  begin();
   soon.timer = setTimeout(work, 200);
 }
 
 /** Asks for the parcels in view and draws them page by page, as many as are drawn. */
 async function load() {
-  loading.abort();
-  loading = new AbortController();
-  const { signal } = loading;
-  document.body.dataset.busy = "yes";
+  const signal = begin();
   writeAddress();
   const asked = { ...conditions(), bbox: boxInView(), limit: ON_A_PAGE };
   try {
     await follow(targetOf("parcels", asked), signal);
     tellFault(null);
-    delete document.body.dataset.busy;
+    finish();
     tell();
   } catch (fault) {
     failed(fault);
@@ -292,8 +323,7 @@ async function follow(first, signal) {
 
 /** Follows the pages that are left to the last one, for their count. */
 async function countAll() {
-  const { signal } = loading;
-  document.body.dataset.busy = "yes";
+  const signal = begin();
   try {
     while (shown.rest) {
       const body = await page(shown.rest, signal);
@@ -301,7 +331,7 @@ async function countAll() {
       shown.rest = nextOf(body) ?? null;
       tellStatus();
     }
-    delete document.body.dataset.busy;
+    finish();
   } catch (fault) {
     failed(fault);
   }
@@ -309,7 +339,7 @@ async function countAll() {
 
 function failed(fault) {
   if (fault.name === "AbortError") return;
-  delete document.body.dataset.busy;
+  finish();
   tellFault(fault);
 }
 
@@ -320,10 +350,11 @@ function tellStatus() {
   const known = `as known at revision ${shown.revision} of ${shown.inForce}`;
   const drawn = shown.parcels.length;
   let text = `${counted(shown.came, "parcel", "parcels")} in view that ${held}, ${known}.`;
-  if (shown.rest) text = `The first ${counted(drawn, "parcel", "parcels")} in view that ${held} are drawn, ${known}. More are left: zoom in to see them.`;
+  if (shown.rest && drawn < MOST_SHAPES) text = `${counted(drawn, "parcel", "parcels")} in view that ${held} came so far, ${known}.`;
+  else if (shown.rest && shown.came > drawn) text = `${counted(shown.came, "parcel", "parcels")} in view that ${held} are counted so far, ${known}. The first ${drawn.toLocaleString("en")} of them are drawn.`;
+  else if (shown.rest) text = `The first ${counted(drawn, "parcel", "parcels")} in view that ${held} are drawn, ${known}. More are left: zoom in to see them.`;
   else if (shown.came > drawn) text += ` The first ${drawn.toLocaleString("en")} of them are drawn.`;
   by("status").textContent = text;
-  by("count").hidden = !shown.rest;
   by("request").href = shown.target;
   canvas.dataset.drawn = drawn;
   canvas.dataset.came = shown.came;
@@ -377,14 +408,14 @@ function mark(place) {
 
 /** Brings all parcels of the day and the revision into view: by their page where one has them, else by asking what lies beyond. */
 async function fitAll() {
-  document.body.dataset.busy = "yes";
+  const signal = begin();
   const asked = { datetime: day.value, revision: revision.value.trim() };
-  const { signal } = loading;
   try {
     const first = await page(targetOf("parcels", { ...asked, limit: ON_A_PAGE }), signal);
     const boxes = first.features.filter((it) => it.geometry).map((it) => boundsOf(it.geometry.coordinates));
-    if (nextOf(first)) fit(await beyond(boxes.length ? joined(boxes) : NOWHERE, { ...asked, revision: first.revision }, signal));
-    else if (boxes.length) fit(joined(boxes));
+    if (nextOf(first)) shown.whole = await beyond(boxes.length ? joined(boxes) : NOWHERE, { ...asked, revision: first.revision }, signal);
+    else shown.whole = boxes.length ? joined(boxes) : null;
+    if (shown.whole) fit(shown.whole);
   } catch (fault) {
     failed(fault);
   }
@@ -446,7 +477,7 @@ async function tell() {
   panel.setAttribute("aria-busy", "true");
   const at = { revision: shown.revision };
   try {
-    const versions = await all("parcels", { ...at, filter: `object = ${chosen.object}` }, signal);
+    const { features: versions } = await listed("parcels", { ...at, filter: `object = ${chosen.object}` }, signal);
     if (!versions.length) {
       panel.replaceChildren(element("p", { className: "hint" }, `At revision ${shown.revision} object ${chosen.object} was not known.`));
       return;
@@ -494,17 +525,18 @@ function dayButton(text) {
 async function unitParts(unit, asked, signal) {
   const ofUnit = { ...asked, filter: `unit = ${unit}` };
   const [units, rights, restrictions, responsibilities, parcels] = [
-    await all("units", { ...asked, filter: `object = ${unit}` }, signal),
-    await all("rights", ofUnit, signal),
-    await all("restrictions", ofUnit, signal),
-    await all("responsibilities", ofUnit, signal),
-    await all("parcels", ofUnit, signal),
+    await listed("units", { ...asked, filter: `object = ${unit}` }, signal),
+    await listed("rights", ofUnit, signal),
+    await listed("restrictions", ofUnit, signal),
+    await listed("responsibilities", ofUnit, signal),
+    await listed("parcels", ofUnit, signal),
   ];
-  const parties = await partiesOf([...rights, ...restrictions, ...responsibilities], asked, signal);
-  const named = units.at(-1)?.properties.name;
+  const parties = await partiesOf([rights, restrictions, responsibilities].flatMap((it) => it.features), asked, signal);
+  const named = units.features.at(-1)?.properties.name;
+  const count = counted(parcels.features.length, "parcel", "parcels") + (parcels.isMore ? " and more" : "");
   return [
     element("h3", {}, named ? `Unit ${unit}: ${named}` : `Unit ${unit}`),
-    element("p", { className: "none" }, units.length ? `${counted(parcels.length, "parcel", "parcels")} ${day.value ? "on this day" : "in all"}` : "No version of it held on this day."),
+    element("p", { className: "none" }, units.features.length ? `${count} ${day.value ? "on this day" : "in all"}` : "No version of it held on this day."),
     ...share("Rights", rights, parties),
     ...share("Restrictions", restrictions, parties),
     ...share("Responsibilities", responsibilities, parties),
@@ -517,20 +549,21 @@ async function partiesOf(rights, asked, signal) {
   const parties = new Map();
   for (let at = 0; at < objects.length; at += 500) {
     const some = objects.slice(at, at + 500).join(", ");
-    for (const it of await all("parties", { ...asked, filter: `object IN (${some})` }, signal)) parties.set(it.properties.object, it.properties);
+    for (const it of (await listed("parties", { ...asked, filter: `object IN (${some})` }, signal)).features) parties.set(it.properties.object, it.properties);
   }
   return parties;
 }
 
 function share(title, rights, parties) {
-  const rows = rights.map(({ properties: it }) => {
+  const rows = rights.features.map(({ properties: it }) => {
     const party = parties.get(it.party);
     const name = party?.name ?? it.party_name ?? (it.party === null ? "none" : `party ${it.party}`);
     const required = it.party_required === true ? " (party required)" : "";
     const part = it.share_num === null ? "" : `${it.share_num}/${it.share_den}`;
     return { cells: [it.type + required, party ? element("span", { title: party.type }, name) : name, part, it.end ? `${it.begin} to ${it.end}` : `from ${it.begin}`] };
   });
-  return [element("h3", {}, title), table(["type", "party", "share", "held"], rows)];
+  const rest = rights.isMore ? [element("p", { className: "none" }, `The first ${rows.length.toLocaleString("en")} are listed. More are left.`)] : [];
+  return [element("h3", {}, title), ...rest, table(["type", "party", "share", "held"], rows)];
 }
 
 // ---- controls
@@ -566,8 +599,13 @@ function choose(left, top) {
   Object.assign(chosen, { object: found?.properties.object ?? null, unit: found?.properties.unit ?? null, told: "" });
   draw();
   writeAddress();
-  if (found) tell();
-  else by("panel").replaceChildren(element("p", { className: "hint" }, "No parcel lies here. Click one to see its versions, and the rights, restrictions and responsibilities of its unit."));
+  if (found) {
+    tell();
+    return;
+  }
+  telling.abort();
+  by("panel").removeAttribute("aria-busy");
+  by("panel").replaceChildren(element("p", { className: "hint" }, "No parcel lies here. Click one to see its versions, and the rights, restrictions and responsibilities of its unit."));
 }
 
 function listenToControls() {
@@ -633,9 +671,14 @@ function listenToMap() {
     else return;
     event.preventDefault();
   });
+  // it tells the size once at the start, when all is asked for anyway
+  let isFirst = true;
   new ResizeObserver(() => {
-    draw();
-    soon(load);
+    if (!isFirst) {
+      draw();
+      soon(load);
+    }
+    isFirst = false;
   }).observe(canvas);
 }
 
