@@ -12,20 +12,20 @@ returns-then-not-is_sending g c = c.loop.invariant
 
 pub returns-in_default : goal.returns-in_default
 returns-in_default g c =
-    ended g.R.Responder c.args.c c.args.desk.now c.args.self.now _ _ _ _ _ _ None c.loop.desk c.turn.new.desk c.loop.self c.turn.new.self c.loop.invariant c.in_default.ensures
+    ended g.R.Responder c.args.c c.args.now c.args.desk.now c.args.self.now _ _ _ _ _ _ None c.loop.desk c.turn.new.desk c.loop.self c.turn.new.self c.loop.invariant c.in_default.ensures
 
 pub returns-in-Over : goal.returns-in-Over
 returns-in-Over g c =
     let turn = rw c.in-Over.is at c.in-Some.ensures in
-    ended g.R.Responder c.args.c c.args.desk.now c.args.self.now _ _ _ _ _ _ (Some (Over c.in-Over.ending)) c.loop.desk c.turn.new.desk c.loop.self c.turn.new.self c.loop.invariant turn
+    ended g.R.Responder c.args.c c.args.now c.args.desk.now c.args.self.now _ _ _ _ _ _ (Some (Over c.in-Over.ending)) c.loop.desk c.turn.new.desk c.loop.self c.turn.new.self c.loop.invariant turn
 
-pub returns-then-eq : goal.returns-then-eq
-returns-then-eq g c =
-    went_on g.R.Responder c.args.c c.args.desk.now c.args.self.now _ _ _ _ _ _ c.in-Some.turned c.loop.desk c.turn.new.desk c.loop.self c.turn.new.self c.loop.invariant c.in-Some.ensures
+pub returns-in-Waits : goal.returns-in-Waits
+returns-in-Waits g c =
+    went_on g.R.Responder c.args.c c.args.now c.args.desk.now c.args.self.now _ _ _ _ _ _ c.in-Some.turned c.loop.desk c.turn.new.desk c.loop.self c.turn.new.self c.loop.invariant c.in-Some.ensures
 
 pub loop-preserved : goal.loop-preserved
 loop-preserved g c =
-    went_on g.R.Responder c.args.c c.args.desk.now c.args.self.now _ _ _ _ _ _ c.in-Some.turned c.loop.desk c.turn.new.desk c.loop.self c.turn.new.self c.loop.invariant c.in-Some.ensures
+    went_on g.R.Responder c.args.c c.args.now c.args.desk.now c.args.self.now _ _ _ _ _ _ c.in-Some.turned c.loop.desk c.turn.new.desk c.loop.self c.turn.new.self c.loop.invariant c.in-Some.ensures
 
 pub returns : goal.returns
 returns g c = c.loop.invariant
