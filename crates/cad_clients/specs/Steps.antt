@@ -1,5 +1,5 @@
 -- What is done for the open connections at a desk (own profile).
-use Rattle.std.specs.Prelude.{◌≡◌, ℕ, Bool, true, false, if◌then◌else◌, List, [], ◌∷◌, ◌++◌, Option, None, Some, Result, Ok, Err}
+use Rattle.std.specs.Prelude.{◌≡◌, ◌⊎◌, ◌+◌, ◌≤◌, ℕ, IsSomeAnd, length, Bool, true, false, if◌then◌else◌, List, [], ◌∷◌, ◌++◌, Option, None, Some, Result, Ok, Err}
 use Rattle.cad_stream.specs.declared.responder.Responder.{Ghosts}
 use Rattle.cad_desk.specs.declared.desk.Desk.{Desk}
 use Rattle.cad_desk.specs.declared.event.Event.TheVariants.{Open}
@@ -7,14 +7,14 @@ use Rattle.cad_desk.specs.declared.event.Reply.TheVariants.{Opened}
 use Rattle.cad_desk.specs.declared.fault.DeskFault.{DeskFault}
 use Rattle.cad_desk.specs.Desks as desks
 use Rattle.cad_channel.specs.declared.turned.Turned.{Turned}
-use Rattle.cad_channel.specs.declared.turned.Turned.TheVariants.{Over}
+use Rattle.cad_channel.specs.declared.turned.Turned.TheVariants.{Fed, Waits, Over}
 use Rattle.cad_channel.specs.Channels as channels
 use Rattle.cad_channel.specs.Laws.{IsNew}
 use Rattle.cad_clients.specs.declared.client.Client.{Client}
 use Rattle.cad_clients.specs.declared.clients.Clients.{Clients}
 use Rattle.cad_clients.specs.declared.served.Served.{Served}
 use Rattle.cad_clients.specs.declared.served.Served.TheVariants.{Stays, Over as Served-Over, Unknown}
-use Rattle.cad_clients.specs.Notes.{notes_of, first_notes, noted}
+use Rattle.cad_clients.specs.Notes.{notes_of, first_notes, noted, IsSending}
 use Rattle.cad_clients.specs.Slots.{client_at, Changes, Keeps}
 
 -- the connection is over
@@ -25,6 +25,20 @@ is_over other = false
 -- the connection that is left after a turn
 abbrev pub left_after : Turned → Client → Option Client
 left_after turned client = if is_over turned then None else Some client
+
+-- how many pieces the desk took at a turn, and in these turns
+abbrev pub fed_by : Turned → ℕ
+fed_by Fed = 1
+fed_by other = 0
+
+abbrev pub fed_in : List Turned → ℕ
+fed_in [] = 0
+fed_in (turned ∷ turns) = fed_by turned + fed_in turns
+
+-- after these turns, the last of them first, connection c has no more for now: at the last one its socket gave or took nothing, or the reply to a piece went out, or there were four
+abbrev pub IsEnough : ℕ → List Turned → Clients → Type 0
+IsEnough c turns next =
+    ((before : List Turned) × (turns ≡ Waits ∷ before)) ⊎ (((fed_in turns ≡ 1) × ¬ IsSomeAnd (client_at next c) IsSending) ⊎ (length turns ≡ 4))
 
 module _ {R : Type 0} (g : Ghosts R) (c now : ℕ) where
   -- the desk opens connection c, which has a new channel then, or refuses it
@@ -53,17 +67,18 @@ module _ {R : Type 0} (g : Ghosts R) (c now : ℕ) where
       × (read ≡ front ++ piece) × (written ≡ out ++ sent)
 
   -- connection c has turns, and then this comes of a turn of it
-  abbrev pub EndsWith : Desk R → Clients → Option Turned → Desk R → Clients → List ℕ → List ℕ → Type 0
+  abbrev pub EndsWith : Desk R → Clients → Turned → Desk R → Clients → List ℕ → List ℕ → Type 0
   EndsWith old clients last new next read written =
       (before : List Turned) × (mid : Desk R) × (between : Clients) × (front : List ℕ) × (out : List ℕ) × (piece : List ℕ) × (sent : List ℕ)
-      × HasTurns old clients before mid between front out × HasTurn mid between last new next piece sent
-      × (read ≡ front ++ piece) × (written ≡ out ++ sent)
+      × HasTurns old clients before mid between front out × HasTurn mid between (Some last) new next piece sent
+      × (read ≡ front ++ piece) × (written ≡ out ++ sent) × (fed_in before ≤ 1)
 
-  -- connection c is served by turns of its own, up to its last one where it is over
+  -- connection c is served by turns of its own, in which the desk takes one piece at most: as many as it has for now, or up to the one at which it is over; none, where there is no such connection
   abbrev pub IsServed : Desk R → Clients → Served → Desk R → Clients → List ℕ → List ℕ → Type 0
-  IsServed old clients Stays new next read written = (turns : List Turned) × HasTurns old clients turns new next read written
-  IsServed old clients (Served-Over ending) new next read written = EndsWith old clients (Some (Over ending)) new next read written
-  IsServed old clients Unknown new next read written = EndsWith old clients None new next read written
+  IsServed old clients Stays new next read written =
+      (turns : List Turned) × HasTurns old clients turns new next read written × (fed_in turns ≤ 1) × IsEnough c turns next
+  IsServed old clients (Served-Over ending) new next read written = EndsWith old clients (Over ending) new next read written
+  IsServed old clients Unknown new next read written = HasTurn old clients None new next read written
 
 module _ {R : Type 0} (g : Ghosts R) (c : ℕ) where
   -- connection c is closed at the desk, and is not open then
