@@ -1,5 +1,5 @@
 -- What a connection holds between its socket and the desk, and what a turn does (own profile).
-use Rattle.std.specs.Prelude.{◌≡◌, ◌⊎◌, ℕ, ◌-◌, Bool, true, false, List, [], ◌++◌, take, drop, Result, Ok, Err}
+use Rattle.std.specs.Prelude.{◌≡◌, ◌⊎◌, ℕ, ◌-◌, ◌<◌, Bool, true, false, List, [], ◌++◌, length, take, drop, Result, Ok, Err}
 use Rattle.std.specs.Global.{Vec}
 use Rattle.cad_stream.specs.declared.responder.Responder.{Ghosts}
 use Rattle.cad_desk.specs.declared.desk.Desk.{Desk}
@@ -41,6 +41,14 @@ pub record IsReady (channel : Channel) : Type 0 where
 pub record IsIdle (channel : Channel) : Type 0 where
   pub ready : IsReady channel
   pub all_fed : unfed channel ≡ []
+
+-- something is to be written
+abbrev pub IsSending : Channel → Type 0
+IsSending channel = 0 < length (unsent channel)
+
+-- what is next is a write or a read, which the socket may leave undone for now
+abbrev pub MayWait : Channel → Type 0
+MayWait channel = IsSending channel ⊎ IsIdle channel
 
 -- what a turn does to a connection that goes on: it writes bytes, reads bytes, or has the desk take a piece and send something
 pub data Act : Type 0 where
@@ -92,13 +100,14 @@ module _ {R : Type 0} (g : Ghosts R) (c : ℕ) where
   EndsSo old channel (Refused fault) new read written = IsReady channel × IsRefusedSo fault written × IsNotTaken old fault new
   -- all replies were written
   EndsSo old channel ReadFailed new read written = IsQuiet read written × IsIdle channel × Closes old new
-  EndsSo old channel WriteFailed new read written = IsQuiet read written × Closes old new
+  -- a reply was to be written
+  EndsSo old channel WriteFailed new read written = IsQuiet read written × IsSending channel × Closes old new
 
   -- what came of a turn
   abbrev pub IsTurn : Desk R → Channel → Turned → Desk R → Channel → List ℕ → List ℕ → Type 0
-  IsTurn old channel Wrote new next read written = (read ≡ []) × Does old channel (wrote written) new next
+  IsTurn old channel Wrote new next read written = (read ≡ []) × (0 < length written) × Does old channel (wrote written) new next
   IsTurn old channel Took new next read written = (written ≡ []) × Does old channel (took read) new next
   IsTurn old channel Fed new next read written =
       IsQuiet read written × ((piece : Vec ℕ) × (out : Vec ℕ) × (ends : Bool) × Does old channel (fed piece out ends) new next × (last_fed next ≡ piece.items))
-  IsTurn old channel Waits new next read written = IsQuiet read written × (new ≡ old) × (next ≡ channel)
+  IsTurn old channel Waits new next read written = IsQuiet read written × MayWait channel × (new ≡ old) × (next ≡ channel)
   IsTurn old channel (Over ending) new next read written = EndsSo old channel ending new read written

@@ -33,7 +33,7 @@ impl Channel {
     ghost use Rattle.std.specs.Prelude.{◌≡◌, ◌<◌, ◌&&◌, nat_eq, false, []};
     ghost use Rattle.cad_io.specs.Known.{ReadsAndWrites, Writes};
     ghost use Rattle.cad_serve.specs.Serving.{IsPiece};
-    ghost use Rattle.cad_channel.specs.Channels.{unfed, unsent, last_fed as last_fed_of, has_ended, IsReady, IsIdle, IsTurn};
+    ghost use Rattle.cad_channel.specs.Channels.{unfed, unsent, last_fed as last_fed_of, has_ended, IsReady, IsIdle, IsSending, IsTurn};
     ghost use Rattle.cad_channel.specs.Laws.{IsNew};
 
     /// The channel of a connection of which nothing was read.
@@ -79,7 +79,7 @@ impl Channel {
         writer: &mut W,
         desk: &mut Desk<R>,
     ) -> Turned
-        requires { 0 < length (unsent self.old) }
+        requires { IsSending self.old }
         ensures { Writes (W.contents writer.old) (W.contents writer.new)
             (IsTurn R.Responder c desk.old self.old result desk.new self.new []) }
     {

@@ -20,15 +20,17 @@ pub(crate) struct Client {
 }
 
 impl Client {
-    ghost use Rattle.std.specs.Prelude.{◌≡◌, false};
+    ghost use Rattle.std.specs.Prelude.{◌≡◌, ◌↔◌, false, IsTrue};
     ghost use Rattle.cad_io.specs.Known.{ReadsAndWrites};
-    ghost use Rattle.cad_channel.specs.Channels.{has_ended, IsTurn};
+    ghost use Rattle.cad_channel.specs.Channels.{has_ended, unsent, IsTurn};
     ghost use Rattle.cad_channel.specs.Laws.{IsNew};
+    ghost use Rattle.cad_clients.specs.Notes.{first_notes, noted, notes_of, IsOverdue};
 
     /// A connection that was just opened.
     pub(crate) fn new(alloc: Global, now: u64) -> Client
         ensures new { IsNew result.channel }
         ensures goes_on { has_ended result.channel ≡ false }
+        ensures notes { notes_of result ≡ first_notes now }
     {
         Client {
             channel: Channel::new(alloc),
@@ -38,9 +40,10 @@ impl Client {
         }
     }
 
-    /// Keeps when it was.
+    /// Keeps what came of a turn, and when it was.
     fn note(&mut self, turned: Turned, now: u64)
-        ensures { self.new.channel ≡ self.old.channel }
+        ensures channel { self.new.channel ≡ self.old.channel }
+        ensures notes { notes_of self.new ≡ noted now turned (unsent self.old.channel) (notes_of self.old) }
     {
         match turned {
             Turned::Wrote => {
@@ -69,9 +72,10 @@ impl Client {
         writer: &mut W,
         desk: &mut Desk<R>,
     ) -> Turned
-        ensures { ReadsAndWrites (I.remaining reader.old) (I.remaining reader.new)
+        ensures turn { ReadsAndWrites (I.remaining reader.old) (I.remaining reader.new)
             (W.contents writer.old) (W.contents writer.new)
             (IsTurn R.Responder c desk.old self.old.channel result desk.new self.new.channel) }
+        ensures notes { notes_of self.new ≡ noted now result (unsent self.new.channel) (notes_of self.old) }
     {
         let turned = self.channel.turn(alloc, c, reader, writer, desk);
         self.note(turned, now);
@@ -79,7 +83,9 @@ impl Client {
     }
 
     /// Whether it did nothing for too long, or a request of it takes too long.
-    pub(crate) fn is_overdue(&self, now: u64, limits: &Limits) -> bool {
+    pub(crate) fn is_overdue(&self, now: u64, limits: &Limits) -> bool
+        ensures { IsTrue result ↔ IsOverdue now limits.now self.now }
+    {
         let is_idle = limits.idle <= now.saturating_sub(self.moved);
         match self.begun {
             Some(begun) => is_idle || limits.request <= now.saturating_sub(begun),

@@ -26,14 +26,15 @@ pub struct Clients {
 }
 
 impl Clients {
-    ghost use Rattle.std.specs.Prelude.{ℕ, ◌<◌, None, Some, IsSome, IfOk, IfSome, option_map};
+    ghost use Rattle.std.specs.Prelude.{ℕ, ◌<◌, ◌↔◌, None, Some, IsTrue, IsSome, IsSomeAnd, IfOk, IfSome, option_copied, option_map};
     ghost use Rattle.cad_io.specs.Known.{ReadsAndWrites};
-    ghost use Rattle.cad_clients.specs.Slots.{channel_at, Changes, Keeps};
+    ghost use Rattle.cad_clients.specs.Notes.{marked, IsOverdue, IsSending, MayGoOn};
+    ghost use Rattle.cad_clients.specs.Slots.{client_at, Changes};
     ghost use Rattle.cad_clients.specs.Steps.{Opens, HasTurn, Closes, IsServed};
 
     /// No connection, and room for 64.
     pub fn new(alloc: Global) -> Result<Clients, AllocError>
-        ensures { IfOk result (λ clients. (c : ℕ) → channel_at clients c ≡ None) }
+        ensures { IfOk result (λ clients. (c : ℕ) → client_at clients c ≡ None) }
     {
         let mut slots = Vec::new(alloc);
         for at in 0..ROOM {
@@ -44,7 +45,7 @@ impl Clients {
 
     /// Takes a connection out of its slot.
     fn take(&mut self, c: u32) -> Option<Client>
-        ensures was { option_map (λ client. client.channel) result ≡ channel_at self.old c }
+        ensures was { result ≡ client_at self.old c }
         ensures is_number { IsSome result → c < 64 }
         ensures rest { Changes self.old self.new c None }
     {
@@ -58,15 +59,15 @@ impl Clients {
     /// Puts a connection into its slot.
     fn put(&mut self, c: u32, client: Client)
         requires { c < 64 }
-        ensures { Changes self.old self.new c (Some client.channel) }
+        ensures { Changes self.old self.new c (Some client) }
     {
         self.slots[c as usize] = Some(client);
     }
 
     /// A number that no connection has, if fewer than 64 are open.
     pub fn free_number(&self) -> Option<u32>
-        ensures free { IfSome result (λ c. c < 64 × channel_at self.now c ≡ None) }
-        ensures full { result ≡ None → (c : ℕ) → c < 64 → IsSome (channel_at self.now c) }
+        ensures free { IfSome result (λ c. c < 64 × client_at self.now c ≡ None) }
+        ensures full { result ≡ None → (c : ℕ) → c < 64 → IsSome (client_at self.now c) }
     {
         for c in 0..ROOM {
             if self.slots[c as usize].is_none() {
@@ -85,7 +86,7 @@ impl Clients {
         desk: &mut Desk<R>,
     ) -> Result<(), DeskFault>
         requires { c < 64 }
-        ensures { Opens R.Responder c desk.old self.old result desk.new self.new }
+        ensures { Opens R.Responder c now desk.old self.old result desk.new self.new }
     {
         match desk.step(Event::Open(c)) {
             Ok(Reply::Opened) => {
@@ -110,7 +111,7 @@ impl Clients {
     ) -> Option<Turned>
         ensures { ReadsAndWrites (I.remaining reader.old) (I.remaining reader.new)
             (W.contents writer.old) (W.contents writer.new)
-            (HasTurn R.Responder c desk.old self.old result desk.new self.new) }
+            (HasTurn R.Responder c now desk.old self.old result desk.new self.new) }
     {
         let mut client = self.take(c)?;
         let turned = client.turn(alloc, c, now, reader, writer, desk);
@@ -131,7 +132,7 @@ impl Clients {
 
     /// The socket of this connection may give or take something.
     pub fn mark(&mut self, c: u32)
-        ensures { Keeps self.old self.new }
+        ensures { Changes self.old self.new c (option_map marked (client_at self.old c)) }
     {
         if let Some(mut client) = self.take(c) {
             client.is_ready = true;
@@ -140,7 +141,7 @@ impl Clients {
     }
 
     fn client(&self, c: u32) -> Option<&Client>
-        ensures { option_map (λ client. client.now.channel) result ≡ channel_at self.now c }
+        ensures { option_copied result ≡ client_at self.now c }
     {
         if c < ROOM {
             self.slots[c as usize].as_ref()
@@ -150,18 +151,24 @@ impl Clients {
     }
 
     /// Whether the socket of this connection may give or take something.
-    pub fn is_ready(&self, c: u32) -> bool {
+    pub fn is_ready(&self, c: u32) -> bool
+        ensures { IsTrue result ↔ IsSomeAnd (client_at self.now c) MayGoOn }
+    {
         self.client(c).is_some_and(|client| client.is_ready)
     }
 
     /// Whether a reply of this connection has not gone out.
-    pub fn is_sending(&self, c: u32) -> bool {
+    pub fn is_sending(&self, c: u32) -> bool
+        ensures { IsTrue result ↔ IsSomeAnd (client_at self.now c) IsSending }
+    {
         self.client(c)
             .is_some_and(|client| !client.channel.sending().is_empty())
     }
 
     /// Whether the connection did nothing for too long, or a request of it takes too long.
-    pub fn is_overdue(&self, c: u32, now: u64, limits: &Limits) -> bool {
+    pub fn is_overdue(&self, c: u32, now: u64, limits: &Limits) -> bool
+        ensures { IsTrue result ↔ IsSomeAnd (client_at self.now c) (IsOverdue now limits.now) }
+    {
         self.client(c)
             .is_some_and(|client| client.is_overdue(now, limits))
     }
@@ -187,7 +194,7 @@ impl Clients {
     ) -> Served
         ensures { ReadsAndWrites (I.remaining reader.old) (I.remaining reader.new)
             (W.contents writer.old) (W.contents writer.new)
-            (IsServed R.Responder c desk.old self.old result desk.new self.new) }
+            (IsServed R.Responder c now desk.old self.old result desk.new self.new) }
     {
         let mut has_fed = false;
         for _ in 0..TURNS {
@@ -197,15 +204,14 @@ impl Clients {
             let Some(turned) = self.turn(alloc, c, now, reader, writer, desk) else {
                 return Served::Unknown;
             };
-            if let Turned::Over(ending) = turned {
-                return Served::Over(ending);
-            }
-            if turned == Turned::Waits {
-                return Served::Stays;
-            }
-            if turned == Turned::Fed {
-                self.tell(c, log);
-                has_fed = true;
+            match turned {
+                Turned::Wrote | Turned::Took => {}
+                Turned::Fed => {
+                    self.tell(c, log);
+                    has_fed = true;
+                }
+                Turned::Waits => return Served::Stays,
+                Turned::Over(ending) => return Served::Over(ending),
             }
         }
         Served::Stays

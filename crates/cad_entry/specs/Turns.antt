@@ -1,5 +1,5 @@
 -- What the connection of the land office holds between its socket and the desk, and what a turn does (own profile).
-use Rattle.std.specs.Prelude.{◌≡◌, ◌⊎◌, ℕ, ⊤, List, [], ◌∷◌, ◌++◌, drop, codes, Option}
+use Rattle.std.specs.Prelude.{◌≡◌, ◌⊎◌, ◌<◌, ℕ, ⊤, Bool, true, List, [], ◌∷◌, ◌++◌, length, drop, codes, Option}
 use Rattle.std.specs.Io.KnownBytes.{Consumes}
 use Rattle.cad_stream.specs.declared.responder.Responder.{Ghosts}
 use Rattle.cad_desk.specs.declared.desk.Desk.{Desk}
@@ -20,6 +20,22 @@ unread entry = drop entry.input_at entry.input.items
 -- what was not written of an answer
 abbrev pub unwritten : Entry → List ℕ
 unwritten entry = drop entry.output_at entry.output.items
+
+-- the office sends no more
+abbrev pub has_ended : Entry → Bool
+has_ended entry = entry.ends
+
+-- an answer is to be written
+abbrev pub IsSending : Entry → Type 0
+IsSending entry = 0 < length (unwritten entry)
+
+-- all answers were written, and all that was read is taken
+abbrev pub IsIdle : Entry → Type 0
+IsIdle entry = (unwritten entry ≡ []) × (unread entry ≡ [])
+
+-- what is next is a write or a read, which the socket may leave undone for now
+abbrev pub MayWait : Entry → Type 0
+MayWait entry = IsSending entry ⊎ IsIdle entry
 
 -- the line that has begun has this text
 abbrev pub HasBegun : List ℕ → Entry → Type 0
@@ -61,7 +77,7 @@ module _ {R : Type 0} (g : Ghosts R) where
   -- bytes of the line are taken, and it goes on or ends
   abbrev pub IsFed : Desk R → Entry → EntryTurned → Desk R → Entry → Type 0
   IsFed old entry turned new next = (begun : List ℕ) → HasBegun begun entry → (part : List ℕ) × IsOfOneLine part
-      × (((turned ≡ Added) × (new ≡ old) × (unwritten next ≡ []) × (unread entry ≡ part ++ unread next) × HasBegun (begun ++ part) next)
+      × (((turned ≡ Added) × (new ≡ old) × (unwritten next ≡ []) × (unread entry ≡ part) × (unread next ≡ []) × HasBegun (begun ++ part) next)
       ⊎ ((unread entry ≡ part ++ 10 ∷ unread next) × EndsLine (begun ++ part) old turned new next))
 
   -- nothing was read or written
@@ -72,18 +88,21 @@ module _ {R : Type 0} (g : Ghosts R) where
   abbrev pub IsAtLastLine : Desk R → Entry → EntryTurned → Desk R → Entry → Type 0
   IsAtLastLine old entry turned new next = (unread entry ≡ []) × IsLineEnd old entry turned new next
 
+  -- bytes that were read are taken, those of a line and no less; or the input is at its end
+  abbrev pub IsTaken : Desk R → Entry → EntryTurned → Desk R → Entry → Type 0
+  IsTaken old entry turned new next = (unwritten entry ≡ [])
+      × (((0 < length (unread entry)) × IsFed old entry turned new next) ⊎ IsAtLastLine old entry turned new next)
+
   -- what came of a turn: an answer is written before more is taken, and more is read only when all is taken
   abbrev pub IsEntryTurn : Desk R → Entry → EntryTurned → Desk R → Entry → List ℕ → List ℕ → Type 0
   IsEntryTurn old entry Wrote new next read written =
-      (read ≡ []) × (unwritten entry ≡ written ++ unwritten next) × (unread next ≡ unread entry) × (next.line ≡ entry.line) × (new ≡ old)
+      (read ≡ []) × (0 < length written) × (unwritten entry ≡ written ++ unwritten next) × (unread next ≡ unread entry) × (next.line ≡ entry.line) × (new ≡ old)
   IsEntryTurn old entry Took new next read written =
-      (written ≡ []) × (unwritten entry ≡ []) × (unread entry ≡ []) × (unwritten next ≡ []) × (unread next ≡ read) × (next.line ≡ entry.line) × (new ≡ old)
-  IsEntryTurn old entry Added new next read written =
-      IsQuiet read written × (unwritten entry ≡ []) × (IsFed old entry Added new next ⊎ IsAtLastLine old entry Added new next)
-  IsEntryTurn old entry (Answered answer) new next read written =
-      IsQuiet read written × (unwritten entry ≡ []) × (IsFed old entry (Answered answer) new next ⊎ IsAtLastLine old entry (Answered answer) new next)
-  IsEntryTurn old entry Stops new next read written =
-      IsQuiet read written × (unwritten entry ≡ []) × (IsFed old entry Stops new next ⊎ IsAtLastLine old entry Stops new next)
-  IsEntryTurn old entry Waits new next read written = IsQuiet read written × (new ≡ old) × (next ≡ entry)
+      (written ≡ []) × (0 < length read) × IsIdle entry × (unwritten next ≡ []) × (unread next ≡ read) × (next.line ≡ entry.line) × (new ≡ old)
+  IsEntryTurn old entry Added new next read written = IsQuiet read written × IsTaken old entry Added new next
+  IsEntryTurn old entry (Answered answer) new next read written = IsQuiet read written × IsTaken old entry (Answered answer) new next
+  IsEntryTurn old entry Stops new next read written = IsQuiet read written × IsTaken old entry Stops new next
+  IsEntryTurn old entry Waits new next read written = IsQuiet read written × MayWait entry × (new ≡ old) × (next ≡ entry)
+  -- a write or a read failed, or the office sends no more; or there is no memory for an answer
   IsEntryTurn old entry Over new next read written =
-      (written ≡ []) × ((new ≡ old) ⊎ (IsFed old entry Over new next ⊎ IsAtLastLine old entry Over new next))
+      (written ≡ []) × (((MayWait entry ⊎ (has_ended entry ≡ true)) × (new ≡ old)) ⊎ IsTaken old entry Over new next)

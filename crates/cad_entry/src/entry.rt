@@ -36,7 +36,7 @@ fn is_blocked(error: &Error) -> bool {
 }
 
 impl Entry {
-    ghost use Rattle.std.specs.Prelude.{◌≡◌, ◌<◌, []};
+    ghost use Rattle.std.specs.Prelude.{◌≡◌, ◌<◌, ◌↔◌, [], IsTrue};
     ghost use Rattle.cad_io.specs.Known.{ReadsAndWrites, Writes};
     ghost use Rattle.cad_entry.specs.Turns.{IsNewEntry, IsFed, IsEntryTurn, IsLineEnd, MayEnd, Reads, unread, unwritten};
 
@@ -55,7 +55,9 @@ impl Entry {
     }
 
     /// Whether an answer has not gone out.
-    pub fn is_sending(&self) -> bool {
+    pub fn is_sending(&self) -> bool
+        ensures { IsTrue result ↔ (0 < length (unwritten self.now)) }
+    {
         self.output_at < self.output.len()
     }
 

@@ -18,10 +18,11 @@
 //!
 //! - that a client is served by its own socket: `Peers` keeps the socket of client `c` in slot `c`, puts it there where `Clients`
 //!   gave that number, and takes it out before the number is free; `serve_one` and `send_one` hand both to one call;
-//! - that a socket that may give or take something is served: a client is marked when `mio` tells of it and when it comes, and
-//!   is passed over only after a turn at which its socket gave and took nothing;
+//! - that a socket that may give or take something is served: a client is marked when `mio` tells of it and when it comes; that
+//!   the mark stays until a turn at which its socket gives and takes nothing is proved of `Clients`;
 //! - that each round gives a turn to all that are marked, and to the office after each of them;
-//! - the times, 60 and 300 seconds for a client, two for a socket that is over, five for replies at a stop;
+//! - the times: each round drops the clients that `Clients::is_overdue` tells of, by 60 and 300 seconds and the seconds that the
+//!   clock gave; two for a socket that is over, five for replies at a stop;
 //! - that the office's socket has the rights that it should, and is removed at the end.
 //!
 //! ```text

@@ -1,4 +1,4 @@
-use Rattle.std.proofs.Common.{take, drop, refl}
+use Rattle.std.proofs.Common.{◌<◌, ◌≤◌, length, take, drop, refl, arith, length-take}
 use Rattle.cad_channel.proofs.TurnLemmas.{goes_on_at}
 use Rattle.cad_channel.proofs.channel.Channel.write_some.Goals as goal
 
@@ -6,5 +6,10 @@ pub returns-in-Ok : goal.returns-in-Ok
 returns-in-Ok g c =
     let channel = c.args.self.now in
     let told = rw (c.after.ensures, c.deref.ensures.value) at c.in-Ok.ensures.bytes in
-    let bytes = take c.in-Ok.count (drop channel.output_at channel.output.items) in
-    (bytes, told, (refl, (goes_on_at channel.output_at c.in-Ok.count channel.output.items, refl, refl, refl)))
+    let held = drop channel.output_at channel.output.items in
+    let bytes = take c.in-Ok.count held in
+    let within : c.in-Ok.count ≤ length held = rw (c.after.ensures, c.deref.ensures.value) at c.in-Ok.ensures.bound in
+    let no_zero = c.in-Ok.count-test.1 in
+    let taken = length-take c.in-Ok.count held in
+    let some : 0 < length bytes = omega (arith, within, no_zero, taken) in
+    (bytes, told, (refl, some, (goes_on_at channel.output_at c.in-Ok.count channel.output.items, refl, refl, refl)))

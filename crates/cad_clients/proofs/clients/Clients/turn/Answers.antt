@@ -4,13 +4,13 @@ use Rattle.cad_clients.proofs.clients.Clients.turn.Goals as goal
 
 pub returns-then-is_over : goal.returns-then-is_over
 returns-then-is_over g c =
-    let t = c.turn-turned.ensures in
+    let t = c.turn-turned.ensures.turn in
     let over = sym c.is_over.ensures ∙ c.if-is_over.true in
-    (t.0, t.1, t.2, t.3, (c.in_ok-client.client.channel, c.turn-turned.new.self.channel, sym c.in_ok-client.ensures.was, t.4, λ d. rw over (c.take.ensures.rest d)))
+    (t.0, t.1, t.2, t.3, (c.in_ok-client.client, c.turn-turned.new.self, sym {a = Some c.in_ok-client.client} c.in_ok-client.ensures.was, t.4, c.turn-turned.ensures.notes, λ d. rw over (c.take.ensures.rest d)))
 
 pub returns : goal.returns
 returns g c =
-    let t = c.turn-turned.ensures in
+    let t = c.turn-turned.ensures.turn in
     let goes_on = sym c.is_over.ensures ∙ c.if-is_over.false in
-    let changes = put_back c.args.self.now c.take.new.self c.put.new.self c.args.c (Some c.turn-turned.new.self.channel) None c.take.ensures.rest c.put.ensures in
-    (t.0, t.1, t.2, t.3, (c.in_ok-client.client.channel, c.turn-turned.new.self.channel, sym c.in_ok-client.ensures.was, t.4, λ d. rw goes_on (changes d)))
+    let changes = put_back c.args.self.now c.take.new.self c.put.new.self c.args.c (Some c.turn-turned.new.self) None c.take.ensures.rest c.put.ensures in
+    (t.0, t.1, t.2, t.3, (c.in_ok-client.client, c.turn-turned.new.self, sym {a = Some c.in_ok-client.client} c.in_ok-client.ensures.was, t.4, c.turn-turned.ensures.notes, λ d. rw goes_on (changes d)))
