@@ -16,6 +16,7 @@ const LIMIT: u32 = 1000;
 /// A normal form as a test of features.
 #[derive(Clone, Copy)]
 pub struct Meeting<'a, 'f> {
+    /// Where memory comes from.
     pub alloc: Global,
     /// What the features have to meet.
     pub form: &'a Normal<'f>,
