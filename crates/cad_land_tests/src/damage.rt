@@ -1,7 +1,6 @@
 //! A row of the table that breaks a rule.
 
-use crate::disks::made;
-use crate::register::fill;
+use crate::register::{created, fill, in_memory};
 use cad_register::{Register, RegisterFault, Version};
 use std::alloc::{AllocError, Global};
 use std::test::Fail;
@@ -208,7 +207,8 @@ fn named(alloc: Global, listed: Result<Vec<Version>, RegisterFault>) -> Result<S
 
 /// What a listing of the sample at the revision tells after the change.
 fn told_after(alloc: Global, revision: u64, change: &str) -> Result<String, Fail> {
-    let mut register = made(alloc)?;
+    let connection = in_memory(alloc).ok_or("in memory")?;
+    let mut register = created(alloc, connection).ok_or("created")?;
     fill(alloc, &mut register)?;
     let mut connection = register.release();
     connection.execute_batch(change)?;

@@ -1,13 +1,14 @@
 //! Desks over registers in databases: a walk over a restart, and a register with a damaged row.
 
-use crate::disks::{Store, made, opened};
+use crate::disks::{File, made, opened};
+use crate::register::{created, in_memory};
 use cad_desk::Desk;
 use cad_register::Register;
 use cad_sample::fill;
 use cad_server::Server;
 use cad_stream::Responder;
 use desk_script::{Memory as Want, answer, line_of};
-use sqlite::Alter;
+use sqlite::{Alter, FileStore};
 use std::alloc::Global;
 use std::process::Abort;
 use std::test::Fail;
@@ -35,7 +36,10 @@ fn filled<S: Alter + Drop>(alloc: Global, register: Register<S>) -> Result<Regis
 }
 
 /// Releases the desk and the register, closes the files, opens them again, and makes another desk.
-fn restarted(alloc: Global, desk: RegisterDesk<Store>) -> Result<RegisterDesk<Store>, Fail> {
+fn restarted(
+    alloc: Global,
+    desk: RegisterDesk<FileStore<File>>,
+) -> Result<RegisterDesk<FileStore<File>>, Fail> {
     let register = desk.release().release();
     let files = register.release().close_files().ok().ok_or("closed")?;
     let register = opened(alloc, files).ok().ok_or("opened")?;
@@ -149,7 +153,9 @@ peer ended "HTTP/1.1 200 OK\r\nContent-Type: application/json\r\nContent-Length:
 #[test]
 fn a_damaged_row_refuses_what_reads_it_alone(rt: HostRuntime) -> Result<(), Fail> {
     let alloc = rt.alloc();
-    let mut connection = filled(alloc, made(alloc)?)?.release();
+    let connection = in_memory(alloc).ok_or("in memory")?;
+    let register = created(alloc, connection).ok_or("created")?;
+    let mut connection = filled(alloc, register)?.release();
     let change = "UPDATE version SET label = NULL WHERE object = 2";
     assert!(rt; connection.execute_batch(change).is_ok());
     let register = Register::open(alloc, connection).ok().ok_or("opened")?;

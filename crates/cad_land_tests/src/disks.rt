@@ -11,12 +11,9 @@ use std::test::Fail;
 /// The calls of a file before which a run of a command has ended.
 const MOST_CALLS: u64 = 1000;
 
-/// A file in memory that fails behind so many calls, or at none: all tests go by this one type, since each type of a file costs the
-/// proof of a database over it.
+/// A file in memory that fails behind so many calls, or at none: all tests of files go by this one type, since each type of a file
+/// costs the proof of a database over it.
 pub(crate) type File = Fuse<Memory>;
-
-/// Where all tests keep a database.
-pub(crate) type Store = FileStore<File>;
 
 /// A file of these bytes, which a crash leaves, and which fails behind so many calls.
 fn file_of(alloc: Global, bytes: &[u8], calls: u64) -> Result<File, Fail> {
@@ -28,7 +25,10 @@ fn file_of(alloc: Global, bytes: &[u8], calls: u64) -> Result<File, Fail> {
 
 /// The database in the files, or the files back. Before it commits, it copies what the log holds into the database file, so that a
 /// command writes to both.
-fn connected(alloc: Global, files: Files<File>) -> Result<Connection<Store>, Files<File>> {
+fn connected(
+    alloc: Global,
+    files: Files<File>,
+) -> Result<Connection<FileStore<File>>, Files<File>> {
     if !files.may_be_used() {
         return Err(files);
     }
@@ -43,29 +43,24 @@ fn connected(alloc: Global, files: Files<File>) -> Result<Connection<Store>, Fil
 }
 
 /// The register in the files, or the files back.
-pub(crate) fn opened(alloc: Global, files: Files<File>) -> Result<Register<Store>, Files<File>> {
+pub(crate) fn opened(
+    alloc: Global,
+    files: Files<File>,
+) -> Result<Register<FileStore<File>>, Files<File>> {
     match Register::open(alloc, connected(alloc, files)?) {
         Ok(register) => Ok(register),
         Err((_, connection)) => Err(connection.into_store().close()),
     }
 }
 
-/// A database without tables, in files of no bytes that never fail.
-pub(crate) fn empty(alloc: Global) -> Result<Connection<Store>, Fail> {
+/// A register of no commands, in files of no bytes.
+pub(crate) fn made(alloc: Global) -> Result<Register<FileStore<File>>, Fail> {
     let files = Files {
         log: Fuse::new(Memory::new(alloc), u64::MAX),
         db: Fuse::new(Memory::new(alloc), u64::MAX),
     };
-    Ok(connected(alloc, files).ok().ok_or("connected")?)
-}
-
-/// A register of no commands.
-pub(crate) fn made(alloc: Global) -> Result<Register<Store>, Fail> {
-    Ok(
-        Register::create(alloc, empty(alloc)?)
-            .ok()
-            .ok_or("created")?,
-    )
+    let connection = connected(alloc, files).ok().ok_or("connected")?;
+    Ok(Register::create(alloc, connection).ok().ok_or("created")?)
 }
 
 /// A database file and its log, as bytes.

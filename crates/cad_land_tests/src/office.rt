@@ -1,21 +1,45 @@
 //! The office over a register.
 
-use crate::disks::{Store, made};
 use cad_office::office;
 use cad_register::{Register, RegisterFault, Version};
 use cad_sample::fill;
+use sqlite::{Connection, MemStore};
 use std::alloc::{AllocError, Global};
 use std::io::Cursor;
 use std::process::Abort;
-use std::test::Fail;
 
-type FileRegister = Register<Store>;
+type MemoryRegister = Register<MemStore>;
+
+fn empty_register(rt: &impl Abort, alloc: Global) -> MemoryRegister {
+    let connection = Connection::open_in_memory(alloc).expect(rt, "memory");
+    match Register::create(alloc, connection) {
+        Ok(register) => register,
+        Err((fault, connection)) => {
+            drop(connection.into_store());
+            panic!(rt; "{fault:?}")
+        }
+    }
+}
+
+fn opened_again(rt: &impl Abort, alloc: Global, register: MemoryRegister) -> MemoryRegister {
+    match Register::open(alloc, register.release()) {
+        Ok(register) => register,
+        Err((fault, connection)) => {
+            drop(connection.into_store());
+            panic!(rt; "{fault:?}")
+        }
+    }
+}
+
+fn end(register: MemoryRegister) {
+    drop(register.release().into_store());
+}
 
 /// What is printed for the lines.
 fn printed(
     rt: &impl Abort,
     alloc: Global,
-    register: &mut FileRegister,
+    register: &mut MemoryRegister,
     lines: &str,
 ) -> Result<Vec<u8>, AllocError> {
     let mut out = Vec::new(alloc);
@@ -44,7 +68,7 @@ fn told(alloc: Global, versions: &[Version]) -> Result<String, AllocError> {
 
 fn told_at(
     alloc: Global,
-    register: &mut FileRegister,
+    register: &mut MemoryRegister,
     revision: u64,
 ) -> Result<String, AllocError> {
     match register.as_of(revision) {
@@ -72,25 +96,28 @@ refused 0 NotACommand
 ";
 
 #[test]
-fn answers_by_the_register(rt: HostRuntime) -> Result<(), Fail> {
+fn answers_by_the_register(rt: HostRuntime) -> Result<(), AllocError> {
     let alloc = rt.alloc();
-    let mut register = made(alloc)?;
-    answers(&rt, alloc, &mut register)?;
-    keeps(&rt, alloc, &mut register)?;
-    let mut again = Register::open(alloc, register.release())
-        .ok()
-        .ok_or("opened")?;
-    keeps(&rt, alloc, &mut again)?;
-    Ok(())
+    let mut register = empty_register(&rt, alloc);
+    let answered = answers(&rt, alloc, &mut register);
+    let kept = keeps(&rt, alloc, &mut register);
+    let mut register = opened_again(&rt, alloc, register);
+    let kept_then = keeps(&rt, alloc, &mut register);
+    end(register);
+    answered.and(kept).and(kept_then)
 }
 
-fn answers(rt: &impl Abort, alloc: Global, register: &mut FileRegister) -> Result<(), AllocError> {
+fn answers(
+    rt: &impl Abort,
+    alloc: Global,
+    register: &mut MemoryRegister,
+) -> Result<(), AllocError> {
     let out = printed(rt, alloc, register, LINES)?;
     assert_eq!(rt; out.as_slice(), ANSWERS.as_bytes());
     Ok(())
 }
 
-fn keeps(rt: &impl Abort, alloc: Global, register: &mut FileRegister) -> Result<(), AllocError> {
+fn keeps(rt: &impl Abort, alloc: Global, register: &mut MemoryRegister) -> Result<(), AllocError> {
     for (revision, versions) in [
         (0, ""),
         (1, "11.1 10957..None "),
@@ -104,18 +131,23 @@ fn keeps(rt: &impl Abort, alloc: Global, register: &mut FileRegister) -> Result<
 }
 
 #[test]
-fn fills_a_register_once(rt: HostRuntime) -> Result<(), Fail> {
+fn fills_a_register_once(rt: HostRuntime) -> Result<(), AllocError> {
     let alloc = rt.alloc();
-    let mut register = made(alloc)?;
+    let mut register = empty_register(&rt, alloc);
     assert_eq!(rt; fill(alloc, &mut register), Ok(10));
-    refuses(&rt, alloc, &mut register)?;
+    let refused = refuses(&rt, alloc, &mut register);
     assert_eq!(rt; register.revision(), 10);
     assert_eq!(rt; fill(alloc, &mut register), Err(RegisterFault::KnownObject));
-    holds_the_sample(&rt, alloc, &mut register)?;
-    Ok(())
+    let sampled = holds_the_sample(&rt, alloc, &mut register);
+    end(register);
+    refused.and(sampled)
 }
 
-fn refuses(rt: &impl Abort, alloc: Global, register: &mut FileRegister) -> Result<(), AllocError> {
+fn refuses(
+    rt: &impl Abort,
+    alloc: Global,
+    register: &mut MemoryRegister,
+) -> Result<(), AllocError> {
     let lines = r#"{"do":"amend","object":3,"first":"2003-01-01","parcel":{"unit":11,"label":"b-7"}}
 {"do":"enter","object":3,"first":"2003-01-01","parcel":{"unit":11,"label":"b-7"}}
 "#;
@@ -128,7 +160,7 @@ fn refuses(rt: &impl Abort, alloc: Global, register: &mut FileRegister) -> Resul
 fn holds_the_sample(
     rt: &impl Abort,
     alloc: Global,
-    register: &mut FileRegister,
+    register: &mut MemoryRegister,
 ) -> Result<(), AllocError> {
     let sample =
         "1.1 11323..Some(14609) 1.2 14610..None 2.1 12935..None 3.1 12053..None 4.1 12053..None 10.1 10957..None 11.1 10957..None 20.1 10957..None 30.1 12784..None 31.1 13149..None ";

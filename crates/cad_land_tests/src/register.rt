@@ -1,6 +1,5 @@
 //! The register over them.
 
-use crate::disks::{empty, made};
 use cad_day::Day;
 use cad_register::{Body, Command, ObjectId, Register, RegisterFault, Revision, Share, Words};
 use cad_shape::{Point, Region, Ring};
@@ -96,6 +95,17 @@ fn parcel(
     })
 }
 
+pub(crate) fn in_memory(alloc: Global) -> Option<Connection<sqlite::MemStore>> {
+    Connection::open_in_memory(alloc).ok()
+}
+
+pub(crate) fn created<S: Alter + Drop>(
+    alloc: Global,
+    connection: Connection<S>,
+) -> Option<Register<S>> {
+    Register::create(alloc, connection).ok()
+}
+
 /// The revision, or the number of the fault.
 pub(crate) fn applied<S: Alter>(register: &mut Register<S>, command: Command) -> Result<u64, u8> {
     match register.apply(command) {
@@ -173,7 +183,8 @@ const SHORT_REVISIONS: &str =
 #[test]
 fn refuses_and_lists(rt: HostRuntime) -> Result<(), Fail> {
     let alloc = rt.alloc();
-    let mut register = made(alloc)?;
+    let connection = in_memory(alloc).ok_or("in memory")?;
+    let mut register = created(alloc, connection).ok_or("created")?;
     let answers = short_run(alloc, &mut register)?;
     assert_eq!(rt; answers.as_str(), SHORT_RUN);
     let before = revisions(alloc, &mut register)?;
@@ -320,7 +331,8 @@ pub(crate) fn fill<S: Alter>(alloc: Global, register: &mut Register<S>) -> Resul
 #[test]
 fn keeps_what_is_entered(rt: HostRuntime) -> Result<(), Fail> {
     let alloc = rt.alloc();
-    let mut register = made(alloc)?;
+    let connection = in_memory(alloc).ok_or("in memory")?;
+    let mut register = created(alloc, connection).ok_or("created")?;
     let revision = fill(alloc, &mut register)?;
     assert_eq!(rt; revision, 10);
     let listed = sampled(alloc, &mut register)?;
@@ -347,14 +359,15 @@ fn found_in<S: Alter + Drop>(
 #[test]
 fn is_made_where_none_stands(rt: HostRuntime) -> Result<(), Fail> {
     let alloc = rt.alloc();
-    let (found, connection) = found_in(alloc, empty(alloc)?);
-    assert_eq!(rt; found, Ok(0));
+    let connection = in_memory(alloc).ok_or("in memory")?;
+    let (made, connection) = found_in(alloc, connection);
+    assert_eq!(rt; made, Ok(0));
     let mut register = Register::open(alloc, connection).ok().ok_or("opened")?;
     assert_eq!(rt; applied(&mut register, enter(11, Y2000, unit())?), Ok(1));
     let (found, connection) = found_in(alloc, register.release());
     assert_eq!(rt; found, Ok(1));
     drop(connection);
-    let mut other = empty(alloc)?;
+    let mut other = in_memory(alloc).ok_or("in memory")?;
     assert!(rt; other.execute_batch("CREATE TABLE state (one)").is_ok());
     let (refused, other) = found_in(alloc, other);
     assert_eq!(rt; refused, Err(9));
@@ -393,7 +406,8 @@ fn a_hole_is_stored_behind_the_outer_ring(rt: HostRuntime) -> Result<(), Fail> {
 #[test]
 fn holes_and_responsibilities_are_kept(rt: HostRuntime) -> Result<(), Fail> {
     let alloc = rt.alloc();
-    let mut register = made(alloc)?;
+    let connection = in_memory(alloc).ok_or("in memory")?;
+    let mut register = created(alloc, connection).ok_or("created")?;
     fill(alloc, &mut register)?;
     let parcel = parcel(alloc, 10, "H", None, Some(holed(alloc)?))?;
     assert_eq!(rt; applied(&mut register, enter(5, Y2010, parcel)?), Ok(11));
