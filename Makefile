@@ -7,7 +7,7 @@ QUERY ?=
 COLLECTION ?= parcels
 export QUERY COLLECTION
 
-.PHONY: sample cadastred explain cases test check wrong-bodies tests-refuse refused damage bench register-file office-file serve-file host clients proxy import viewer deb clean
+.PHONY: sample cadastred explain cases test check wrong-bodies tests-refuse refused damage bench register-file office-file serve-file stops host clients proxy import viewer deb clean
 
 # Proves and builds the program and all that it stands on, and answers the request in crates/cadastre/stdin. Crates that do not wait for each other are proved side by side.
 sample:
@@ -34,7 +34,7 @@ cases:
 	scripts/check_api_examples
 	scripts/count_promises
 
-# The whole gate: the cases held against a second reading, every proof from nothing, the must-fail edits, the tests, each program as two compilers build it, and the programs on files of the office, at an address and at an office's socket.
+# The whole gate: the cases held against a second reading, every proof from nothing, the must-fail edits, the tests, each program as two compilers build it, and the programs on files of the office, with stops at each call of them, at an address and at an office's socket.
 test: cases
 	scripts/check_wrong_bodies
 	scripts/crate_rows --check
@@ -45,6 +45,7 @@ test: cases
 	scripts/check_old_register
 	scripts/check_damage
 	scripts/check_serve
+	scripts/check_stops
 	scripts/check_host
 
 # Every crate, over what earlier checks kept.
@@ -72,8 +73,8 @@ damage: sample
 
 # How many commands a second the office enters, in memory and in a file, what pages take, and requests a second of both programs.
 bench: sample cadastred
-	cd crates/cad_bench && $(RT) run -- 100
-	cd crates/cad_page_bench && $(RT) run
+	scripts/measure cad_bench 100
+	scripts/measure cad_page_bench
 	scripts/bench
 	scripts/bench_serve
 	scripts/bench_host
@@ -91,6 +92,10 @@ office-file: sample
 # Runs `cadastre serve` on a file of the office, with clients, and with wrong arguments, files and addresses.
 serve-file: sample
 	scripts/check_serve
+
+# Stops the office at each call of its files, and walks through pages over a restart of `cadastred`. Needs a C compiler.
+stops: sample cadastred
+	scripts/check_stops
 
 # Runs `cadastred` on a new register: sixty clients at once, some of them odd, walks with commands between, kills, stops. Under two minutes.
 host: cadastred

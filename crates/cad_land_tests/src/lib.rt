@@ -3,8 +3,7 @@
 //!
 //! - `tables`, `register`, `office`: what is kept and answered
 //! - `damage`: each rule of a row, broken
-//! - `disks`: a stop at each call of a file
-//! - `desks`: a walk over a restart, and a desk over a damaged row
+//! - `desks`: a desk over a damaged row
 //! - `streams`: readers and writers that fail at each call, or never end
 //!
 //! They stand apart from the crates that they test, so that each of those is proved once, and SQLite is built once for all of them.
@@ -14,8 +13,6 @@
 mod damage;
 #[cfg(test)]
 mod desks;
-#[cfg(test)]
-mod disks;
 #[cfg(test)]
 mod office;
 #[cfg(test)]

@@ -9,11 +9,11 @@ use std::alloc::Global;
 use std::test::Fail;
 
 // Days by their numbers: 1970-01-01 is 0.
-pub(crate) const Y2000: i32 = 10957;
+const Y2000: i32 = 10957;
 
-pub(crate) const Y2001: i32 = 11323;
+const Y2001: i32 = 11323;
 
-pub(crate) const Y2003: i32 = 12053;
+const Y2003: i32 = 12053;
 
 const Y2005: i32 = 12784;
 
@@ -39,7 +39,7 @@ fn words(alloc: Global, text: &str) -> Result<Words, Fail> {
     )
 }
 
-pub(crate) fn enter(number: u32, first: i32, body: Body) -> Result<Command, Fail> {
+fn enter(number: u32, first: i32, body: Body) -> Result<Command, Fail> {
     Ok(Command::Enter {
         object: object(number)?,
         first: day(first)?,
@@ -47,7 +47,7 @@ pub(crate) fn enter(number: u32, first: i32, body: Body) -> Result<Command, Fail
     })
 }
 
-pub(crate) fn amend(number: u32, first: i32, body: Body) -> Result<Command, Fail> {
+fn amend(number: u32, first: i32, body: Body) -> Result<Command, Fail> {
     Ok(Command::Amend {
         object: object(number)?,
         first: day(first)?,
@@ -55,7 +55,7 @@ pub(crate) fn amend(number: u32, first: i32, body: Body) -> Result<Command, Fail
     })
 }
 
-pub(crate) fn retire(number: u32, last: i32) -> Result<Command, Fail> {
+fn retire(number: u32, last: i32) -> Result<Command, Fail> {
     Ok(Command::Retire {
         object: object(number)?,
         last: day(last)?,
@@ -107,7 +107,7 @@ pub(crate) fn created<S: Alter + Drop>(
 }
 
 /// The revision, or the number of the fault.
-pub(crate) fn applied<S: Alter>(register: &mut Register<S>, command: Command) -> Result<u64, u8> {
+fn applied<S: Alter>(register: &mut Register<S>, command: Command) -> Result<u64, u8> {
     match register.apply(command) {
         Ok(revision) => Ok(revision),
         Err(fault) => Err(fault.number()),
@@ -115,7 +115,7 @@ pub(crate) fn applied<S: Alter>(register: &mut Register<S>, command: Command) ->
 }
 
 /// Object, number, first and last day of each version at a revision, or the number of the fault.
-pub(crate) fn listed<S: Alter>(
+fn listed<S: Alter>(
     alloc: Global,
     register: &mut Register<S>,
     revision: Revision,
@@ -146,7 +146,7 @@ fn revisions<S: Alter>(alloc: Global, register: &mut Register<S>) -> Result<Stri
     Ok(text)
 }
 
-pub(crate) fn unit() -> Body {
+fn unit() -> Body {
     Body::Unit { name: None }
 }
 
