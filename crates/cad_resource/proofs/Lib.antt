@@ -1,3 +1,4 @@
+mod ParamLemmas
 mod PathLemmas
 mod ResourceLemmas
 mod TargetLemmas

@@ -221,7 +221,7 @@ cond_false : {A : Type 0} (b : Bool) (x y : A) → b ≡ false → cond b x y �
 cond_false b x y e = rw e refl
 
 -- the segment of a name that a slash ends
-segment_cut : (c more : List ℕ) → has_slash c ≡ false → segment (c ++ 47 ∷ more) ≡ c ++ 47 ∷ []
+pub segment_cut : (c more : List ℕ) → has_slash c ≡ false → segment (c ++ 47 ∷ more) ≡ c ++ 47 ∷ []
 segment_cut [] more h = refl
 segment_cut (b ∷ c) more h =
     let p = no_slash_parts (b == 47) (has_slash c) h in
@@ -552,7 +552,7 @@ module _ {K : Type 0} (key : Route → K) where
 -- ---- the routes of the server
 
 -- a route as the router keeps it
-route_key : Route → RouteOf Route
+unfoldable pub route_key : Route → RouteOf Route
 route_key Landing = record { pattern = codes "/"; text = codes "/"; names = []; value = Landing }
 route_key Collections =
     record { pattern = codes "/collections"; text = codes "/collections"; names = []; value = Collections }
@@ -569,7 +569,7 @@ rows_are : route_rows ≡ all_rows route_key
 unfolding matchit_on_literals route_key
 rows_are = refl
 
-value_is : (r : Route) → (route_key r).value ≡ r
+pub value_is : (r : Route) → (route_key r).value ≡ r
 unfolding route_key
 value_is Landing = refl
 value_is Collections = refl
@@ -578,13 +578,6 @@ value_is Queryables = refl
 value_is Items = refl
 value_is Item = refl
 
--- what a path is routed to
-pub routed : (path : List ℕ) → AreBytes path → option_map (λ (r : RouteOf Route). r.value) (first route_rows path) ≡ option_map route_of (place_of path)
-routed path bytes =
-    ap (λ (rows : RowsOf (RouteOf Route)). option_map (λ (r : RouteOf Route). r.value) (seek 0 rows path)) rows_are
-    ∙ ap (λ (o : Option (RouteOf Route)). option_map (λ (r : RouteOf Route). r.value) o) (found route_key path bytes)
-    ∙ by_place (place_of path)
-  where
-    by_place : (o : Option (Place (List ℕ))) → option_map (λ (r : RouteOf Route). r.value) (keyed route_key o) ≡ option_map route_of o
-    by_place None = refl
-    by_place (Some place) = ap Some (value_is (route_of place))
+-- the route that a path has is that of its place
+pub found_route : (path : List ℕ) → AreBytes path → first route_rows path ≡ keyed route_key (place_of path)
+found_route path bytes = ap (λ (rows : RowsOf (RouteOf Route)). seek 0 rows path) rows_are ∙ found route_key path bytes

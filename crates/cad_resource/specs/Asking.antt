@@ -4,7 +4,7 @@ use Rattle.std.specs.List.{before_first, after_first}
 use Rattle.std.specs.Str.{bytes_eq}
 use Rattle.cad_schema.specs.declared.collection.Collection.{Collection}
 use Rattle.cad_head.specs.Request.{Request, closes_connection}
-use Rattle.cad_resource.specs.declared.asked.Asked.{Asked}
+use Rattle.cad_resource.specs.declared.resource_query.ResourceQuery.{ResourceQuery}
 use Rattle.cad_resource.specs.declared.check.Check.{Check}
 use Rattle.cad_resource.specs.declared.check.Check.TheVariants.{Host, Body, Target, NoResource, Method, NoCollection}
 use Rattle.cad_resource.specs.declared.resource.Resource.{Resource}
@@ -59,6 +59,6 @@ place_held (resource.Items c) = items c
 place_held (resource.Item c id) = item c id.now
 
 -- what a value says
-abbrev pub asked_text : Result Asked Check → Result AskedText Check
+abbrev pub asked_text : Result ResourceQuery Check → Result AskedText Check
 asked_text (Ok asked) = Ok (place_held asked.resource, asked.query.now)
 asked_text (Err check) = Err check

@@ -3,5 +3,4 @@ pub mod Places
 pub mod Checks
 pub mod Asking
 pub mod RouteRows
-pub mod Parts
 pub mod Laws

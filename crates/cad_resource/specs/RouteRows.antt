@@ -1,11 +1,12 @@
 -- The routes as the router keeps them.
-use Rattle.std.specs.Prelude.{◌≡◌, ℕ, List, [], codes, Result, Ok, Err, MatchResult, None}
+use Rattle.std.specs.Prelude.{◌≡◌, ℕ, List, [], codes, Option, Some, None, Result, Ok, Err, MatchResult}
 use Rattle.matchit.specs.Rows.{RowsOf}
 use Rattle.matchit.specs.Route.{Scan, parse_route}
 use Rattle.matchit.specs.Order.{placed}
 use Rattle.matchit.specs.Router.{RouteOf, route_from, nearest}
 use Rattle.matchit.specs.declared.error.InsertError.{InsertError}
 use Rattle.cad_resource.specs.declared.route.Route.{Route}
+use Rattle.cad_resource.specs.declared.route.Routed.{Routed}
 use Rattle.cad_resource.specs.declared.route.Route.TheVariants.{Landing, Collections, Collection, Queryables, Items, Item}
 use Rattle.cad_resource.specs.Places.{Place, landing, collections, collection, queryables, items, item}
 
@@ -43,3 +44,20 @@ route_of (collection c) = Collection
 route_of (queryables c) = Queryables
 route_of (items c) = Items
 route_of (item c id) = Item
+
+-- what a parameter took, if a route has it
+abbrev pub taken : Option (List ℕ) → List ℕ
+taken None = []
+taken (Some text) = text
+
+-- the place of a route whose parameters took these texts
+abbrev pub place_by : Route → List ℕ → List ℕ → Place (List ℕ)
+place_by Landing c id = landing
+place_by Collections c id = collections
+place_by Collection c id = collection c
+place_by Queryables c id = queryables c
+place_by Items c id = items c
+place_by Item c id = item c id
+
+abbrev pub place_routed : Routed → Place (List ℕ)
+place_routed routed = place_by routed.route routed.name.now routed.identifier.now

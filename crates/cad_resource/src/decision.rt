@@ -1,19 +1,19 @@
 //! What a request asks for, or the first check that it fails.
 
-ghost use Rattle.std.specs.Prelude.{◌≡◌, Some, option_map};
+ghost use Rattle.std.specs.Prelude.{◌≡◌};
 ghost use Rattle.httparse.specs.Spans.{IsRequestWithin};
 ghost use Rattle.cad_head.specs.Request.{request_at};
 ghost use Rattle.cad_resource.specs.Asking as spec;
 ghost use Rattle.cad_resource.specs.Asking.{asked_text, asked_in, ends_by_check, ends_after};
-ghost use Rattle.cad_resource.specs.Places.{place_of, resource_of};
-ghost use Rattle.cad_resource.specs.RouteRows.{route_of};
+ghost use Rattle.cad_resource.specs.Places.{known, place_of};
+ghost use Rattle.cad_resource.specs.RouteRows.{place_routed};
 
-use crate::asked::Asked;
 use crate::check::Check;
 use crate::fields::{has_body, lacks_host};
 use crate::parts::cut;
 use crate::resource::resource_at;
-use crate::route::Route;
+use crate::resource_query::ResourceQuery;
+use crate::route::Routed;
 use crate::router::Routes;
 use crate::target::target_text;
 use cad_head::closes_connection;
@@ -23,7 +23,7 @@ use httparse::spans::{HeaderSpan, RequestSpans};
 #[derive(Clone, Copy, Debug)]
 pub struct Decision<'a> {
     /// What it asks for, or the first check that it fails.
-    pub asked: Result<Asked<'a>, Check>,
+    pub asked: Result<ResourceQuery<'a>, Check>,
     /// Whether the connection ends after the reply: that of HTTP/1.0 does, one that asks for it, and after some checks.
     pub ends: bool,
 }
@@ -44,7 +44,7 @@ pub fn decide<'a>(
     Decision { asked, ends }
 }
 
-fn ends_by(asked: &Result<Asked<'_>, Check>) -> bool
+fn ends_by(asked: &Result<ResourceQuery<'_>, Check>) -> bool
     ensures { result ≡ ends_by_check (asked_text asked.now) }
 {
     match asked {
@@ -58,7 +58,7 @@ fn asked<'a>(
     bytes: &'a [u8],
     headers: &[HeaderSpan],
     spans: &RequestSpans,
-) -> Result<Asked<'a>, Check>
+) -> Result<ResourceQuery<'a>, Check>
     requires { IsRequestWithin bytes.now headers.now spans.now }
     ensures { asked_text result ≡ spec.asked (request_at bytes.now headers.now spans.now) }
 {
@@ -72,7 +72,11 @@ fn asked<'a>(
 }
 
 /// What a request with this method and target asks for, where its head is sound.
-fn asked_of<'a>(routes: &Routes, method: &[u8], target: &'a [u8]) -> Result<Asked<'a>, Check>
+fn asked_of<'a>(
+    routes: &Routes,
+    method: &[u8],
+    target: &'a [u8],
+) -> Result<ResourceQuery<'a>, Check>
     ensures { asked_text result ≡ spec.asked_of method.now target.now }
 {
     let Some(text) = target_text(target) else {
@@ -88,26 +92,24 @@ fn asked_at<'a>(
     method: &[u8],
     path: &'a str,
     query: &'a str,
-) -> Result<Asked<'a>, Check>
+) -> Result<ResourceQuery<'a>, Check>
     ensures { asked_text result ≡ spec.asked_at (place_of path.now) method.now query.now }
 {
-    let Some(route) = routes.route(path) else {
+    let Some(routed) = routes.routed(path) else {
         return Err(Check::NoResource);
     };
     if method != b"GET".as_slice() {
         return Err(Check::Method);
     }
-    asked_by(route, path, query)
+    asked_by(routed, query)
 }
 
 /// What a GET of a path of this route asks for.
-#[tactic(auto, using(crate::proofs::ResourceLemmas::asked_by_parts))]
-fn asked_by<'a>(route: Route, path: &'a str, query: &'a str) -> Result<Asked<'a>, Check>
-    requires { option_map route_of (place_of path.now) ≡ Some route }
-    ensures { asked_text result ≡ asked_in (resource_of path.now) query.now }
+fn asked_by<'a>(routed: Routed<'a>, query: &'a str) -> Result<ResourceQuery<'a>, Check>
+    ensures { asked_text result ≡ asked_in (known (place_routed routed.entry)) query.now }
 {
-    match resource_at(route, path) {
-        Some(resource) => Ok(Asked { resource, query }),
+    match resource_at(routed) {
+        Some(resource) => Ok(ResourceQuery { resource, query }),
         None => Err(Check::NoCollection),
     }
 }

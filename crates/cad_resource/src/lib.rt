@@ -3,7 +3,7 @@
 //!
 //! - `Routes`: the routes of the server, made once
 //! - `decide`: what a request asks for or fails, and whether its connection ends after the reply
-//! - `Resource`: what a path names; `Asked`: with the text of the query beside it
+//! - `Resource`: what a path names; `ResourceQuery`: with the text of the query beside it
 //! - `Check`: what a request can fail before its query is read: its word, its status, and whether it ends the connection
 //! - `laws`: the checks one after the other, and paths written and read again
 //!
@@ -13,19 +13,19 @@
 //! ends.
 #![tactic(auto)]
 
-mod asked;
 mod check;
 mod decision;
 mod fields;
 pub mod laws;
 mod parts;
 mod resource;
+mod resource_query;
 mod route;
 mod router;
 mod target;
 
-pub use asked::Asked;
 pub use check::Check;
 pub use decision::{Decision, decide};
 pub use resource::Resource;
+pub use resource_query::ResourceQuery;
 pub use router::Routes;

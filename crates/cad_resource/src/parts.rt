@@ -2,7 +2,6 @@
 
 ghost use Rattle.std.specs.Prelude.{◌≡◌, ◌==◌, ◌<◌};
 ghost use Rattle.std.specs.List.{before_first, after_first};
-ghost use Rattle.cad_resource.specs.Parts as spec;
 
 /// What stands before the first such character, or all, and what stands after it, or nothing.
 pub(crate) fn cut(text: &str, mark: char) -> (&str, &str)
@@ -14,24 +13,4 @@ pub(crate) fn cut(text: &str, mark: char) -> (&str, &str)
         Some(parts) => parts,
         None => (text, ""),
     }
-}
-
-/// What stands between the second slash and the third one.
-pub(crate) fn name_part(path: &str) -> &str
-    ensures { result.now ≡ spec.name_part path.now }
-{
-    cut(below(below(path)), '/').0
-}
-
-/// What follows the fourth slash.
-pub(crate) fn identifier_part(path: &str) -> &str
-    ensures { result.now ≡ spec.identifier_part path.now }
-{
-    below(below(below(below(path))))
-}
-
-fn below(path: &str) -> &str
-    ensures { result.now ≡ spec.below path.now }
-{
-    cut(path, '/').1
 }

@@ -2,12 +2,10 @@
 
 ghost use Rattle.std.specs.Prelude.{◌≡◌, option_map};
 ghost use Rattle.cad_resource.specs.Asking.{place_held};
-ghost use Rattle.cad_resource.specs.Parts as spec;
-ghost use Rattle.cad_resource.specs.Parts.{found_by};
-ghost use Rattle.cad_schema.specs.Collections.{collection_named};
+ghost use Rattle.cad_resource.specs.Places.{known};
+ghost use Rattle.cad_resource.specs.RouteRows.{place_routed};
 
-use crate::parts::{identifier_part, name_part};
-use crate::route::Route;
+use crate::route::{Route, Routed};
 use cad_schema::Collection;
 
 /// What a path names.
@@ -33,24 +31,18 @@ pub enum Resource<'a> {
 }
 
 /// The resource that a path of this route names, where its collection is known.
-pub(crate) fn resource_at(route: Route, path: &str) -> Option<Resource<'_>>
-    ensures { option_map place_held result ≡ found_by route path.now }
+pub(crate) fn resource_at(routed: Routed<'_>) -> Option<Resource<'_>>
+    ensures { option_map place_held result ≡ known (place_routed routed.entry) }
 {
-    match route {
+    match routed.route {
         Route::Landing => Some(Resource::Landing),
         Route::Collections => Some(Resource::Collections),
-        Route::Collection => Some(Resource::Collection(collection(path)?)),
-        Route::Queryables => Some(Resource::Queryables(collection(path)?)),
-        Route::Items => Some(Resource::Items(collection(path)?)),
+        Route::Collection => Some(Resource::Collection(Collection::read(routed.name)?)),
+        Route::Queryables => Some(Resource::Queryables(Collection::read(routed.name)?)),
+        Route::Items => Some(Resource::Items(Collection::read(routed.name)?)),
         Route::Item => Some(Resource::Item {
-            collection: collection(path)?,
-            identifier: identifier_part(path),
+            collection: Collection::read(routed.name)?,
+            identifier: routed.identifier,
         }),
     }
-}
-
-fn collection(path: &str) -> Option<Collection>
-    ensures { result ≡ collection_named (spec.name_part path.now) }
-{
-    Collection::read(name_part(path))
 }

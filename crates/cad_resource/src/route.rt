@@ -1,4 +1,4 @@
-//! Kinds of resources.
+//! Kinds of resources, and paths of such a kind.
 
 /// What kind of resource a path names.
 #[derive(Clone, Copy, Debug, PartialEq, Eq)]
@@ -15,4 +15,14 @@ pub enum Route {
     Items,
     /// `/collections/{c}/items/{id}`
     Item,
+}
+
+/// The route of a path, with what its parameters took of the path: nothing where it has no such parameter.
+#[derive(Clone, Copy)]
+pub(crate) struct Routed<'p> {
+    pub(crate) route: Route,
+    /// `{c}`
+    pub(crate) name: &'p str,
+    /// `{id}`
+    pub(crate) identifier: &'p str,
 }

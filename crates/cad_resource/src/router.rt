@@ -1,11 +1,12 @@
 //! The routes of the server.
 
 ghost use Rattle.std.specs.Prelude.{◌≡◌, IfOk, OnOk, option_map};
-ghost use Rattle.matchit.specs.Seek.{first};
-ghost use Rattle.cad_resource.specs.RouteRows.{CanAdd, with_route, route_rows};
+ghost use Rattle.matchit.specs.Params.{AllText, named, walk};
+ghost use Rattle.cad_resource.specs.Places.{place_of};
+ghost use Rattle.cad_resource.specs.RouteRows.{CanAdd, place_routed, route_rows, taken as taken_of, with_route};
 
-use crate::route::Route;
-use matchit::{InsertError, Router};
+use crate::route::{Route, Routed};
+use matchit::{InsertError, Params, Router};
 use std::alloc::{AllocError, Global};
 
 /// The routes of the server. They are made once, and then asked for each request.
@@ -18,7 +19,7 @@ pub struct Routes {
 impl Routes {
     ghost use Rattle.std.specs.Prelude.{◌≡◌, option_map};
     ghost use Rattle.cad_resource.specs.Places.{place_of};
-    ghost use Rattle.cad_resource.specs.RouteRows.{route_of};
+    ghost use Rattle.cad_resource.specs.RouteRows.{place_routed};
 
     /// All routes. An error is want of memory.
     pub fn new(alloc: Global) -> Result<Routes, AllocError> {
@@ -27,19 +28,35 @@ impl Routes {
         })
     }
 
-    /// What kind of resource a path names, if it names one.
-    pub(crate) fn route(&self, path: &str) -> Option<Route>
-        ensures { result ≡ option_map route_of (place_of path.now) }
+    /// The route of a path, if it has one, with what its parameters took.
+    pub(crate) fn routed<'p>(&self, path: &'p str) -> Option<Routed<'p>>
+        ensures { option_map place_routed result ≡ place_of path.now }
     {
         routed(&self.router, path)
     }
 }
 
-fn routed(router: &Router<Route>, path: &str) -> Option<Route>
-    ensures { result ≡ option_map (λ route. route.value) (first router.now path.now) }
+/// What the parameter of this name took of the path, or nothing.
+fn taken<'p>(params: &Params<'_, 'p>, name: &str) -> &'p str
+    ensures { AllText (walk params.now.pattern.now params.now.text.now params.now.path.now params.now.names.now 0 0) →
+        result.now ≡ taken_of (named name.now (walk params.now.pattern.now params.now.text.now params.now.path.now params.now.names.now 0 0)) }
+{
+    match params.get(name) {
+        Some(text) => text,
+        None => "",
+    }
+}
+
+fn routed<'p>(router: &Router<Route>, path: &'p str) -> Option<Routed<'p>>
+    requires { router.now ≡ route_rows }
+    ensures { option_map place_routed result ≡ place_of path.now }
 {
     match router.at(path) {
-        Ok(found) => Some(*found.value),
+        Ok(found) => Some(Routed {
+            route: *found.value,
+            name: taken(&found.params, "c"),
+            identifier: taken(&found.params, "id"),
+        }),
         Err(_) => None,
     }
 }

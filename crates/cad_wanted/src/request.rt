@@ -12,7 +12,7 @@ use crate::told::{Told, refusal};
 use cad_ask::Ask;
 use cad_bodies::{collection_body, collections_body, landing_body, queryables_body};
 use cad_query::Identifier;
-use cad_resource::{Asked, Check, Resource};
+use cad_resource::{Check, Resource, ResourceQuery};
 use cad_schema::Collection;
 use std::alloc::{AllocError, Global};
 
@@ -38,7 +38,7 @@ impl Wanted {
     ghost use Rattle.cad_wanted.specs.Wants.{IsWanted};
 
     /// What a request wants that asks for this, or fails this check. An error is want of memory.
-    pub fn of(alloc: Global, asked: &Result<Asked<'_>, Check>) -> Result<Wanted, AllocError>
+    pub fn of(alloc: Global, asked: &Result<ResourceQuery<'_>, Check>) -> Result<Wanted, AllocError>
         ensures { IfOk result (IsWanted (asked_text asked.now)) }
     {
         match asked {

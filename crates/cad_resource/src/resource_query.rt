@@ -4,7 +4,7 @@ use crate::resource::Resource;
 
 /// What a request that passes every check asks for.
 #[derive(Clone, Copy, Debug)]
-pub struct Asked<'a> {
+pub struct ResourceQuery<'a> {
     /// What the path names.
     pub resource: Resource<'a>,
     /// The target after its first question mark, as it was sent; empty where there is none.
