@@ -7,7 +7,7 @@ QUERY ?=
 COLLECTION ?= parcels
 export QUERY COLLECTION
 
-.PHONY: sample cadastred explain cases test check wrong-bodies tests-refuse refused damage bench register-file office-file serve-file stops host clients proxy import viewer deb clean
+.PHONY: sample cadastred explain cases test random check wrong-bodies tests-refuse refused damage bench register-file office-file serve-file stops host clients proxy import viewer deb clean
 
 # Proves and builds the program and all that it stands on, and answers the request in crates/cadastre/stdin. Crates that do not wait for each other are proved side by side.
 sample:
@@ -47,6 +47,13 @@ test: cases
 	scripts/check_serve
 	scripts/check_stops
 	scripts/check_host
+
+# Asks COUNT filters, drawn at random by SEED, of the programs of cases and of the second readings.
+random:
+	cd crates/cql_cases && $(RT) run < stdin | cmp - stdout
+	cd crates/cql_rewrite_cases && $(RT) run < stdin | cmp - stdout
+	cd crates/cad_plan_cases && $(RT) run < stdin | cmp - stdout
+	scripts/check_random_filters $(SEED) $(COUNT)
 
 # Every crate, over what earlier checks kept.
 check:
