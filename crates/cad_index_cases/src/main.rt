@@ -8,20 +8,15 @@
 //! its least and greatest corner, `X,Y` a point, `2001-01-01` a day; a label has no blank. An end is `free`, `with:VALUE`
 //! or `without:VALUE`. A line that is not of this form is answered by `unread`; one without text, or that begins with `#`,
 //! is passed over.
-//!
-//! With the argument `bench` nothing is read, and what the indexes of 100,000 parcels take is printed; with a number so many
-//! parcels are built, and their indexes that many times, so that what two runs hold can be compared.
 #![tactic(auto)]
 
-mod bench;
 mod cases;
 mod parcels;
 mod values;
 
 use anyhow::Result;
-use std::env;
 
-fn answer_lines(rt: &HostRuntime) -> Result<()> {
+fn main(rt: HostRuntime) -> Result<()> {
     for line in rt.lines(rt.alloc()) {
         let line = line?;
         if line.is_empty() || line.as_str().starts_with('#') {
@@ -31,16 +26,4 @@ fn answer_lines(rt: &HostRuntime) -> Result<()> {
         println!(rt; "{answer}")?;
     }
     Ok(())
-}
-
-fn main(rt: HostRuntime) -> Result<()> {
-    let mut args = env::args(&rt)?;
-    let _program = args.next();
-    match args.next() {
-        Some(word) => match word.as_str() {
-            "bench" => bench::tell_times(&rt),
-            times => bench::hold(&rt, times.parse().unwrap_or(1)),
-        },
-        None => answer_lines(&rt),
-    }
 }

@@ -10,17 +10,13 @@
 //!
 //! P is a point, `X,Y`, and a ring is its corners, `P P P ..`. A shape is `spot P`, `frame P P` by its least and greatest
 //! corner, or `area RING ; RING ..`. A line with a part that is none is answered by `unread`.
-//!
-//! With the argument `bench` nothing is read, and what some calls take is printed.
 #![tactic(auto)]
 
-mod bench;
 mod cases;
 
 use anyhow::Result;
-use std::env;
 
-fn answer_lines(rt: &HostRuntime) -> Result<()> {
+fn main(rt: HostRuntime) -> Result<()> {
     for line in rt.lines(rt.alloc()) {
         let line = line?;
         let mut answer = String::new(rt.alloc());
@@ -28,13 +24,4 @@ fn answer_lines(rt: &HostRuntime) -> Result<()> {
         println!(rt; "{answer}")?;
     }
     Ok(())
-}
-
-fn main(rt: HostRuntime) -> Result<()> {
-    let mut args = env::args(&rt)?;
-    let _program = args.next();
-    match args.next() {
-        Some(word) if word.as_str() == "bench" => bench::tell_times(&rt),
-        _ => answer_lines(&rt),
-    }
 }

@@ -12,7 +12,7 @@
 //!
 //! A line `repeat N TEXT` is no case: in the next case N times TEXT stands in place of its first `@`, and what a second
 //! such line says in place of its second one, and so on. A line without bytes, or one that begins with `#`, is passed
-//! over. With the argument `bench` nothing is read, and what `truth` and `test` take over 100,000 features is printed.
+//! over.
 //!
 //! - `answer`: what a normal form is answered
 //! - `edges`: ranges as they are printed
@@ -21,7 +21,6 @@
 #![tactic(auto)]
 
 mod answer;
-mod bench;
 mod edges;
 mod lines;
 mod sample;
@@ -29,7 +28,6 @@ mod sample;
 use answer::answer;
 use lines::Cases;
 use sample::sample_versions;
-use std::env;
 use std::io::{Error, ErrorKind, Read, Result};
 use std::process::ExitCode;
 
@@ -49,17 +47,6 @@ fn run(rt: &HostRuntime) -> Result<()> {
     Ok(())
 }
 
-fn is_bench(rt: &HostRuntime) -> bool {
-    let Ok(mut args) = env::args(rt) else {
-        return false;
-    };
-    let _program = args.next();
-    match args.next() {
-        Some(word) => word.as_str() == "bench",
-        None => false,
-    }
-}
-
 fn status_of(error: Error) -> u8 {
     if error.kind() == ErrorKind::OutOfMemory {
         NO_MEMORY
@@ -69,12 +56,6 @@ fn status_of(error: Error) -> u8 {
 }
 
 fn main(rt: HostRuntime) -> ExitCode {
-    if is_bench(&rt) {
-        return match bench::tell_times(&rt) {
-            Ok(()) => ExitCode::from(0),
-            Err(_) => ExitCode::from(1),
-        };
-    }
     match run(&rt) {
         Ok(()) => ExitCode::from(0),
         Err(error) => ExitCode::from(status_of(error)),

@@ -4,18 +4,15 @@
 //!   false, and of which neither, as `yes 1.1 3.1 no 1.2 4.1 unknown 2.1`; `refused` where the text is no such filter
 //! - `texts TEXT|PATTERN`: whether the text is like the pattern, how the two are ordered, and the text with its case folded
 //!
-//! A line without text, or one that begins with `#`, is passed over. With the argument `bench` nothing is read, and what
-//! some filters take over 100,000 features is printed.
+//! A line without text, or one that begins with `#`, is passed over.
 #![tactic(auto)]
 
 mod answer;
-mod bench;
 mod sample;
 
 use anyhow::Result;
-use std::env;
 
-fn answer_lines(rt: &HostRuntime) -> Result<()> {
+fn main(rt: HostRuntime) -> Result<()> {
     let sample = sample::Sample::new(rt.alloc())?;
     for line in rt.lines(rt.alloc()) {
         let line = line?;
@@ -26,13 +23,4 @@ fn answer_lines(rt: &HostRuntime) -> Result<()> {
         println!(rt; "{answer}")?;
     }
     Ok(())
-}
-
-fn main(rt: HostRuntime) -> Result<()> {
-    let mut args = env::args(&rt)?;
-    let _program = args.next();
-    match args.next() {
-        Some(word) if word.as_str() == "bench" => bench::tell_times(&rt),
-        _ => answer_lines(&rt),
-    }
 }
