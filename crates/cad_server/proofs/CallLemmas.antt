@@ -18,7 +18,7 @@ use Rattle.cad_wanted.specs.declared.told.Told.{Told}
 use Rattle.cad_wanted.specs.Wants.{IsWanted}
 use Rattle.cad_server.specs.declared.records.Records.{Records}
 use Rattle.cad_server.specs.declared.server.Server.{Server}
-use Rattle.cad_server.specs.declared.sought.Sought.{Sought}
+use Rattle.cad_wanted.specs.declared.sought.Sought.{Sought}
 use Rattle.cad_server.specs.Contents.{content_told, content_in}
 use Rattle.cad_server.specs.Replies.{reply_of, IsReply, Asks, FailsToAnswer}
 use Rattle.cad_server.specs.Servers.{AreKept, ledger_in, ledger_of, AreRecordsOf, IsServerOf, RefusesToAnswer, Recalls, Finds, Tells}

@@ -30,7 +30,7 @@ use Rattle.cad_wanted.specs.declared.request.Wanted.{Wanted}
 use Rattle.cad_wanted.specs.declared.request.Wanted.TheVariants as wants
 use Rattle.cad_wanted.specs.declared.told.Told.{Told}
 use Rattle.cad_wanted.specs.Wants.{IsTold, IsRefusal, IsPlain, IsTellingOf, has_pairs, fault_text, IsPageWanted, IsFeatureOf, IsIdentified, IsFeatureWanted, IsWantedAt, IsWanted}
-use Rattle.cad_server.specs.declared.sought.Sought.TheVariants.{Page}
+use Rattle.cad_wanted.specs.declared.sought.Sought.TheVariants.{Page, Feature}
 use Rattle.cad_server.specs.Contents.{content_told, feature_content, feature_with, refusal, snapshot_at, revision_sought, content_in, content_of, content_wanted}
 use Rattle.cad_server.specs.Replies.{reply_of}
 use Rattle.cad_server.specs.Laws.{RequestsHaveOneReply}
@@ -50,10 +50,8 @@ TellsOne P = (a b : Told) → P a → P b → content_told a ≡ content_told b
 
 telling_alike : (P : Told → Type 0) → TellsOne P → (v w : Wanted) → IsTellingOf P v → IsTellingOf P w → Alike v w
 telling_alike P one (wants.Told a) (wants.Told b) f g = λ commands. one a b f g
-telling_alike P one (wants.Told a) (wants.Page ask) f g = absurd g
-telling_alike P one (wants.Told a) (wants.Feature c i) f g = absurd g
-telling_alike P one (wants.Page ask) w f g = absurd f
-telling_alike P one (wants.Feature c i) w f g = absurd f
+telling_alike P one (wants.Told a) (wants.Sought sought) f g = absurd g
+telling_alike P one (wants.Sought sought) w f g = absurd f
 
 plain_one : (pairs : List PairText) (text : List ℕ) → TellsOne (IsPlain pairs text)
 plain_one pairs text a b f g = go (has_pairs pairs) f g
@@ -87,12 +85,12 @@ abbrev unknown_told : Wanted → Type 0
 unknown_told w = IsTellingOf (IsRefusal status.BadRequest (codes "unknown")) w
 
 feature_alike : (c : Collection) (numbers : Numbers) (v w : Wanted) → IsFeatureOf c numbers v → IsFeatureOf c numbers w → Alike v w
-feature_alike c numbers (wants.Feature d i) (wants.Feature e j) f g = λ commands.
+feature_alike c numbers (wants.Sought (Feature d i)) (wants.Sought (Feature e j)) f g = λ commands.
     ap₂ (λ (k : Collection) (m : Numbers). cond (nat_lt (length commands) (length commands)) (refusal status.BadRequest (codes "revision")) (feature_content k (feature_with m (features_at (snapshot_at (length commands) commands) k)))) (f.0 ∙ sym g.0) (f.1 ∙ sym g.1)
-feature_alike c numbers (wants.Feature d i) (wants.Told b) f g = absurd g
-feature_alike c numbers (wants.Feature d i) (wants.Page ask) f g = absurd g
+feature_alike c numbers (wants.Sought (Feature d i)) (wants.Told b) f g = absurd g
+feature_alike c numbers (wants.Sought (Feature d i)) (wants.Sought (Page ask)) f g = absurd g
 feature_alike c numbers (wants.Told a) w f g = absurd f
-feature_alike c numbers (wants.Page ask) w f g = absurd f
+feature_alike c numbers (wants.Sought (Page ask)) w f g = absurd f
 
 identified_alike : (c : Collection) (text : List ℕ) (v w : Wanted) → IsIdentified c text v → IsIdentified c text w → Alike v w
 identified_alike c text v w f g = go (identifier_named text) f g
@@ -112,14 +110,14 @@ feature_wanted c pairs text v w f g = go (has_pairs pairs) f g
 
 module _ (one : PairsAskOneThing) (fault : HasOneFirstFault) (or : HasFaultOrAsks) (answered : TheSameIsAnswered) where
   page_alike : (c : Collection) (pairs : List PairText) (v w : Wanted) → IsPageWanted c pairs v → IsPageWanted c pairs w → Alike v w
-  page_alike c pairs (wants.Page a) (wants.Page b) f g = page_content answered a b (one c pairs a b f g)
-  page_alike c pairs (wants.Page a) (wants.Told b) f g = absurd (or c pairs g.0 g.1 (asks_well c pairs a f))
-  page_alike c pairs (wants.Page a) (wants.Feature d i) f g = absurd g
-  page_alike c pairs (wants.Told a) (wants.Page b) f g = absurd (or c pairs f.0 f.1 (asks_well c pairs b g))
+  page_alike c pairs (wants.Sought (Page a)) (wants.Sought (Page b)) f g = page_content answered a b (one c pairs a b f g)
+  page_alike c pairs (wants.Sought (Page a)) (wants.Told b) f g = absurd (or c pairs g.0 g.1 (asks_well c pairs a f))
+  page_alike c pairs (wants.Sought (Page a)) (wants.Sought (Feature d i)) f g = absurd g
+  page_alike c pairs (wants.Told a) (wants.Sought (Page b)) f g = absurd (or c pairs f.0 f.1 (asks_well c pairs b g))
   page_alike c pairs (wants.Told a) (wants.Told b) f g = λ commands.
       told_alike status.BadRequest (fault_text f.0) a b f.2 (subst (λ (x : AskFault). IsTold status.BadRequest (fault_text x) b) (fault c pairs g.0 f.0 g.1 f.1) g.2)
-  page_alike c pairs (wants.Told a) (wants.Feature d i) f g = absurd g
-  page_alike c pairs (wants.Feature d i) w f g = absurd f
+  page_alike c pairs (wants.Told a) (wants.Sought (Feature d i)) f g = absurd g
+  page_alike c pairs (wants.Sought (Feature d i)) w f g = absurd f
 
   wanted_at : (place : Place Collection) (pairs : List PairText) (v w : Wanted) → IsWantedAt place pairs v → IsWantedAt place pairs w → Alike v w
   wanted_at landing pairs v w f g = telling_alike (IsPlain pairs (compact_text landing_data)) (plain_one pairs (compact_text landing_data)) v w f g

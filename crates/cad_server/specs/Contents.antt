@@ -19,8 +19,8 @@ use Rattle.cad_reply.specs.declared.status.Status.TheVariants as status
 use Rattle.cad_wanted.specs.declared.request.Wanted.{Wanted}
 use Rattle.cad_wanted.specs.declared.request.Wanted.TheVariants as wants
 use Rattle.cad_wanted.specs.declared.told.Told.{Told}
-use Rattle.cad_server.specs.declared.sought.Sought.{Sought}
-use Rattle.cad_server.specs.declared.sought.Sought.TheVariants.{Page, Feature}
+use Rattle.cad_wanted.specs.declared.sought.Sought.{Sought}
+use Rattle.cad_wanted.specs.declared.sought.Sought.TheVariants.{Page, Feature}
 
 -- the status of a reply, and its body
 abbrev pub Content : Type 0
@@ -73,5 +73,4 @@ content_of sought commands =
 -- what is wanted, over the commands in force
 abbrev pub content_wanted : Wanted → List Command → Content
 content_wanted (wants.Told told) commands = content_told told
-content_wanted (wants.Page ask) commands = content_of (Page ask) commands
-content_wanted (wants.Feature collection identifier) commands = content_of (Feature collection identifier) commands
+content_wanted (wants.Sought sought) commands = content_of sought commands

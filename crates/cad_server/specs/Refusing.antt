@@ -12,8 +12,7 @@ use Rattle.cad_server.specs.Replies.{FailsToTell, FailsToAnswer}
 module _ {FailsToList : ℕ → List Command → RegisterFault → Type 0} (keeps : (revision : ℕ) (commands : List Command) (fault : RegisterFault) → FailsToList revision commands fault → IsOfKeeping fault) where
   failing_to_tell : (commands : List Command) (wanted : Wanted) (fault : RegisterFault) → FailsToTell FailsToList commands wanted fault → IsOfKeeping fault
   failing_to_tell commands (wants.Told told) fault f = absurd f
-  failing_to_tell commands (wants.Page ask) fault f = keeps _ commands fault f.1
-  failing_to_tell commands (wants.Feature collection identifier) fault f = keeps _ commands fault f.1
+  failing_to_tell commands (wants.Sought sought) fault f = keeps _ commands fault f.1
 
   pub failing_keeps : (commands : List Command) (request : Request) (fault : RegisterFault) → FailsToAnswer FailsToList commands request fault → IsOfKeeping fault
   failing_keeps commands request fault f = failing_to_tell commands f.0 fault f.2

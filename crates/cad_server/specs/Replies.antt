@@ -10,8 +10,7 @@ use Rattle.cad_reply.specs.Replies.{reply_text}
 use Rattle.cad_wanted.specs.Wants.{IsWanted}
 use Rattle.cad_wanted.specs.declared.request.Wanted.{Wanted}
 use Rattle.cad_wanted.specs.declared.request.Wanted.TheVariants as wants
-use Rattle.cad_server.specs.declared.sought.Sought.{Sought}
-use Rattle.cad_server.specs.declared.sought.Sought.TheVariants.{Page, Feature}
+use Rattle.cad_wanted.specs.declared.sought.Sought.{Sought}
 use Rattle.cad_server.specs.Contents.{Content, refusal, revision_sought, content_wanted}
 
 -- the bytes of a reply
@@ -32,8 +31,7 @@ bad_head_reply = reply_text (status_of BadHead) true (refusal (status_of BadHead
 -- a page or a feature is wanted, so a revision is listed
 abbrev pub IsSought : Wanted → Type 0
 IsSought (wants.Told told) = ⊥
-IsSought (wants.Page ask) = ⊤
-IsSought (wants.Feature collection identifier) = ⊤
+IsSought (wants.Sought sought) = ⊤
 
 -- the request passes all checks but those of its revision and its identifier, and is for items or for a feature
 abbrev pub Asks : Request → Type 0
@@ -51,8 +49,7 @@ module _ (FailsToList : ℕ → List Command → RegisterFault → Type 0) where
   -- only what is sought in the ledger
   abbrev pub FailsToTell : List Command → Wanted → RegisterFault → Type 0
   FailsToTell commands (wants.Told told) fault = ⊥
-  FailsToTell commands (wants.Page ask) fault = FailsToFind commands (Page ask) fault
-  FailsToTell commands (wants.Feature collection identifier) fault = FailsToFind commands (Feature collection identifier) fault
+  FailsToTell commands (wants.Sought sought) fault = FailsToFind commands sought fault
 
   abbrev pub FailsToAnswer : List Command → Request → RegisterFault → Type 0
   FailsToAnswer commands request fault = (wanted : Wanted) × IsWanted (asked request) wanted × FailsToTell commands wanted fault

@@ -14,8 +14,7 @@ use Rattle.cad_wanted.specs.declared.request.Wanted.TheVariants as wants
 use Rattle.cad_wanted.specs.declared.told.Told.{Told}
 use Rattle.cad_server.specs.declared.records.Records.{Records}
 use Rattle.cad_server.specs.declared.server.Server.{Server}
-use Rattle.cad_server.specs.declared.sought.Sought.{Sought}
-use Rattle.cad_server.specs.declared.sought.Sought.TheVariants as sought
+use Rattle.cad_wanted.specs.declared.sought.Sought.{Sought}
 use Rattle.cad_server.specs.Contents.{content_told, content_in, content_of, content_wanted, revision_sought, snapshot_at}
 use Rattle.cad_server.specs.Replies.{IsSought, FailsToFind, FailsToTell}
 
@@ -53,8 +52,7 @@ module _ {L : Type 0} (g : Ghosts L) where
   -- the same of what is wanted; nothing is listed for what is told without the ledger
   abbrev pub RefusesToTell : Wanted → Records L → Records L → Type 0
   RefusesToTell (wants.Told told) old new = ⊥
-  RefusesToTell (wants.Page ask) old new = RefusesToFind (sought.Page ask) old new
-  RefusesToTell (wants.Feature collection identifier) old new = RefusesToFind (sought.Feature collection identifier) old new
+  RefusesToTell (wants.Sought sought) old new = RefusesToFind sought old new
 
   -- the same of what a request asks for
   abbrev pub RefusesToAnswer : Server L → Server L → Request → Type 0

@@ -5,13 +5,13 @@ ghost use Rattle.lru.specs.LruCache.{lru_cache};
 ghost use Rattle.cad_reply.specs.declared.status.Status.TheVariants.{BadRequest};
 ghost use Rattle.cad_server.specs.Contents.{content_told, refusal};
 
-use crate::sought::Sought;
+use crate::sought::{revision_of, told_in};
 use cad_bodies::word_body;
 use cad_reply::Status;
 use cad_snapshot::Snapshot;
 use cad_versions::laws::revisions_stay;
 use cad_versions::{Command, Ledger, RegisterFault};
-use cad_wanted::{Told, Wanted};
+use cad_wanted::{Sought, Told, Wanted};
 use lru::LruCache;
 use std::alloc::{AllocError, Global};
 use std::num::NonZeroUsize;
@@ -221,7 +221,7 @@ impl<L: Ledger> Records<L> {
         match self.kept.peek(&revision) {
             None => Ok(None),
             Some(snapshot) => {
-                let told = sought.told_in(self.alloc, snapshot)?;
+                let told = told_in(self.alloc, sought, snapshot)?;
                 Ok(Some(told))
             }
         }
@@ -233,7 +233,7 @@ impl<L: Ledger> Records<L> {
     {
         let versions = self.ledger.as_of(revision)?;
         let snapshot = Snapshot::build(self.alloc, revision, &versions)?;
-        let told = sought.told_in(self.alloc, &snapshot)?;
+        let told = told_in(self.alloc, sought, &snapshot)?;
         self.keep(snapshot);
         Ok(told)
     }
@@ -253,7 +253,7 @@ impl<L: Ledger> Records<L> {
         ensures { Seeks L.Ledger sought.now self.old result self.new }
     {
         let newest = self.ledger.revision();
-        let revision = sought.revision(newest);
+        let revision = revision_of(sought, newest);
         if newest < revision {
             return Ok(unknown_revision(self.alloc)?);
         }
@@ -275,14 +275,7 @@ impl<L: Ledger> Records<L> {
     {
         match wanted {
             Wanted::Told(told) => Ok(told),
-            Wanted::Page(ask) => self.answer(Sought::Page(ask)),
-            Wanted::Feature {
-                collection,
-                identifier,
-            } => self.answer(Sought::Feature {
-                collection,
-                identifier,
-            }),
+            Wanted::Sought(sought) => self.answer(sought),
         }
     }
 }

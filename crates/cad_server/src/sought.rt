@@ -3,9 +3,8 @@
 ghost use Rattle.std.specs.Prelude.{◌≡◌, IfOk, option_copied};
 ghost use Rattle.cad_query.specs.Identifiers.{numbers_of};
 ghost use Rattle.cad_snapshot.specs.Snapshots.{features_at};
-ghost use Rattle.cad_server.specs.Contents.{content_told, feature_with, feature_content};
+ghost use Rattle.cad_server.specs.Contents.{content_in, content_told, feature_with, feature_content, revision_sought};
 
-use cad_ask::Ask;
 use cad_bodies::word_body;
 use cad_feature::Feature;
 use cad_merged::laws::identifiers_are_unique;
@@ -14,54 +13,41 @@ use cad_query::Identifier;
 use cad_reply::Status;
 use cad_schema::Collection;
 use cad_snapshot::Snapshot;
-use cad_wanted::Told;
+use cad_wanted::{Sought, Told};
 use std::alloc::{AllocError, Global};
 
-/// What is sought among the features of a revision.
-#[derive(Drop)]
-pub(crate) enum Sought {
-    /// A page of a collection.
-    Page(Ask),
-    /// One feature.
-    Feature {
-        collection: Collection,
-        identifier: Identifier,
-    },
+/// The revision at which it is sought: the one that is asked for, or the newest.
+pub(crate) fn revision_of(sought: &Sought, newest: u64) -> u64
+    ensures { result ≡ revision_sought sought.now newest }
+{
+    match sought {
+        Sought::Page(ask) => ask.continuation.revision.unwrap_or(newest),
+        Sought::Feature { .. } => newest,
+    }
 }
 
-impl Sought {
-    ghost use Rattle.std.specs.Prelude.{◌≡◌, IfOk};
-    ghost use Rattle.cad_server.specs.Contents.{revision_sought, content_told, content_in};
-
-    /// The revision at which it is sought: the one that is asked for, or the newest.
-    pub(crate) fn revision(&self, newest: u64) -> u64
-        ensures { result ≡ revision_sought self.now newest }
-    {
-        match self {
-            Sought::Page(ask) => ask.continuation.revision.unwrap_or(newest),
-            Sought::Feature { .. } => newest,
+/// What is told of it. An error is want of memory.
+pub(crate) fn told_in(
+    alloc: Global,
+    sought: &Sought,
+    snapshot: &Snapshot,
+) -> Result<Told, AllocError>
+    ensures { IfOk result (λ told. content_told told ≡ content_in sought.now snapshot.now) }
+{
+    match sought {
+        Sought::Page(ask) => {
+            let body = body(alloc, ask, snapshot)?;
+            Ok(Told {
+                status: Status::Ok,
+                body,
+            })
         }
-    }
-
-    /// What is told of it. An error is want of memory.
-    pub(crate) fn told_in(&self, alloc: Global, snapshot: &Snapshot) -> Result<Told, AllocError>
-        ensures { IfOk result (λ told. content_told told ≡ content_in self.now snapshot.now) }
-    {
-        match self {
-            Sought::Page(ask) => {
-                let body = body(alloc, ask, snapshot)?;
-                Ok(Told {
-                    status: Status::Ok,
-                    body,
-                })
-            }
-            Sought::Feature {
-                collection,
-                identifier,
-            } => {
-                let feature = feature_in(snapshot, *collection, *identifier);
-                feature_told(alloc, *collection, feature)
-            }
+        Sought::Feature {
+            collection,
+            identifier,
+        } => {
+            let feature = feature_in(snapshot, *collection, *identifier);
+            feature_told(alloc, *collection, feature)
         }
     }
 }

@@ -1,9 +1,8 @@
 -- What a request wants of the register, or the reply that is told without it (own profile of OGC 17-069r4, section 7).
-use Rattle.std.specs.Prelude.{◌≡◌, ◌≢◌, ℕ, List, [], ◌∷◌, codes, string_bytes, Bool, true, false, Result, Ok, Err, MatchOption}
+use Rattle.std.specs.Prelude.{◌≡◌, ℕ, List, [], ◌∷◌, codes, string_bytes, Bool, true, false, Result, Ok, Err, MatchOption}
 use Rattle.std.specs.Bool.{MatchBool}
 use Rattle.serde_json.specs.Written.{compact_text}
 use Rattle.cad_schema.specs.declared.collection.Collection.{Collection}
-use Rattle.cad_query.specs.declared.identifier.Identifier.{Identifier}
 use Rattle.cad_query.specs.Identifiers.{identifier_named, numbers_of, Numbers}
 use Rattle.cad_query.specs.Pairs.{PairText, pairs_of}
 use Rattle.cad_ask.specs.declared.fault.AskFault.{AskFault}
@@ -20,6 +19,7 @@ use Rattle.cad_resource.specs.Checks.{word_of, status_of}
 use Rattle.cad_resource.specs.Places.{Place, landing, collections, collection, queryables, items, item}
 use Rattle.cad_wanted.specs.declared.request.Wanted.{Wanted}
 use Rattle.cad_wanted.specs.declared.request.Wanted.TheVariants as wants
+use Rattle.cad_wanted.specs.declared.sought.Sought.TheVariants as sought
 use Rattle.cad_wanted.specs.declared.told.Told.{Told}
 
 -- a reply of this status with this body
@@ -42,8 +42,7 @@ IsPlain pairs text told = MatchBool (has_pairs pairs) (IsRefusal status.BadReque
 -- the reply is told without the register
 abbrev pub IsTellingOf : (Told → Type 0) → Wanted → Type 0
 IsTellingOf P (wants.Told told) = P told
-IsTellingOf P (wants.Page ask) = ⊥
-IsTellingOf P (wants.Feature c i) = ⊥
+IsTellingOf P (wants.Sought sought) = ⊥
 
 -- the body of a query's fault
 abbrev pub fault_text : AskFault → List ℕ
@@ -51,15 +50,15 @@ fault_text fault = compact_text (fault_data fault)
 
 -- the page that the pairs ask for, or the refusal of their first fault
 abbrev pub IsPageWanted : Collection → List PairText → Wanted → Type 0
-IsPageWanted c pairs (wants.Page ask) = IsAsk c pairs ask
+IsPageWanted c pairs (wants.Sought (sought.Page ask)) = IsAsk c pairs ask
 IsPageWanted c pairs (wants.Told told) = (f : AskFault) × IsFirstFault c pairs f × IsTold status.BadRequest (fault_text f) told
-IsPageWanted c pairs (wants.Feature d i) = ⊥
+IsPageWanted c pairs (wants.Sought (sought.Feature d i)) = ⊥
 
 -- the feature of these numbers
 abbrev pub IsFeatureOf : Collection → Numbers → Wanted → Type 0
-IsFeatureOf c numbers (wants.Feature d i) = (d ≡ c) × (numbers_of i ≡ numbers)
+IsFeatureOf c numbers (wants.Sought (sought.Feature d i)) = (d ≡ c) × (numbers_of i ≡ numbers)
 IsFeatureOf c numbers (wants.Told told) = ⊥
-IsFeatureOf c numbers (wants.Page ask) = ⊥
+IsFeatureOf c numbers (wants.Sought (sought.Page ask)) = ⊥
 
 -- the feature that a text identifies; where the text is no identifier, none is there
 abbrev pub IsIdentified : Collection → List ℕ → Wanted → Type 0

@@ -6,6 +6,7 @@ ghost use Rattle.cad_wanted.specs.Wants.{IsFeatureWanted, IsIdentified};
 
 use crate::plain::{has_pairs, unknown};
 use crate::request::Wanted;
+use crate::sought::Sought;
 use crate::told::refusal;
 use cad_query::Identifier;
 use cad_reply::Status;
@@ -31,10 +32,10 @@ fn identified(alloc: Global, collection: Collection, text: &str) -> Result<Wante
     ensures { IfOk result (IsIdentified collection text.now) }
 {
     match Identifier::read(text) {
-        Some(identifier) => Ok(Wanted::Feature {
+        Some(identifier) => Ok(Wanted::Sought(Sought::Feature {
             collection,
             identifier,
-        }),
+        })),
         None => Ok(Wanted::Told(refusal(alloc, Status::NotFound, "no-feature")?)),
     }
 }

@@ -8,12 +8,10 @@ ghost use Rattle.cad_wanted.specs.Wants.{IsWantedAt};
 use crate::feature::wanted_feature;
 use crate::page::wanted_page;
 use crate::plain::plain;
+use crate::sought::Sought;
 use crate::told::{Told, refusal};
-use cad_ask::Ask;
 use cad_bodies::{collection_body, collections_body, landing_body, queryables_body};
-use cad_query::Identifier;
 use cad_resource::{Check, Resource, ResourceQuery};
-use cad_schema::Collection;
 use std::alloc::{AllocError, Global};
 
 /// What a request wants of the register.
@@ -21,15 +19,8 @@ use std::alloc::{AllocError, Global};
 pub enum Wanted {
     /// Nothing: this is its reply.
     Told(Told),
-    /// A page of a collection's features.
-    Page(Ask),
-    /// One feature, if it is there.
-    Feature {
-        /// The collection that it is asked for in.
-        collection: Collection,
-        /// Which version of which object it is.
-        identifier: Identifier,
-    },
+    /// What is sought among the features of a revision.
+    Sought(Sought),
 }
 
 impl Wanted {
