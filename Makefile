@@ -100,7 +100,7 @@ office-file: sample
 serve-file: sample
 	scripts/check_serve
 
-# Stops the office at each call of its files, and walks through pages over a restart of `cadastred`. Needs a C compiler.
+# Stops the office at each call of its files, and walks through pages over a restart of `cadastred`. A C compiler compiles what fails the calls, or the toolchain's own.
 stops: sample cadastred
 	scripts/check_stops
 

@@ -1,19 +1,40 @@
 // Has one call of a file fail, or the program end there, for scripts/check_stops. Loaded before the C library (LD_PRELOAD), it counts
-// the calls that read, write, cut, measure or sync the file that STOP_FILE names. From the one whose number STOP_AT gives on,
-// STOP_HOW decides: `fail` answers each with EIO and changes nothing, `end` ends the program before the call, `torn` does so too, and
-// writes half of the bytes before. The count goes to the file COUNTED where the program ends by itself. What a file of the folder of
-// STOP_FILE held when it was last synced stands under its name in the folder SYNCED.
-#define _GNU_SOURCE
-#include <dlfcn.h>
-#include <errno.h>
-#include <fcntl.h>
-#include <limits.h>
-#include <signal.h>
-#include <stdio.h>
-#include <stdlib.h>
-#include <string.h>
-#include <sys/stat.h>
-#include <unistd.h>
+// the calls that read, write, cut or sync the file that STOP_FILE names. From the one whose number STOP_AT gives on, STOP_HOW decides:
+// `fail` answers each with EIO and changes nothing, `end` ends the program before the call, `torn` does so too, and writes half of the
+// bytes before. The count goes to the file COUNTED where the program ends by itself. What a file of the folder of STOP_FILE held when
+// it was last synced stands under its name in the folder SYNCED.
+//
+// The calls of the C library are declared here (x86-64, Linux), so that the toolchain's own clang, which has no headers, compiles it.
+typedef unsigned long size_t;
+typedef long ssize_t, off_t;
+
+enum { EIO = 5, SIGKILL = 9, WRITE_NEW = 01 | 0100 | 01000, PATH = 4096 };
+
+void abort(void);
+int close(int fd);
+void *dlsym(void *handle, const char *name);
+int *__errno_location(void);
+char *getenv(const char *name);
+int getpid(void);
+int kill(int process, int number);
+int open(const char *path, int flags, ...);
+ssize_t readlink(const char *path, char *to, size_t size);
+int snprintf(char *to, size_t size, const char *form, ...);
+int strcmp(const char *one, const char *other);
+size_t strlen(const char *text);
+int strncmp(const char *one, const char *other, size_t size);
+char *strrchr(const char *text, int byte);
+unsigned long strtoul(const char *text, char **end, int base);
+ssize_t write(int fd, const void *from, size_t size);
+
+ssize_t pread(int fd, void *to, size_t size, off_t at);
+ssize_t pwrite(int fd, const void *from, size_t size, off_t at);
+int ftruncate(int fd, off_t size);
+int fsync(int fd);
+int fdatasync(int fd);
+
+// The call that stands behind this library's own.
+#define NEXT(name) ((__typeof__(&name))dlsym((void *)-1L, #name))
 
 static const char *file, *how, *synced, *counted;
 static unsigned long count, stop;
@@ -24,22 +45,25 @@ __attribute__((constructor)) static void begin(void) {
     how = getenv("STOP_HOW");
     synced = getenv("SYNCED");
     counted = getenv("COUNTED");
-    stop = number ? strtoul(number, NULL, 10) : 0;
+    stop = number ? strtoul(number, 0, 10) : 0;
+}
+
+static void write_new(int fd, const char *bytes, size_t size) {
+    if (write(fd, bytes, size) != (ssize_t)size) abort();
 }
 
 __attribute__((destructor)) static void end(void) {
-    FILE *told = counted ? fopen(counted, "w") : NULL;
-    if (told) {
-        fprintf(told, "%lu\n", count);
-        fclose(told);
-    }
+    char told[24];
+    int to = counted ? open(counted, WRITE_NEW, 0600) : -1;
+    if (to < 0) return;
+    snprintf(told, sizeof told, "%lu\n", count);
+    write_new(to, told, strlen(told));
+    close(to);
 }
-
-#define NEXT(name) ((__typeof__(&name))dlsym(RTLD_NEXT, #name))
 
 // The path of an open file, or "".
 static const char *path_of(int fd) {
-    static char path[PATH_MAX];
+    static char path[PATH];
     char link[40];
     snprintf(link, sizeof link, "/proc/self/fd/%d", fd);
     ssize_t length = readlink(link, path, sizeof path - 1);
@@ -56,7 +80,7 @@ static int is_stopped(int fd) {
 // Ends the program, or answers that the call failed.
 static int refuse(void) {
     if (strcmp(how, "fail")) kill(getpid(), SIGKILL);
-    errno = EIO;
+    *__errno_location() = EIO;
     return -1;
 }
 
@@ -77,16 +101,16 @@ int ftruncate(int fd, off_t size) {
 // Keeps what the file holds now, since a loss of power leaves that.
 static void keep(int fd) {
     static char bytes[65536];
-    char path[PATH_MAX], to[PATH_MAX];
+    char path[PATH], to[PATH];
     if (!file || !synced) return;
     snprintf(path, sizeof path, "%s", path_of(fd));
     const char *name = strrchr(path, '/'), *folder = strrchr(file, '/');
     if (!name || name - path != folder - file || strncmp(path, file, folder - file)) return;
     snprintf(to, sizeof to, "%s%s", synced, name);
-    int copy = open(to, O_WRONLY | O_CREAT | O_TRUNC, 0600);
+    int copy = open(to, WRITE_NEW, 0600);
+    if (copy < 0) abort();
     off_t at = 0;
-    for (ssize_t size; copy >= 0 && (size = NEXT(pread)(fd, bytes, sizeof bytes, at)) > 0; at += size)
-        if (write(copy, bytes, size) != size) abort();
+    for (ssize_t size; (size = NEXT(pread)(fd, bytes, sizeof bytes, at)) > 0; at += size) write_new(copy, bytes, size);
     close(copy);
 }
 
