@@ -41,6 +41,13 @@ def enter(file, lines):
     return subprocess.run([PROGRAM, "office", str(file)], input=text, stdout=subprocess.PIPE).stdout.decode().splitlines()
 
 
+def sample_lines():
+    """The ten commands of the sample, as docs/OFFICE.md has them."""
+    text = (TOP / "docs/OFFICE.md").read_text(encoding="utf-8")
+    text = text[text.index("These ten lines") : text.index("After them")]
+    return [it[4:] for it in text.split("\n") if it.startswith("    {")]
+
+
 @contextlib.contextmanager
 def listening(*words):
     """A server at a port that the system chose; its address."""
