@@ -10,10 +10,10 @@ use Rattle.cql_rewrite.specs.Laws.{FeaturesAreWritten}
 use Rattle.cql_rewrite.specs.Meets.{HoldsCharacters}
 use Rattle.cad_answer.specs.declared.condition.Condition.{Condition}
 use Rattle.cad_answer.specs.declared.places.Places.{Places}
-use Rattle.cad_answer.specs.declared.question.Question.{Question}
+use Rattle.cad_answer.specs.declared.query.PageQuery.{PageQuery}
 use Rattle.cad_run.specs.Slices.{is_later, later, slice}
-use Rattle.cad_answer.specs.Answers.{asked_of, if_asked, meets_days, meets_bounds, is_true_of, answers}
-use Rattle.cad_answer.specs.Passing.{meets_form, passes_question}
+use Rattle.cad_answer.specs.Answers.{restrictions_of, if_asked, meets_days, meets_bounds, is_true_of, answers}
+use Rattle.cad_answer.specs.Passing.{meets_form, passes_query}
 use Rattle.cad_answer.specs.Places.{lifespan_of, geometry_of}
 
 -- ---- two tests that agree on a list
@@ -41,19 +41,19 @@ module _ {X : Type 0} where
       ap (λ b. 1 + examined_of p (if b then n else (suc n)) ys) (same 0 y (omega arith))
       ∙ ap (λ m. 1 + m) (same_examined p q ys (All-tail (λ x. p x ≡ q x) y ys same) (if q y then n else (suc n)))
 
--- ---- a question as features are tested by it
+-- ---- a query as features are tested by it
 
 same_filter : (x : Item) → HoldsCharacters x → (c : Option Condition) → if_asked (meets_form x) c ≡ if_asked (is_true_of x) (option_map (λ d. d.filter.now) c)
 same_filter x written None = refl
 same_filter x written (Some c) = c.stands (record { item = x; characters = written })
 
-pub passes_is : (places : Places) (question : Question) (x : Item) → HoldsCharacters x → passes_question places question x ≡ answers places (asked_of question) x
-passes_is places question x written =
-    ap (λ b. if_asked (meets_days (lifespan_of places x)) question.days && (if_asked (meets_bounds (geometry_of places x)) question.bounds && b)) (same_filter x written question.filter)
+pub passes_is : (places : Places) (query : PageQuery) (x : Item) → HoldsCharacters x → passes_query places query x ≡ answers places (restrictions_of query) x
+passes_is places query x written =
+    ap (λ b. if_asked (meets_days (lifespan_of places x)) query.days && (if_asked (meets_bounds (geometry_of places x)) query.bounds && b)) (same_filter x written query.filter)
 
-pub passes_each : (collection : Collection) (places own : Places) (question : Question) (xs : List Item) → FeaturesAreWritten collection → AreFeaturesOf collection xs → own ≡ places → All (λ x. passes_question own question x ≡ answers places (asked_of question) x) xs
-passes_each collection places own question xs written listed same = λ k d h.
-    passes_is own question (get_or xs k d) (written (get_or xs k d) (listed.each k d h)) ∙ ap (λ ps. answers ps (asked_of question) (get_or xs k d)) same
+pub passes_each : (collection : Collection) (places own : Places) (query : PageQuery) (xs : List Item) → FeaturesAreWritten collection → AreFeaturesOf collection xs → own ≡ places → All (λ x. passes_query own query x ≡ answers places (restrictions_of query) x) xs
+passes_each collection places own query xs written listed same = λ k d h.
+    passes_is own query (get_or xs k d) (written (get_or xs k d) (listed.each k d h)) ∙ ap (λ ps. answers ps (restrictions_of query) (get_or xs k d)) same
 
 -- ---- what holds of the features of a list holds of those of a page
 

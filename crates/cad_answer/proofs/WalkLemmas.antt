@@ -11,10 +11,12 @@ use Rattle.std.proofs.lemmas.List.{take_all, length-take-le, get_or_default}
 use Rattle.std.proofs.lemmas.List.Elements.{All-from_recursion}
 use Rattle.std.proofs.lemmas.List.Kept.{IsStrictlySortedBy-filter}
 use Rattle.cad_versions.specs.Identifiers.{identifier_cmp}
+use Rattle.cad_versions.specs.OrderLemmas.{identifiers_total}
 use Rattle.cad_feature.specs.Features.{Item, identifier_of, by_identifier}
-use Rattle.cad_run.specs.Slices.{comes_after, is_later, later, slice, is_more}
+use Rattle.cad_merged.specs.AfterLemmas.{ascends, beyond, filter_cut}
+use Rattle.cad_merged.specs.Identifiers.{comes_after}
+use Rattle.cad_run.specs.Slices.{is_later, later, slice, is_more}
 use Rattle.cad_answer.specs.Laws.{last_of, AreWalk}
-use Rattle.cad_run.specs.Ascending.{identifiers_total, ascends, beyond, filter_cut}
 
 -- ---- what a filter keeps, and a front of it
 

@@ -1,4 +1,4 @@
--- The features that answer a question (OGC 17-069r4, 7.15: items; OGC 19-079r2, 6.4: filter).
+-- The features that answer a query (OGC 17-069r4, 7.15: items; OGC 19-079r2, 6.4: filter).
 use Rattle.std.specs.Prelude.{ℤ, Bool, true, false, ◌&&◌, List, filter, Option, Some, None, option_map}
 use Rattle.cad_day.specs.declared.interval.Interval.{Interval}
 use Rattle.cad_day.specs.declared.relation.Relation.TheVariants.{Intersects}
@@ -13,21 +13,21 @@ use Rattle.cql_types.specs.declared.filter.Filter.{Filter}
 use Rattle.cql_truth.specs.Sides.{yes}
 use Rattle.cad_run.specs.Slices.{identifier}
 use Rattle.cad_answer.specs.declared.places.Places.{Places}
-use Rattle.cad_answer.specs.declared.question.Question.{Question}
+use Rattle.cad_answer.specs.declared.query.PageQuery.{PageQuery}
 use Rattle.cad_answer.specs.Places.{places_of, lifespan_of, geometry_of}
 
 -- what restricts an answer
-pub record Asked : Type 0 where
+pub record Restrictions : Type 0 where
   pub days : Option Interval
   pub bounds : Option Bounds
   pub filter : Option Filter
 
-abbrev pub asked_of : Question → Asked
-asked_of question = record { days = question.days; bounds = question.bounds; filter = option_map (λ c. c.filter.now) question.filter }
+abbrev pub restrictions_of : PageQuery → Restrictions
+restrictions_of query = record { days = query.days; bounds = query.bounds; filter = option_map (λ c. c.filter.now) query.filter }
 
 -- the identifier that the page begins after
-abbrev pub after_of : Question → Option (ℤ × ℤ)
-after_of question = option_map identifier question.after
+abbrev pub after_of : PageQuery → Option (ℤ × ℤ)
+after_of query = option_map identifier query.after
 
 -- what is not asked restricts nothing
 abbrev pub if_asked : {A : Type 0} → (A → Bool) → Option A → Bool
@@ -48,11 +48,11 @@ meets_bounds (Some shape) bounds = shapes_meet shape (Frame bounds)
 abbrev pub is_true_of : Item → Filter → Bool
 is_true_of x f = yes f x
 
-abbrev pub answers : Places → Asked → Item → Bool
+abbrev pub answers : Places → Restrictions → Item → Bool
 answers places asked x =
     if_asked (meets_days (lifespan_of places x)) asked.days
     && (if_asked (meets_bounds (geometry_of places x)) asked.bounds && if_asked (is_true_of x) asked.filter)
 
 -- those features of the collection that all asked restrictions let pass, in their order
-abbrev pub answer : Collection → Asked → List Item → List Item
+abbrev pub answer : Collection → Restrictions → List Item → List Item
 answer collection asked xs = filter (answers (places_of collection) asked) xs

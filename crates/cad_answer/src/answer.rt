@@ -1,14 +1,14 @@
-//! Whether a feature answers a question.
+//! Whether a feature answers a query.
 
 ghost use Rattle.std.specs.Prelude.{◌≡◌, IfOk, option_map};
 ghost use Rattle.cad_shape.specs.Shapes.{lent_shape};
 ghost use Rattle.cad_answer.specs.Answers as spec;
 ghost use Rattle.cad_answer.specs.Answers.{if_asked};
-ghost use Rattle.cad_answer.specs.Passing.{meets_form, passes_question};
+ghost use Rattle.cad_answer.specs.Passing.{meets_form, passes_query};
 
 use crate::condition::Condition;
 use crate::places::Places;
-use crate::question::Question;
+use crate::query::PageQuery;
 use cad_day::{Interval, Relation, holds};
 use cad_feature::Feature;
 use cad_shape::{Bounds, ShapeRef};
@@ -51,22 +51,22 @@ fn is_met(
     }
 }
 
-/// Whether the feature, with its lifespan and geometry at these places, passes the question: the filter is tested by its normal
+/// Whether the feature, with its lifespan and geometry at these places, passes the query: the filter is tested by its normal
 /// form.
 pub(crate) fn is_answer(
     alloc: Global,
     places: Places,
-    question: Question,
+    query: PageQuery,
     feature: &Feature,
 ) -> Result<bool, AllocError>
-    ensures { IfOk result (λ is_answer. is_answer ≡ passes_question places question.entry feature.now) }
+    ensures { IfOk result (λ is_answer. is_answer ≡ passes_query places query.entry feature.now) }
 {
-    if !meets_days(question.days, places.lifespan(feature)) {
+    if !meets_days(query.days, places.lifespan(feature)) {
         return Ok(false);
     }
-    if !meets_bounds(question.bounds, places.geometry(feature)) {
+    if !meets_bounds(query.bounds, places.geometry(feature)) {
         return Ok(false);
     }
-    let is_met = is_met(alloc, question.filter, feature)?;
+    let is_met = is_met(alloc, query.filter, feature)?;
     Ok(is_met)
 }

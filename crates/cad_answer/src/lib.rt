@@ -1,25 +1,25 @@
-//! Which features of a collection answer a question, and a page of them.
+//! Which features of a collection answer a query, and a page of them.
 //!
 //! - [`Condition`]: a filter with its normal form, by which features are tested
-//! - [`Question`]: days, a box and a filter that restrict an answer, and which part of the answer is wanted
+//! - [`PageQuery`]: days, a box and a filter that restrict an answer, and which part of the answer is wanted
 //! - [`page`]: the first features that answer, after one that is named, and whether more are left: a [`Page`]. Looked at are the
 //!   candidates of a [`Plan`] among the features of a [`Layer`]
 //! - `laws`: that pages ascend and are full, and that the pages of a walk, joined, are the whole answer
 //!
-//! Of the parcels 1.1, 1.2, 2.1, 3.1 and 4.1, of which all but 1.1 are open since 2010, the question with the days of
+//! Of the parcels 1.1, 1.2, 2.1, 3.1 and 4.1, of which all but 1.1 are open since 2010, the query with the days of
 //! 2012-05-01 and a limit of 2 has the page 1.2, 2.1, and more is left. After 2.1 it has the page 3.1, 4.1, and none is
 //! left.
 #![tactic(auto)]
 
 mod answer;
-mod asking;
+mod query_test;
 mod condition;
 pub mod laws;
 mod paging;
 mod places;
-mod question;
+mod query;
 
 pub use cad_run::{Layer, Page, Plan};
 pub use condition::Condition;
 pub use paging::page;
-pub use question::Question;
+pub use query::PageQuery;

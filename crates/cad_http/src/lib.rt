@@ -18,7 +18,7 @@
 //! let register = desk.release().release();
 //! ```
 //!
-//! Nothing stands here but names: what each promises is said where it is defined, in `cad_server`, `cad_desk`,
+//! Nothing stands here but names: what each promises is said where it is defined, in `cad_responder`, `cad_desk`,
 //! `cad_serve`, `cad_listen` and `cad_walks`.
 #![tactic(auto)]
 
@@ -27,4 +27,4 @@ pub mod laws;
 pub use cad_desk::{Desk, DeskFault, Event, Reply};
 pub use cad_listen::listen;
 pub use cad_serve::{Ending, ServeFault, serve};
-pub use cad_server::Server;
+pub use cad_responder::Server;

@@ -1,4 +1,3 @@
-mod AfterLemmas
 mod CountedLemmas
 mod MergedLemmas
 mod ReplacedLemmas

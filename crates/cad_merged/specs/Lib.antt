@@ -1,3 +1,4 @@
+pub mod AfterLemmas
 pub mod CountLemmas
 pub mod FilterLemmas
 pub mod Identifiers

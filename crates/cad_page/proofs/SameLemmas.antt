@@ -18,7 +18,7 @@ use Rattle.cad_query.specs.Pairs.{PairText}
 use Rattle.cad_ask.specs.declared.ask.Ask.{Ask}
 use Rattle.cad_ask.specs.Laws.{AskTheSame}
 use Rattle.cad_snapshot.specs.Snapshots.{RevisionFeatures, features_at}
-use Rattle.cad_answer.specs.Answers.{Asked, if_asked, meets_days, meets_bounds, is_true_of, answers, answer}
+use Rattle.cad_answer.specs.Answers.{Restrictions, if_asked, meets_days, meets_bounds, is_true_of, answers, answer}
 use Rattle.cad_answer.specs.Places.{places_of, lifespan_of, geometry_of}
 use Rattle.cad_run.specs.Slices.{identifier, slice, is_more}
 use Rattle.cad_page.specs.Pages.{restrictions, beginning, answer_in, rows_in, is_more_in}

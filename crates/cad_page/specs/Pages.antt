@@ -4,11 +4,11 @@ use Rattle.cad_feature.specs.Features.{Item}
 use Rattle.cad_query.specs.declared.identifier.Identifier.{Identifier}
 use Rattle.cad_ask.specs.declared.ask.Ask.{Ask}
 use Rattle.cad_snapshot.specs.Snapshots.{RevisionFeatures, features_at}
-use Rattle.cad_answer.specs.Answers.{Asked, answer}
+use Rattle.cad_answer.specs.Answers.{Restrictions, answer}
 use Rattle.cad_run.specs.Slices.{identifier, slice, is_more}
 
 -- the days, the box and the filter
-abbrev pub restrictions : Ask → Asked
+abbrev pub restrictions : Ask → Restrictions
 restrictions ask = record { days = ask.selection.datetime; bounds = ask.selection.bbox; filter = ask.filter }
 
 -- the identifier that the page begins after

@@ -3,7 +3,7 @@
 ghost use Rattle.std.specs.Prelude.{◌≡◌, IfOk, length};
 ghost use Rattle.cad_page.specs.Plans.{IsChosen, candidates_in, cost_in, examined_in};
 
-use crate::questions::{Planned, planned_asked};
+use crate::finding::{Planned, planned_asked};
 use cad_answer::Plan;
 use cad_ask::Ask;
 use cad_plan::estimate;

@@ -18,7 +18,7 @@ pub mod laws;
 mod links;
 mod pages;
 mod planning;
-mod questions;
+mod finding;
 
 pub use cad_ask::{Ask, AskFault, fault_body};
 pub use cad_bodies::{

@@ -7,8 +7,8 @@ use Rattle.cad_sample.specs.Sample.{AreSample}
 use Rattle.cad_desk.specs.declared.desk.Desk.{Desk}
 use Rattle.cad_desk.specs.Connections.{rest_at}
 use Rattle.cad_desk.specs.Desks.{responder_of, connections_of}
-use Rattle.cad_server.specs.declared.server.Server.{Server}
-use Rattle.cad_server.specs.Servers.{ledger_of}
+use Rattle.cad_responder.specs.declared.server.Server.{Server}
+use Rattle.cad_responder.specs.Servers.{ledger_of}
 
 -- no connection is open, and this is the ledger
 pub record HasLedger (desk : Desk (Server PlainLedger)) (ledger : PlainLedger) : Type 0 where

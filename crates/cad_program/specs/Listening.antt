@@ -11,8 +11,8 @@ use Rattle.cad_desk.specs.declared.desk.Desk.{Desk}
 use Rattle.cad_desk.specs.Desks.{responder_of}
 use Rattle.cad_serve.specs.declared.serve_fault.ServeFault.TheVariants.{Write}
 use Rattle.cad_io.specs.Known.{Writes}
-use Rattle.cad_server.specs.declared.server.Server.{Server}
-use Rattle.cad_server.specs.Servers.{ledger_of}
+use Rattle.cad_responder.specs.declared.server.Server.{Server}
+use Rattle.cad_responder.specs.Servers.{ledger_of}
 use Rattle.cad_listen.specs.Arguments.{listening_line}
 use Rattle.cad_listen.specs.Listening.{Listens}
 use Rattle.cad_program.specs.declared.command.Service.{Service}

@@ -17,9 +17,9 @@ use Rattle.cad_serve.specs.Serving.{IsServed}
 use Rattle.cad_io.specs.Known.{ReadsAndWrites}
 use Rattle.cad_sample.specs.Filling.{Enters, IsFilled}
 use Rattle.cad_sample.specs.Sample.{sample_commands}
-use Rattle.cad_server.specs.declared.server.Server.{Server}
-use Rattle.cad_server.specs.Replies.{IsReply, bad_head_reply, Asks, FailsToAnswer}
-use Rattle.cad_server.specs.Servers.{ledger_of, IsServerOf, RefusesToAnswer}
+use Rattle.cad_responder.specs.declared.server.Server.{Server}
+use Rattle.cad_responder.specs.Replies.{IsReply, bad_head_reply, Asks, FailsToAnswer}
+use Rattle.cad_responder.specs.Servers.{ledger_of, IsServerOf, RefusesToAnswer}
 use Rattle.cad_program.specs.declared.outcome.Outcome.{Outcome}
 use Rattle.cad_program.specs.declared.outcome.Outcome.TheVariants as outcome
 use Rattle.cad_program.specs.Outcomes.{outcome_of}

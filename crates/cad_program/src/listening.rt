@@ -6,7 +6,7 @@ use crate::command::Service;
 use crate::outcome::Outcome;
 use cad_desk::Desk;
 use cad_listen::{listen, read_address, tell_address};
-use cad_server::Server;
+use cad_responder::Server;
 use cad_stream::Responder;
 use cad_versions::{Ledger, RegisterFault};
 use std::alloc::Global;

@@ -1,5 +1,5 @@
 pub mod Slices
-pub mod Ascending
+pub mod LaterLemmas
 pub mod Positions
 pub mod Parts
 pub mod Bases

@@ -7,7 +7,7 @@ use crate::outcome::Outcome;
 use cad_desk::Desk;
 use cad_host::{DoorFault, Doors, Log, host};
 use cad_listen::{read_address, tell_address};
-use cad_server::Server;
+use cad_responder::Server;
 use cad_stream::Responder;
 use cad_versions::{Ledger, RegisterFault};
 use std::alloc::Global;

@@ -1,9 +1,7 @@
 -- What accepted commands make is a listing, and there are not too many of them.
 use Rattle.std.proofs.Common.{◌≡◌, ℕ, zero, suc, ◌+◌, ◌≤◌, ◌≤ℤ◌, pos, Bool, true, false, cond, ◌&&◌, List, [], ◌∷◌, ◌++◌, length, length-append, map, filter, find, fold, take, Option, Some, None, is_none, refl, sym, ap, subst, arith, true≢false}
-use Rattle.std.specs.Cmp.{IsTotalOrder}
 use Rattle.std.specs.List.{AllByRecursion}
 use Rattle.std.specs.Option.{ForSome}
-use Rattle.std.proofs.lemmas.Cmp.{int_cmp_total, on_total, then_total}
 use Rattle.std.proofs.lemmas.List.{length-map}
 use Rattle.std.proofs.lemmas.List.Elements.{All-from_recursion}
 use Rattle.cad_day.specs.declared.day.Day.{Day}
@@ -20,8 +18,7 @@ use Rattle.cad_versions.specs.Histories.{IsForward, IsHistory}
 use Rattle.cad_versions.specs.HistoryLemmas.{HasHistories, histories, is_of_own, retires}
 use Rattle.cad_versions.specs.Identifiers.{by_identifier}
 use Rattle.cad_versions.specs.ListLemmas.{all_weaker}
-use Rattle.cad_versions.specs.Objects.{object_number}
-use Rattle.cad_versions.specs.OrderLemmas.{identifiers_apart}
+use Rattle.cad_versions.specs.OrderLemmas.{identifiers_apart, versions_total}
 use Rattle.cad_versions.specs.Refusals.{refusal, most_versions, AreAccepted}
 use Rattle.cad_versions.specs.VersionedObject.{VersionedObject, IsVersion}
 use Rattle.cad_versions.specs.Versions.{is_of, is_open_of, history, closed_on, closed_if_open, begun, next_number, after, versions}
@@ -82,9 +79,6 @@ all_numbered most vs few all =
 
 -- ---- a listing
 
-identifiers_total : IsTotalOrder by_identifier
-identifiers_total = then_total (on_total (λ (v : VersionedObject). pos (object_number v.object)) int_cmp_total) (on_total (λ (v : VersionedObject). pos v.number) int_cmp_total)
-
 pub listed : AcceptedAreListed
 listed cs all revision =
     let before = fewer revision [] cs all in
@@ -93,7 +87,7 @@ listed cs all revision =
     let few = few_versions (take revision cs) before in
     let numbered = all_weaker (IsNumbered most_versions) IsVersion (λ v is. record { positive = is.positive; small = is.small; forward = is.forward }) vs (all_numbered most_versions vs few h) in
     record {
-      ascending = sort_rises by_identifier identifiers_total vs (identifiers_apart vs h);
+      ascending = sort_rises by_identifier versions_total vs (identifiers_apart vs h);
       few = omega (arith, few, as_many by_identifier vs);
       each = All-from_recursion IsVersion (as_of revision cs) (all_sorted by_identifier IsVersion vs numbered);
     }

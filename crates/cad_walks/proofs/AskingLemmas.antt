@@ -27,7 +27,7 @@ use Rattle.cad_resource.specs.Laws.{IsGet, IsSegment, ResourcesAreAsked, KnownPa
 use Rattle.cad_resource.specs.Places.{items, resource_of}
 use Rattle.cad_wanted.specs.declared.request.Wanted.{Wanted}
 use Rattle.cad_wanted.specs.declared.request.Wanted.TheVariants as wants
-use Rattle.cad_wanted.specs.declared.sought.Sought.TheVariants as sought
+use Rattle.cad_wanted.specs.declared.feature_request.FeatureRequest.TheVariants as features
 use Rattle.cad_wanted.specs.Wants.{IsPageWanted, IsWanted}
 
 -- ---- paths
@@ -69,10 +69,10 @@ pub page_wanted : ResourcesAreAsked → KnownPathsAreReadBack → (r : Request) 
 page_wanted are back r c w get at wanted =
     subst (λ (a : Result AskedText Check). IsWanted a w) (are r (items c) get (ap resource_of at ∙ back (items c) (named c))) wanted
 
-pub page_read : HasFaultOrAsks → (c : Collection) (pairs : List PairText) (w : Wanted) → AsksWell c pairs → IsPageWanted c pairs w → (ask : Ask) × (w ≡ wants.Sought (sought.Page ask)) × IsAsk c pairs ask
-page_read or c pairs (wants.Sought (sought.Page ask)) well is = (ask, refl, is)
+pub page_read : HasFaultOrAsks → (c : Collection) (pairs : List PairText) (w : Wanted) → AsksWell c pairs → IsPageWanted c pairs w → (ask : Ask) × (w ≡ wants.Features (features.Page ask)) × IsAsk c pairs ask
+page_read or c pairs (wants.Features (features.Page ask)) well is = (ask, refl, is)
 page_read or c pairs (wants.Told told) well is = absurd (or c pairs is.0 is.1 well)
-page_read or c pairs (wants.Sought (sought.Feature d i)) well is = absurd is
+page_read or c pairs (wants.Features (features.Feature d i)) well is = absurd is
 
 -- ---- what asks has no fault, and asks for some features at least
 

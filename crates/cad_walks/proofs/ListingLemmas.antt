@@ -12,7 +12,7 @@ use Rattle.cad_feature.specs.Features.{Item, by_identifier}
 use Rattle.cad_feature.specs.Flatten.{is_in, feature_in, features_in}
 use Rattle.cad_query.specs.Identifiers.{IsVersionNumber}
 use Rattle.cad_snapshot.specs.Snapshots.{features_at, told_at}
-use Rattle.cad_server.specs.Contents.{snapshot_of}
+use Rattle.cad_responder.specs.Contents.{snapshot_of}
 
 -- ---- from versions to features
 

@@ -20,15 +20,15 @@ use Rattle.cad_page.specs.Bodies.{numbers_of, target_after, next_in, page_data}
 use Rattle.cad_reply.specs.declared.status.Status.TheVariants as status
 use Rattle.cad_wanted.specs.declared.request.Wanted.{Wanted}
 use Rattle.cad_wanted.specs.declared.request.Wanted.TheVariants as wants
-use Rattle.cad_wanted.specs.declared.sought.Sought.TheVariants as sought
-use Rattle.cad_server.specs.Contents.{refusal, content_wanted, snapshot_at}
-use Rattle.cad_server.specs.Replies.{reply_of}
+use Rattle.cad_wanted.specs.declared.feature_request.FeatureRequest.TheVariants as features
+use Rattle.cad_responder.specs.Contents.{refusal, content_wanted, snapshot_at}
+use Rattle.cad_responder.specs.Replies.{reply_of}
 use Rattle.cad_walks.specs.Walks.{Visit, AsksFor, revision_asked, next_told, next_of, Shows}
 
 -- the visit asks for this, of the revision's features
 pub record IsPart (snapshot : RevisionFeatures) (visit : Visit) (ask : Ask) : Type 0 where
   pub asks : AsksFor visit.request ask
-  pub wanted : visit.replied.0 ≡ wants.Sought (sought.Page ask)
+  pub wanted : visit.replied.0 ≡ wants.Features (features.Page ask)
   pub revision_is : revision_asked ask visit.commands ≡ snapshot.revision
   pub made : snapshot.revision ≤ length visit.commands
   pub snapshot_is : snapshot_at snapshot.revision visit.commands ≡ snapshot

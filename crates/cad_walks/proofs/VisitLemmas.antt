@@ -24,7 +24,7 @@ use Rattle.cad_desk.specs.Connections.{Connections}
 use Rattle.cad_desk.specs.Events.{Rules, IsEntered, StepOf, commands_after}
 use Rattle.cad_desk.specs.Runs.{Exchange, RunOf, out_of, exchange, exchanges_of, pieces_of, outs_of}
 use Rattle.cad_desk.specs.Laws.{ConnectionsAreTheirOwn}
-use Rattle.cad_server.specs.Replies.{IsReply}
+use Rattle.cad_responder.specs.Replies.{IsReply}
 use Rattle.cad_walks.specs.Walks.{Visit, IsWalk}
 use Rattle.cad_walks.specs.Visits.{Brings, IsBefore, revision_at, Run, in_force, OpensAmong, IsVisitIn, GetsNext}
 use Rattle.cad_walks.specs.Laws.{WalksShowTheAnswer, RunsKeepAccepted, ConnectionsAreVisits, WalksInRunsShowTheAnswer}

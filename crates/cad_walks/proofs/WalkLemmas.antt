@@ -30,8 +30,8 @@ use Rattle.cad_page.specs.Laws.{TheSameHasOneAnswer}
 use Rattle.cad_page.specs.Pages.{restrictions, beginning, answer_in, rows_in, is_more_in}
 use Rattle.cad_resource.specs.Laws.{ResourcesAreAsked, KnownPathsAreReadBack}
 use Rattle.cad_wanted.specs.declared.request.Wanted.TheVariants as wants
-use Rattle.cad_wanted.specs.declared.sought.Sought.TheVariants as sought
-use Rattle.cad_server.specs.Contents.{snapshot_of, snapshot_at}
+use Rattle.cad_wanted.specs.declared.feature_request.FeatureRequest.TheVariants as features
+use Rattle.cad_responder.specs.Contents.{snapshot_of, snapshot_at}
 use Rattle.cad_walks.specs.Walks.{Visit, AsksFor, revision_asked, snapshot_asked, next_of, Follows, IsWalk, Shows, joined, pages_of}
 use Rattle.cad_walks.specs.Registers.{AcceptedAreListed, AcceptedAreFew}
 use Rattle.cad_walks.specs.Laws.{WalksHaveThatManyPages, WalksShowTheAnswer}
@@ -100,7 +100,7 @@ pub record IsNext (snapshot : RevisionFeatures) (ask : Ask) (next : Visit) : Typ
 pub record IsAnswered (ask : Ask) (revision : ℕ) (last : Numbers) (next : Visit) : Type 0 where
   pub again : Ask
   pub asks : AsksFor next.request again
-  pub wanted : next.replied.0 ≡ wants.Sought (sought.Page again)
+  pub wanted : next.replied.0 ≡ wants.Features (features.Page again)
   pub on : GoesOn ask again revision last
 
 answered : Laws → (visit next : Visit) (ask : Ask) (revision : ℕ) (last : Numbers) → AsksFor visit.request ask → Follows visit next → AsksAfter ask revision last next.request → IsAnswered ask revision last next

@@ -18,9 +18,9 @@ use Rattle.cad_reply.specs.declared.status.Status.TheVariants.{Ok}
 use Rattle.cad_resource.specs.Laws.{IsGet}
 use Rattle.cad_wanted.specs.declared.request.Wanted.{Wanted}
 use Rattle.cad_wanted.specs.declared.request.Wanted.TheVariants as wants
-use Rattle.cad_wanted.specs.declared.sought.Sought.TheVariants as sought
-use Rattle.cad_server.specs.Contents.{snapshot_at}
-use Rattle.cad_server.specs.Replies.{reply_of, IsReply}
+use Rattle.cad_wanted.specs.declared.feature_request.FeatureRequest.TheVariants as features
+use Rattle.cad_responder.specs.Contents.{snapshot_at}
+use Rattle.cad_responder.specs.Replies.{reply_of, IsReply}
 
 -- a request, the commands in force when it is answered, and the bytes of the reply
 pub record Visit : Type 0 where
@@ -50,8 +50,8 @@ snapshot_asked ask commands = snapshot_at (revision_asked ask commands) commands
 -- the target of the link next of what is told; a refusal has none, and what is no page has none
 abbrev pub next_told : Wanted → List Command → Option (List ℕ)
 next_told (wants.Told told) commands = None
-next_told (wants.Sought (sought.Feature collection identifier)) commands = None
-next_told (wants.Sought (sought.Page ask)) commands =
+next_told (wants.Features (features.Feature collection identifier)) commands = None
+next_told (wants.Features (features.Page ask)) commands =
     if nat_lt (length commands) (revision_asked ask commands) then None else next_in ask (snapshot_asked ask commands)
 
 abbrev pub next_of : Visit → Option (List ℕ)

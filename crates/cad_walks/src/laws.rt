@@ -19,7 +19,7 @@ use cad_desk::laws::connections_are_their_own;
 use cad_page::laws::the_same_has_one_answer;
 use cad_query::laws::{next_is_read_back, pairs_are_texts};
 use cad_resource::laws::{paths_are_read_back, resources_are_asked};
-use cad_server::Server;
+use cad_responder::Server;
 use cad_stream::Responder;
 use cad_versions::Ledger;
 use cad_versions::laws::revisions_stay;

@@ -19,7 +19,7 @@ use Rattle.cad_resource.specs.Checks.{word_of, status_of}
 use Rattle.cad_resource.specs.Places.{Place, landing, collections, collection, queryables, items, item}
 use Rattle.cad_wanted.specs.declared.request.Wanted.{Wanted}
 use Rattle.cad_wanted.specs.declared.request.Wanted.TheVariants as wants
-use Rattle.cad_wanted.specs.declared.sought.Sought.TheVariants as sought
+use Rattle.cad_wanted.specs.declared.feature_request.FeatureRequest.TheVariants as features
 use Rattle.cad_wanted.specs.declared.told.Told.{Told}
 
 -- a reply of this status with this body
@@ -42,7 +42,7 @@ IsPlain pairs text told = MatchBool (has_pairs pairs) (IsRefusal status.BadReque
 -- the reply is told without the register
 abbrev pub IsTellingOf : (Told → Type 0) → Wanted → Type 0
 IsTellingOf P (wants.Told told) = P told
-IsTellingOf P (wants.Sought sought) = ⊥
+IsTellingOf P (wants.Features sought) = ⊥
 
 -- the body of a query's fault
 abbrev pub fault_text : AskFault → List ℕ
@@ -50,15 +50,15 @@ fault_text fault = compact_text (fault_data fault)
 
 -- the page that the pairs ask for, or the refusal of their first fault
 abbrev pub IsPageWanted : Collection → List PairText → Wanted → Type 0
-IsPageWanted c pairs (wants.Sought (sought.Page ask)) = IsAsk c pairs ask
+IsPageWanted c pairs (wants.Features (features.Page ask)) = IsAsk c pairs ask
 IsPageWanted c pairs (wants.Told told) = (f : AskFault) × IsFirstFault c pairs f × IsTold status.BadRequest (fault_text f) told
-IsPageWanted c pairs (wants.Sought (sought.Feature d i)) = ⊥
+IsPageWanted c pairs (wants.Features (features.Feature d i)) = ⊥
 
 -- the feature of these numbers
 abbrev pub IsFeatureOf : Collection → Numbers → Wanted → Type 0
-IsFeatureOf c numbers (wants.Sought (sought.Feature d i)) = (d ≡ c) × (numbers_of i ≡ numbers)
+IsFeatureOf c numbers (wants.Features (features.Feature d i)) = (d ≡ c) × (numbers_of i ≡ numbers)
 IsFeatureOf c numbers (wants.Told told) = ⊥
-IsFeatureOf c numbers (wants.Sought (sought.Page ask)) = ⊥
+IsFeatureOf c numbers (wants.Features (features.Page ask)) = ⊥
 
 -- the feature that a text identifies; where the text is no identifier, none is there
 abbrev pub IsIdentified : Collection → List ℕ → Wanted → Type 0

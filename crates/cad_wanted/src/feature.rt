@@ -6,7 +6,7 @@ ghost use Rattle.cad_wanted.specs.Wants.{IsFeatureWanted, IsIdentified};
 
 use crate::plain::{has_pairs, unknown};
 use crate::request::Wanted;
-use crate::sought::Sought;
+use crate::feature_request::FeatureRequest;
 use crate::told::refusal;
 use cad_query::Identifier;
 use cad_reply::Status;
@@ -32,7 +32,7 @@ fn identified(alloc: Global, collection: Collection, text: &str) -> Result<Wante
     ensures { IfOk result (IsIdentified collection text.now) }
 {
     match Identifier::read(text) {
-        Some(identifier) => Ok(Wanted::Sought(Sought::Feature {
+        Some(identifier) => Ok(Wanted::Features(FeatureRequest::Feature {
             collection,
             identifier,
         })),

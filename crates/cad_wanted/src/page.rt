@@ -7,7 +7,7 @@ ghost use Rattle.cad_reply.specs.declared.status.Status.TheVariants.{BadRequest}
 ghost use Rattle.cad_wanted.specs.Wants.{fault_text, IsTold, IsPageWanted};
 
 use crate::request::Wanted;
-use crate::sought::Sought;
+use crate::feature_request::FeatureRequest;
 use crate::told::Told;
 use cad_ask::{Ask, AskFault, fault_body};
 use cad_reply::Status;
@@ -23,7 +23,7 @@ pub(crate) fn wanted_page(
     ensures { IfOk result (IsPageWanted collection (pairs_of query.now)) }
 {
     match Ask::read(alloc, collection, query) {
-        Ok(ask) => Ok(Wanted::Sought(Sought::Page(ask))),
+        Ok(ask) => Ok(Wanted::Features(FeatureRequest::Page(ask))),
         Err(AskFault::Memory) => Err(AllocError),
         Err(fault) => Ok(Wanted::Told(fault_told(alloc, &fault)?)),
     }

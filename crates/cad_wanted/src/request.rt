@@ -8,7 +8,7 @@ ghost use Rattle.cad_wanted.specs.Wants.{IsWantedAt};
 use crate::feature::wanted_feature;
 use crate::page::wanted_page;
 use crate::plain::plain;
-use crate::sought::Sought;
+use crate::feature_request::FeatureRequest;
 use crate::told::{Told, refusal};
 use cad_bodies::{collection_body, collections_body, landing_body, queryables_body};
 use cad_resource::{Check, Resource, ResourceQuery};
@@ -19,8 +19,8 @@ use std::alloc::{AllocError, Global};
 pub enum Wanted {
     /// Nothing: this is its reply.
     Told(Told),
-    /// What is sought among the features of a revision.
-    Sought(Sought),
+    /// Features of a revision.
+    Features(FeatureRequest),
 }
 
 impl Wanted {

@@ -1,7 +1,7 @@
 use Rattle.std.proofs.Common.{rules}
 use Rattle.std.proofs.lemmas.List.Sorted.{IsPartitionPoint-from_clause}
 use Rattle.cad_merged.specs.Identifiers.{identifier}
-use Rattle.cad_merged.proofs.AfterLemmas.{is_no_later, parted, found_after}
+use Rattle.cad_merged.specs.AfterLemmas.{is_no_later, parted, found_after}
 use Rattle.cad_merged.proofs.finding.rest_after.Goals as goal
 
 pub returns : goal.returns

@@ -1,5 +1,5 @@
 use Rattle.std.proofs.Common.{ap, ◌∙◌, inr}
-use Rattle.cad_server.specs.Servers.{ledger_of}
+use Rattle.cad_responder.specs.Servers.{ledger_of}
 use Rattle.cad_program.proofs.DeskLemmas.{desk_over}
 use Rattle.cad_program.proofs.listening.listen_over.Goals as goal
 

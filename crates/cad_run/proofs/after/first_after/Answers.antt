@@ -1,4 +1,4 @@
-use Rattle.cad_run.specs.Ascending.{all_later}
+use Rattle.cad_run.specs.LaterLemmas.{all_later}
 use Rattle.cad_run.proofs.after.first_after.Goals as goal
 
 pub returns-in-None-clause-rest : goal.returns-in-None-clause-rest

@@ -1,7 +1,7 @@
 use Rattle.std.proofs.Common.{rules}
 use Rattle.std.proofs.lemmas.List.Sorted.{IsPartitionPoint-from_clause}
 use Rattle.cad_run.specs.Slices.{identifier}
-use Rattle.cad_run.specs.Ascending.{is_no_later, parted, found_rest}
+use Rattle.cad_merged.specs.AfterLemmas.{is_no_later, parted, found_rest}
 use Rattle.cad_run.proofs.after.first_later.Goals as goal
 
 pub returns-clause-rest : goal.returns-clause-rest

@@ -1,5 +1,5 @@
 use Rattle.cad_merged.specs.Identifiers.{identifier}
-use Rattle.cad_merged.proofs.AfterLemmas.{after_rises, after_merged}
+use Rattle.cad_merged.specs.AfterLemmas.{after_rises, after_merged}
 use Rattle.cad_merged.proofs.walk.Walk.after.Goals as goal
 
 pub returns-clause-order : goal.returns-clause-order

@@ -1,0 +1,26 @@
+//! A query as a test of features.
+
+ghost use Rattle.cad_answer.specs.Passing.{passes_query};
+
+use crate::answer::is_answer;
+use crate::places::Places;
+use crate::query::PageQuery;
+use cad_feature::Feature;
+use cad_run::FeatureTest;
+use std::alloc::{AllocError, Global};
+
+/// A query, with where the features have what it speaks of.
+#[derive(Clone, Copy)]
+pub(crate) struct QueryTest<'a, 'f> {
+    pub(crate) alloc: Global,
+    pub(crate) places: Places,
+    pub(crate) query: PageQuery<'a, 'f>,
+}
+
+impl FeatureTest for QueryTest<'_, '_> {
+    ghost passes = { λ test x. passes_query test.places test.query x };
+
+    fn test(&self, feature: &Feature) -> Result<bool, AllocError> {
+        is_answer(self.alloc, self.places, self.query, feature)
+    }
+}

@@ -1,0 +1,192 @@
+-- What the calls of records and servers do, from what the calls inside them do.
+use Rattle.std.proofs.Common.{◌≡◌, inl, inr, ℕ, Bool, List, Option, Some, None, Result, Ok, Err, sym, ap, ◌∙◌, subst, nat_eq}
+use Rattle.std.specs.Prelude.{string_bytes}
+use Rattle.std.specs.Map.{lookup}
+use Rattle.lru.specs.LruCache.{LruCache, lru_cache, promoted}
+use Rattle.cad_versions.specs.declared.command.Command.{Command}
+use Rattle.cad_versions.specs.declared.fault.RegisterFault.{RegisterFault}
+use Rattle.cad_versions.specs.declared.fault.RegisterFault.TheVariants.{Store, Memory}
+use Rattle.cad_versions.specs.declared.ledger.Ledger.{Ghosts}
+use Rattle.cad_snapshot.specs.Snapshots.{RevisionFeatures}
+use Rattle.cad_head.specs.Request.{Request}
+use Rattle.cad_resource.specs.Asking.{asked, ends_after}
+use Rattle.cad_reply.specs.Replies.{reply_text}
+use Rattle.cad_stream.specs.declared.answer.Answer.{Answer}
+use Rattle.cad_stream.specs.Answering.{Answered}
+use Rattle.cad_wanted.specs.declared.request.Wanted.{Wanted}
+use Rattle.cad_wanted.specs.declared.told.Told.{Told}
+use Rattle.cad_wanted.specs.Wants.{IsWanted}
+use Rattle.cad_responder.specs.declared.records.Records.{Records}
+use Rattle.cad_responder.specs.declared.server.Server.{Server}
+use Rattle.cad_wanted.specs.declared.feature_request.FeatureRequest.{FeatureRequest}
+use Rattle.cad_responder.specs.Contents.{content_told, content_in}
+use Rattle.cad_responder.specs.Replies.{reply_of, IsReply, Asks, FailsToAnswer}
+use Rattle.cad_responder.specs.Servers.{AreKept, ledger_in, ledger_of, AreRecordsOf, IsServerOf, RefusesToAnswer, Recalls, Finds, Tells}
+use Rattle.cad_responder.proofs.KeptLemmas.{kept_promoted, kept_found}
+
+module _ {L : Type 0} (g : Ghosts L) where
+  -- the ledger remains what it was, where nothing was listed
+  abbrev pub RemainsHere : Type 0
+  RemainsHere = (ledger : L) → g.remains ledger ledger
+
+  remains_same : RemainsHere → (old new : Records L) → ledger_in new ≡ ledger_in old → g.remains (ledger_in old) (ledger_in new)
+  remains_same here old new same = subst (λ (l : L). g.remains (ledger_in old) l) (sym same) (here (ledger_in old))
+
+  -- ---- what is kept
+
+  pub recalls_none : {E : Type 0} (revision : ℕ) (sought : FeatureRequest) (old new : Records L) → ledger_in new ≡ ledger_in old
+      → new.kept ≡ lru_cache (promoted (nat_eq revision) old.kept.entries) old.kept.cap → Recalls g {E = E} revision sought old (Ok None) new
+  recalls_none revision sought old new same kept = record {
+    told = tt;
+    same = same;
+    kept = λ commands. kept_promoted commands (nat_eq revision) old.kept new.kept kept;
+  }
+
+  pub recalls_nothing : {E : Type 0} (revision : ℕ) (sought : FeatureRequest) (old new : Records L) (fault : E) (given : Result (Option Told) E) → given ≡ Err fault → ledger_in new ≡ ledger_in old
+      → new.kept ≡ lru_cache (promoted (nat_eq revision) old.kept.entries) old.kept.cap → Recalls g {E = E} revision sought old given new
+  recalls_nothing {E} revision sought old new fault given e same kept = subst (λ (r : Result (Option Told) E). Recalls g revision sought old r new) (sym e) (record {
+    told = tt;
+    same = same;
+    kept = λ commands. kept_promoted commands (nat_eq revision) old.kept new.kept kept;
+  })
+
+  pub recalls_some : {E : Type 0} (revision : ℕ) (sought : FeatureRequest) (old new : Records L) (snapshot : RevisionFeatures) (told : Told) → ledger_in new ≡ ledger_in old
+      → new.kept ≡ lru_cache (promoted (nat_eq revision) old.kept.entries) old.kept.cap → Some snapshot ≡ lookup (nat_eq revision) new.kept.entries
+      → content_told told ≡ content_in sought snapshot → Recalls g {E = E} revision sought old (Ok (Some told)) new
+  recalls_some revision sought old new snapshot told same kept found is = record {
+    told = λ commands all. is ∙ ap (content_in sought) (kept_found commands new.kept.entries revision snapshot (kept_promoted commands (nat_eq revision) old.kept new.kept kept all) (sym found)).1;
+    same = same;
+    kept = λ commands. kept_promoted commands (nat_eq revision) old.kept new.kept kept;
+  }
+
+  -- ---- what is found
+
+  moved : (old new : Records L) → ledger_in new ≡ ledger_in old → ((commands : List Command) → AreKept commands old.kept.entries → AreKept commands new.kept.entries)
+      → (commands : List Command) → AreRecordsOf g old commands → AreRecordsOf g new commands
+  moved old new same kept commands records = record {
+    ledger = subst (λ (l : L). g.stands_for l commands) (sym same) records.ledger;
+    kept = kept commands records.kept;
+  }
+
+  found_so : {E : Type 0} → RemainsHere → (revision : ℕ) (sought : FeatureRequest) (old new : Records L) (told : Told) → Recalls g {E = E} revision sought old (Ok (Some told)) new → Finds g revision sought old (Ok told) new
+  found_so here revision sought old new told r = record {
+    told = λ counts commands records within. r.told commands records.kept;
+    cause = λ counts. tt;
+    reads = record {
+      store = λ counts. tt;
+      still = λ counts. remains_same here old new r.same;
+      kept = λ counts. moved old new r.same r.kept;
+      unchanged = λ counts lives. tt;
+      clean = subst g.counts r.same;
+    };
+  }
+
+  pub found_kept : {E : Type 0} → RemainsHere → (revision : ℕ) (sought : FeatureRequest) (old new : Records L) (told : Told) (found : Option Told) (given : Result (Option Told) E) → given ≡ Ok found → found ≡ Some told
+      → Recalls g {E = E} revision sought old given new → Finds g revision sought old (Ok told) new
+  found_kept {E} here revision sought old new told found given e f recalled =
+      let is : given ≡ Ok (Some told) = e ∙ ap Ok f in
+      found_so here revision sought old new told (subst (λ (r : Result (Option Told) E). Recalls g {E = E} revision sought old r new) is recalled)
+
+  not_store : (fault : RegisterFault) → fault ≡ Memory → ¬ (fault ≡ Store)
+  not_store fault m s = absurd (let e : Memory ≡ Store = sym m ∙ s in cc)
+
+  pub found_nothing : {E : Type 0} (revision : ℕ) (sought : FeatureRequest) (old new : Records L) (result : Result (Option Told) E) (fault : RegisterFault) (given : Result Told RegisterFault) → given ≡ Err fault → fault ≡ Memory
+      → Recalls g revision sought old result new → Finds g revision sought old given new
+  found_nothing revision sought old new result fault given e m r = subst (λ (given : Result Told RegisterFault). Finds g revision sought old given new) (sym e) (record {
+    told = λ counts. tt;
+    cause = λ counts commands records within. inl m;
+    reads = record {
+      store = λ counts s. absurd (not_store fault m s);
+      still = λ counts. tt;
+      kept = λ counts. tt;
+      unchanged = λ counts lives. moved old new r.same r.kept;
+      clean = subst g.counts r.same;
+    };
+  })
+
+  -- there was no memory for what was listed
+  pub read_nothing : (revision : ℕ) (sought : FeatureRequest) (old new : Records L) (fault : RegisterFault) (given : Result Told RegisterFault) → given ≡ Err fault → fault ≡ Memory
+      → new.kept ≡ old.kept → (g.counts (ledger_in new) → (commands : List Command) → g.stands_for (ledger_in old) commands → g.stands_for (ledger_in new) commands)
+      → (g.counts (ledger_in new) → g.counts (ledger_in old)) → Finds g revision sought old given new
+  read_nothing revision sought old new fault given e m same stays clean = subst (λ (given : Result Told RegisterFault). Finds g revision sought old given new) (sym e) (record {
+    told = λ counts. tt;
+    cause = λ counts commands records within. inl m;
+    reads = record {
+      store = λ counts s. absurd (not_store fault m s);
+      still = λ counts. tt;
+      kept = λ counts. tt;
+      unchanged = λ counts lives commands records. record {
+        ledger = stays counts commands records.ledger;
+        kept = subst (λ (k : LruCache ℕ RevisionFeatures). AreKept commands k.entries) (sym same) records.kept;
+      };
+      clean = clean;
+    };
+  })
+
+  pub found_read : {E : Type 0} (revision : ℕ) (sought : FeatureRequest) (old mid new : Records L) (was : Result (Option Told) E) (result : Result Told RegisterFault)
+      → Recalls g revision sought old was mid → Finds g revision sought mid result new → Finds g revision sought old result new
+  found_read revision sought old mid new was (Ok told) r f = record {
+    told = λ counts commands records. f.told counts commands (moved old mid r.same r.kept commands records);
+    cause = λ counts. tt;
+    reads = record {
+      store = λ counts. tt;
+      still = λ counts. subst (λ (l : L). g.remains l (ledger_in new)) r.same (f.reads.still counts);
+      kept = λ counts commands records. f.reads.kept counts commands (moved old mid r.same r.kept commands records);
+      unchanged = λ counts lives. tt;
+      clean = λ counts. subst g.counts r.same (f.reads.clean counts);
+    };
+  }
+  found_read revision sought old mid new was (Err fault) r f = record {
+    told = λ counts. tt;
+    cause = λ counts commands records. f.cause counts commands (moved old mid r.same r.kept commands records);
+    reads = record {
+      store = λ counts s. subst (λ (l : L). g.refuses_listing l (ledger_in new) revision) r.same (f.reads.store counts s);
+      still = λ counts. tt;
+      kept = λ counts. tt;
+      unchanged = λ counts lives commands records. f.reads.unchanged counts lives commands (moved old mid r.same r.kept commands records);
+      clean = λ counts. subst g.counts r.same (f.reads.clean counts);
+    };
+  }
+
+  -- ---- what is answered
+
+  -- what the trait says of an answer
+  abbrev IsAnswered : Server L → Request → Result Answer RegisterFault → Server L → Type 0
+  IsAnswered old request result new =
+      Answered (IsServerOf g) (λ (s : Server L). g.counts (ledger_of s)) (λ (s : Server L). g.lives (ledger_of s)) IsReply ends_after Asks (FailsToAnswer g.fails_to_list) (RefusesToAnswer g) (λ (o n : Server L). g.remains (ledger_of o) (ledger_of n)) old request result new
+
+  pub answered_err : (old new : Server L) (request : Request) (wanted : Wanted) (fault : RegisterFault) (given : Result Answer RegisterFault) → given ≡ Err fault → IsWanted (asked request) wanted
+      → Tells g wanted old.records (Err fault) new.records → IsAnswered old request given new
+  answered_err old new request wanted fault given e is t = subst (λ (given : Result Answer RegisterFault). IsAnswered old request given new) (sym e) (record {
+    replied = λ counts. tt;
+    ends = tt;
+    cause = λ counts commands stands. elim (t.cause counts commands stands) [
+      | inl m ↦ inl m
+      | inr f ↦ inr (wanted, is, f)
+    ];
+    asking = elim t.asking [
+      | inl m ↦ inl m
+      | inr sought ↦ inr (wanted, is, sought)
+    ];
+    store = λ counts s. (wanted, is, t.reads.store counts s);
+    still = λ counts. tt;
+    kept = λ counts. tt;
+    unchanged = t.reads.unchanged;
+    clean = t.reads.clean;
+  })
+
+  pub answered_ok : (old new : Server L) (request : Request) (wanted : Wanted) (told : Told) (answer : Answer) → IsWanted (asked request) wanted
+      → Tells g wanted old.records (Ok told) new.records → answer.bytes.items ≡ reply_text told.status answer.ends (string_bytes told.body) → answer.ends ≡ ends_after request
+      → IsAnswered old request (Ok answer) new
+  answered_ok old new request wanted told answer is t bytes ends = record {
+    replied = λ counts commands stands.
+        (wanted, is, bytes ∙ ap (λ (b : Bool). reply_text told.status b (string_bytes told.body)) ends ∙ ap (reply_of request) (t.told counts commands stands));
+    ends = ends;
+    cause = λ counts. tt;
+    asking = tt;
+    store = λ counts. tt;
+    still = t.reads.still;
+    kept = t.reads.kept;
+    unchanged = λ counts lives. tt;
+    clean = t.reads.clean;
+  }

@@ -1,0 +1,148 @@
+-- What is kept stays right.
+use Rattle.std.proofs.Common.{◌≡◌, ◌≤◌, ℕ, ◌+◌, Bool, true, List, [], ◌∷◌, ◌++◌, length, Contains, Option, Some, Result, Ok, Err, OnOk, OnErr, refl, sym, ap, ap₂, ◌∙◌, subst, inl, inr, arith, nat_eq}
+use Rattle.std.proofs.lemmas.List.{length-append}
+use Rattle.std.proofs.lemmas.Bool.Decides.{nat_tests}
+use Rattle.std.specs.Option.{IfSome}
+use Rattle.std.specs.Result.{IfOk, result_ok}
+use Rattle.std.specs.Map.{lookup, remove_entry}
+use Rattle.lru.specs.LruCache.{LruCache, lru_cache, promoted, put_entries}
+use Rattle.lru.proofs.CallerLemmas.{Contains-promoted, Contains-put_entries, Contains-lookup, Contains-remove_entry}
+use Rattle.cad_versions.specs.declared.command.Command.{Command}
+use Rattle.cad_versions.specs.VersionedObject.{VersionedObject}
+use Rattle.cad_versions.specs.declared.fault.RegisterFault.{RegisterFault}
+use Rattle.cad_versions.specs.declared.ledger.Ledger.{Ghosts}
+use Rattle.cad_versions.specs.Ledgers.{Applied}
+use Rattle.cad_versions.specs.AsOf.{as_of}
+use Rattle.cad_versions.specs.Laws.{RevisionsStay}
+use Rattle.cad_versions.specs.Refusals.{AreAccepted}
+use Rattle.cad_feature.specs.Flatten.{features_in}
+use Rattle.cad_snapshot.specs.Snapshots.{RevisionFeatures, IsSnapshotOf, is_told, told_at}
+use Rattle.cad_responder.specs.Contents.{snapshot_of, snapshot_at}
+use Rattle.cad_responder.specs.declared.records.Records.{Records}
+use Rattle.cad_responder.specs.Servers.{IsKept, AreKept, ledger_in, AreRecordsOf, Keeps}
+
+-- the snapshot of these versions is one value
+pub built : (revision : ℕ) (versions : List VersionedObject) (s : RevisionFeatures) → IsSnapshotOf revision versions s → s ≡ snapshot_of revision versions
+built revision versions s is = is_told s revision (features_in versions) is.of_revision is.features
+
+-- one command more changes nothing of what is kept
+pub kept_later : RevisionsStay → (commands : List Command) (command : Command) (entries : List (ℕ × RevisionFeatures)) → AreKept commands entries → AreKept (commands ++ command ∷ []) entries
+kept_later stay commands command entries all entry among =
+    let kept = all entry among in
+    let h : entry.0 ≤ length commands = kept.0 in
+    let n : length (commands ++ command ∷ []) ≡ length commands + 1 = length-append commands (command ∷ []) in
+    (grind (arith, h, n), kept.1 ∙ ap (snapshot_of entry.0) (sym (stay commands (command ∷ []) entry.0 h)))
+
+-- a use changes the order alone
+pub kept_promoted : (commands : List Command) (test : ℕ → Bool) (old new : LruCache ℕ RevisionFeatures) → new ≡ lru_cache (promoted test old.entries) old.cap → AreKept commands old.entries → AreKept commands new.entries
+kept_promoted commands test old new same all entry among =
+    all entry (Contains-promoted test old.entries entry (subst (λ (c : LruCache ℕ RevisionFeatures). Contains c.entries entry) same among))
+
+-- and less may be kept
+pub kept_removed : (commands : List Command) (test : ℕ → Bool) (old new : LruCache ℕ RevisionFeatures) → new ≡ lru_cache (remove_entry test old.entries) old.cap → AreKept commands old.entries → AreKept commands new.entries
+kept_removed commands test old new same all entry among =
+    all entry (Contains-remove_entry test old.entries entry (subst (λ (c : LruCache ℕ RevisionFeatures). Contains c.entries entry) same among))
+
+same_number : (a b : ℕ) → nat_eq a b ≡ true → a ≡ b
+same_number a b h = grind (arith, nat_tests)
+
+kept_under : (commands : List Command) (revision : ℕ) (snapshot : RevisionFeatures) (entry : ℕ × RevisionFeatures) → entry.1 ≡ snapshot → entry.0 ≡ revision → IsKept commands (revision, snapshot) → IsKept commands entry
+kept_under commands revision snapshot entry s r kept =
+    (subst (λ n. n ≤ length commands) (sym r) kept.0, s ∙ kept.1 ∙ ap (λ n. snapshot_at n commands) (sym r))
+
+put_kept : (commands : List Command) (old : LruCache ℕ RevisionFeatures) (revision : ℕ) (snapshot : RevisionFeatures) → AreKept commands old.entries → IsKept commands (revision, snapshot) → AreKept commands (put_entries nat_eq old revision snapshot)
+put_kept commands old revision snapshot all kept entry among = elim (Contains-put_entries nat_eq old revision snapshot entry among) [
+  | inl was ↦ all entry was
+  | inr put ↦ elim put.1 [
+    | inl same ↦ kept_under commands revision snapshot entry put.0 same kept
+    | inr found ↦ kept_under commands revision snapshot entry put.0 (sym (same_number revision entry.0 found.2)) kept
+  ]
+]
+
+-- what is put is kept, or nothing changes
+pub kept_put : {E : Type 0} (commands : List Command) (old new : LruCache ℕ RevisionFeatures) (revision : ℕ) (snapshot : RevisionFeatures) (result : Result (Option RevisionFeatures) E)
+    → OnOk result (new ≡ lru_cache (put_entries nat_eq old revision snapshot) old.cap) → OnErr result (new ≡ old)
+    → AreKept commands old.entries → IsKept commands (revision, snapshot) → AreKept commands new.entries
+kept_put commands old new revision snapshot (Ok was) put err all kept entry among =
+    put_kept commands old revision snapshot all kept entry (subst (λ (c : LruCache ℕ RevisionFeatures). Contains c.entries entry) put among)
+kept_put commands old new revision snapshot (Err e) put err all kept entry among =
+    all entry (subst (λ (c : LruCache ℕ RevisionFeatures). Contains c.entries entry) err among)
+
+-- what is found under a revision is that of the revision
+pub kept_found : (commands : List Command) (entries : List (ℕ × RevisionFeatures)) (revision : ℕ) (snapshot : RevisionFeatures) → AreKept commands entries → lookup (nat_eq revision) entries ≡ Some snapshot → IsKept commands (revision, snapshot)
+kept_found commands entries revision snapshot all found =
+    let at = Contains-lookup (nat_eq revision) entries snapshot found in
+    let r : revision ≡ at.0 = same_number revision at.0 at.2 in
+    subst (λ n. IsKept commands (n, snapshot)) (sym r) (all (at.0, snapshot) at.1)
+
+-- ---- the next revision
+
+-- what holds of a value that is there holds of it as an option
+pub some_of_ok : {A : Type 0} {E : Type 0} (P Q : A → Type 0) (r : Result A E) (o : Option A) → o ≡ result_ok r → ((x : A) → P x → Q x) → IfOk r P → IfSome o Q
+some_of_ok P Q (Ok x) o is f h = subst (λ o. IfSome o Q) (sym is) (f x h)
+some_of_ok P Q (Err e) o is f h = subst (λ o. IfSome o Q) (sym is) tt
+
+is_snapshot : (revision : ℕ) (versions : List VersionedObject) (s : RevisionFeatures) → s ≡ snapshot_of revision versions → IsSnapshotOf revision versions s
+is_snapshot revision versions s is = subst (IsSnapshotOf revision versions) (sym is) (record { of_revision = refl; features = told_at revision (features_in versions) })
+
+-- the features after a command, by those kept of the revision before it
+pub next_kept : (commands : List Command) (command : Command) (newest revision : ℕ) (s next : RevisionFeatures) → newest ≡ length commands → revision ≡ newest + 1 → IsKept commands (newest, s)
+    → (IsSnapshotOf (length commands) (as_of (length commands) commands) s → IsSnapshotOf revision (as_of (length commands + 1) (commands ++ command ∷ [])) next)
+    → IsKept (commands ++ command ∷ []) (next.revision, next)
+next_kept commands command newest revision s next is_newest is_revision kept follows =
+    let all = commands ++ command ∷ [] in
+    let at : s ≡ snapshot_at (length commands) commands = kept.1 ∙ ap (λ n. snapshot_at n commands) is_newest in
+    let f = follows (is_snapshot (length commands) (as_of (length commands) commands) s at) in
+    let r : next.revision ≡ length commands + 1 = f.of_revision ∙ is_revision ∙ ap (λ n. n + 1) is_newest in
+    let n : length all ≡ length commands + 1 = length-append commands (command ∷ []) in
+    (grind (arith, r, n), built revision (as_of (length commands + 1) all) next f ∙ ap₂ (λ a b. snapshot_of a (as_of b all)) (sym f.of_revision) (sym r))
+
+-- a command that the ledger enters is entered into the records
+module _ {L : Type 0} (g : Ghosts L) where
+  pub entered : RevisionsStay → (command : Command) (result : Result ℕ RegisterFault) (old new : Records L) → new.kept ≡ old.kept
+      → Applied g.stands_for g.counts g.lives g.fails_to_apply g.refuses_command old.ledger command result new.ledger
+      → Applied (AreRecordsOf g) (λ (r : Records L). g.counts (ledger_in r)) (λ (r : Records L). g.lives (ledger_in r)) g.fails_to_apply (λ (o n : Records L). g.refuses_command (ledger_in o) (ledger_in n)) old command result new
+  entered stay command (Ok revision) old new same a = record {
+    accepted = λ counts commands records.
+        let t = a.accepted counts commands records.ledger in
+        (t.0, t.1, record { ledger = t.2; kept = subst (λ (k : LruCache ℕ RevisionFeatures). AreKept (commands ++ command ∷ []) k.entries) (sym same) (kept_later stay commands command old.kept.entries records.kept) });
+    refused = λ counts. tt;
+    store = λ counts e commands records. a.store counts e commands records.ledger;
+    unchanged = λ counts lives. tt;
+    clean = a.clean;
+  }
+  entered stay command (Err fault) old new same a = record {
+    accepted = λ counts. tt;
+    refused = λ counts commands records. a.refused counts commands records.ledger;
+    store = λ counts e commands records. a.store counts e commands records.ledger;
+    unchanged = λ counts lives commands records. record { ledger = a.unchanged counts lives commands records.ledger; kept = subst (λ (k : LruCache ℕ RevisionFeatures). AreKept commands k.entries) (sym same) records.kept };
+    clean = a.clean;
+  }
+
+  -- and what is kept of the revision since is right
+  pub then_kept : ((ledger : L) (commands : List Command) → g.stands_for ledger commands → AreAccepted [] commands)
+      → (command : Command) (revision : ℕ) (given : Result ℕ RegisterFault) (old mid new : Records L) (next : RevisionFeatures) → given ≡ Ok revision
+      → Applied (AreRecordsOf g) (λ (r : Records L). g.counts (ledger_in r)) (λ (r : Records L). g.lives (ledger_in r)) g.fails_to_apply (λ (o n : Records L). g.refuses_command (ledger_in o) (ledger_in n)) old command given mid
+      → ((commands : List Command) → AreRecordsOf g old commands → AreAccepted [] (commands ++ command ∷ []) → IsKept (commands ++ command ∷ []) (next.revision, next))
+      → Keeps g next mid new
+      → Applied (AreRecordsOf g) (λ (r : Records L). g.counts (ledger_in r)) (λ (r : Records L). g.lives (ledger_in r)) g.fails_to_apply (λ (o n : Records L). g.refuses_command (ledger_in o) (ledger_in n)) old command (Ok revision) new
+  then_kept were_accepted command revision given old mid new next is given_so follows keeps =
+      let a : Applied (AreRecordsOf g) (λ (r : Records L). g.counts (ledger_in r)) (λ (r : Records L). g.lives (ledger_in r)) g.fails_to_apply (λ (o n : Records L). g.refuses_command (ledger_in o) (ledger_in n)) old command (Ok revision) mid
+      = subst (λ (r : Result ℕ RegisterFault). Applied (AreRecordsOf g) (λ (r : Records L). g.counts (ledger_in r)) (λ (r : Records L). g.lives (ledger_in r)) g.fails_to_apply (λ (o n : Records L). g.refuses_command (ledger_in o) (ledger_in n)) old command r mid) is given_so in
+      let counted : g.counts (ledger_in new) → g.counts (ledger_in mid) = subst g.counts keeps.same in
+      record {
+        accepted = λ counts commands records.
+            let t = a.accepted (counted counts) commands records in
+            let all = commands ++ command ∷ [] in (
+              t.0,
+              t.1,
+              record {
+                ledger = subst (λ l. g.stands_for l all) (sym keeps.same) t.2.ledger;
+                kept = keeps.kept all t.2.kept (follows commands records (were_accepted (ledger_in mid) all t.2.ledger));
+              },
+            );
+        refused = λ counts. tt;
+        store = λ counts e commands records. subst (λ l. g.refuses_command (ledger_in old) l command (length commands)) (sym keeps.same) (a.store (counted counts) e commands records);
+        unchanged = λ counts lives. tt;
+        clean = λ counts. a.clean (counted counts);
+      }

@@ -1,0 +1,38 @@
+use Rattle.std.proofs.Common.{ap, sym, subst, ◌∙◌, refl}
+use Rattle.std.proofs.lemmas.Result.{err_from_is_err_and}
+use Rattle.cad_responder.specs.Contents.{snapshot_of, content_in}
+use Rattle.cad_responder.specs.Servers.{IsKept}
+use Rattle.cad_responder.proofs.CallLemmas.{read_nothing}
+use Rattle.cad_responder.proofs.KeptLemmas.{built}
+use Rattle.cad_responder.proofs.records.Records.read.Goals as goal
+
+pub returns : goal.returns
+returns g c =
+    let listed = c.in_ok-versions.ensures in
+    let s = c.in_ok-snapshot.snapshot in
+    let is = built c.args.revision c.deref.result.now s c.in_ok-snapshot.ensures ∙ ap (snapshot_of c.args.revision) c.deref.ensures.value in
+    let counted : g.L.Ledger.counts c.keep.new.self.ledger → g.L.Ledger.counts c.as_of.new.self = subst g.L.Ledger.counts c.keep.ensures.same in
+    record {
+      told = λ counts commands records within.
+          c.in_ok-told.ensures ∙ ap (content_in c.args.sought.now) (is ∙ ap (snapshot_of c.args.revision) (listed.shown (counted counts) commands records.ledger).1);
+      cause = λ counts. tt;
+      reads = record {
+        store = λ counts. tt;
+        still = λ counts. subst (λ l. g.L.Ledger.remains c.args.self.now.ledger l) (sym c.keep.ensures.same) (listed.still (counted counts));
+        kept = λ counts commands records.
+            let shown = listed.shown (counted counts) commands records.ledger in
+            record {
+              ledger = subst (λ l. g.L.Ledger.stands_for l commands) (sym c.keep.ensures.same) (listed.kept (counted counts) commands records.ledger);
+              kept = c.keep.ensures.kept commands records.kept
+                  (subst (λ n. IsKept commands (n, s)) (sym c.in_ok-snapshot.ensures.of_revision) (shown.0, is ∙ ap (snapshot_of c.args.revision) shown.1));
+            };
+        unchanged = λ counts lives. tt;
+        clean = λ counts. listed.clean (counted counts);
+      };
+    }
+
+pub returns-in_err-told : goal.returns-in_err-told
+returns-in_err-told g c =
+    let p = err_from_is_err_and c.from_residual-in_err-told.result c.from_residual-in_err-told.ensures.1 in
+    let listed = c.in_ok-versions.ensures in
+    read_nothing g.L.Ledger c.args.revision c.args.sought.now c.args.self.now _ p.0 c.from_residual-in_err-told.result p.1 p.2 refl listed.kept listed.clean

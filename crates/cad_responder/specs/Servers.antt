@@ -1,0 +1,102 @@
+-- What clauses see of a server, and what its calls do (own profile).
+use Rattle.std.specs.Prelude.{◌≡◌, ◌≤◌, ◌⊎◌, ℕ, List, length, Contains, Option, IfSome, Result, IfOk, IfErr, OnOk, OnErr}
+use Rattle.cad_versions.specs.declared.command.Command.{Command}
+use Rattle.cad_versions.specs.declared.fault.RegisterFault.{RegisterFault}
+use Rattle.cad_versions.specs.declared.fault.RegisterFault.TheVariants.{Store, Memory}
+use Rattle.cad_versions.specs.Keeping.{MayClose}
+use Rattle.cad_versions.specs.declared.ledger.Ledger.{Ghosts}
+use Rattle.cad_snapshot.specs.Snapshots.{RevisionFeatures}
+use Rattle.cad_head.specs.Request.{Request}
+use Rattle.cad_resource.specs.Asking.{asked}
+use Rattle.cad_wanted.specs.Wants.{IsWanted}
+use Rattle.cad_wanted.specs.declared.request.Wanted.{Wanted}
+use Rattle.cad_wanted.specs.declared.request.Wanted.TheVariants as wants
+use Rattle.cad_wanted.specs.declared.told.Told.{Told}
+use Rattle.cad_responder.specs.declared.records.Records.{Records}
+use Rattle.cad_responder.specs.declared.server.Server.{Server}
+use Rattle.cad_wanted.specs.declared.feature_request.FeatureRequest.{FeatureRequest}
+use Rattle.cad_responder.specs.Contents.{content_told, content_in, content_of, content_wanted, revision_sought, snapshot_at}
+use Rattle.cad_responder.specs.Replies.{AsksForFeatures, FailsToFind, FailsToTell}
+
+-- what is kept under a revision are its features, and the revision was made
+abbrev pub IsKept : List Command → ℕ × RevisionFeatures → Type 0
+IsKept commands entry = (entry.0 ≤ length commands) × (entry.1 ≡ snapshot_at entry.0 commands)
+
+-- so is all that is kept
+abbrev pub AreKept : List Command → List (ℕ × RevisionFeatures) → Type 0
+AreKept commands entries = (entry : ℕ × RevisionFeatures) → Contains entries entry → IsKept commands entry
+
+abbrev pub ledger_in : {L : Type 0} → Records L → L
+ledger_in records = records.ledger
+
+-- the ledger that a server answers over
+abbrev pub ledger_of : {L : Type 0} → Server L → L
+ledger_of server = ledger_in server.records
+
+module _ {L : Type 0} (g : Ghosts L) where
+  -- the records are those of the commands
+  pub record AreRecordsOf (records : Records L) (commands : List Command) : Type 0 where
+    pub ledger : g.stands_for records.ledger commands
+    pub kept : AreKept commands records.kept.entries
+
+  -- so are those of the server
+  abbrev pub IsServerOf : Server L → List Command → Type 0
+  IsServerOf server commands = AreRecordsOf server.records commands
+
+  -- what keeps the ledger refuses to list the revision at which this is sought
+  abbrev pub RefusesToFind : FeatureRequest → Records L → Records L → Type 0
+  RefusesToFind sought old new =
+      (revision : ℕ) × g.refuses_listing (ledger_in old) (ledger_in new) revision
+      × ((commands : List Command) → AreRecordsOf old commands → revision ≡ revision_sought sought (length commands))
+
+  -- the same of what is wanted; nothing is listed for what is told without the ledger
+  abbrev pub RefusesToTell : Wanted → Records L → Records L → Type 0
+  RefusesToTell (wants.Told told) old new = ⊥
+  RefusesToTell (wants.Features sought) old new = RefusesToFind sought old new
+
+  -- the same of what a request asks for
+  abbrev pub RefusesToAnswer : Server L → Server L → Request → Type 0
+  RefusesToAnswer old new request = (wanted : Wanted) × IsWanted (asked request) wanted × RefusesToTell wanted old.records new.records
+
+  -- reading what is kept changes nothing, and where something is read the ledger remains what it was; the store refuses that alone
+  pub record Reads {T : Type 0} (Refused : Type 0) (old : Records L) (result : Result T RegisterFault) (new : Records L) : Type 0 where
+    pub store : g.counts (ledger_in new) → IfErr result (λ fault. fault ≡ Store → Refused)
+    pub still : g.counts (ledger_in new) → OnOk result (g.remains (ledger_in old) (ledger_in new))
+    pub kept : g.counts (ledger_in new) → OnOk result ((commands : List Command) → AreRecordsOf old commands → AreRecordsOf new commands)
+    pub unchanged : g.counts (ledger_in new) → IfErr result (λ fault. MayClose fault → g.lives (ledger_in new)) → OnErr result ((commands : List Command) → AreRecordsOf old commands → AreRecordsOf new commands)
+    pub clean : g.counts (ledger_in new) → g.counts (ledger_in old)
+
+  -- less is kept, and the ledger is not touched
+  pub record Forgets (old new : Records L) : Type 0 where
+    pub same : ledger_in new ≡ ledger_in old
+    pub kept : (commands : List Command) → AreKept commands old.kept.entries → AreKept commands new.kept.entries
+
+  -- more is kept, or less, and the ledger is not touched
+  pub record Keeps (snapshot : RevisionFeatures) (old new : Records L) : Type 0 where
+    pub same : ledger_in new ≡ ledger_in old
+    pub kept : (commands : List Command) → AreKept commands old.kept.entries → IsKept commands (snapshot.revision, snapshot) → AreKept commands new.kept.entries
+
+  -- what is kept of a revision tells what is sought; only the order of what is kept changes
+  pub record Recalls {E : Type 0} (revision : ℕ) (sought : FeatureRequest) (old : Records L) (result : Result (Option Told) E) (new : Records L) : Type 0 where
+    pub told : IfOk result (λ found. IfSome found (λ told. (commands : List Command) → AreKept commands old.kept.entries → content_told told ≡ content_in sought (snapshot_at revision commands)))
+    pub same : ledger_in new ≡ ledger_in old
+    pub kept : (commands : List Command) → AreKept commands old.kept.entries → AreKept commands new.kept.entries
+
+  -- what is sought at a revision that was made is told
+  pub record Finds (revision : ℕ) (sought : FeatureRequest) (old : Records L) (result : Result Told RegisterFault) (new : Records L) : Type 0 where
+    pub told : g.counts (ledger_in new) → IfOk result (λ told. (commands : List Command) → AreRecordsOf old commands → revision ≤ length commands → content_told told ≡ content_in sought (snapshot_at revision commands))
+    pub cause : g.counts (ledger_in new) → IfErr result (λ fault. (commands : List Command) → AreRecordsOf old commands → revision ≤ length commands → (fault ≡ Memory) ⊎ g.fails_to_list revision commands fault)
+    pub reads : Reads (g.refuses_listing (ledger_in old) (ledger_in new) revision) old result new
+
+  -- what is sought is told, at the revision that is asked for or the newest
+  pub record Seeks (sought : FeatureRequest) (old : Records L) (result : Result Told RegisterFault) (new : Records L) : Type 0 where
+    pub told : g.counts (ledger_in new) → IfOk result (λ told. (commands : List Command) → AreRecordsOf old commands → content_told told ≡ content_of sought commands)
+    pub cause : g.counts (ledger_in new) → IfErr result (λ fault. (commands : List Command) → AreRecordsOf old commands → (fault ≡ Memory) ⊎ FailsToFind g.fails_to_list commands sought fault)
+    pub reads : Reads (RefusesToFind sought old new) old result new
+
+  -- what is wanted is told
+  pub record Tells (wanted : Wanted) (old : Records L) (result : Result Told RegisterFault) (new : Records L) : Type 0 where
+    pub told : g.counts (ledger_in new) → IfOk result (λ told. (commands : List Command) → AreRecordsOf old commands → content_told told ≡ content_wanted wanted commands)
+    pub cause : g.counts (ledger_in new) → IfErr result (λ fault. (commands : List Command) → AreRecordsOf old commands → (fault ≡ Memory) ⊎ FailsToTell g.fails_to_list commands wanted fault)
+    pub asking : IfErr result (λ fault. (fault ≡ Memory) ⊎ AsksForFeatures wanted)
+    pub reads : Reads (RefusesToTell wanted old new) old result new
