@@ -1,15 +1,15 @@
 -- Pages that follow one another.
-use Rattle.std.proofs.Common.{◌≡◌, ℕ, zero, suc, ◌-◌, ◌≤◌, ◌<◌, ℤ, Bool, true, false, cond, nat_lt, IsTrue, List, [], ◌∷◌, ◌++◌, length, filter, take, drop, slice_get, refl, sym, ap, ◌∙◌, subst, arith, get_or, append-nil, ⊎_elim, true≢false, Option, Some, None, Ordering, Less, Equal, Greater, is_gt}
+use Rattle.std.proofs.Common.{◌≡◌, ℕ, zero, suc, ◌-◌, ◌≤◌, ◌<◌, ℤ, Bool, true, false, cond, IsTrue, List, [], ◌∷◌, ◌++◌, length, filter, take, drop, slice_get, refl, sym, ap, ◌∙◌, subst, arith, get_or, append-nil, ⊎_elim, true≢false, Option, Some, None, Ordering, Less, Equal, Greater, is_gt}
 use Rattle.std.specs.Bool.{MatchBool}
 use Rattle.std.specs.List.{All, AllByRecursion, flat_map}
 use Rattle.std.specs.List.Sorted.{IsStrictlySortedBy}
 use Rattle.std.specs.Ordering.{ordering_reverse}
 use Rattle.std.proofs.Math.ListN.{take-append-drop}
 use Rattle.std.proofs.Math.Nat.{eq-or-lt_of_le}
-use Rattle.std.proofs.lemmas.Bool.Decides.{nat_tests}
 use Rattle.std.proofs.lemmas.List.{take_all, length-take-le, get_or_default}
 use Rattle.std.proofs.lemmas.List.Elements.{All-from_recursion}
 use Rattle.std.proofs.lemmas.List.Kept.{IsStrictlySortedBy-filter}
+use Rattle.std.proofs.lemmas.Bool.{ltb-true, ltb-false}
 use Rattle.cad_versions.specs.Identifiers.{identifier_cmp}
 use Rattle.cad_versions.specs.OrderLemmas.{identifiers_total}
 use Rattle.cad_feature.specs.Features.{Item, identifier_of, by_identifier}
@@ -123,21 +123,15 @@ goes_on last xs k up h =
     let d = default_of ys k below in
     ap (λ named. later named xs) (last_is ys k d h) ∙ rest_is last xs up k (get_or ys k d) below (λ e. get_or_default ys k e d below)
 
-lt_is : (m n : ℕ) → nat_lt m n ≡ true → m < n
-lt_is m n h = grind (arith, nat_tests)
-
-le_is : (m n : ℕ) → nat_lt m n ≡ false → n ≤ m
-le_is m n h = grind (arith, nat_tests)
-
 ends_or_goes_on : (k : ℕ) (xs : List Item) (last : Option (ℤ × ℤ)) (joined : List Item) (pages : List (List Item)) (more : Bool) → IsStrictlySortedBy by_identifier xs → is_more last (suc k) xs ≡ more → joined ≡ flat_map (λ page. page) pages
     → (AreWalk (suc k) xs (last_of (slice last (suc k) xs)) pages → joined ≡ later (last_of (slice last (suc k) xs)) xs)
     → MatchBool more (AreWalk (suc k) xs (last_of (slice last (suc k) xs)) pages) (pages ≡ []) → slice last (suc k) xs ++ joined ≡ later last xs
 ends_or_goes_on k xs last joined pages true up e is walked rest =
-    ap (λ us. slice last (suc k) xs ++ us) (walked rest ∙ goes_on last xs k up (omega (arith, lt_is (suc k) (length (later last xs)) e)))
+    ap (λ us. slice last (suc k) xs ++ us) (walked rest ∙ goes_on last xs k up (omega (arith, ltb-true (suc k) (length (later last xs)) e)))
     ∙ take-append-drop (suc k) (later last xs)
 ends_or_goes_on k xs last joined pages false up e is walked rest =
     ap (λ us. slice last (suc k) xs ++ us) (is ∙ ap (flat_map (λ page. page)) rest)
-    ∙ append-nil (slice last (suc k) xs) ∙ take_all (suc k) (later last xs) (le_is (suc k) (length (later last xs)) e)
+    ∙ append-nil (slice last (suc k) xs) ∙ take_all (suc k) (later last xs) (ltb-false (suc k) (length (later last xs)) e)
 
 pub whole : (limit : ℕ) (xs : List Item) (last : Option (ℤ × ℤ)) (pages : List (List Item)) → 1 ≤ limit → IsStrictlySortedBy by_identifier xs → AreWalk limit xs last pages → flat_map (λ page. page) pages ≡ later last xs
 whole limit xs last [] some up walk = absurd walk

@@ -25,8 +25,9 @@ use Rattle.cad_ask.specs.declared.ask.Ask.{Ask}
 use Rattle.cad_ask.specs.declared.fault.AskFault.{AskFault}
 use Rattle.cad_ask.specs.declared.fault.AskFault.TheVariants as fault
 use Rattle.cad_ask.specs.Faults.{of_filter as fault_of_filter, selection_fault}
-use Rattle.cad_ask.specs.Answers.{filter_given, IsFilterGiven, IsFilterFault, IsAsk, FiltersWell, AsksWell, IsFirstFault, of_selection, of_filter, of_continuation, AnswersFilter, Answers, OrMemory}
+use Rattle.cad_ask.specs.Answers.{filter_given, IsFilterFault, FiltersWell, AsksWell, IsFirstFault, of_selection, of_filter, of_continuation, AnswersFilter, Answers, OrMemory}
 use Rattle.cad_ask.specs.Laws.{HasOneFirstFault, HasFaultOrAsks, NextAsksTheSame}
+use Rattle.cad_ask.specs.AnswerLemmas.{asks_well}
 
 -- ---- answers
 
@@ -50,12 +51,6 @@ pub filter_refused : (c : Collection) (pairs : List PairText) (text : Option (Li
     → (f ≡ fault.Memory) ⊎ IsFilterFault c text f → (f ≡ fault.Memory) ⊎ IsFirstFault c pairs f
 filter_refused c pairs text f none is (inl memory) = inl memory
 filter_refused c pairs text f none is (inr refused) = inr (of_filter none (subst (λ t. IsFilterFault c t f) is refused))
-
-pub filter_accepted : (c : Collection) (text : Option (List ℕ)) (filter : Option Filter) → IsFilterGiven c text filter → IfSome text (IsAccepted (schema_of c))
-filter_accepted c None None is = tt
-filter_accepted c None (Some filter) is = absurd is
-filter_accepted c (Some text) None is = absurd is
-filter_accepted c (Some text) (Some filter) is = is.0
 
 -- ---- laws
 
@@ -96,13 +91,6 @@ pub asked : HasFaultOrAsks → (c : Collection) (pairs : List PairText) (result 
 asked excludes c pairs (Ok ask) answer well = inr refl
 asked excludes c pairs (Err f) (inl memory) well = inl (ap Err memory)
 asked excludes c pairs (Err f) (inr first) well = absurd (excludes c pairs f first well)
-
-asks_well : (c : Collection) (pairs : List PairText) (ask : Ask) → IsAsk c pairs ask → AsksWell c pairs
-asks_well c pairs ask is = record {
-  selects = is.no_selection_fault;
-  filters_well = filter_accepted c (filter_given pairs) ask.filter is.filter_is;
-  continues = is.no_continuation_fault;
-}
 
 -- the first fault is told
 pub refused : HasFaultOrAsks → HasOneFirstFault → (c : Collection) (pairs : List PairText) (result : Result Ask AskFault) → Answers c pairs result

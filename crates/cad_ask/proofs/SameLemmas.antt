@@ -1,13 +1,12 @@
 -- What two values are that are read of the same pairs.
-use Rattle.std.proofs.Common.{◌≡◌, ℕ, ℤ, Option, Some, None, List, refl, sym, ap, ap₂, subst, ◌∙◌}
+use Rattle.std.proofs.Common.{◌≡◌, ℕ, Option, Some, None, List, refl, sym, ap, ◌∙◌}
 use Rattle.std.specs.Prelude.{option_map}
-use lib.Dec.{T_prop}
 use Rattle.cad_day.specs.declared.interval.Interval.{Interval}
 use Rattle.cad_day.specs.Days.{number_of}
 use Rattle.cad_day.specs.Moments.{numbers_of as ends_of}
 use Rattle.cad_shape.specs.declared.boxes.Bounds.{Bounds}
-use Rattle.cad_shape.specs.Boxes.{IsExtent}
-use Rattle.cad_versions.specs.SameLemmas.{same_day}
+use Rattle.cad_shape.specs.SameLemmas.{same_bounds}
+use Rattle.cad_day.specs.SameLemmas.{same_day}
 use Rattle.cad_schema.specs.declared.collection.Collection.{Collection}
 use Rattle.cad_schema.specs.Schema.{schema_of}
 use Rattle.cad_day.specs.Intervals.{same_interval}
@@ -30,18 +29,8 @@ same_option see same (Some a) (Some b) e = ap Some (same a b cc)
 same_days : (a b : Interval) → ends_of a ≡ ends_of b → a ≡ b
 same_days a b e = same_interval a b (same_option number_of same_day a.from b.from (ap (λ p. p.0) e)) (same_option number_of same_day a.to b.to (ap (λ p. p.1) e))
 
-extent_prop : (low high : ℤ) → IsProp (IsExtent low high)
-extent_prop low high = hlevel T_prop
-
-same_sides : (a b : Bounds) → a.x_min ≡ b.x_min → a.y_min ≡ b.y_min → a.x_max ≡ b.x_max → a.y_max ≡ b.y_max → a ≡ b
-same_sides a b e f g h =
-    subst (λ (s : ℤ × ℤ × ℤ × ℤ). (w : IsExtent s.0 s.2) (v : IsExtent s.1 s.3) → a ≡ record { x_min = s.0; y_min = s.1; x_max = s.2; y_max = s.3; width = w; height = v })
-    (ap₂ (λ (p q : ℤ × ℤ). (p.0, p.1, q.0, q.1)) (ap₂ (λ (x y : ℤ). (x, y)) e f) (ap₂ (λ (x y : ℤ). (x, y)) g h))
-    (λ w v. ap₂ (λ (w : IsExtent a.x_min a.x_max) (v : IsExtent a.y_min a.y_max). record { x_min = a.x_min; y_min = a.y_min; x_max = a.x_max; y_max = a.y_max; width = w; height = v }) (extent_prop a.x_min a.x_max a.width w) (extent_prop a.y_min a.y_max a.height v))
-    b.width b.height
-
 same_box : (a b : Bounds) → box_numbers a ≡ box_numbers b → a ≡ b
-same_box a b e = same_sides a b (ap (λ n. n.0) e) (ap (λ n. n.1) e) (ap (λ n. n.2) e) (ap (λ n. n.3) e)
+same_box a b e = same_bounds a b (ap (λ n. n.0) e) (ap (λ n. n.1) e) (ap (λ n. n.2) e) (ap (λ n. n.3) e)
 
 -- ---- filters of one text
 

@@ -3,6 +3,7 @@ use Rattle.std.proofs.Common.{◌≡◌, ℕ, ◌+◌, ◌≤◌, Bool, true, fa
 use Rattle.std.specs.List.{AllByRecursion}
 use Rattle.std.proofs.lemmas.Bool.Decides.{nat_tests}
 use Rattle.std.proofs.lemmas.List.{length-map}
+use Rattle.std.proofs.Math.Bool.{and-false}
 use Rattle.cad_day.specs.declared.day.Day.{Day}
 use Rattle.cad_versions.specs.declared.body.Body.{Body}
 use Rattle.cad_versions.specs.declared.body.Class.{Class}
@@ -13,7 +14,7 @@ use Rattle.cad_versions.specs.BodyParts.{name_in, unit_named, party_named}
 use Rattle.cad_versions.specs.Class.{class_of, class_number}
 use Rattle.cad_versions.specs.Command.{object_named}
 use Rattle.cad_versions.specs.Identifiers.{by_identifier as by_version}
-use Rattle.cad_versions.specs.ListLemmas.{all_weaker, filter-map}
+use Rattle.cad_versions.specs.ListLemmas.{all_weaker, filter-map, filter_fewer}
 use Rattle.cad_versions.specs.Refusals.{class_at, is_class, is_entered, most_versions}
 use Rattle.cad_versions.specs.Sorting.{sort_by}
 use Rattle.cad_versions.specs.SortLemmas.{all_sorted, length-sort_by}
@@ -139,16 +140,8 @@ sorted_addition vs object body a = record {
 
 -- ---- the feature that is added
 
-kept_length : {X : Type 0} (p : X → Bool) (xs : List X) → length (filter p xs) ≤ length xs
-kept_length p [] = omega arith
-kept_length p (x ∷ xs) = elim (p x) as (λ b. length (cond b (x ∷ filter p xs) (filter p xs)) ≤ length (x ∷ xs)) [ true ↦ omega (arith, kept_length p xs) | false ↦ omega (arith, kept_length p xs) ]
-
 has_room : (count all most : ℕ) → count ≤ all → nat_le most all ≡ false → nat_lt count most ≡ true
 has_room count all most h full = grind (arith, nat_tests)
-
-and_not : (a : Bool) → (a && false) ≡ false
-and_not true = refl
-and_not false = refl
 
 module _ (vs : List VersionedObject) (c : Command) (new : AddsNew vs c) where
   -- a name that is joined with what is added
@@ -158,7 +151,7 @@ module _ (vs : List VersionedObject) (c : Command) (new : AddsNew vs c) where
   named_value xs alone day None facts = refl
   named_value xs alone day (Some named) facts =
       let f = facts named refl in
-      f.0 ∙ ap (or_null as_text) (sym (name_next vs c new day (Some named) (ap (λ b. renames_on c day && b) f.1 ∙ and_not (renames_on c day))))
+      f.0 ∙ ap (or_null as_text) (sym (name_next vs c new day (Some named) (ap (λ b. renames_on c day && b) f.1 ∙ and-false (renames_on c day))))
 
   module _ (v : VersionedObject) (facts : Addition vs (object_named c) v.body) where
     value_added : (a : Attribute) → edited_datum (names_joined (features_in vs Units) (features_in vs Parties) v) (Some v.first) a (value_in (v ∷ []) v a) ≡ value_in (next vs c) v a
@@ -213,7 +206,7 @@ module _ (vs : List VersionedObject) (c : Command) (new : AddsNew vs c) where
             all_weaker (λ (w : VersionedObject). is_of (object_named c) w ≡ true → (class_number (class_of w.body) == class_number (class_of body)) ≡ true) (λ w. is_of (object_named c) w ≡ true → is_in collection w ≡ true)
             (λ w h own. through (class_number (class_of w.body)) (class_number (class_of body)) (class_number (class_for collection)) (h own) e) vs facts.own in
             let counted = count_is collection (object_named c) vs inside in
-            let room : nat_lt count most_versions ≡ true = ap (λ n. nat_lt n most_versions) counted ∙ has_room (length (history (object_named c) vs)) (length vs) most_versions (kept_length (is_of (object_named c)) vs) facts.room in
+            let room : nat_lt count most_versions ≡ true = ap (λ n. nat_lt n most_versions) counted ∙ has_room (length (history (object_named c) vs)) (length vs) most_versions (filter_fewer (is_of (object_named c)) vs) facts.room in
             ap (λ t. option_and_then (λ v. cond (is_in collection v) (Some (seen v)) None) (cond t (Some (version (count + 1))) None)) room
             ∙ ap (λ t. cond t (Some (seen (version (count + 1)))) None) e
             ∙ ap (λ k. Some (seen (version k))) (ap (λ n. n + 1) counted ∙ is)

@@ -3,6 +3,8 @@ use Rattle.std.proofs.Common.{◌≡◌, ℕ, pos, Bool, true, false, cond, not,
 use Rattle.std.specs.List.{AllByRecursion}
 use Rattle.std.proofs.lemmas.Int.{ints}
 use Rattle.std.proofs.lemmas.Bool.Decides.{nat_tests}
+use Rattle.std.specs.Cmp.{first_so, second_so}
+use Rattle.std.proofs.lemmas.Bool.{not-false}
 use Rattle.cad_day.specs.declared.day.Day.{Day}
 use Rattle.cad_versions.specs.declared.body.Body.{Body}
 use Rattle.cad_versions.specs.declared.body.Body.TheVariants as body
@@ -20,7 +22,7 @@ use Rattle.cad_versions.specs.Objects.{object_number}
 use Rattle.cad_versions.specs.Refusals.{class_at, open_since, is_class, is_entered, are_entered, is_full, refuses_object, refuses_addition, refusal, AreAccepted}
 use Rattle.cad_versions.specs.VersionedObject.{VersionedObject}
 use Rattle.cad_versions.specs.Versions.{is_of, is_open_of, closed_on, closed_if_open, begun, next_number, after, versions}
-use Rattle.cad_changes.proofs.TestLemmas.{left_true, right_true, find_map}
+use Rattle.cad_changes.proofs.TestLemmas.{find_map}
 
 -- ---- numbers of classes
 
@@ -32,10 +34,6 @@ swapped a b h = grind (arith, nat_tests)
 
 itself : (a : ℕ) → (a == a) ≡ true
 itself a = grind (arith, nat_tests)
-
-not_not : (b : Bool) → not b ≡ false → b ≡ true
-not_not true h = refl
-not_not false h = absurd (true≢false h)
 
 pub below : (c k most : ℕ) → (c == k) ≡ true → nat_lt k most ≡ true → nat_lt c most ≡ true
 below c k most h g = grind (arith, nat_tests)
@@ -137,7 +135,7 @@ of_the_class vs object first body e = go (class_at vs object) (neither _ _ e).0
   where
     go : (o : Option Class) → refuses_object o (open_since vs object) (Amend object first body) ≡ None → is_class (class_of body) o ≡ true
     go None h = absurd cc
-    go (Some k) h = swapped (class_number k) (class_number (class_of body)) (not_not (class_number k == class_number (class_of body)) (unrefused (not (class_number k == class_number (class_of body))) _ (neither _ _ h).0))
+    go (Some k) h = swapped (class_number k) (class_number (class_of body)) (not-false (class_number k == class_number (class_of body)) (unrefused (not (class_number k == class_number (class_of body))) _ (neither _ _ h).0))
 
 stands_then : (vs : List VersionedObject) (c : Command) → refusal vs c ≡ None → ClassesStand vs → ClassesStand (after vs c)
 stands_then vs (Enter object first body) e all =
@@ -178,7 +176,7 @@ are_of k object vs all h =
 -- ---- what the body of a command that is accepted names
 
 known : (known full : Bool) → refuses_addition known full ≡ None → (known ≡ true) × (full ≡ false)
-known k full e = let both = neither _ _ e in (not_not k (unrefused (not k) _ both.0), unrefused full _ both.1)
+known k full e = let both = neither _ _ e in (not-false k (unrefused (not k) _ both.0), unrefused full _ both.1)
 
 -- a body that is added: what it names was entered, and there is room
 pub record Adds (vs : List VersionedObject) (object : ObjectId) (body : Body) : Type 0 where
@@ -192,7 +190,7 @@ adds_by : (vs : List VersionedObject) (object : ObjectId) (body : Body) → refu
     → ((k : Class) → is_class k (class_at vs object) ≡ true → (class_number (class_of body) == class_number k) ≡ true) → Adds vs object body
 adds_by vs object body e own other =
     let both = known (are_entered vs body) (is_full vs) e in
-    record { unit = left_true (is_entered vs class.Unit (unit_named body)) _ both.0; party = right_true (is_entered vs class.Unit (unit_named body)) _ both.0; room = both.1; own = own; no_other = other }
+    record { unit = first_so (is_entered vs class.Unit (unit_named body)) _ both.0; party = second_so (is_entered vs class.Unit (unit_named body)) _ both.0; room = both.1; own = own; no_other = other }
 
 none_of : (object : ObjectId) (number : ℕ) (vs : List VersionedObject) → class_at vs object ≡ None → AreOf number object vs
 none_of object number [] e = tt

@@ -5,6 +5,8 @@ use Rattle.std.specs.List.Sorted.{IsStrictlySortedBy}
 use Rattle.std.proofs.lemmas.Cmp.{tied_itself}
 use Rattle.std.proofs.lemmas.Int.{ints}
 use Rattle.std.proofs.lemmas.List.Kept.{IsStrictlySortedBy-filter}
+use Rattle.std.specs.Cmp.{first_so, second_so}
+use Rattle.std.proofs.lemmas.Bool.{or_parts}
 use Rattle.cad_day.specs.declared.day.Day.{Day}
 use Rattle.cad_day.specs.Days.{number_of}
 use Rattle.cad_versions.specs.declared.object_id.ObjectId.{ObjectId}
@@ -31,7 +33,7 @@ use Rattle.cad_versions.specs.OrderLemmas.{identifiers_total, versions_total}
 use Rattle.cad_merged.specs.ItemLemmas.{items_total}
 use Rattle.cad_merged.specs.Merging.{put, put_if, merged}
 use Rattle.cad_merged.specs.MergeLemmas.{IsNew, find_put, filter_put, filter_put_out, map_put, merged_put, replaced}
-use Rattle.cad_changes.proofs.TestLemmas.{left_true, right_true, neither_true, each_fails, other_fails, no_last, find_filter, find_map}
+use Rattle.cad_changes.proofs.TestLemmas.{each_fails, other_fails, no_last, find_filter, find_map}
 use Rattle.cad_changes.proofs.VersionLemmas.{left_keeps, left_identifier, left_order, AddsNew}
 
 -- ---- names
@@ -65,8 +67,8 @@ closing_holds object closing day last v late = go (is_open_of closing v) refl
   where
     opened : (b : Bool) → is_of object v ≡ b → is_open_of closing v ≡ true → (b && (int_le (number_of v.first) (number_of day) && int_le (number_of day) (number_of last))) ≡ (b && (int_le (number_of v.first) (number_of day) && is_up_to v.last day))
     opened true i e =
-        let none : v.last ≡ None = no_last v.last (right_true (is_of closing v) (is_none v.last) e) in
-        ap (λ b. int_le (number_of v.first) (number_of day) && b) (late i (left_true (is_of closing v) (is_none v.last) e) ∙ sym (ap (λ l. is_up_to l day) none))
+        let none : v.last ≡ None = no_last v.last (second_so (is_of closing v) (is_none v.last) e) in
+        ap (λ b. int_le (number_of v.first) (number_of day) && b) (late i (first_so (is_of closing v) (is_none v.last) e) ∙ sym (ap (λ l. is_up_to l day) none))
     opened false i e = refl
 
     go : (b : Bool) → is_open_of closing v ≡ b → holds object day (cond b (closed_on last v) v) ≡ holds object day v
@@ -141,7 +143,7 @@ module _ (vs : List VersionedObject) (c : Command) (new : AddsNew vs c) where
 
   feature_stays : (collection : Collection) (v : VersionedObject) → is_touched_by c v ≡ false → feature_in vs collection v ≡ feature_in (next vs c) collection (left_by c v)
   feature_stays collection v e =
-      let both = neither_true (is_closed_by c v) _ e in
+      let both = or_parts (is_closed_by c v) _ e in
       let as_item : List Datum → Item = λ ds. record { object = v.object; number = v.number; values = ds } in
       ap as_item (map_same (value_in vs v) (value_in (next vs c) v) (value_next v both.1) (attributes_of collection))
       ∙ ap (feature_in (next vs c) collection) (sym (left_whole c v both.0))

@@ -1,6 +1,7 @@
 -- What a feature says of its version, and the features that a command leaves.
 use Rattle.std.proofs.Common.{◌≡◌, pos, Bool, true, false, cond, ◌&&◌, ◌||◌, List, [], ◌∷◌, map, filter, Option, Some, None, is_none, option_map, refl, sym, ap, ap₂, ◌∙◌}
 use Rattle.std.specs.List.{AllByRecursion}
+use Rattle.std.specs.Cmp.{first_so, second_so}
 use Rattle.cad_day.specs.declared.day.Day.{Day}
 use Rattle.cad_day.specs.Intervals.{interval_of}
 use Rattle.cad_versions.specs.declared.command.Command.{Command}
@@ -26,7 +27,7 @@ use Rattle.cad_changes.specs.Touching.{day_in, whole_in, first_of, last_of, unit
 use Rattle.cad_changes.proofs.ClassLemmas.{below, no_unit, no_party}
 use Rattle.cad_changes.proofs.FeatureLemmas.{name_next}
 use Rattle.cad_changes.proofs.StandingLemmas.{IsOver, renamed}
-use Rattle.cad_changes.proofs.TestLemmas.{left_true, right_true, all_pass}
+use Rattle.cad_changes.proofs.TestLemmas.{all_pass}
 use Rattle.cad_changes.proofs.VersionLemmas.{left_keeps, AddsNew}
 
 -- ---- what a feature says
@@ -162,7 +163,7 @@ module _ (vs : List VersionedObject) (c : Command) (new : AddsNew vs c) (all : A
           never : (b : Bool) → (b && false) ≡ true → ⊥
           never true h = absurd cc
           never false h = absurd cc
-      new_name (Some object) e = sym (renamed c vs all v.first (left_true _ _ e) object (right_true (renames_on c v.first) _ e))
+      new_name (Some object) e = sym (renamed c vs all v.first (first_so _ _ e) object (second_so (renames_on c v.first) _ e))
 
       go : (b : Bool) → (renames_on c v.first && is_object (object_named c) named) ≡ b → or_kept (cond b (Some (name_after c)) None) (or_null as_text (joined_name vs v.first named)) ≡ or_null as_text (joined_name (next vs c) v.first named)
       go true e = new_name named e

@@ -2,6 +2,7 @@
 use Rattle.std.proofs.Common.{◌≡◌, ℕ, ◌+◌, ℤ, pos, ◌≤ℤ◌, ◌<ℤ◌, ◌-ℤ◌, Bool, true, false, cond, ◌&&◌, List, [], ◌∷◌, map, find, Option, Some, None, is_none, option_and_then, refl, sym, ap, ◌∙◌, subst, arith, int_le, int_lt, int_eq, true≢false}
 use Rattle.std.specs.List.{AllByRecursion}
 use Rattle.std.proofs.lemmas.Int.{ints}
+use Rattle.std.proofs.Math.Bool.{and-false}
 use Rattle.cad_day.specs.declared.day.Day.{Day}
 use Rattle.cad_day.specs.Days.{number_of}
 use Rattle.cad_versions.specs.declared.command.Command.{Command}
@@ -56,10 +57,6 @@ sooner_through last begin day l b = grind (arith, ints)
 not_up_to : (last day : ℤ) → last <ℤ day → int_le day last ≡ false
 not_up_to last day h = grind (arith, ints)
 
-and_false : (a : Bool) → (a && false) ≡ false
-and_false true = refl
-and_false false = refl
-
 -- ---- a history with an open version
 
 -- its last day, where it has one, is before the other one's first day
@@ -109,7 +106,7 @@ all_under object v vs all f = all_kept (EndsUnder v) (is_of object) vs (go (hist
 ended : (day : Day) (w : VersionedObject) (last : Day) → w.last ≡ Some last → number_of last <ℤ number_of day → holds_on day w ≡ false
 ended day w last e less =
     ap (λ (l : Option Day). int_le (number_of w.first) (number_of day) && is_up_to l day) e
-    ∙ ap (λ (b : Bool). int_le (number_of w.first) (number_of day) && b) (not_up_to (number_of last) (number_of day) less) ∙ and_false (int_le (number_of w.first) (number_of day))
+    ∙ ap (λ (b : Bool). int_le (number_of w.first) (number_of day) && b) (not_up_to (number_of last) (number_of day) less) ∙ and-false (int_le (number_of w.first) (number_of day))
 
 over : (object : ObjectId) (v : VersionedObject) (closing day : Day) (w : VersionedObject) → number_of closing <ℤ number_of day → number_of v.first ≤ℤ number_of day → is_of object w ≡ true → EndsUnder v w
     → holds_on day (closed_if_open object closing w) ≡ false

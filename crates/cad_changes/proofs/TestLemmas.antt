@@ -1,25 +1,14 @@
 -- Tests, and searches of lists by them.
 use Rattle.std.proofs.Common.{◌≡◌, Bool, true, false, cond, ◌&&◌, ◌||◌, List, [], ◌∷◌, map, filter, find, Option, Some, None, is_none, option_map, refl, sym, ap, ap₂, ◌∙◌, subst, Ordering, Less, Equal, Greater, true≢false}
 use Rattle.std.specs.List.{AllByRecursion}
+use Rattle.std.proofs.lemmas.Bool.{or_parts}
 use Rattle.cad_day.specs.declared.day.Day.{Day}
 use Rattle.cad_versions.specs.ListLemmas.{all_kept}
 use Rattle.cad_merged.specs.Merging.{put, put_at}
 
-pub left_true : (a b : Bool) → (a && b) ≡ true → a ≡ true
-left_true true b h = refl
-left_true false b h = absurd (true≢false (sym h))
-
-pub right_true : (a b : Bool) → (a && b) ≡ true → b ≡ true
-right_true true b h = h
-right_true false b h = absurd (true≢false (sym h))
-
-pub neither_true : (a b : Bool) → (a || b) ≡ false → (a ≡ false) × (b ≡ false)
-neither_true true b h = absurd (true≢false h)
-neither_true false b h = (refl, h)
-
 -- of two parts of one condition
 pub each_fails : (a b d : Bool) → (a && (b || d)) ≡ false → ((a && b) ≡ false) × ((a && d) ≡ false)
-each_fails true b d h = neither_true b d h
+each_fails true b d h = or_parts b d h
 each_fails false b d h = (refl, refl)
 
 pub other_fails : (a b : Bool) → (a && b) ≡ false → b ≡ true → a ≡ false

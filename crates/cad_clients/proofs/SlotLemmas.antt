@@ -12,9 +12,6 @@ same_number c d h = grind (arith, nat_tests)
 other_number : (c d : ℕ) → nat_eq c d ≡ false → (c ≡ d → ⊥)
 other_number c d h e = grind (arith, nat_tests)
 
-pub same_self : (c : ℕ) → nat_eq c c ≡ true
-same_self c = grind (arith, nat_tests)
-
 set_here : {X : Type 0} (xs : List X) (c : ℕ) (y : X) → c < length xs → slice_get (set xs c y) c ≡ Some y
 set_here [] c y h = absurd (omega (arith, h))
 set_here (x ∷ xs) zero y h = refl

@@ -1,6 +1,7 @@
 -- Turns of a connection, and one more.
 use Rattle.std.proofs.Common.{◌≡◌, ◌⊎◌, inl, inr, ℕ, ◌+◌, ◌≤◌, Bool, true, false, if◌then◌else◌, List, [], ◌∷◌, ◌++◌, length, Option, None, Some, IsSome, IsSomeAnd, refl, ap, subst, ◌∙◌, arith}
 use Rattle.std.proofs.KnownBytes.{Consumes-trans, Appends-trans}
+use Rattle.std.proofs.lemmas.Bool.{eq-eqb}
 use Rattle.cad_stream.specs.declared.responder.Responder.{Ghosts}
 use Rattle.cad_desk.specs.declared.desk.Desk.{Desk}
 use Rattle.cad_io.specs.Known.{ReadsAndWrites}
@@ -13,7 +14,6 @@ use Rattle.cad_clients.specs.declared.served.Served.TheVariants.{Stays, Over as 
 use Rattle.cad_clients.specs.Notes.{IsSending}
 use Rattle.cad_clients.specs.Slots.{client_at}
 use Rattle.cad_clients.specs.Steps.{is_over, fed_by, fed_in, IsEnough, HasTurn, HasTurns, IsServed}
-use Rattle.cad_clients.proofs.SlotLemmas.{same_self}
 
 -- how many pieces the desk took
 abbrev pub pieces : Bool → ℕ
@@ -45,7 +45,7 @@ module _ {R : Type 0} (g : Ghosts R) (c now : ℕ) where
   -- a connection that is not over is there after its turn
   still_there : (turned : Turned) (mid new : Desk R) (between next : Clients) (read written : List ℕ)
       → is_over turned ≡ false → HasTurn g c now mid between (Some turned) new next read written → IsSome (client_at next c)
-  still_there turned mid new between next read written goes_on turn = rw (turn.5 c, same_self c, goes_on) refl
+  still_there turned mid new between next read written goes_on turn = rw (turn.5 c, eq-eqb c c refl, goes_on) refl
 
   -- while a reply has not gone out, the desk takes no piece
   pub takes_none : (mid new : Desk R) (between next : Clients) (read written : List ℕ)

@@ -1,12 +1,11 @@
 -- Values of JSON, and what they say.
-use Rattle.std.proofs.Common.{◌≡◌, ℕ, zero, suc, ◌<◌, ℤ, List, [], ◌∷◌, ◌++◌, ◌+◌, length, take, get_or, arith, Some, refl, ap₂, subst}
+use Rattle.std.proofs.Common.{◌≡◌, ℕ, zero, suc, ◌<◌, List, [], ◌∷◌, ◌++◌, ◌+◌, length, take, get_or, arith, Some, refl, ap₂, subst}
 use Rattle.std.proofs.lemmas.List.{take_more}
-use lib.Dec.{T_prop}
 use Rattle.serde_json.specs.Data.{Data, Items, no_items, item}
 use Rattle.serde_json.specs.Find.{as_array}
 use Rattle.serde_json.specs.View.{items_view, view}
 use Rattle.serde_json.specs.declared.value.Value.{Value}
-use Rattle.cad_shape.specs.Coordinates.{IsCoordinate}
+use Rattle.cad_shape.specs.SameLemmas.{same_point}
 use Rattle.cad_shape.specs.declared.point.Point.{Point}
 use Rattle.cad_shape.specs.declared.ring.Ring.{Ring}
 use Rattle.cad_shape.specs.declared.ring.RingFault.{RingFault}
@@ -27,15 +26,6 @@ point_at [] i d points h are = absurd (omega arith)
 point_at (v ∷ vs) i d [] h are = absurd are
 point_at (v ∷ vs) zero d (point ∷ points) h are = (point, are.0)
 point_at (v ∷ vs) (suc i) d (point ∷ points) h are = point_at vs i d points (omega arith) are.1
-
-coordinate_prop : (n : ℤ) → IsProp (IsCoordinate n)
-coordinate_prop n = hlevel T_prop
-
-same_point : (a b : Point) → a.x ≡ b.x → a.y ≡ b.y → a ≡ b
-same_point a b e f =
-    subst (λ x. (p : IsCoordinate x) → a ≡ record { x = x; y = b.y; x_in_range = p; y_in_range = b.y_in_range }) e
-    (λ p. subst (λ y. (q : IsCoordinate y) → a ≡ record { x = a.x; y = y; x_in_range = p; y_in_range = q }) f
-    (λ q. ap₂ (λ p q. record { x = a.x; y = a.y; x_in_range = p; y_in_range = q }) (coordinate_prop a.x a.x_in_range p) (coordinate_prop a.y a.y_in_range q)) b.y_in_range) b.x_in_range
 
 -- a value says one point
 pub point_said : (d : Data) (a b : Point) → IsPointOf d a → IsPointOf d b → a ≡ b

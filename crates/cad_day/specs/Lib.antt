@@ -1,5 +1,6 @@
 pub mod DayNumbers
 pub mod Days
+pub mod SameLemmas
 pub mod Intervals
 pub mod DayTexts
 pub mod Calendar

@@ -1,6 +1,7 @@
 -- What goes out to a connection is its own, by recursion on the events of a run.
 use Rattle.std.proofs.Common.{◌≡◌, ◌≢◌, ℕ, Bool, true, false, cond, nat_eq, List, [], ◌∷◌, ◌++◌, Option, Some, None, Result, Ok, Err, refl, sym, ap, ap₂, ◌∙◌, subst, arith, append_assoc, append-nil, inl, inr}
 use Rattle.std.proofs.lemmas.Bool.Decides.{nat_tests}
+use Rattle.std.proofs.lemmas.Bool.{eq-eqb}
 use Rattle.httparse.specs.Grammar.{RequestHead}
 use Rattle.cad_versions.specs.declared.command.Command.{Command}
 use Rattle.cad_head.specs.Request.{Request, request_of}
@@ -221,9 +222,6 @@ run_told rules c (event ∷ events) (answer ∷ answers) commands old run =
     one rules c commands old run.0 (exchanges_of c (commands_after commands event answer) events answers)
     (run_told rules c events answers (commands_after commands event answer) run.0 run.2) event answer run.1
 
-same_self : (c : ℕ) → nat_eq c c ≡ true
-same_self c = grind (arith, nat_tests)
-
 pub connections_are_their_own : (rules : Rules) → ConnectionsAreTheirOwn rules
 connections_are_their_own rules c own opens =
     let commands = opens.0 in
@@ -231,7 +229,7 @@ connections_are_their_own rules c own opens =
     let events = opens.2 in
     let answers = opens.3 in
     let run = opens.4 in
-    let now : rest_at run.0 c ≡ Some [] = run.1.2 c ∙ ap (λ b. cond b (Some []) (rest_at old c)) (same_self c) in
+    let now : rest_at run.0 c ≡ Some [] = run.1.2 c ∙ ap (λ b. cond b (Some []) (rest_at old c)) (eq-eqb c c refl) in
     subst (λ (l : List Exchange). Told rules (Some []) l) (sym opens.5)
     (subst (λ (r : Option (List ℕ)). Told rules r (exchanges_of c commands events answers)) now (run_told rules c events answers commands run.0 run.2))
 

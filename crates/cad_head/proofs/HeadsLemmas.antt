@@ -1,8 +1,8 @@
 -- On heads that fit, and the bytes that hold them.
-use Rattle.std.proofs.Common.{◌≡◌, ℕ, suc, ◌+◌, ◌-◌, ◌<◌, ◌≤◌, ◌==◌, ◌||◌, nat_le, Bool, true, false, List, [], ◌∷◌, ◌++◌, length, take, drop, get_or, inl, inr, refl, sym, ap, subst, ◌∙◌, append_assoc, arith, length-append}
+use Rattle.std.proofs.Common.{◌≡◌, ℕ, suc, ◌+◌, ◌-◌, ◌<◌, ◌≤◌, ◌==◌, ◌||◌, nat_le, true, false, List, [], ◌∷◌, ◌++◌, length, take, drop, get_or, inl, inr, refl, sym, ap, subst, ◌∙◌, append_assoc, arith, length-append}
 use Rattle.std.specs.List.{flat_map, list_any}
 use Rattle.std.proofs.Math.Seq.{take-append-add, take-append_seam, drop-append_seam, get_or-append_seam, get_or-append_right}
-use Rattle.std.proofs.lemmas.Bool.{cases_lt}
+use Rattle.std.proofs.lemmas.Bool.{cases_lt, or_parts}
 use Rattle.std.proofs.lemmas.Bool.Decides.{nat_tests}
 use Rattle.std.proofs.lemmas.List.{length-map, take_all, take-append-drop, take-append-le, length-take}
 use Rattle.std.proofs.lemmas.List.Folds.{list_any_at}
@@ -132,13 +132,9 @@ no_head_after held piece no_end none head rest r =
 -- a piece that ends no line and leaves room in the front changes nothing
 pub stays_incomplete : (held piece : List ℕ) → may_settle held piece ≡ false → IsIncomplete held → IsIncomplete (held ++ piece)
 stays_incomplete held piece unsettled waits =
-    let parts = neither (list_any (λ b. b == 10) piece) (nat_le front_len (length held + length piece)) unsettled in
+    let parts = or_parts (list_any (λ b. b == 10) piece) (nat_le front_len (length held + length piece)) unsettled in
     let none = no_head_after held piece parts.0 waits.1.1 in
     (λ head rest f. none head rest f.reads, (short held piece parts.1, none))
-  where
-    neither : (a b : Bool) → (a || b) ≡ false → (a ≡ false) × (b ≡ false)
-    neither false b h = (refl, h)
-    neither true b h = absurd (let clash : true ≡ false = h in cc)
 
     short : (held piece : List ℕ) → nat_le front_len (length held + length piece) ≡ false → length (held ++ piece) < front_len
     short held piece h = let l = length-append held piece in grind (arith, nat_tests)

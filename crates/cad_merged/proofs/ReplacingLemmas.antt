@@ -1,10 +1,11 @@
 -- One change, searched for in the base.
-use Rattle.std.proofs.Common.{◌≡◌, ℕ, zero, suc, ◌+◌, ◌≤◌, ◌<◌, false, List, [], ◌∷◌, ◌++◌, length, map, get_or, drop, add-one, drop-cons, refl, sym, ap, ◌∙◌, arith, Ordering, Less, Equal, Greater, is_eq, Some}
+use Rattle.std.proofs.Common.{◌≡◌, ℕ, suc, ◌+◌, ◌≤◌, ◌<◌, false, List, [], ◌∷◌, ◌++◌, length, map, get_or, drop, add-one, drop-cons, refl, sym, ap, ◌∙◌, Ordering, Less, Equal, Greater, is_eq, Some}
 use Rattle.std.specs.Ordering.{ordering_reverse}
 use Rattle.std.specs.List.{HoldsAt}
 use Rattle.std.specs.List.Sorted.{IsStrictlySortedBy, IsPartitionPoint}
 use Rattle.std.proofs.lemmas.List.Elements.{recursion_from_All}
 use Rattle.std.proofs.lemmas.Option.{slice_get-get_or}
+use Rattle.std.proofs.lemmas.List.{drop_all}
 use Rattle.cad_versions.specs.ListLemmas.{all_weaker}
 use Rattle.cad_versions.specs.OrderLemmas.{identifiers_total}
 use Rattle.cad_feature.specs.Features.{Item, identifier_of, by_identifier}
@@ -48,12 +49,6 @@ module _ (change : Item) (base : List Item) (i : ℕ) where
 drop_next : {X : Type 0} (xs : List X) (i : ℕ) (x : X) → suc i ≤ length xs → x ≡ get_or xs i x → drop i xs ≡ x ∷ drop (i + 1) xs
 drop_next xs i x h e = rw (add-one, drop-cons xs i x h, ← e) refl
 
-drop_over : {X : Type 0} (xs : List X) (i : ℕ) → length xs ≤ i → drop i xs ≡ []
-drop_over [] zero h = refl
-drop_over [] (suc i) h = refl
-drop_over (x ∷ xs) zero h = absurd (omega arith)
-drop_over (x ∷ xs) (suc i) h = drop_over xs i (omega arith)
-
 pub one_looked_for : (base changes : List Item) (i : ℕ) (change : Item) (old new : List ℕ) → suc i ≤ length changes → change ≡ get_or changes i change
     → standing_at base new ≡ standing_at base old ++ map Some (twins by_identifier change base)
     → standing_at base old ++ map Some (replaced_in by_identifier base (drop i changes)) ≡ map Some (replaced_in by_identifier base changes)
@@ -65,7 +60,7 @@ pub all_looked_for : (base changes : List Item) (i : ℕ) (positions : List ℕ)
     → standing_at base positions ++ map Some (replaced_in by_identifier base (drop i changes)) ≡ map Some (replaced_in by_identifier base changes)
     → StandAt base positions (replaced_in by_identifier base changes)
 all_looked_for base changes i positions h so_far =
-    sym (append_none (standing_at base positions)) ∙ ap (λ cs. standing_at base positions ++ map Some (replaced_in by_identifier base cs)) (sym (drop_over changes i h)) ∙ so_far
+    sym (append_none (standing_at base positions)) ∙ ap (λ cs. standing_at base positions ++ map Some (replaced_in by_identifier base cs)) (sym (drop_all i changes h)) ∙ so_far
 
 -- the same of lists that are they
 pub stand_as : (base shared changes more : List Item) (positions : List ℕ) → shared ≡ base → more ≡ changes → StandAt shared positions (replaced_in by_identifier shared more) → StandAt base positions (replaced_in by_identifier base changes)

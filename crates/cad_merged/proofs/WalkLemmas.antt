@@ -1,6 +1,7 @@
 -- One step of a walk.
-use Rattle.std.proofs.Common.{◌≡◌, List, [], ◌∷◌, length, refl, subst, arith, Less, Equal, Greater}
+use Rattle.std.proofs.Common.{◌≡◌, List, [], ◌∷◌, length, subst, Less, Equal, Greater}
 use Rattle.std.specs.List.Sorted.{IsStrictlySortedBy}
+use Rattle.std.proofs.lemmas.List.{nil_from_length}
 use Rattle.cad_feature.specs.Features.{Item, by_identifier}
 use Rattle.cad_merged.specs.ItemLemmas.{items_total}
 use Rattle.cad_merged.specs.Merging.{merged}
@@ -11,12 +12,8 @@ pub rest_rises : (x : Item) (xs ys : List Item) → ys ≡ x ∷ xs → IsStrict
 unfolding IsStrictlySortedBy
 rest_rises x xs ys e up = (subst (IsStrictlySortedBy by_identifier) e up).1
 
-pub none_left : (xs : List Item) → length xs ≡ 0 → xs ≡ []
-none_left [] e = refl
-none_left (x ∷ xs) e = absurd (omega (arith, e))
-
 pub only_changes : (base changes : List Item) (c : Item) (cs : List Item) → length base ≡ 0 → changes ≡ c ∷ cs → IsInOrder base changes → all_in base changes ≡ c ∷ all_in base cs
-only_changes base changes c cs none is up = rw (none_left base none, is) (change_first by_identifier items_total [] c cs tt (subst (IsStrictlySortedBy by_identifier) is up.1))
+only_changes base changes c cs none is up = rw (nil_from_length base none, is) (change_first by_identifier items_total [] c cs tt (subst (IsStrictlySortedBy by_identifier) is up.1))
 
 module _ (base changes : List Item) (b c : Item) (bs cs : List Item) (is_base : base ≡ b ∷ bs) (is : changes ≡ c ∷ cs) (up : IsInOrder base changes) where
   rising : IsStrictlySortedBy by_identifier (c ∷ cs)

@@ -6,6 +6,7 @@ use Rattle.std.proofs.Math.Nat.{eq-or-lt_of_le}
 use Rattle.std.proofs.lemmas.List.{take_all, length-drop}
 use Rattle.std.proofs.lemmas.List.Elements.{All-from_recursion}
 use Rattle.std.proofs.lemmas.List.Kept.{IsStrictlySortedBy-filter}
+use Rattle.std.proofs.lemmas.Bool.{not-true, not-false}
 use Rattle.cad_versions.specs.Identifiers.{identifier_cmp}
 use Rattle.cad_versions.specs.OrderLemmas.{identifiers_total}
 use Rattle.cad_feature.specs.Features.{Item, identifier_of, by_identifier}
@@ -57,23 +58,15 @@ beyond x y less = ap is_gt (identifiers_total.antisymm (identifier_of y) (identi
 abbrev pub is_no_later : ℤ × ℤ → Item → Bool
 is_no_later last x = not (comes_after last x)
 
-not_true : (b : Bool) → not b ≡ true → b ≡ false
-not_true true h = absurd (true≢false (sym h))
-not_true false h = refl
-
-not_false : (b : Bool) → not b ≡ false → b ≡ true
-not_false true h = refl
-not_false false h = absurd (true≢false h)
-
 pub parted : (last : ℤ × ℤ) (xs : List Item) → IsStrictlySortedBy by_identifier xs → IsPartitionedBy (is_no_later last) xs
 parted last xs up i j d le h stands = ⊎_elim
     (λ same. subst (λ n. is_no_later last (get_or xs n d) ≡ true) (sym same) stands)
-    (λ lt. ap not (before last (get_or xs i d) (get_or xs j d) (ascends xs up i j d lt h) (not_true (comes_after last (get_or xs j d)) stands)))
+    (λ lt. ap not (before last (get_or xs i d) (get_or xs j d) (ascends xs up i j d lt h) (not-true (comes_after last (get_or xs j d)) stands)))
     (eq-or-lt_of_le le)
 
 pub found_rest : (last : ℤ × ℤ) (xs : List Item) (first : ℕ) → IsPartitionPoint (λ x. is_no_later last x ≡ true) (λ x. is_no_later last x ≡ false) xs first → drop first xs ≡ after last xs
 found_rest last xs first split =
-    sym (filter_cut (comes_after last) xs first (λ i d below h. not_true (comes_after last (get_or xs i d)) (split.0 i d (omega arith) below)) (λ i d above h. not_false (comes_after last (get_or xs i d)) (split.1 i d above h)))
+    sym (filter_cut (comes_after last) xs first (λ i d below h. not-true (comes_after last (get_or xs i d)) (split.0 i d (omega arith) below)) (λ i d above h. not-false (comes_after last (get_or xs i d)) (split.1 i d above h)))
 
 pub found_after : (last : ℤ × ℤ) (xs : List Item) (first : ℕ) → IsPartitionPoint (λ x. is_no_later last x ≡ true) (λ x. is_no_later last x ≡ false) xs first → take (length xs - first) (drop first xs) ≡ after last xs
 found_after last xs first split =

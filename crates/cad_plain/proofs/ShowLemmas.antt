@@ -1,5 +1,5 @@
 -- What a revision lists is a listing.
-use Rattle.std.proofs.Common.{◌≡◌, ℕ, suc, ◌+◌, ◌≤◌, ◌<◌, pos, Bool, true, false, cond, List, [], ◌∷◌, ◌++◌, length, map, filter, refl, sym, ap, ◌∙◌, subst, arith, get_or, drop, append_assoc, Ordering, is_gt, int_cmp, int_le, nat_cmp, IsPermutation, IsSorted}
+use Rattle.std.proofs.Common.{◌≡◌, ℕ, suc, ◌+◌, ◌≤◌, ◌<◌, pos, true, false, cond, List, [], ◌∷◌, ◌++◌, length, map, refl, sym, ap, ◌∙◌, subst, arith, get_or, drop, append_assoc, Ordering, int_cmp, int_le, nat_cmp, IsPermutation, IsSorted}
 use Rattle.std.specs.List.{All}
 use Rattle.std.specs.List.Sorted.{IsSortedByKey}
 use Rattle.std.specs.Ordering.{ordering_then}
@@ -7,14 +7,15 @@ use Rattle.std.proofs.lemmas.Int.{ints}
 use Rattle.std.proofs.Math.Seq.{drop-cons}
 use Rattle.std.proofs.lemmas.List.{length-map}
 use Rattle.std.proofs.lemmas.List.Elements.{All-push}
+use Rattle.cad_versions.specs.ListLemmas.{filter_fewer}
 use Rattle.cad_versions.specs.Objects.{object_number}
 use Rattle.cad_versions.specs.VersionedObject.{VersionedObject, IsVersion}
 use Rattle.cad_versions.specs.Entries.{Entry, entries_at, seen_at}
-use Rattle.cad_versions.specs.Sorting.{insert_sorted, sort_by}
+use Rattle.cad_versions.specs.Sorting.{sort_by}
 use Rattle.cad_versions.specs.Identifiers.{by_identifier}
 use Rattle.cad_versions.specs.Listing.{IsListing}
 use Rattle.cad_versions.specs.OrderLemmas.{versions_total}
-use Rattle.cad_versions.specs.SortLemmas.{sorted_is, sort_rises}
+use Rattle.cad_versions.specs.SortLemmas.{sorted_is, sort_rises, length-sort_by}
 use Rattle.cad_plain.specs.Plain.{AreHistories, AreApart}
 use Rattle.cad_plain.proofs.PlainLemmas.{seen_apart}
 
@@ -40,24 +41,12 @@ in_order_is xs ys apart same sorted = sorted_is by_identifier versions_total xs 
 
 -- ---- a listing
 
-length-insert_sorted : {X : Type 0} (cmp : X → X → Ordering) (x : X) (xs : List X) → length (insert_sorted cmp x xs) ≡ length xs + 1
-length-insert_sorted cmp x [] = refl
-length-insert_sorted cmp x (y ∷ ys) = elim (is_gt (cmp x y)) as (λ b. length (cond b (y ∷ insert_sorted cmp x ys) (x ∷ (y ∷ ys))) ≡ length (y ∷ ys) + 1) [ true ↦ omega (arith, length-insert_sorted cmp x ys) | false ↦ omega arith ]
-
-length-sort_by : {X : Type 0} (cmp : X → X → Ordering) (xs : List X) → length (sort_by cmp xs) ≡ length xs
-length-sort_by cmp [] = refl
-length-sort_by cmp (x ∷ xs) = omega (arith, length-insert_sorted cmp x (sort_by cmp xs), length-sort_by cmp xs)
-
-length-filter : {X : Type 0} (p : X → Bool) (xs : List X) → length (filter p xs) ≤ length xs
-length-filter p [] = omega arith
-length-filter p (x ∷ xs) = elim (p x) as (λ b. length (cond b (x ∷ filter p xs) (filter p xs)) ≤ length (x ∷ xs)) [ true ↦ omega (arith, length-filter p xs) | false ↦ omega (arith, length-filter p xs) ]
-
 pub listing : (r : ℕ) (ls : List Entry) (found : List VersionedObject) → AreHistories ls → found ≡ sort_by by_identifier (map (seen_at r) (entries_at r ls)) → All IsVersion found → IsListing found
 listing r ls found all e each =
     let seen = map (seen_at r) (entries_at r ls) in
     record {
       ascending = rw e (sort_rises by_identifier versions_total seen (seen_apart r ls all));
-      few = rw e (omega (arith, all.few, length-sort_by by_identifier seen, length-map (entries_at r ls) (seen_at r), length-filter (λ (entry : Entry). int_le (pos entry.entered) (pos r)) ls));
+      few = rw e (omega (arith, all.few, length-sort_by by_identifier seen, length-map (entries_at r ls) (seen_at r), filter_fewer (λ (entry : Entry). int_le (pos entry.entered) (pos r)) ls));
       each = each;
     }
 

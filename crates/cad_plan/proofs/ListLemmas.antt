@@ -1,21 +1,16 @@
 -- Lists of plans that are gathered one by one, and their costs.
-use Rattle.std.proofs.Common.{◌≡◌, ◌∙◌, ap, refl, sym, ℕ, zero, suc, ◌+◌, ◌≤◌, min, Bool, true, false, nat_lt, if◌then◌else◌, List, [], ◌∷◌, ◌++◌, append_assoc, map, filter, length, get_or, drop, add-one, drop-cons, arith}
+use Rattle.std.proofs.Common.{◌≡◌, ◌∙◌, ap, refl, sym, ℕ, suc, ◌+◌, ◌≤◌, min, Bool, true, false, nat_lt, if◌then◌else◌, List, [], ◌∷◌, ◌++◌, append_assoc, map, filter, length, get_or, drop, add-one, drop-cons, arith}
+use Rattle.std.proofs.lemmas.List.{drop_all}
 use Rattle.cad_lookup.specs.Ways.{Way, Counts, cost, least_or, min_of, most, total}
 use Rattle.cql_rewrite.specs.Choices.{Costs, after, filter_step, min_moved}
 use Rattle.cql_rewrite.specs.Menus.{is_narrow}
 use Rattle.cad_plan.specs.Gathered.{with_if}
 
-pub drop_over : {X : Type 0} (xs : List X) (i : ℕ) → length xs ≤ i → drop i xs ≡ []
-drop_over [] zero h = refl
-drop_over [] (suc i) h = refl
-drop_over (x ∷ xs) zero h = absurd (omega arith)
-drop_over (x ∷ xs) (suc i) h = drop_over xs i (omega arith)
-
 pub map_next : {X Y : Type 0} (f : X → Y) (xs : List X) (i : ℕ) (x : X) → suc i ≤ length xs → x ≡ get_or xs i x → map f (drop i xs) ≡ f x ∷ map f (drop (i + 1) xs)
 map_next f xs i x h e = rw (add-one, drop-cons xs i x h, ← e) refl
 
 pub map_over : {X Y : Type 0} (f : X → Y) (xs : List X) (i : ℕ) → length xs ≤ i → map f (drop i xs) ≡ []
-map_over f xs i h = ap (map f) (drop_over xs i h)
+map_over f xs i h = ap (map f) (drop_all i xs h)
 
 pub map_push : {X Y : Type 0} (f : X → Y) (xs : List X) (x : X) → map f (xs ++ x ∷ []) ≡ map f xs ++ f x ∷ []
 map_push f [] x = refl

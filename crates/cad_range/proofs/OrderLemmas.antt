@@ -16,6 +16,7 @@ use Rattle.cad_feature.specs.declared.range.Scalar.TheVariants as scalar
 use Rattle.cad_range.specs.Ranges.{chosen_of, compared, has_order, holds_of, is_above, is_under, lies_between, picked}
 use Rattle.cql_text.specs.Order.{text_cmp}
 use Rattle.std.specs.Prelude.{chars, string_bytes}
+use Rattle.std.proofs.lemmas.Bool.{or_right, or_left}
 
 -- orders of one value against two, where the first is ordered so against the second
 abbrev pub Fits : Ordering → Ordering → Ordering → Type 0
@@ -25,12 +26,6 @@ Fits p q Greater = (is_lt p || is_gt q) ≡ true
 
 or_turned : (a b : Bool) → (a || b) ≡ (b || a)
 or_turned a b = grind arith
-
-or_right : (a b : Bool) → b ≡ true → (a || b) ≡ true
-or_right a b h = grind arith
-
-or_left : (a b : Bool) → a ≡ true → (a || b) ≡ true
-or_left a b h = grind arith
 
 module _ {K : Type 0} {R : K → K → Ordering} (o : IsTotalOrder R) where
   less_fits : (a b v : K) (q : Ordering) → R v b ≡ q → R a b ≡ Less → (is_gt (R v a) || is_lt (R v b)) ≡ true

@@ -1,20 +1,17 @@
 -- A request has one reply.
 use Rattle.std.proofs.Common.{◌≡◌, ℕ, Bool, true, false, cond, nat_lt, List, length, Option, Some, None, Result, Ok, Err, sym, ap, ap₂, subst, ◌∙◌}
-use Rattle.std.specs.Prelude.{codes, IfSome, MatchOption, unwrap_or}
+use Rattle.std.specs.Prelude.{codes, MatchOption, unwrap_or}
 use Rattle.std.specs.Bool.{MatchBool}
 use Rattle.serde_json.specs.Data.{Data}
 use Rattle.serde_json.specs.Written.{compact_text}
 use Rattle.cad_versions.specs.declared.command.Command.{Command}
 use Rattle.cad_schema.specs.declared.collection.Collection.{Collection}
-use Rattle.cad_schema.specs.Schema.{schema_of}
-use Rattle.cql_types.specs.declared.filter.Filter.{Filter}
-use Rattle.cql_filter.specs.Filters.{IsAccepted}
 use Rattle.cad_query.specs.Pairs.{PairText, pairs_of}
 use Rattle.cad_query.specs.Identifiers.{Numbers, identifier_named}
 use Rattle.cad_ask.specs.declared.ask.Ask.{Ask}
 use Rattle.cad_ask.specs.declared.fault.AskFault.{AskFault}
-use Rattle.cad_ask.specs.Answers.{IsAsk, AsksWell, IsFilterGiven, filter_given}
 use Rattle.cad_ask.specs.Laws.{AskTheSame, PairsAskOneThing, HasOneFirstFault, HasFaultOrAsks}
+use Rattle.cad_ask.specs.AnswerLemmas.{asks_well}
 use Rattle.cad_page.specs.Laws.{TheSameIsAnswered}
 use Rattle.cad_bodies.specs.Faults.{word_data}
 use Rattle.cad_bodies.specs.Offers.{landing_data, collection_data, collections_data}
@@ -61,14 +58,6 @@ plain_one pairs text a b f g = go (has_pairs pairs) f g
     go false f g = told_alike status.Ok text a b f g
 
 -- ---- pages
-
-asks_well : (c : Collection) (pairs : List PairText) (ask : Ask) → IsAsk c pairs ask → AsksWell c pairs
-asks_well c pairs ask is = record { selects = is.no_selection_fault; filters_well = well (filter_given pairs) ask.filter is.filter_is; continues = is.no_continuation_fault }
-  where
-    well : (text : Option (List ℕ)) (filter : Option Filter) → IsFilterGiven c text filter → IfSome text (IsAccepted (schema_of c))
-    well None filter given = tt
-    well (Some text) None given = absurd given
-    well (Some text) (Some filter) given = given.0
 
 page_content : TheSameIsAnswered → (a b : Ask) → AskTheSame a b → (commands : List Command) → content_of (Page a) commands ≡ content_of (Page b) commands
 page_content answered a b same commands =

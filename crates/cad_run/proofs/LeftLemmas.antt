@@ -5,6 +5,7 @@ use Rattle.std.specs.List.{All, AllByRecursion}
 use Rattle.std.specs.List.Sorted.{IsStrictlySortedBy}
 use Rattle.std.proofs.lemmas.List.Elements.{All-from_recursion, All-tail}
 use Rattle.std.proofs.lemmas.List.Kept.{IsStrictlySortedBy-filter}
+use Rattle.std.proofs.lemmas.List.{nil_from_length}
 use Rattle.cad_versions.specs.Identifiers.{identifier_cmp}
 use Rattle.cad_feature.specs.Features.{Item, identifier_of, by_identifier}
 use Rattle.cad_lookup.specs.declared.plan.Plan.{Plan}
@@ -24,10 +25,6 @@ rest_rises x xs ys e up = (subst (IsStrictlySortedBy by_identifier) e up).1
 nothing_rises : IsStrictlySortedBy by_identifier []
 unfolding IsStrictlySortedBy
 nothing_rises = tt
-
-none_left : (xs : List Item) → length xs ≡ 0 → xs ≡ []
-none_left [] e = refl
-none_left (x ∷ xs) e = absurd (omega (arith, e))
 
 -- ---- two filters
 
@@ -181,5 +178,5 @@ module _ (plan : Plan) where
 
     -- no change is left
     pub base_alone : (found : Option (Bor Item)) → length changes ≡ 0 → IsTaken found bases rest → IsGiven found (all_in bases changes) (all_in rest changes)
-    base_alone None none e = rw (none_left changes none) (ap (filter test) e.0)
-    base_alone (Some x) none e = rw (none_left changes none) (base_given x.now rest bases rest (subst AllPass e passing) e)
+    base_alone None none e = rw (nil_from_length changes none) (ap (filter test) e.0)
+    base_alone (Some x) none e = rw (nil_from_length changes none) (base_given x.now rest bases rest (subst AllPass e passing) e)

@@ -1,7 +1,6 @@
 -- How many features can be left.
-use Rattle.std.proofs.Common.{ℕ, suc, ◌+◌, ◌^◌, ◌<◌, ◌≤◌, Bool, List, [], ◌∷◌, filter, length, arith, Ordering, Less, Equal, Greater, Option, Some, None}
+use Rattle.std.proofs.Common.{ℕ, suc, ◌+◌, ◌^◌, ◌<◌, ◌≤◌, List, [], ◌∷◌, filter, length, arith, Ordering, Less, Equal, Greater, Option, Some, None}
 use Rattle.std.specs.Option.{option_copied}
-use Rattle.std.proofs.lemmas.List.Sums.{count_by-le-length, length-filter}
 use Rattle.cad_feature.specs.Features.{Item, by_identifier}
 use Rattle.cad_lookup.specs.declared.plan.Plan.{Plan}
 use Rattle.cad_lookup.specs.Candidates.{is_candidate}
@@ -13,9 +12,7 @@ use Rattle.cad_run.specs.declared.bases.Bases.{Bases}
 use Rattle.cad_run.specs.Bases.{bases_left, rows_left}
 use Rattle.cad_run.specs.Positions.{found_then, items_at}
 use Rattle.std.specs.Prelude.{slice_get, ℕ}
-
-fewer : {X : Type 0} (p : X → Bool) (xs : List X) → length (filter p xs) ≤ length xs
-fewer p xs = omega (arith, length-filter p xs, count_by-le-length p xs)
+use Rattle.cad_versions.specs.ListLemmas.{filter_fewer}
 
 one_more : (n : Item) (ys : List Item) → length (put by_identifier n ys) ≤ suc (length ys)
 one_more n [] = omega arith
@@ -40,4 +37,4 @@ all_found xs (k ∷ ks) = omega (arith, one_found (slice_get xs k) (items_at xs 
 
 pub candidates_few : (bases : Bases) (plan : Plan) (changes : List Item) → length changes < 2 ^ 63 → length (filter (is_candidate plan) (all_in (bases_left bases) changes)) < 2 ^ 64
 candidates_few bases plan changes h =
-    omega (arith, h, fewer (is_candidate plan) (all_in (bases_left bases) changes), no_more (bases_left bases) changes, one_found (option_copied bases.front) (rows_left bases), all_found bases.features.now (rows_of (left_in bases.rows)), rows_bounded (left_in bases.rows))
+    omega (arith, h, filter_fewer (is_candidate plan) (all_in (bases_left bases) changes), no_more (bases_left bases) changes, one_found (option_copied bases.front) (rows_left bases), all_found bases.features.now (rows_of (left_in bases.rows)), rows_bounded (left_in bases.rows))

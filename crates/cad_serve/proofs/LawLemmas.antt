@@ -1,8 +1,8 @@
 -- What was served is a stream.
-use Rattle.std.proofs.Common.{◌≡◌, ℕ, true, false, cond, nat_eq, is_none, List, [], ◌∷◌, ◌++◌, Some, map, refl, sym, ap, subst, ◌∙◌, arith}
+use Rattle.std.proofs.Common.{◌≡◌, ℕ, false, cond, is_none, List, [], ◌∷◌, ◌++◌, Some, map, refl, sym, ap, subst, ◌∙◌}
 use Rattle.std.specs.Global.{Vec}
-use Rattle.std.proofs.lemmas.Bool.Decides.{nat_tests}
 use Rattle.std.proofs.lemmas.List.{map-append}
+use Rattle.std.proofs.lemmas.Bool.{eq-eqb}
 use Rattle.httparse.specs.Grammar.{RequestHead}
 use Rattle.cad_versions.specs.declared.command.Command.{Command}
 use Rattle.cad_stream.specs.declared.responder.Responder.{Ghosts}
@@ -16,9 +16,6 @@ use Rattle.cad_desk.specs.Connections.{rest_at}
 use Rattle.cad_desk.specs.Desks.{responder_of, connections_of}
 use Rattle.cad_serve.specs.Serving.{bytes_read, GoesOn}
 use Rattle.cad_serve.specs.Laws.{ServedIsAStream}
-
-pub same_self : (c : ℕ) → nat_eq c c ≡ true
-same_self c = grind (arith, nat_tests)
 
 -- pieces with the same commands in force
 abbrev pub pieces_at : List Command → List (Vec ℕ) → List Piece
@@ -59,7 +56,7 @@ module _ {R : Type 0} (g : Ghosts R) (c : ℕ) (commands : List Command) where
       let here : s.0 ≡ held = let e = sym s.3 ∙ known in cc in
       let next = goes_on_waits s.2 s.5 in
       let left : rest_at (connections_of x.2) c ≡ Some next.0 =
-      s.6 c ∙ ap (λ b. cond b (rest_of s.2) (rest_at (connections_of old) c)) (same_self c) ∙ ap rest_of next.1 in
+      s.6 c ∙ ap (λ b. cond b (rest_of s.2) (rest_at (connections_of old) c)) (eq-eqb c c refl) ∙ ap rest_of next.1 in
       let later = told pieces x.2 new x.1 next.0 x.5 left counts (x.3.1.kept now commands stands) in
       let stream : IsStream g.closes s.1 (held ++ piece.items) (waits next.0) =
       subst (λ (o : Outcome). IsStream g.closes s.1 (held ++ piece.items) o) next.1 (subst (λ (h : List ℕ). IsStream g.closes s.1 (h ++ piece.items) s.2) here s.4) in
@@ -74,7 +71,7 @@ module _ {R : Type 0} (g : Ghosts R) (c : ℕ) (commands : List Command) where
 pub served_is_a_stream : {R : Type 0} (g : Ghosts R) → PiecesAreOneStream → ServedIsAStream g
 served_is_a_stream g all c old new read written commands u counts stands =
     let first = counted g c commands u.pieces u.opened new written u.goes_on counts in
-    let known : rest_at (connections_of u.opened) c ≡ Some [] = u.opens.stepped.2 c ∙ ap (λ b. cond b (Some []) (rest_at (connections_of old) c)) (same_self c) in
+    let known : rest_at (connections_of u.opened) c ≡ Some [] = u.opens.stepped.2 c ∙ ap (λ b. cond b (Some []) (rest_at (connections_of old) c)) (eq-eqb c c refl) in
     let t = told g c commands u.pieces u.opened new written [] u.goes_on known counts (u.opens.kept first commands stands) in
     let stream = all g.closes (pieces_at commands u.pieces) (heads_at commands t.0) (waits t.1) t.2 in (
       t.0,

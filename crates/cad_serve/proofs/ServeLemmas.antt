@@ -1,9 +1,9 @@
 -- What is read and written over several turns.
-use Rattle.std.proofs.Common.{◌≡◌, ℕ, ◌+◌, ◌*◌, ◌<◌, ◌≤◌, Bool, true, false, cond, nat_eq, is_some, is_none, List, [], ◌∷◌, ◌++◌, Option, Some, None, IsSome, Result, Ok, Err, length, refl, sym, ap, ap₂, subst, ◌∙◌, append_assoc, append-nil, arith, length-append, inl, inr}
+use Rattle.std.proofs.Common.{◌≡◌, ℕ, ◌+◌, ◌*◌, ◌<◌, ◌≤◌, Bool, true, false, cond, is_some, is_none, List, [], ◌∷◌, ◌++◌, Option, Some, None, IsSome, Result, Ok, Err, length, refl, sym, ap, ap₂, subst, ◌∙◌, append_assoc, append-nil, arith, length-append, inl, inr}
 use Rattle.std.specs.Global.{Vec}
-use Rattle.std.proofs.lemmas.Bool.Decides.{nat_tests}
 use Rattle.std.proofs.lemmas.List.Concat.{flat_map-append}
 use Rattle.std.proofs.KnownBytes.{Appends-trans, Consumes-trans, Consumes-nil, Appends-nil}
+use Rattle.std.proofs.lemmas.Bool.{eq-eqb}
 use Rattle.cad_stream.specs.declared.responder.Responder.{Ghosts}
 use Rattle.cad_stream.specs.Streams.{rest_of}
 use Rattle.cad_desk.specs.declared.desk.Desk.{Desk}
@@ -26,9 +26,6 @@ open_or_none : {A : Type 0} (o : Option A) → IsSome o → ¬ (o ≡ None)
 open_or_none None h e = absurd cc
 open_or_none (Some x) h e = cc
 
-same_self : (c : ℕ) → nat_eq c c ≡ true
-same_self c = grind (arith, nat_tests)
-
 is_some_unless_none : {A : Type 0} (o : Option A) → false ≡ is_none o → IsSome o
 is_some_unless_none None h = absurd cc
 is_some_unless_none (Some x) h = refl
@@ -49,7 +46,7 @@ module _ {R : Type 0} (g : Ghosts R) (c : ℕ) where
   -- a connection that opened is open
   pub opens_open : (old new : Desk R) (reply : Reply) → Steps g old (Open c) (Ok reply) new → (reply ≡ Opened) × IsOpen c new
   opens_open old new Opened s =
-      (refl, ap is_some (s.stepped.2 c ∙ ap (λ b. cond b (Some []) (rest_at (connections_of old) c)) (same_self c)))
+      (refl, ap is_some (s.stepped.2 c ∙ ap (λ b. cond b (Some []) (rest_at (connections_of old) c)) (eq-eqb c c refl)))
   opens_open old new Closed s = absurd s.stepped
   opens_open old new (Sent out ends) s = absurd s.stepped
   opens_open old new (Entered revision) s = absurd s.stepped
@@ -58,7 +55,7 @@ module _ {R : Type 0} (g : Ghosts R) (c : ℕ) where
   pub sends_open : (old new : Desk R) (piece out : Vec ℕ) → Steps g old (Bytes c piece) (Ok (Sent out false)) new → IsOpen c new
   sends_open old new piece out s =
       let last = s.stepped.2 in
-      let now : rest_at (connections_of new) c ≡ rest_of last = s.stepped.6 c ∙ ap (λ b. cond b (rest_of last) (rest_at (connections_of old) c)) (same_self c) in
+      let now : rest_at (connections_of new) c ≡ rest_of last = s.stepped.6 c ∙ ap (λ b. cond b (rest_of last) (rest_at (connections_of old) c)) (eq-eqb c c refl) in
       ap is_some now ∙ is_some_unless_none (rest_of last) s.stepped.5
 
   -- ---- a piece

@@ -1,15 +1,16 @@
 -- What was written, at every end.
-use Rattle.std.proofs.Common.{◌≡◌, ℕ, ◌+◌, Bool, true, false, cond, List, [], ◌∷◌, ◌++◌, Some, Result, Ok, Err, length, take, refl, sym, ap, subst, ◌∙◌, append-nil, append_assoc, inl, inr}
+use Rattle.std.proofs.Common.{◌≡◌, ℕ, ◌+◌, Bool, true, false, cond, List, [], ◌∷◌, ◌++◌, Some, Result, Ok, Err, length, refl, sym, ap, subst, ◌∙◌, append-nil, append_assoc, inl, inr}
 use Rattle.std.specs.Global.{Vec}
 use Rattle.std.proofs.Math.Seq.{take-append-add}
 use Rattle.std.proofs.lemmas.List.{map-append}
+use Rattle.std.proofs.lemmas.Bool.{eq-eqb}
 use Rattle.httparse.specs.Grammar.{RequestHead}
 use Rattle.cad_versions.specs.declared.command.Command.{Command}
 use Rattle.cad_head.specs.Request.{Request}
 use Rattle.cad_stream.specs.declared.responder.Responder.{Ghosts}
 use Rattle.cad_stream.specs.Streams.{Outcome, waits, closed, refused, rest_of, IsStream}
 use Rattle.cad_stream.specs.Replies.{AreReplies, last_reply}
-use Rattle.cad_stream.specs.Conversations.{bytes_of, heads_of, heads_at, IsConversation}
+use Rattle.cad_stream.specs.Conversations.{bytes_of, heads_at, IsConversation}
 use Rattle.cad_stream.specs.ReplyLemmas.{replies_go_on}
 use Rattle.cad_stream.specs.Laws.{PiecesAreOneStream}
 use Rattle.cad_desk.specs.declared.desk.Desk.{Desk}
@@ -25,7 +26,7 @@ use Rattle.cad_serve.specs.declared.serve_fault.ServeFault.{ServeFault}
 use Rattle.cad_serve.specs.declared.serve_fault.ServeFault.TheVariants.{Read, Write, TurnsSpent}
 use Rattle.cad_serve.specs.Serving.{bytes_read, GoesOn, IsUnderWay, IsNotOpened, IsNotTaken, IsOver, IsCutOff, IsWhole, EndsWith, EndsClosed, IsRefused, EndsSo}
 use Rattle.cad_serve.specs.Laws.{AreAnswered, IsRefusedAfter, IsWrittenFor, WrittenAreReplies}
-use Rattle.cad_serve.proofs.LawLemmas.{same_self, pieces_at, bytes_of-at, heads_of-at, goes_on_waits, counted, served_is_a_stream}
+use Rattle.cad_serve.proofs.LawLemmas.{pieces_at, bytes_of-at, heads_of-at, goes_on_waits, counted, served_is_a_stream}
 
 bytes_more : (pieces : List (Vec ℕ)) (piece : Vec ℕ) → bytes_read (pieces ++ piece ∷ []) ≡ bytes_read pieces ++ piece.items
 bytes_more [] piece = append-nil piece.items
@@ -64,7 +65,7 @@ module _ {R : Type 0} (g : Ghosts R) (c : ℕ) (commands : List Command) where
       let here : s.0 ≡ held = let e = sym s.3 ∙ known in cc in
       let next = goes_on_waits s.2 s.5 in
       let left : rest_at (connections_of x.2) c ≡ Some next.0 =
-      s.6 c ∙ ap (λ b. cond b (rest_of s.2) (rest_at (connections_of old) c)) (same_self c) ∙ ap rest_of next.1 in
+      s.6 c ∙ ap (λ b. cond b (rest_of s.2) (rest_at (connections_of old) c)) (eq-eqb c c refl) ∙ ap rest_of next.1 in
       let later = told_to pieces x.2 mid new x.1 next.0 piece sent ends x.5 step left counts (x.3.1.kept now commands stands) in
       let stream : IsStream g.closes s.1 (held ++ first.items) (waits next.0) =
       subst (λ (o : Outcome). IsStream g.closes s.1 (held ++ first.items) o) next.1 (subst (λ (h : List ℕ). IsStream g.closes s.1 (h ++ first.items) s.2) here s.4) in
@@ -91,7 +92,7 @@ module _ {R : Type 0} (g : Ghosts R) (c : ℕ) (commands : List Command) where
         → g.counts (responder_of new) → g.stands_for (responder_of old) commands → AreAnswered g commands (read ++ piece.items) (written ++ sent.items)
     taken old mid new read written piece sent ends u step counts stands =
         let first = counted g c commands u.pieces u.opened mid written u.goes_on (step.clean counts) in
-        let known : rest_at (connections_of u.opened) c ≡ Some [] = u.opens.stepped.2 c ∙ ap (λ b. cond b (Some []) (rest_at (connections_of old) c)) (same_self c) in
+        let known : rest_at (connections_of u.opened) c ≡ Some [] = u.opens.stepped.2 c ∙ ap (λ b. cond b (Some []) (rest_at (connections_of old) c)) (eq-eqb c c refl) in
         let t = told_to u.pieces u.opened mid new written [] piece sent ends u.goes_on step known counts (u.opens.kept first commands stands) in
         let stream = one g.closes (pieces_at commands (u.pieces ++ piece ∷ [])) (heads_at commands t.0) t.1 t.2 in
         let bytes : bytes_of (pieces_at commands (u.pieces ++ piece ∷ [])) ≡ read ++ piece.items =

@@ -1,23 +1,20 @@
 -- The coordinates of a point, as calls pass them.
 use Rattle.std.proofs.Common.{◌≡◌, ◌↔◌, IsTrue, true, int_le, ℤ, pos, ◌-ℤ◌, ◌≤ℤ◌, FitsSigned, to_z, of_z, w64, [], ◌∷◌, inl, inr, refl, sym, ap₂, subst, arith}
-use lib.Dec.{T_prop}
 use mir.Syntax.{w128}
 use Rattle.std.proofs.lemmas.Int.{ints, to_z-of_z}
 use Rattle.cad_shape.specs.declared.point.Point.{Point}
 use Rattle.cad_shape.specs.Coordinates.{IsCoordinate, IsProduct}
 use Rattle.cad_shape.specs.Boxes.{IsLower, IsUpper}
 use Rattle.cad_shape.specs.Frames.{frame_corners}
+use Rattle.cad_shape.specs.SameLemmas.{coordinate_fits, same_point}
 use Rattle.cad_shape.specs.Segments.{IsOutOf}
 use Rattle.cad_shape.specs.declared.boxes.Bounds.{Bounds}
 
-fits : (n : ℤ) → IsCoordinate n → FitsSigned w64 n
-fits n h = omega (arith, ints)
-
 pub back_x : (p : Point) → to_z w64 (of_z w64 p.x) ≡ p.x
-back_x p = to_z-of_z w64 p.x (fits p.x p.x_in_range)
+back_x p = to_z-of_z w64 p.x (coordinate_fits p.x p.x_in_range)
 
 pub back_y : (p : Point) → to_z w64 (of_z w64 p.y) ≡ p.y
-back_y p = to_z-of_z w64 p.y (fits p.y p.y_in_range)
+back_y p = to_z-of_z w64 p.y (coordinate_fits p.y p.y_in_range)
 
 difference : (a b : ℤ) → IsCoordinate a → IsCoordinate b → to_z w64 (of_z w64 (to_z w64 (of_z w64 a) -ℤ to_z w64 (of_z w64 b))) ≡ a -ℤ b
 difference a b h k = omega (arith, ints)
@@ -40,18 +37,9 @@ pub is_difference : (a b : ℤ) → IsProduct a → IsProduct b → to_z w128 (o
 is_difference a b h k = omega (arith, ints)
 
 -- ---- points and boxes
-coordinate_prop : (n : ℤ) → IsProp (IsCoordinate n)
-coordinate_prop n = hlevel T_prop
-
--- points of the same coordinates are one point
-pub same_point : (p q : Point) → p.x ≡ q.x → p.y ≡ q.y → p ≡ q
-same_point p q e f =
-    subst (λ (n : ℤ). (h : IsCoordinate n) (k : IsCoordinate q.y) → p ≡ record { x = n; y = q.y; x_in_range = h; y_in_range = k }) e
-    (λ h k. subst (λ (n : ℤ). (k : IsCoordinate n) → p ≡ record { x = p.x; y = n; x_in_range = h; y_in_range = k }) f
-    (λ k. ap₂ (λ (h : IsCoordinate p.x) (k : IsCoordinate p.y). record { x = p.x; y = p.y; x_in_range = h; y_in_range = k }) (coordinate_prop p.x p.x_in_range h) (coordinate_prop p.y p.y_in_range k)) k) q.x_in_range q.y_in_range
 
 pub back : (n : ℤ) → IsCoordinate n → to_z w64 (of_z w64 n) ≡ n
-back n h = to_z-of_z w64 n (fits n h)
+back n h = to_z-of_z w64 n (coordinate_fits n h)
 
 le_yes : (a b : ℤ) → a ≤ℤ b → int_le a b ≡ true
 le_yes a b h = let e : true ≡ int_le a b = omega (arith, ints) in sym e

@@ -11,10 +11,9 @@ use Rattle.cad_shape.specs.Edges.{Edge, walk, edges_of, end_of}
 use Rattle.cad_shape.specs.Frames.{IsHeld, IsLeastBounds, frame_corners}
 use Rattle.cad_shape.specs.Regions.{IsOnEdge, IsOnSome, crossings, passes, IsInRegion, MeetsSome, SomeMeet}
 use Rattle.cad_shape.specs.Crossings.{IsFirstCrossing}
-use Rattle.cad_shape.specs.Boxes.{IsExtent}
+use Rattle.cad_shape.specs.SameLemmas.{same_bounds}
 use Rattle.cad_shape.specs.Rings.{corners_of, IsRingFault}
 use Rattle.cad_shape.specs.Polygons.{rings_corners, rings_edges}
-use lib.Dec.{T_prop}
 use Rattle.cad_shape.specs.declared.ring.Ring.{Ring}
 use Rattle.cad_shape.specs.declared.polygon.RegionFault.{RegionFault}
 use Rattle.cad_shape.specs.declared.polygon.RegionFault.TheVariants as region
@@ -195,16 +194,6 @@ within_meets (Area r) (Frame g) h = inr (inl (some_framed g (region_corners r) (
 within_meets (Area r) (Area s) h = absurd h
 
 -- ---- one least box
-extent_prop : (a b : ℤ) → IsProp (IsExtent a b)
-extent_prop a b = hlevel T_prop
-
-same_bounds : (a b : Bounds) → a.x_min ≡ b.x_min → a.y_min ≡ b.y_min → a.x_max ≡ b.x_max → a.y_max ≡ b.y_max → a ≡ b
-same_bounds a b e f g h =
-    subst (λ (n : ℤ). (w : IsExtent n b.x_max) (v : IsExtent b.y_min b.y_max) → a ≡ record { x_min = n; y_min = b.y_min; x_max = b.x_max; y_max = b.y_max; width = w; height = v }) e
-    (λ w v. subst (λ (n : ℤ). (w : IsExtent a.x_min b.x_max) (v : IsExtent n b.y_max) → a ≡ record { x_min = a.x_min; y_min = n; x_max = b.x_max; y_max = b.y_max; width = w; height = v }) f
-    (λ w v. subst (λ (n : ℤ). (w : IsExtent a.x_min n) (v : IsExtent a.y_min b.y_max) → a ≡ record { x_min = a.x_min; y_min = a.y_min; x_max = n; y_max = b.y_max; width = w; height = v }) g
-    (λ w v. subst (λ (n : ℤ). (w : IsExtent a.x_min a.x_max) (v : IsExtent a.y_min n) → a ≡ record { x_min = a.x_min; y_min = a.y_min; x_max = a.x_max; y_max = n; width = w; height = v }) h
-    (λ w v. ap₂ (λ (w : IsExtent a.x_min a.x_max) (v : IsExtent a.y_min a.y_max). record { x_min = a.x_min; y_min = a.y_min; x_max = a.x_max; y_max = a.y_max; width = w; height = v }) (extent_prop a.x_min a.x_max a.width w) (extent_prop a.y_min a.y_max a.height v)) w v) w v) w v) b.width b.height
 
 between_both : (a b : ℤ) → a ≤ℤ b → b ≤ℤ a → a ≡ b
 between_both a b h k = omega (arith, sums)

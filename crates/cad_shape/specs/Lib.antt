@@ -1,6 +1,7 @@
 pub mod Coordinates
 pub mod Boxes
 pub mod Frames
+pub mod SameLemmas
 pub mod Segments
 pub mod Edges
 pub mod Regions

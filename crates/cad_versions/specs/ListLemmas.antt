@@ -1,5 +1,6 @@
 -- Lemmas on lists that std lacks: `map`, `filter` and `sort_by` together.
-use Rattle.std.proofs.Common.{◌≡◌, Bool, true, false, true≢false, cond, List, [], ◌∷◌, map, filter, refl, sym, ap, ◌∙◌, is_gt, Ordering}
+use Rattle.std.proofs.Common.{◌≡◌, ◌≤◌, Bool, true, false, true≢false, cond, List, [], ◌∷◌, length, map, filter, refl, sym, ap, ◌∙◌, is_gt, Ordering, arith}
+use Rattle.std.proofs.lemmas.List.Sums.{count_by-le-length, length-filter}
 use Rattle.std.specs.List.{AllByRecursion}
 use Rattle.cad_versions.specs.Sorting.{insert_sorted, sort_by}
 
@@ -18,6 +19,9 @@ filter-map p f (x ∷ xs) =
 
 pub filter_same : {X : Type 0} (p q : X → Bool) → ((x : X) → p x ≡ q x) → (xs : List X) → filter p xs ≡ filter q xs
 filter_same p q same xs = λ i. filter (λ x. same x i) xs
+
+pub filter_fewer : {X : Type 0} (p : X → Bool) (xs : List X) → length (filter p xs) ≤ length xs
+filter_fewer p xs = omega (arith, length-filter p xs, count_by-le-length p xs)
 
 insert_sorted-map : {A B : Type 0} (cmp : B → B → Ordering) (f : A → B) (new : A) (xs : List A) → insert_sorted cmp (f new) (map f xs) ≡ map f (insert_sorted (λ a b. cmp (f a) (f b)) new xs)
 insert_sorted-map cmp f new [] = refl

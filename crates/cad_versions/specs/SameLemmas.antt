@@ -1,13 +1,9 @@
 -- Values of the same ordinary fields are one value, since their facts have one proof each.
-use Rattle.std.proofs.Common.{◌≡◌, ℕ, ◌≤◌, ℤ, false, ◌==◌, List, [], ◌∷◌, ◌++◌, length, inl, inr, refl, sym, ap, ap₂, ◌∙◌, subst, arith}
+use Rattle.std.proofs.Common.{◌≡◌, ℕ, ◌≤◌, false, ◌==◌, List, [], ◌∷◌, ◌++◌, length, inl, inr, refl, sym, ap, ap₂, ◌∙◌, subst, arith}
 use Rattle.std.specs.Int.{to_be_bytes, w16}
 use Rattle.std.specs.Coded.{le_prop, Coded-set, coded_bool}
 use Rattle.std.specs.List.{list_any}
 use Rattle.std.specs.Prelude.{IsUtf8}
-use lib.Dec.{T_prop}
-use Rattle.cad_day.specs.declared.day.Day.{Day}
-use Rattle.cad_day.specs.DayNumbers.{IsDayNumber}
-use Rattle.cad_day.specs.Days.{number_of}
 use Rattle.cad_shape.specs.declared.polygon.Region.{Region}
 use Rattle.cad_shape.specs.RegionRings.{rings_of, same_region}
 use Rattle.cad_versions.specs.declared.object_id.ObjectId.{ObjectId}
@@ -24,14 +20,6 @@ pub same_object : (a b : ObjectId) → object_number a ≡ object_number b → a
 same_object a b e =
     subst (λ n. (p : 1 ≤ n) (q : n ≤ 2147483647) → a ≡ record { number = n; positive = p; small = q }) e
     (λ p q. ap₂ (λ p q. record { number = a.number; positive = p; small = q }) (le_prop a.positive p) (le_prop a.small q)) b.positive b.small
-
-is_day_prop : (n : ℤ) → IsProp (IsDayNumber n)
-is_day_prop n = hlevel T_prop
-
-pub same_day : (a b : Day) → number_of a ≡ number_of b → a ≡ b
-same_day a b e =
-    subst (λ n. (p : IsDayNumber n) → a ≡ record { number = n; in_range = p }) e
-    (λ p. ap (λ p. record { number = a.number; in_range = p }) (is_day_prop a.number a.in_range p)) b.in_range
 
 pub same_share : (a b : Share) → num_of a ≡ num_of b → den_of a ≡ den_of b → a ≡ b
 same_share a b e f =

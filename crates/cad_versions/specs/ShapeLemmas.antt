@@ -1,13 +1,12 @@
 -- Corners are read as they were written.
-use Rattle.std.proofs.Common.{◌≡◌, ◌≢◌, ℕ, ◌+◌, ◌<◌, ◌^◌, ℤ, zero, suc, List, [], ◌∷◌, ◌++◌, length, take, drop, get_or, refl, sym, ap, ap₂, ◌∙◌, subst, arith, append_assoc, append-nil, FitsSigned, to_z-of_z, length-append}
-use lib.Dec.{T_prop}
+use Rattle.std.proofs.Common.{◌≡◌, ◌≢◌, ℕ, ◌+◌, ◌<◌, ◌^◌, ℤ, zero, suc, List, [], ◌∷◌, ◌++◌, length, take, drop, get_or, refl, sym, ap, ap₂, ◌∙◌, arith, append_assoc, append-nil, FitsSigned, to_z-of_z, length-append}
 use Rattle.std.proofs.lemmas.Int.{ints, of_z-to_z}
 use Rattle.std.proofs.lemmas.Nat.{be_bytes_8, from_be_bytes-to_be_bytes_8, from_be_bytes-to_be_bytes_2}
 use Rattle.std.proofs.lemmas.List.{length-take-le}
 use Rattle.std.proofs.Math.Seq.{take-append_seam, drop-append_seam, take-nil}
 use Rattle.std.specs.Int.{to_be_bytes, from_be_bytes, cast_unsigned, cast_signed, w16, w64}
 use Rattle.cad_shape.specs.declared.point.Point.{Point}
-use Rattle.cad_shape.specs.Coordinates.{IsCoordinate}
+use Rattle.cad_shape.specs.SameLemmas.{coordinate_fits, same_point}
 use Rattle.cad_versions.specs.ShapeBytes.{coordinate_bytes, corner_bytes, corners_bytes}
 
 pub length-coordinate_bytes : (n : ℤ) → length (coordinate_bytes n) ≡ 8
@@ -17,9 +16,6 @@ length-coordinate_bytes n = refl
 pub coordinate_read : (bytes : List ℕ) (n : ℕ) → length bytes ≡ 8 → ((i : ℕ) → get_or bytes i 0 < 256) → n ≡ from_be_bytes w64 bytes → n < 2 ^ 64 → coordinate_bytes (cast_signed w64 n) ≡ bytes
 unfolding coordinate_bytes
 coordinate_read bytes n len small is fits = ap (to_be_bytes w64) (of_z-to_z w64 n fits) ∙ be_bytes_8 bytes n len small is
-
-coordinate_fits : (n : ℤ) → IsCoordinate n → FitsSigned w64 n
-coordinate_fits n h = grind (arith, ints, h.0, h.1)
 
 unsigned_fits : (n : ℤ) → FitsSigned w64 n → cast_unsigned w64 n < 2 ^ 64
 unsigned_fits n h = grind (arith, ints, h)
@@ -69,16 +65,6 @@ small_from (b ∷ bs) (suc n) (suc i) h = small_from bs n i h
 
 pub eight_taken : (bytes eight rest : List ℕ) → eight ≡ take 8 bytes → length rest + 8 ≡ length bytes → ((i : ℕ) → get_or bytes i 0 < 256) → (length eight ≡ 8) × ((i : ℕ) → get_or eight i 0 < 256)
 eight_taken bytes eight rest is long small = (rw is (length-take-le 8 bytes (omega arith)), λ i. rw is (small_from bytes 8 i (small i)))
-
-coordinate_prop : (n : ℤ) → IsProp (IsCoordinate n)
-coordinate_prop n = hlevel T_prop
-
--- points of one place are one point
-pub same_point : (p q : Point) → p.x ≡ q.x → p.y ≡ q.y → p ≡ q
-same_point p q ex ey =
-    subst (λ (x : ℤ). (hx : IsCoordinate x) → p ≡ record { x = x; y = q.y; x_in_range = hx; y_in_range = q.y_in_range }) ex
-    (λ hx. subst (λ (y : ℤ). (hy : IsCoordinate y) → p ≡ record { x = p.x; y = y; x_in_range = hx; y_in_range = hy }) ey
-    (λ hy. ap₂ (λ (h : IsCoordinate p.x) (k : IsCoordinate p.y). record { x = p.x; y = p.y; x_in_range = h; y_in_range = k }) (coordinate_prop p.x p.x_in_range hx) (coordinate_prop p.y p.y_in_range hy)) q.y_in_range) q.x_in_range
 
 pub length-corner_bytes : (p : Point) → length (corner_bytes p) ≡ 16
 length-corner_bytes p = length-append (coordinate_bytes p.x) (coordinate_bytes p.y) ∙ omega (arith, length-coordinate_bytes p.x, length-coordinate_bytes p.y)

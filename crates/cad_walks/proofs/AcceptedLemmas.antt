@@ -1,9 +1,10 @@
 -- What accepted commands make is a listing, and there are not too many of them.
-use Rattle.std.proofs.Common.{◌≡◌, ℕ, zero, suc, ◌+◌, ◌≤◌, ◌≤ℤ◌, pos, Bool, true, false, cond, ◌&&◌, List, [], ◌∷◌, ◌++◌, length, length-append, map, filter, find, fold, take, Option, Some, None, is_none, refl, sym, ap, subst, arith, true≢false}
+use Rattle.std.proofs.Common.{◌≡◌, ℕ, zero, suc, ◌+◌, ◌≤◌, ◌≤ℤ◌, Bool, true, false, cond, ◌&&◌, List, [], ◌∷◌, ◌++◌, length, length-append, map, find, fold, take, Option, Some, None, is_none, refl, sym, ap, subst, arith, true≢false}
 use Rattle.std.specs.List.{AllByRecursion}
 use Rattle.std.specs.Option.{ForSome}
 use Rattle.std.proofs.lemmas.List.{length-map}
 use Rattle.std.proofs.lemmas.List.Elements.{All-from_recursion}
+use Rattle.std.specs.Cmp.{second_so}
 use Rattle.cad_day.specs.declared.day.Day.{Day}
 use Rattle.cad_day.specs.Days.{number_of}
 use Rattle.cad_versions.specs.declared.object_id.ObjectId.{ObjectId}
@@ -17,13 +18,13 @@ use Rattle.cad_versions.specs.EntryLemmas.{versions_of_entries}
 use Rattle.cad_versions.specs.Histories.{IsForward, IsHistory}
 use Rattle.cad_versions.specs.HistoryLemmas.{HasHistories, histories, is_of_own, retires}
 use Rattle.cad_versions.specs.Identifiers.{by_identifier}
-use Rattle.cad_versions.specs.ListLemmas.{all_weaker}
+use Rattle.cad_versions.specs.ListLemmas.{all_weaker, filter_fewer}
 use Rattle.cad_versions.specs.OrderLemmas.{identifiers_apart, versions_total}
 use Rattle.cad_versions.specs.Refusals.{refusal, most_versions, AreAccepted}
 use Rattle.cad_versions.specs.VersionedObject.{VersionedObject, IsVersion}
 use Rattle.cad_versions.specs.Versions.{is_of, is_open_of, history, closed_on, closed_if_open, begun, next_number, after, versions}
 use Rattle.cad_walks.specs.Registers.{AcceptedAreListed, AcceptedAreFew}
-use Rattle.cad_walks.proofs.SortLemmas.{all_sorted, as_many, sort_rises}
+use Rattle.cad_versions.specs.SortLemmas.{all_sorted, length-sort_by, sort_rises}
 
 -- ---- the first commands of accepted ones are accepted
 
@@ -58,10 +59,6 @@ in_history most n (v ∷ (w ∷ vs)) some few h =
     let e : v.number ≡ n = h.0 in
     (record { positive = omega arith; small = omega (arith, few); forward = forward_is v v.last h.1 }, in_history most (n + 1) (w ∷ vs) (omega arith) (omega (arith, few)) h.3)
 
-kept_fewer : {X : Type 0} (p : X → Bool) (xs : List X) → length (filter p xs) ≤ length xs
-kept_fewer p [] = omega arith
-kept_fewer p (x ∷ xs) = elim (p x) as (λ b. length (cond b (x ∷ filter p xs) (filter p xs)) ≤ length (x ∷ xs)) [ true ↦ omega (arith, kept_fewer p xs) | false ↦ omega (arith, kept_fewer p xs) ]
-
 -- what holds of the versions of each object holds of all
 of_each : (P : VersionedObject → Type 0) (vs : List VersionedObject) → ((object : ObjectId) → AllByRecursion P (history object vs)) → AllByRecursion P vs
 of_each P [] all = tt
@@ -75,7 +72,7 @@ of_each P (v ∷ vs) all =
 
 all_numbered : (most : ℕ) (vs : List VersionedObject) → length vs ≤ most → HasHistories vs → AllByRecursion (IsNumbered most) vs
 all_numbered most vs few all =
-    of_each (IsNumbered most) vs (λ object. in_history most 1 (history object vs) (omega arith) (omega (arith, few, kept_fewer (is_of object) vs)) (all object))
+    of_each (IsNumbered most) vs (λ object. in_history most 1 (history object vs) (omega arith) (omega (arith, few, filter_fewer (is_of object) vs)) (all object))
 
 -- ---- a listing
 
@@ -88,7 +85,7 @@ listed cs all revision =
     let numbered = all_weaker (IsNumbered most_versions) IsVersion (λ v is. record { positive = is.positive; small = is.small; forward = is.forward }) vs (all_numbered most_versions vs few h) in
     record {
       ascending = sort_rises by_identifier versions_total vs (identifiers_apart vs h);
-      few = omega (arith, few, as_many by_identifier vs);
+      few = omega (arith, few, length-sort_by by_identifier vs);
       each = All-from_recursion IsVersion (as_of revision cs) (all_sorted by_identifier IsVersion vs numbered);
     }
 
@@ -131,13 +128,9 @@ endings_stay object day (v ∷ vs) = omega (arith, kept_ended object day v, endi
 ends_open : (object : ObjectId) (day : Day) (v : VersionedObject) → is_open_of object v ≡ true → ended v.last + 1 ≤ ended (closed_if_open object day v).last
 ends_open object day v is = subst (λ t. ended v.last + 1 ≤ ended (cond t (closed_on day v) v).last) (sym is) (one v.last is)
   where
-    both : (a b : Bool) → (a && b) ≡ true → b ≡ true
-    both true b h = h
-    both false b h = absurd (true≢false (sym h))
-
     one : (last : Option Day) → (is_of object v && is_none last) ≡ true → ended last + 1 ≤ ended (Some day)
     one None h = omega arith
-    one (Some other) h = absurd (true≢false (sym (both (is_of object v) false h)))
+    one (Some other) h = absurd (true≢false (sym (second_so (is_of object v) false h)))
 
 endings_rise : (object : ObjectId) (day : Day) (vs : List VersionedObject) (found : VersionedObject) → find (is_open_of object) vs ≡ Some found → endings vs + 1 ≤ endings (map (closed_if_open object day) vs)
 endings_rise object day [] found h = absurd cc

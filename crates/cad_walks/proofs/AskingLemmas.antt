@@ -1,17 +1,15 @@
 -- What a request for a page asks for, and that it is read.
 use Rattle.std.proofs.Common.{◌≡◌, ◌≢◌, ℕ, ◌≤◌, ◌<◌, ◌==◌, Bool, true, false, not, cond, ◌||◌, List, [], ◌∷◌, length, Option, Some, None, Result, refl, sym, ap, subst, ◌∙◌, arith, true≢false}
-use Rattle.std.specs.Prelude.{codes, min, unwrap_or, IfSome}
+use Rattle.std.specs.Prelude.{codes, min, unwrap_or}
 use Rattle.std.specs.Option.{option_and_then}
 use Rattle.std.specs.List.{AllByRecursion, list_any}
 use Rattle.std.proofs.lemmas.Bool.Decides.{nat_tests}
 use Rattle.std.proofs.lemmas.List.Elements.{All-from_recursion}
+use Rattle.std.proofs.lemmas.Bool.{or_parts, not-true}
 use Rattle.cad_versions.specs.ListLemmas.{all_weaker}
 use Rattle.cad_schema.specs.declared.collection.Collection.{Collection}
 use Rattle.cad_schema.specs.Collections.{name_of}
 use Rattle.cad_schema.specs.NameLemmas.{each_passes}
-use Rattle.cad_schema.specs.Schema.{schema_of}
-use Rattle.cql_types.specs.declared.filter.Filter.{Filter}
-use Rattle.cql_filter.specs.Filters.{IsAccepted}
 use Rattle.cad_bodies.specs.Paths.{items_path}
 use Rattle.cad_head.specs.Request.{Request, path, query}
 use Rattle.cad_query.specs.Laws.{IsPath}
@@ -19,7 +17,7 @@ use Rattle.cad_query.specs.Numerals.{limit_of, number_in}
 use Rattle.cad_query.specs.Pairs.{PairText, pairs_of, given}
 use Rattle.cad_query.specs.Parts.{is_byte}
 use Rattle.cad_ask.specs.declared.ask.Ask.{Ask}
-use Rattle.cad_ask.specs.Answers.{IsFilterGiven, filter_given, IsAsk, AsksWell}
+use Rattle.cad_ask.specs.Answers.{IsAsk, AsksWell}
 use Rattle.cad_ask.specs.Laws.{HasFaultOrAsks}
 use Rattle.cad_resource.specs.declared.check.Check.{Check}
 use Rattle.cad_resource.specs.Asking.{AskedText, asked}
@@ -32,23 +30,15 @@ use Rattle.cad_wanted.specs.Wants.{IsPageWanted, IsWanted}
 
 -- ---- paths
 
-neither : (a b : Bool) → (a || b) ≡ false → (a ≡ false) × (b ≡ false)
-neither true b h = absurd (true≢false h)
-neither false b h = (refl, h)
-
 lacks : (byte : ℕ) (xs : List ℕ) → list_any (is_byte byte) xs ≡ false → AllByRecursion (λ b. (b == byte) ≡ false) xs
 lacks byte [] h = tt
-lacks byte (x ∷ xs) h = let p = neither (x == byte) (list_any (is_byte byte) xs) h in (p.0, lacks byte xs p.1)
+lacks byte (x ∷ xs) h = let p = or_parts (x == byte) (list_any (is_byte byte) xs) h in (p.0, lacks byte xs p.1)
 
 other_byte : (b : ℕ) → (b == 47) ≡ false → b ≢ 47
 other_byte b e = grind (arith, nat_tests)
 
 lacks_not : (byte : ℕ) (xs : List ℕ) → not (list_any (is_byte byte) xs) ≡ true → AllByRecursion (λ b. (b == byte) ≡ false) xs
-lacks_not byte xs h = lacks byte xs (turned (list_any (is_byte byte) xs) h)
-  where
-    turned : (b : Bool) → not b ≡ true → b ≡ false
-    turned true h = absurd (true≢false (sym h))
-    turned false h = refl
+lacks_not byte xs h = lacks byte xs (not-true (list_any (is_byte byte) xs) h)
 
 is_longer : (xs : List ℕ) → not (length xs == 0) ≡ true → 0 < length xs
 is_longer [] h = absurd (true≢false (sym h))
@@ -75,18 +65,6 @@ page_read or c pairs (wants.Told told) well is = absurd (or c pairs is.0 is.1 we
 page_read or c pairs (wants.Features (features.Feature d i)) well is = absurd is
 
 -- ---- what asks has no fault, and asks for some features at least
-
-accepted : (c : Collection) (text : Option (List ℕ)) (filter : Option Filter) → IsFilterGiven c text filter → IfSome text (IsAccepted (schema_of c))
-accepted c None filter given = tt
-accepted c (Some text) None given = absurd given
-accepted c (Some text) (Some filter) given = given.0
-
-pub well : (c : Collection) (pairs : List PairText) (ask : Ask) → IsAsk c pairs ask → AsksWell c pairs
-well c pairs ask is = record {
-  selects = is.no_selection_fault;
-  filters_well = accepted c (filter_given pairs) ask.filter is.filter_is;
-  continues = is.no_continuation_fault;
-}
 
 least : (n : ℕ) (none : Bool) → (n == 0) ≡ none → 1 ≤ unwrap_or (cond none None (Some (min 1000 n))) 10
 least n true h = omega arith

@@ -1,10 +1,10 @@
 -- How many pages a walk has.
-use Rattle.std.proofs.Common.{◌≡◌, ℕ, ◌+◌, ◌-◌, ◌/◌, ◌≤◌, ◌<◌, ℤ, Bool, true, false, nat_lt, List, [], ◌∷◌, ◌++◌, length, take, Option, refl, sym, ap, ◌∙◌, arith, length-append, le-div_iff_mul-le, div-lt_iff_lt-mul}
+use Rattle.std.proofs.Common.{◌≡◌, ℕ, ◌+◌, ◌-◌, ◌/◌, ◌≤◌, ◌<◌, ℤ, Bool, true, false, List, [], ◌∷◌, ◌++◌, length, take, Option, refl, sym, ap, ◌∙◌, arith, length-append, le-div_iff_mul-le, div-lt_iff_lt-mul}
 use Rattle.std.specs.Bool.{MatchBool}
 use Rattle.std.specs.List.Sorted.{IsStrictlySortedBy}
 use Rattle.std.proofs.Math.Nat.{add-div_right}
-use Rattle.std.proofs.lemmas.Bool.Decides.{nat_tests}
 use Rattle.std.proofs.lemmas.List.{length-take-le}
+use Rattle.std.proofs.lemmas.Bool.{ltb-true, ltb-false}
 use Rattle.cad_feature.specs.Features.{Item, by_identifier}
 use Rattle.cad_run.specs.Slices.{later, is_more}
 use Rattle.cad_answer.specs.Laws.{last_of, AreWalk, WalksAreWhole}
@@ -29,12 +29,6 @@ one_more limit n m some full rest =
 
 -- ---- the pages of a walk
 
-lt_is : (m n : ℕ) → nat_lt m n ≡ true → m < n
-lt_is m n h = grind (arith, nat_tests)
-
-le_is : (m n : ℕ) → nat_lt m n ≡ false → n ≤ m
-le_is m n h = grind (arith, nat_tests)
-
 -- what a full page leaves
 left : (limit : ℕ) (page xs ys : List Item) → page ≡ take limit xs → limit < length xs → page ++ ys ≡ xs → length xs ≡ limit + length ys
 left limit page xs ys e more whole =
@@ -50,12 +44,12 @@ ends_or_goes_on whole limit xs last page pages true some up walk is walked count
     let n = length (later last xs) in
     let m = length (later (last_of page) xs) in
     let rest : joined pages ≡ later (last_of page) xs = whole limit xs (last_of page) pages some up walked in
-    let more : limit < n = lt_is limit n is in
+    let more : limit < n = ltb-true limit n is in
     let full : n ≡ limit + m = left limit page (later last xs) (later (last_of page) xs) walk.0 more (ap (λ us. page ++ us) (sym rest) ∙ whole limit xs last (page ∷ pages) some up walk) in
     let one : 1 + pages_of limit m ≡ pages_of limit n = one_more limit n m some full (omega arith) in
     omega (arith, counted walked)
 ends_or_goes_on whole limit xs last page pages false some up walk is none counted =
-    ap (λ us. length (page ∷ us)) none ∙ one_page limit (length (later last xs)) some (le_is limit (length (later last xs)) is)
+    ap (λ us. length (page ∷ us)) none ∙ one_page limit (length (later last xs)) some (ltb-false limit (length (later last xs)) is)
 
 pub count : WalksAreWhole → WalksHaveThatManyPages
 count whole limit xs last [] some up walk = absurd walk

@@ -3,7 +3,6 @@ pub mod AskingLemmas
 pub mod CountLemmas
 pub mod ListingLemmas
 pub mod PartLemmas
-pub mod SortLemmas
 pub mod AcceptedLemmas
 pub mod WalkLemmas
 pub mod VisitLemmas

@@ -6,6 +6,7 @@ use Rattle.std.proofs.lemmas.Bool.Decides.{nat_tests}
 use Rattle.std.proofs.lemmas.List.{length-take-le}
 use Rattle.std.proofs.lemmas.List.Elements.{All-take, All-filter}
 use Rattle.std.proofs.lemmas.Option.{slice_get_within, slice_get-get_or, get_or_from_slice_get}
+use Rattle.std.proofs.lemmas.Bool.{ltb-true}
 use Rattle.serde_json.specs.Written.{compact_text}
 use Rattle.cad_versions.specs.declared.command.Command.{Command}
 use Rattle.cad_feature.specs.Features.{Item}
@@ -85,14 +86,11 @@ links ask snapshot target e = links_by ask snapshot target (is_more_in ask snaps
 
 -- ---- no link
 
-more_is : (m n : ℕ) → nat_lt m n ≡ true → m < n
-more_is m n h = grind (arith, nat_tests)
-
 -- a page before more has a last feature
 last_stands : (limit : ℕ) (xs : List Item) → 1 ≤ limit → nat_lt limit (length xs) ≡ true → slice_get (take limit xs) (length (take limit xs) - 1) ≡ None → ⊥
-last_stands limit [] some more none = absurd (omega (arith, more_is limit 0 more))
+last_stands limit [] some more none = absurd (omega (arith, ltb-true limit 0 more))
 last_stands limit (x ∷ xs) some more none =
-    let n : length (take limit (x ∷ xs)) ≡ limit = length-take-le limit (x ∷ xs) (omega (arith, more_is limit (length (x ∷ xs)) more)) in
+    let n : length (take limit (x ∷ xs)) ≡ limit = length-take-le limit (x ∷ xs) (omega (arith, ltb-true limit (length (x ∷ xs)) more)) in
     let is = slice_get-get_or (take limit (x ∷ xs)) (length (take limit (x ∷ xs)) - 1) x (omega arith) in
     let e : Some (get_or (take limit (x ∷ xs)) (length (take limit (x ∷ xs)) - 1) x) ≡ None = sym is ∙ none in
     absurd cc

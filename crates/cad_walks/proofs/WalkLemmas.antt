@@ -20,6 +20,7 @@ use Rattle.cad_query.specs.Parameters.{any_text}
 use Rattle.cad_ask.specs.declared.ask.Ask.{Ask}
 use Rattle.cad_ask.specs.Answers.{IsAsk, AsksWell}
 use Rattle.cad_ask.specs.Laws.{HasFaultOrAsks, NextAsksTheSame, AskTheSame, PairsAskOneThing}
+use Rattle.cad_ask.specs.AnswerLemmas.{asks_well}
 use Rattle.cad_snapshot.specs.Snapshots.{RevisionFeatures, features_at}
 use Rattle.cad_answer.specs.Answers.{answers}
 use Rattle.cad_answer.specs.Laws.{last_of, AreWalk, WalksAreWhole}
@@ -36,7 +37,7 @@ use Rattle.cad_walks.specs.Walks.{Visit, AsksFor, revision_asked, snapshot_asked
 use Rattle.cad_walks.specs.Registers.{AcceptedAreListed, AcceptedAreFew}
 use Rattle.cad_walks.specs.Laws.{WalksHaveThatManyPages, WalksShowTheAnswer}
 use Rattle.cad_walks.proofs.AgainLemmas.{GoesOn, begins_at, goes_on}
-use Rattle.cad_walks.proofs.AskingLemmas.{is_path, page_wanted, page_read, well, some_wanted}
+use Rattle.cad_walks.proofs.AskingLemmas.{is_path, page_wanted, page_read, some_wanted}
 use Rattle.cad_walks.proofs.ListingLemmas.{ascend, have_numbers}
 use Rattle.cad_walks.proofs.PartLemmas.{IsPart, linked, shows, links, ends, last_identifies}
 
@@ -77,7 +78,7 @@ asks_after : Laws → (r next : Request) (ask : Ask) (revision : ℕ) (last : It
 asks_after laws r next ask revision last asks small identifies target =
     let own = map pair_text ask.pairs.items in
     let read = laws.back (items_path ask.collection) own revision (numbers_of last) (is_path ask.collection) (own_texts laws r ask asks) small identifies in
-    let goes = laws.again ask.collection own revision (numbers_of last) small identifies (well ask.collection own ask (own_pairs r ask asks)) in
+    let goes = laws.again ask.collection own revision (numbers_of last) small identifies (asks_well ask.collection own ask (own_pairs r ask asks)) in
     let pairs : pairs_of (query next) ≡ continued revision (numbers_of last) own = ap asked_pairs target ∙ read.1 in
     record {
       path_is = ap path_of target ∙ read.0;
@@ -203,7 +204,7 @@ first : Laws → (visit : Visit) (ask : Ask) → AsksFor visit.request ask → r
 first laws visit ask asks made =
     let c = ask.collection in
     let pairs = pairs_of (query visit.request) in
-    let read = page_read laws.faults c pairs visit.replied.0 (well c pairs ask asks.asks) (page_wanted laws.asked laws.paths visit.request c visit.replied.0 asks.get asks.path_is visit.replied.1) in
+    let read = page_read laws.faults c pairs visit.replied.0 (asks_well c pairs ask asks.asks) (page_wanted laws.asked laws.paths visit.request c visit.replied.0 asks.get asks.path_is visit.replied.1) in
     let same : AskTheSame read.0 ask = laws.one c pairs read.0 ask read.2 asks.asks in
     record {
       own = read.0;

@@ -1,6 +1,8 @@
 -- Each way of a menu has each feature that meets the form.
-use Rattle.std.proofs.Common.{◌≡◌, ◌∙◌, refl, sym, subst, Bool, true, false, ◌&&◌, ◌||◌, List, [], ◌∷◌, ◌++◌, map, if◌then◌else◌, filter, nat_lt, arith}
+use Rattle.std.proofs.Common.{◌≡◌, ◌∙◌, refl, sym, subst, Bool, true, false, ◌&&◌, ◌||◌, List, [], ◌∷◌, ◌++◌, map, if◌then◌else◌, filter, nat_lt}
 use Rattle.std.specs.List.{list_all, list_any}
+use Rattle.std.specs.Cmp.{first_so, second_so}
+use Rattle.std.proofs.lemmas.Bool.{and_from}
 use Rattle.cad_cells.specs.Blocks.{block_around}
 use Rattle.cad_shape.specs.Shapes.{shape_corners}
 use Rattle.cad_feature.specs.Features.{Item}
@@ -16,15 +18,6 @@ use Rattle.cql_rewrite.specs.Menus.{cheaper, first_least, chosen, is_narrow, mee
 abbrev Has : Item → List Way → Type 0
 Has x ws = list_all (λ w. is_found w x) ws ≡ true
 
-both : (a b : Bool) → a ≡ true → b ≡ true → (a && b) ≡ true
-both a b h k = grind arith
-
-first_of : (a b : Bool) → (a && b) ≡ true → a ≡ true
-first_of a b h = grind arith
-
-second_of : (a b : Bool) → (a && b) ≡ true → b ≡ true
-second_of a b h = grind arith
-
 either : (x : Item) (b : Bool) (v w : Way) → is_found v x ≡ true → is_found w x ≡ true → is_found (if b then v else w) x ≡ true
 either x true v w h k = h
 either x false v w h k = k
@@ -33,21 +26,21 @@ first_has : (counts : Counts) (x : Item) (w : Way) (ws : List Way) → is_found 
 first_has counts x w [] h k = h
 first_has counts x w (v ∷ vs) h k =
     first_has counts x (cheaper counts w v) vs
-    (either x (nat_lt (cost counts v) (cost counts w)) v w (first_of _ (list_all (λ w. is_found w x) vs) k) h)
-    (second_of (is_found v x) _ k)
+    (either x (nat_lt (cost counts v) (cost counts w)) v w (first_so _ (list_all (λ w. is_found w x) vs) k) h)
+    (second_so (is_found v x) _ k)
 
 pub chosen_has : (counts : Counts) (x : Item) (ws : List Way) → Has x ws → is_found (chosen counts ws) x ≡ true
 chosen_has counts x [] h = found_all x
-chosen_has counts x (w ∷ ws) h = first_has counts x w ws (first_of _ (list_all (λ w. is_found w x) ws) h) (second_of (is_found w x) _ h)
+chosen_has counts x (w ∷ ws) h = first_has counts x w ws (first_so _ (list_all (λ w. is_found w x) ws) h) (second_so (is_found w x) _ h)
 
 -- ---- AND
 
 pair_has : (x : Item) (v : Way) (ws : List Way) → is_found v x ≡ true → Has x ws → Has x (v ∷ ws)
-pair_has x v ws h k = both (is_found v x) (list_all (λ w. is_found w x) ws) h k
+pair_has x v ws h k = and_from (is_found v x) (list_all (λ w. is_found w x) ws) h k
 
 join_has : (x : Item) (vs ws : List Way) → Has x vs → Has x ws → Has x (vs ++ ws)
 join_has x [] ws h k = k
-join_has x (v ∷ vs) ws h k = pair_has x v (vs ++ ws) (first_of _ (list_all (λ w. is_found w x) vs) h) (join_has x vs ws (second_of (is_found v x) _ h) k)
+join_has x (v ∷ vs) ws h k = pair_has x v (vs ++ ws) (first_so _ (list_all (λ w. is_found w x) vs) h) (join_has x vs ws (second_so (is_found v x) _ h) k)
 
 kept_has : (x : Item) (b : Bool) (w : Way) (ws : List Way) → is_found w x ≡ true → Has x ws → Has x (if b then (w ∷ ws) else ws)
 kept_has x true w ws h k = pair_has x w ws h k
@@ -55,7 +48,7 @@ kept_has x false w ws h k = k
 
 narrow_has : (x : Item) (ws : List Way) → Has x ws → Has x (filter is_narrow ws)
 narrow_has x [] h = refl
-narrow_has x (w ∷ ws) h = kept_has x (is_narrow w) w (filter is_narrow ws) (first_of _ (list_all (λ w. is_found w x) ws) h) (narrow_has x ws (second_of (is_found w x) _ h))
+narrow_has x (w ∷ ws) h = kept_has x (is_narrow w) w (filter is_narrow ws) (first_so _ (list_all (λ w. is_found w x) ws) h) (narrow_has x ws (second_so (is_found w x) _ h))
 
 meets_has : (x : Item) (ws : List Way) → Has x ws → Has x (meets_of ws)
 meets_has x [] h = refl
@@ -88,7 +81,7 @@ Known counts x = (n : Normal) × Covered counts x n
 parts_all : (counts : Counts) (x : Item) (ns : List (Known counts x)) → list_all (λ b. b) (map (meets x) (map (λ k. k.0) ns)) ≡ true → Has x (map (chosen counts) (map (menu counts) (map (λ k. k.0) ns)))
 parts_all counts x [] h = refl
 parts_all counts x (k ∷ ns) h =
-    pair_has x (chosen counts (menu counts k.0)) _ (chosen_has counts x (menu counts k.0) (k.1 (first_of _ _ h))) (parts_all counts x ns (second_of (meets x k.0) _ h))
+    pair_has x (chosen counts (menu counts k.0)) _ (chosen_has counts x (menu counts k.0) (k.1 (first_so _ _ h))) (parts_all counts x ns (second_so (meets x k.0) _ h))
 
 any_next : (a b c : Bool) → (a || b) ≡ true → (b ≡ true → c ≡ true) → (a ≡ true → (a || c) ≡ true) → (a || c) ≡ true
 any_next true b c h k l = l refl
@@ -112,10 +105,10 @@ step_covers : (counts : Counts) (x : Item) (y : Normal-F (Known counts x)) →
 step_covers counts x (Normal-F.Constant true) h = only_all x
 step_covers counts x (Normal-F.Constant false) h = absurd cc
 step_covers counts x (Normal-F.Range r) h = pair_of x (range_way r) (found_range r x ∙ h)
-step_covers counts x (Normal-F.Like pattern r) h = pair_of x (range_way r) (found_range r x ∙ first_of _ _ h)
+step_covers counts x (Normal-F.Like pattern r) h = pair_of x (range_way r) (found_range r x ∙ first_so _ _ h)
 step_covers counts x (Normal-F.Atom f side) h = only_all x
 step_covers counts x (Normal-F.Folded f side) h = only_all x
-step_covers counts x (Normal-F.Near f property shape) h = pair_of x (near_block property (block_around (shape_corners shape.now))) (found_near property (block_around (shape_corners shape.now)) x ∙ first_of _ _ h)
+step_covers counts x (Normal-F.Near f property shape) h = pair_of x (near_block property (block_around (shape_corners shape.now))) (found_near property (block_around (shape_corners shape.now)) x ∙ first_so _ _ h)
 step_covers counts x (Normal-F.And parts) h = and_has x _ (parts_all counts x parts.items h)
 step_covers counts x (Normal-F.Or parts) h = or_has x _ (parts_any counts x parts.items h)
 

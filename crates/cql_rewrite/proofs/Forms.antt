@@ -15,6 +15,7 @@ use Rattle.cql_rewrite.specs.declared.form.Normal.TheOpen.{Normal-F}
 use Rattle.std.proofs.Common.{◌<◌, zero, suc, length, get_or, Option, Some, None, Bor, arith}
 use Rattle.std.specs.Prelude.{IfSome, IsTrue}
 use Rattle.std.specs.List.{remove}
+use Rattle.std.proofs.lemmas.Bool.{and_parts, or_right, or_left}
 use Rattle.cad_shape.specs.declared.shape.Shape.{Shape}
 use Rattle.cad_shape.specs.Shapes.{shape_corners}
 use Rattle.cad_cells.specs.Blocks.{block_around}
@@ -99,7 +100,7 @@ folds_Or v = ap folds (sym (rolls-Or v)) ∙ fold-roll-Normal Bool folds_step (N
 
 -- ---- two parts
 
-and_last : (a b : Bool) → (a && b) ≡ (a && (b && true))
+pub and_last : (a b : Bool) → (a && b) ≡ (a && (b && true))
 and_last a b = grind arith
 
 or_last : (a b : Bool) → (a || b) ≡ (a || (b || false))
@@ -115,14 +116,11 @@ pub pair_sides : (side : Bool) (s t : Sides) → joined_test side (side_of side 
 pair_sides true s t = and_last s.yes t.yes
 pair_sides false s t = or_last s.no t.no
 
-both_hold : (a b : Bool) → (a && b) ≡ true → (a ≡ true) × (b ≡ true)
-both_hold a b h = (grind arith, grind arith)
-
 -- what holds of all holds of one
 pub all_at : {X : Type 0} (p : X → Bool) (xs : List X) (i : ℕ) (d : X) → list_all p xs ≡ true → i < length xs → p (get_or xs i d) ≡ true
 all_at p [] i d h l = absurd (omega arith)
-all_at p (x ∷ xs) zero d h l = (both_hold (p x) (list_all p xs) h).0
-all_at p (x ∷ xs) (suc i) d h l = all_at p xs i d (both_hold (p x) (list_all p xs) h).1 (omega arith)
+all_at p (x ∷ xs) zero d h l = (and_parts (p x) (list_all p xs) h).0
+all_at p (x ∷ xs) (suc i) d h l = all_at p xs i d (and_parts (p x) (list_all p xs) h).1 (omega arith)
 
 pub part_met : (x : Item) (parts : List Normal) (i : ℕ) (part : Normal) → list_all (meets x) parts ≡ true → i < length parts → part ≡ get_or parts i part → meets x part ≡ true
 part_met x parts i part h l e = ap (meets x) e ∙ all_at (meets x) parts i part h l
@@ -163,17 +161,11 @@ pub any_more : {X : Type 0} (p : X → Bool) (xs : List X) (x : X) → list_any 
 any_more p [] x = or_false (p x)
 any_more p (y ∷ xs) x = ap (λ b. p y || b) (any_more p xs x) ∙ sym (or_assoc (p y) (list_any p xs) (p x))
 
-or_true : (a b : Bool) → a ≡ true → (a || b) ≡ true
-or_true a b h = grind arith
-
-true_or : (a b : Bool) → b ≡ true → (a || b) ≡ true
-true_or a b h = grind arith
-
 -- what holds of one holds of some
 any_at : {X : Type 0} (p : X → Bool) (xs : List X) (i : ℕ) (d : X) → p (get_or xs i d) ≡ true → i < length xs → list_any p xs ≡ true
 any_at p [] i d h l = absurd (omega arith)
-any_at p (x ∷ xs) zero d h l = or_true (p x) (list_any p xs) h
-any_at p (x ∷ xs) (suc i) d h l = true_or (p x) (list_any p xs) (any_at p xs i d h (omega arith))
+any_at p (x ∷ xs) zero d h l = or_left (p x) (list_any p xs) h
+any_at p (x ∷ xs) (suc i) d h l = or_right (p x) (list_any p xs) (any_at p xs i d h (omega arith))
 
 pub met_by_all : (x : Item) (parts : List Normal) (i : ℕ) (part : Normal) → part ≡ Constant true → i < length parts → part ≡ get_or parts i part → list_any (meets x) parts ≡ true
 met_by_all x parts i part always l e = any_at (meets x) parts i part (ap (meets x) (sym e ∙ always) ∙ meets_Constant x true) l

@@ -6,6 +6,7 @@ use Rattle.std.specs.declared.cmp.Ordering.{Ordering}
 use Rattle.std.specs.declared.cmp.Ordering.TheVariants.{Less, Equal, Greater}
 use Rattle.std.specs.Ordering.{is_le, is_lt, ordering_reverse}
 use Rattle.std.proofs.lemmas.Cmp.{nat_list_cmp_total}
+use Rattle.std.proofs.lemmas.Bool.{and_parts, and_from}
 use Rattle.cad_feature.specs.Features.{datum_at}
 use Rattle.cad_feature.specs.Limits.{limit_of, with_value}
 use Rattle.cad_feature.specs.declared.range.Range.{Range as RangeOf}
@@ -20,6 +21,7 @@ use Rattle.cql_rewrite.specs.declared.form.Normal.{Normal}
 use Rattle.cql_rewrite.specs.Costs.{begins_in, begun_by, every, how_many, least}
 use Rattle.cql_rewrite.specs.Meets.{Written, is_liked}
 use Rattle.cql_rewrite.specs.Terms.{end_limit}
+use Rattle.cql_rewrite.proofs.Forms.{told_by_second}
 use Rattle.cql_rewrite.proofs.Least.{least_under}
 
 alike : (a b : Bool) → (a ≡ true → b ≡ true) → (b ≡ true → a ≡ true) → a ≡ b
@@ -49,19 +51,13 @@ to_under : (t : List ℕ) (end : Option (List ℕ)) → IsBelow t end → is_und
 to_under t None h = refl
 to_under t (Some e) h = is_below (text_cmp t e) h
 
-both_hold : (a b : Bool) → (a && b) ≡ true → (a ≡ true) × (b ≡ true)
-both_hold a b h = (grind arith, grind arith)
-
-hold_both : (a b : Bool) → a ≡ true → b ≡ true → (a && b) ≡ true
-hold_both a b h k = grind arith
-
 above_is : (low t : List ℕ) → is_le (text_cmp low t) ≡ not (is_lt (text_cmp t low))
 above_is low t = ap is_le (nat_list_cmp_total.antisymm low t) ∙ not_below (text_cmp t low)
 
 text_inside : (low t : List ℕ) (end : Option (List ℕ)) → (begins_with low t ≡ true) ↔ LiesBetween low end t → (not (is_lt (text_cmp t low)) && is_under (end_limit end) (a_text t)) ≡ begins_with low t
 text_inside low t end iff = alike (not (is_lt (text_cmp t low)) && is_under (end_limit end) (a_text t)) (begins_with low t)
-    (λ h. let k = both_hold (not (is_lt (text_cmp t low))) (is_under (end_limit end) (a_text t)) h in iff.1 (above_is low t ∙ k.0, from_under t end k.1))
-    (λ h. let k = iff.0 h in hold_both (not (is_lt (text_cmp t low))) (is_under (end_limit end) (a_text t)) (sym (above_is low t) ∙ k.0) (to_under t end k.1))
+    (λ h. let k = and_parts (not (is_lt (text_cmp t low))) (is_under (end_limit end) (a_text t)) h in iff.1 (above_is low t ∙ k.0, from_under t end k.1))
+    (λ h. let k = iff.0 h in and_from (not (is_lt (text_cmp t low))) (is_under (end_limit end) (a_text t)) (sym (above_is low t) ∙ k.0) (to_under t end k.1))
 
 -- a value lies in the range of a front exactly where it is a text that begins with it
 pub inside : (low : List ℕ) (end : Option (List ℕ)) → IsFrontRange low end → (d : Datum) → ((t : List ℕ) → text_in d ≡ Some t → all_scalars t ≡ true) → lies_between (with_value (a_text low)) (end_limit end) d ≡ begins_in low (text_in d)
@@ -79,15 +75,10 @@ pub exactly_like : (pattern low : List ℕ) (end : Option (List ℕ)) (exact : B
 exactly_like pattern low end exact r e None = refl
 exactly_like pattern low end exact r e (Some t) = alike (begins_with low t) (like_test pattern t) (r.only e t) (r.covers t)
 
-swallowed : (a b : Bool) → (b ≡ true → a ≡ true) → (a && b) ≡ b
-swallowed true b h = refl
-swallowed false true h = h refl
-swallowed false false h = refl
-
 -- a text that is like the pattern begins with its front
 pub like_inside : (pattern low : List ℕ) (end : Option (List ℕ)) (exact : Bool) → IsLikeRange pattern low end exact → (text : Option (List ℕ)) → (begins_in low text && is_liked text pattern) ≡ is_liked text pattern
 like_inside pattern low end exact r None = refl
-like_inside pattern low end exact r (Some t) = swallowed (begins_with low t) (like_test pattern t) (r.covers t)
+like_inside pattern low end exact r (Some t) = told_by_second (begins_with low t) (like_test pattern t) (r.covers t)
 
 pub begun : (t : List Written) (i : ℕ) (low : List ℕ) (n : Normal) → least t n ≡ how_many (λ x. begins_in low (text_in (datum_at x.item i))) t → least t n ≤ begun_by t i low
 begun t i [] n e = least_under t n

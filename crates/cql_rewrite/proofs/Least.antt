@@ -3,6 +3,8 @@ use Rattle.std.proofs.Common.{◌≡◌, ◌∙◌, ap, sym, refl, ℕ, zero, su
 use Rattle.std.proofs.Common.{Some, String}
 use Rattle.std.specs.List.{remove}
 use Rattle.std.specs.declared.alloc.Global.{Global}
+use Rattle.std.specs.Cmp.{first_so, second_so}
+use Rattle.std.proofs.lemmas.List.{drop_all}
 use Rattle.cql_types.specs.declared.filter.Filter.{Filter}
 use Rattle.cad_feature.specs.declared.range.Range.{Range as RangeOf}
 use Rattle.cad_range.specs.Ranges.{lies_in, lies_in_if_any}
@@ -12,6 +14,7 @@ use Rattle.cql_rewrite.specs.declared.form.Normal.TheFolds.{fold-roll-Normal, fo
 use Rattle.cql_rewrite.specs.declared.form.Normal.TheOpen.{Normal-F}
 use Rattle.cql_rewrite.specs.Meets.{Written, meets}
 use Rattle.cql_rewrite.specs.Costs.{bound_on, every, how_many, least, least_of_all, least_of_some, least_or, least_step, min_of, range_count, total}
+use Rattle.cql_rewrite.specs.Choices.{min_of_under}
 use Rattle.cql_rewrite.proofs.Forms.{meets_Constant, meets_Range}
 
 pub least_Constant : (t : List Written) (b : Bool) → least t (Constant b) ≡ cond b (every t) 0
@@ -79,10 +82,6 @@ nothing_counted t = least_Constant t false ∙ sym (none_pass t)
 
 -- ---- no form costs more than all features
 
-min_of_under : (n : ℕ) (cs : List ℕ) → min_of n cs ≤ n
-min_of_under n [] = omega arith
-min_of_under n (c ∷ cs) = omega (arith, min_of_under n cs)
-
 step_under : (t : List Written) (form : Normal-F ℕ) → least_step t form ≤ every t
 step_under t (Normal-F.Constant true) = omega arith
 step_under t (Normal-F.Constant false) = omega arith
@@ -125,17 +124,9 @@ least_only t n = omega (arith, least_under t n)
 -- a range joined of two costs no more than each
 pub joined_under : (t : List Written) (r : Option RangeOf) (a b : RangeOf) → ((x : Written) → lies_in_if_any x.item r ≡ (lies_in x.item a && lies_in x.item b)) → range_count t r ≤ min (least t (Range a)) (least t (Range b))
 joined_under t r a b h = rw (least_Range t a, least_Range t b)
-    (let one : range_count t r ≤ how_many (λ (x : Written). lies_in x.item a) t = count_under _ _ t (λ x e. first_of (lies_in x.item a) (lies_in x.item b) (sym (h x) ∙ e)) in
-    let two : range_count t r ≤ how_many (λ (x : Written). lies_in x.item b) t = count_under _ _ t (λ x e. second_of (lies_in x.item a) (lies_in x.item b) (sym (h x) ∙ e)) in
+    (let one : range_count t r ≤ how_many (λ (x : Written). lies_in x.item a) t = count_under _ _ t (λ x e. first_so (lies_in x.item a) (lies_in x.item b) (sym (h x) ∙ e)) in
+    let two : range_count t r ≤ how_many (λ (x : Written). lies_in x.item b) t = count_under _ _ t (λ x e. second_so (lies_in x.item a) (lies_in x.item b) (sym (h x) ∙ e)) in
     omega (arith, one, two))
-  where
-    first_of : (a b : Bool) → (a && b) ≡ true → a ≡ true
-    first_of true b e = refl
-    first_of false b e = e
-
-    second_of : (a b : Bool) → (a && b) ≡ true → b ≡ true
-    second_of true b e = e
-    second_of false b e = absurd cc
 
 -- ---- the bounds of parts
 
@@ -167,12 +158,6 @@ only_one t [] n h e = absurd (omega arith)
 only_one t (m ∷ []) n h e = rw e (least_only t m)
 only_one t (m ∷ k ∷ ns) n h e = absurd (omega arith)
 
-pub drop_over : {X : Type 0} (xs : List X) (i : ℕ) → length xs ≤ i → drop i xs ≡ []
-drop_over [] zero h = refl
-drop_over [] (suc i) h = refl
-drop_over (x ∷ xs) zero h = absurd (omega arith)
-drop_over (x ∷ xs) (suc i) h = drop_over xs i (omega arith)
-
 -- one part more of an AND
 pub and_next : (side : Bool) (t : List Written) (forms new : List Normal) (n : Normal) (f : Filter) (fs : List Filter) (i : ℕ) {whole : ℕ} → suc i ≤ length fs → f ≡ get_or fs i f →
     least_of_all t new ≤ min (least_of_all t forms) (least t n) → least t n ≤ bound_on side t f →
@@ -184,7 +169,7 @@ and_next side t forms new n f fs i h at added part so_far =
 pub and_done : (side : Bool) (t : List Written) (forms : List Normal) (n : Normal) (fs : List Filter) (i : ℕ) {whole : ℕ} → length fs ≤ i → least t n ≤ least_of_all t forms →
     min (least_of_all t forms) (min_of (every t) (map (bound_on side t) (drop i fs))) ≤ whole → least t n ≤ whole
 and_done side t forms n fs i h under so_far =
-    let e : min_of (every t) (map (bound_on side t) (drop i fs)) ≡ every t = ap (λ gs. min_of (every t) (map (bound_on side t) gs)) (drop_over fs i h) in
+    let e : min_of (every t) (map (bound_on side t) (drop i fs)) ≡ every t = ap (λ gs. min_of (every t) (map (bound_on side t) gs)) (drop_all i fs h) in
     omega (arith, e, under, so_far, all_under t forms)
 
 -- one part more of an OR

@@ -1,6 +1,7 @@
 -- The equalities of an IN, one after the other.
 use Rattle.std.proofs.Common.{◌≡◌, ◌∙◌, ap, sym, refl, ℕ, suc, ◌+◌, ◌≤◌, List, ◌∷◌, map, length, get_or, drop, add-one, drop-cons, Bool, true, false, ◌||◌, arith}
 use Rattle.std.specs.List.{list_any}
+use Rattle.std.proofs.lemmas.List.{drop_all}
 use Rattle.cad_feature.specs.Features.{Item}
 use Rattle.cql_truth.specs.Sides.{Sides}
 use Rattle.cql_types.specs.declared.filter.Filter.{Filter}
@@ -8,7 +9,7 @@ use Rattle.cql_rewrite.specs.declared.form.Normal.{Normal}
 use Rattle.cql_rewrite.specs.Costs.{any_equal, bound, bound_on, count_in, count_of, IsCounted, least, least_of_some, total}
 use Rattle.cql_rewrite.specs.Meets.{Written, meets}
 use Rattle.cql_rewrite.proofs.Forms.{or_assoc, or_false}
-use Rattle.cql_rewrite.proofs.Least.{count_alike, drop_over, least_under}
+use Rattle.cql_rewrite.proofs.Least.{count_alike, least_under}
 
 drop_next : {X : Type 0} (xs : List X) (i : ℕ) (x : X) → suc i ≤ length xs → x ≡ get_or xs i x → drop i xs ≡ x ∷ drop (i + 1) xs
 drop_next xs i x h e = rw (add-one, drop-cons xs i x, ← e) refl
@@ -26,7 +27,7 @@ module _ {T : Type 0} (equal : Item → T → T → Sides) (a : T) where
 
   pub any_done : (x : Item) (forms : List Normal) (items : List T) (i : ℕ) {whole : Bool} → length items ≤ i → (list_any (meets x) forms || any_equal equal x a (drop i items)) ≡ whole → list_any (meets x) forms ≡ whole
   any_done x forms items i h so_far =
-      sym (or_false (list_any (meets x) forms)) ∙ sym (ap (λ l. list_any (meets x) forms || any_equal equal x a l) (drop_over items i h)) ∙ so_far
+      sym (or_false (list_any (meets x) forms)) ∙ sym (ap (λ l. list_any (meets x) forms || any_equal equal x a l) (drop_all i items h)) ∙ so_far
 
   -- one equality costs no more than how many have the item's value
   pub one_costs : (t : List Written) (n : Normal) (item : T) → IsCounted n → ((x : Item) → meets x n ≡ (equal x a item).yes) → least t n ≤ count_of t equal a item
@@ -43,7 +44,7 @@ module _ {T : Type 0} (equal : Item → T → T → Sides) (a : T) where
   pub sum_done : (t : List Written) (forms : List Normal) (n : Normal) (items : List T) (i : ℕ) → length items ≤ i → least t n ≤ least_of_some t forms →
       total (map (least t) forms) + total (map (count_of t equal a) (drop i items)) ≤ total (map (count_of t equal a) items) → least t n ≤ count_in true t equal a items
   sum_done t forms n items i h under so_far =
-      let left : total (map (count_of t equal a) (drop i items)) ≡ 0 = ap (λ l. total (map (count_of t equal a) l)) (drop_over items i h) in
+      let left : total (map (count_of t equal a) (drop i items)) ≡ 0 = ap (λ l. total (map (count_of t equal a) l)) (drop_all i items h) in
       omega (arith, left, under, so_far)
 
   pub member_costs : (side plain : Bool) (t : List Written) (n : Normal) (f : Filter) (items : List T) → bound t f ≡ count_in plain t equal a items → (side ≡ true → plain ≡ true → least t n ≤ count_in true t equal a items) → least t n ≤ bound_on side t f

@@ -4,6 +4,7 @@ use Rattle.std.specs.Prelude.{ℤ, ◌≤ℤ◌}
 use Rattle.std.specs.Int.{int_min, int_max}
 use Rattle.std.proofs.lemmas.Int.{ints, clamps}
 use Rattle.std.proofs.lemmas.List.Elements.{All-get_or, All-tail, All-cons}
+use Rattle.std.proofs.lemmas.Bool.{or_right}
 use Rattle.cad_shape.specs.declared.point.Point.{Point}
 use Rattle.cad_shape.specs.declared.boxes.Bounds.{Bounds}
 use Rattle.cad_shape.specs.declared.ring.Ring.{Ring}
@@ -145,12 +146,8 @@ spatial_meets t relation.Disjoint a b n h = absurd cc
 spatial_meets t relation.Within a b n h = within_meets t a b h
 spatial_meets t relation.Contains a b n h = t.symmetric b a (within_meets t b a h)
 
-either_near : (a b : Bool) → b ≡ true → (a || b) ≡ true
-either_near true b h = refl
-either_near false b h = h
-
 shape_near : Told → (a s : Shape) → Meets a s → is_candidate (block_around (shape_corners s)) (Some (block_around (shape_corners a))) ≡ true
-shape_near t a s m = either_near (is_wide (block_around (shape_corners a))) _ (meets_shares t a s m)
+shape_near t a s m = or_right (is_wide (block_around (shape_corners a))) _ (meets_shares t a s m)
 
 -- by the value of the feature, first or second
 datum_near : Told → (by : SpatialRelation) (d : Datum) (s : Shape) → is_near_by by ≡ true → (told (both (spatial by) (shape_in d) (Some s))).yes ≡ true → is_candidate (block_around (shape_corners s)) (block_in d) ≡ true

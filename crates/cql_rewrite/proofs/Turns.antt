@@ -8,14 +8,14 @@ use Rattle.cad_feature.specs.Features.{Item}
 use Rattle.cql_lexer.specs.declared.token.Comparison.{Comparison}
 use Rattle.cql_lexer.specs.declared.token.Comparison.TheVariants as comparison
 use Rattle.cql_types.specs.declared.filter.Filter.{Filter}
-use Rattle.cql_types.specs.declared.filter.Filter.TheVariants.{Not, And, Or, Truth}
+use Rattle.cql_types.specs.declared.filter.Filter.TheVariants.{Not, And, Or}
 use Rattle.cql_types.specs.declared.filter.Filter.TheVariants as filter
 use Rattle.cql_types.specs.declared.filter.Filter.TheOpen.{Filter-F}
 use Rattle.cql_types.specs.declared.filter.Filter.TheFolds.{fold-roll-Filter}
 use Rattle.cql_truth.specs.Nodes.{sides_Not, sides_And, sides_Or}
 use Rattle.cql_truth.specs.Sides.{Sides, sides, stands, told}
 use Rattle.cql_truth.specs.Values.{both}
-use Rattle.cql_rewrite.proofs.Forms.{list_all-map, list_any-map}
+use Rattle.cql_rewrite.proofs.Forms.{and_last, list_all-map, list_any-map}
 use Rattle.cad_feature.specs.Values.{Datum, null, a_text, a_whole, a_flag, a_day, a_span, a_spot, an_area}
 use Rattle.cql_lexer.specs.declared.token.SpatialRelation.{SpatialRelation}
 use Rattle.cql_types.specs.declared.filter.ShapeTerm.{ShapeTerm}
@@ -187,9 +187,6 @@ and_costs false t n fs h = least_under t n
 pub or_costs : (side : Bool) (t : List Written) (n : Normal) (fs : Vec Filter Global) → least t n ≤ bounds_joined (not side) side t fs.items → least t n ≤ bound_on side t (Or fs)
 or_costs true t n fs h = rw (bound_Or t fs) h
 or_costs false t n fs h = least_under t n
-
-and_last : (a b : Bool) → (a && b) ≡ (a && (b && true))
-and_last a b = grind arith
 
 -- between two literals
 pub plain_between : (d : Datum) (a b : ℤ) → lies_between (with_value (a_whole a)) (with_value (a_whole b)) d ≡ (between (whole_in d) (Some a) (Some b)).yes

@@ -155,14 +155,14 @@ pub narrow_costs : (counts : Counts) (ws : List Way) → EachCosts counts ws →
 narrow_costs counts [] h = h
 narrow_costs counts (w ∷ ws) h = rw (filter_step w ws) (narrow_if counts w (filter is_narrow ws) (is_narrow w) h.0 (narrow_costs counts ws h.1))
 
+pub min_of_under : (n : ℕ) (cs : List ℕ) → min_of n cs ≤ n
+min_of_under n [] = omega arith
+min_of_under n (c ∷ cs) = omega (arith, min_of_under n cs)
+
 least_of_narrow : (counts : Counts) (ws : List Way) → EachCosts counts ws → min_of counts.every (map (cost counts) (filter is_narrow ws)) ≤ min_of counts.every (map (cost counts) ws)
 least_of_narrow counts ws h =
     let m : ℕ = min_of counts.every (map (cost counts) (filter is_narrow ws)) in
-    under_each counts m counts.every ws (under_bound counts.every (map (cost counts) (filter is_narrow ws))) (under_bound counts.every (map (cost counts) (filter is_narrow ws))) (omega arith)
-  where
-    under_bound : (n : ℕ) (cs : List ℕ) → min_of n cs ≤ n
-    under_bound n [] = omega arith
-    under_bound n (c ∷ cs) = omega (arith, under_bound n cs)
+    under_each counts m counts.every ws (min_of_under counts.every (map (cost counts) (filter is_narrow ws))) (min_of_under counts.every (map (cost counts) (filter is_narrow ws))) (omega arith)
 
 none_narrow : (counts : Counts) (ws : List Way) → [] ≡ filter is_narrow ws → first_least counts all_features ws ≡ all_features
 none_narrow counts ws e =

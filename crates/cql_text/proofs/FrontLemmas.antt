@@ -1,5 +1,5 @@
 -- The texts that begin with a front are those between it and the next front.
-use Rattle.std.proofs.Common.{◌≡◌, ◌↔◌, ◌∙◌, ℕ, ◌<◌, ◌≤◌, ◌==◌, Bool, true, false, List, [], ◌∷◌, ◌++◌, chars, Option, Some, None, option_map, ap, sym, refl, inl, inr, arith}
+use Rattle.std.proofs.Common.{◌≡◌, ◌↔◌, ◌∙◌, ℕ, ◌<◌, ◌≤◌, ◌==◌, true, List, [], ◌∷◌, ◌++◌, chars, Option, Some, None, option_map, ap, sym, refl, inl, inr, arith}
 use Rattle.std.specs.Str.{IsUtf8, all_scalars}
 use Rattle.std.specs.declared.cmp.Ordering.TheVariants.{Less}
 use Rattle.std.specs.Ordering.{nat_cmp}
@@ -8,22 +8,17 @@ use Rattle.std.proofs.lemmas.Bool.Decides.{nat_tests}
 use Rattle.std.proofs.lemmas.Cmp.{by_ranked, ranked}
 use Rattle.std.proofs.lemmas.Str.{chars_from_encodes, encodes-append, encodes-chars}
 use Rattle.std.proofs.Math.Utf8.{encode, scalar, scalar_cases}
+use Rattle.std.proofs.lemmas.Bool.{eqb-true}
 use Rattle.cql_text.specs.Fronts.{begins_with, IsBelow, IsFrontRange, LiesBetween, next_front, next_scalar, onward}
 use Rattle.cql_text.specs.Order.{text_cmp}
 use Rattle.cql_text.specs.CodePoints.{cmp_equal, cmp_greater, cmp_less}
-
-same_char : (c d : ℕ) → (c == d) ≡ true → c ≡ d
-same_char c d h = grind (arith, nat_tests)
+use Rattle.cql_text.proofs.LikenessLemmas.{by_bool}
 
 char_itself : (c d : ℕ) → c ≡ d → (c == d) ≡ true
 char_itself c d h = grind (arith, nat_tests)
 
 first_same : (c d : ℕ) (front text : List ℕ) → begins_with (c ∷ front) (d ∷ text) ≡ true → (d ≡ c) × (begins_with front text ≡ true)
-first_same c d front text b = (sym (same_char c d (first_so (c == d) (begins_with front text) b)), second_so (c == d) (begins_with front text) b)
-
-by_bool : {G : Type 0} (b : Bool) → (b ≡ true → G) → (b ≡ false → G) → G
-by_bool true f g = f refl
-by_bool false f g = g refl
+first_same c d front text b = (sym (eqb-true c d (first_so (c == d) (begins_with front text) b)), second_so (c == d) (begins_with front text) b)
 
 -- no character stands between c and what is next, if any
 abbrev NextIs : ℕ → Option ℕ → Type 0
@@ -38,9 +33,9 @@ past_last c d e s h = elim (scalar_cases d s) [ inl k ↦ omega arith | inr k �
 
 next_is : (c : ℕ) → NextIs c (next_scalar c)
 next_is c = by_bool (c == 55295)
-    (λ e. rw e (let k = same_char c 55295 e in (omega arith, λ d s h. past_gap c d k s h)))
+    (λ e. rw e (let k = eqb-true c 55295 e in (omega arith, λ d s h. past_gap c d k s h)))
     (λ e. rw e (by_bool (c == 1114111)
-    (λ f. rw f (let k = same_char c 1114111 f in λ d s h. past_last c d k s h))
+    (λ f. rw f (let k = eqb-true c 1114111 f in λ d s h. past_last c d k s h))
     (λ f. rw f (omega arith, λ d s h. omega arith))))
 
 below_next : (c d : ℕ) (text : List ℕ) (r : Option ℕ) → NextIs c r → c ≡ d → IsBelow (d ∷ text) (option_map (λ n. n ∷ []) r)

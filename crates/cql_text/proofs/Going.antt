@@ -1,5 +1,6 @@
 -- The walk after a part for any number, and the place that it comes back to.
 use Rattle.std.proofs.Common.{◌≡◌, ◌∙◌, ℕ, ◌+◌, ◌≤◌, Bool, true, false, ◌||◌, List, [], ◌∷◌, ◌++◌, length, ap, sym, refl, append_assoc, length-append, arith}
+use Rattle.std.proofs.lemmas.Bool.{or_right}
 use Rattle.cql_text.specs.Patterns.{Piece, any, one, exactly, is_like, piece_takes, some_end}
 use Rattle.cql_text.proofs.Walk.{IsPlain, absorbed}
 
@@ -41,12 +42,9 @@ or_swallows true b h = refl
 or_swallows false true h = sym (h refl)
 or_swallows false false h = refl
 
-or_second : (a b : Bool) → b ≡ true → (a || b) ≡ true
-or_second a b h = grind arith
-
 later_is_some : (test : List ℕ → Bool) (text : List ℕ) → later test text ≡ true → some_end test text ≡ true
 later_is_some test [] h = cc
-later_is_some test (c ∷ text) h = or_second (test (c ∷ text)) (some_end test text) h
+later_is_some test (c ∷ text) h = or_right (test (c ∷ text)) (some_end test text) h
 
 -- a later place than the newest one is no news
 newest : (again left : List Piece) (from rest : List ℕ) → Reached again (any ∷ left) from rest → later (is_like again) from ≡ true → some_end (is_like left) rest ≡ true

@@ -6,7 +6,7 @@ use Rattle.cql_text.specs.Patterns.{is_like, Matches, exactly, pieces, escaped a
 use Rattle.cql_text.specs.Likeness.{IsLike, nothing, any_number, just_one, escaped, last_escape, itself}
 use Rattle.cql_text.proofs.MatchLemmas.{matches_iff, same_char}
 
-by_bool : {G : Type 0} (b : Bool) → (b ≡ true → G) → (b ≡ false → G) → G
+pub by_bool : {G : Type 0} (b : Bool) → (b ≡ true → G) → (b ≡ false → G) → G
 by_bool true f g = f refl
 by_bool false f g = g refl
 

@@ -2,25 +2,15 @@
 use Rattle.std.proofs.Common.{◌≡◌, ◌↔◌, ◌∙◌, ℕ, Bool, true, false, ◌==◌, ◌||◌, ◌&&◌, List, [], ◌∷◌, ◌++◌, ap, sym, refl, arith}
 use Rattle.std.specs.Bool.{IsTrue}
 use Rattle.std.proofs.lemmas.Bool.Decides.{nat_tests}
+use Rattle.std.specs.Cmp.{first_so, second_so}
+use Rattle.std.proofs.lemmas.Bool.{or_right, or_left}
 use Rattle.cql_text.specs.Patterns.{Matches, Piece, any, one, exactly, is_like, some_end}
-
-both_first : (a b : Bool) → (a && b) ≡ true → a ≡ true
-both_first a b h = grind arith
-
-both_second : (a b : Bool) → (a && b) ≡ true → b ≡ true
-both_second a b h = grind arith
 
 pub same_char : (c d : ℕ) → (c == d) ≡ true → c ≡ d
 same_char c d h = grind (arith, nat_tests)
 
 itself : (c : ℕ) → (c == c) ≡ true
 itself c = grind (arith, nat_tests)
-
-or_second : (a b : Bool) → b ≡ true → (a || b) ≡ true
-or_second a b h = grind arith
-
-or_first : (a b : Bool) → a ≡ true → (a || b) ≡ true
-or_first a b h = grind arith
 
 end_from : (test : List ℕ → Bool) (text : List ℕ) → some_end test text ≡ true → (u : List ℕ) × (v : List ℕ) × (text ≡ u ++ v) × (test v ≡ true)
 end_from test [] h = ([], [], refl, h)
@@ -31,11 +21,11 @@ end_from test (c ∷ text) h = elim (test (c ∷ text)) as (λ b. test (c ∷ te
 
 end_here : (test : List ℕ → Bool) (text : List ℕ) → test text ≡ true → some_end test text ≡ true
 end_here test [] h = h
-end_here test (c ∷ text) h = or_first (test (c ∷ text)) (some_end test text) h
+end_here test (c ∷ text) h = or_left (test (c ∷ text)) (some_end test text) h
 
 end_at : (test : List ℕ → Bool) (u v : List ℕ) → test v ≡ true → some_end test (u ++ v) ≡ true
 end_at test [] v h = end_here test v h
-end_at test (c ∷ u) v h = or_second (test (c ∷ u ++ v)) (some_end test (u ++ v)) (end_at test u v h)
+end_at test (c ∷ u) v h = or_right (test (c ∷ u ++ v)) (some_end test (u ++ v)) (end_at test u v h)
 
 pub matches_from : (p : List Piece) (text : List ℕ) → is_like p text ≡ true → Matches p text
 matches_from [] [] h = refl
@@ -45,7 +35,7 @@ matches_from (one ∷ p) [] h = cc
 matches_from (one ∷ p) (c ∷ text) h = (c, text, refl, matches_from p text h)
 matches_from (exactly d ∷ p) [] h = cc
 matches_from (exactly d ∷ p) (c ∷ text) h =
-    (text, ap (λ (x : ℕ). x ∷ text) (same_char c d (both_first (c == d) (is_like p text) h)), matches_from p text (both_second (c == d) (is_like p text) h))
+    (text, ap (λ (x : ℕ). x ∷ text) (same_char c d (first_so (c == d) (is_like p text) h)), matches_from p text (second_so (c == d) (is_like p text) h))
 
 pub matches_to : (p : List Piece) (text : List ℕ) → Matches p text → is_like p text ≡ true
 matches_to [] text m = rw m refl

@@ -1,6 +1,8 @@
 -- A walk with a place to come back to.
-use Rattle.std.proofs.Common.{◌≡◌, ℕ, zero, suc, ◌+◌, Bool, true, false, ◌&&◌, ◌||◌, List, [], ◌∷◌, ◌++◌, drop, length, sym, refl, add-zero, add-suc, arith}
+use Rattle.std.proofs.Common.{◌≡◌, ℕ, zero, suc, ◌+◌, Bool, true, false, ◌&&◌, ◌||◌, List, [], ◌∷◌, ◌++◌, drop, length, sym, refl, add-zero, add-suc}
 use Rattle.std.proofs.Math.Seq.{drop-append-add}
+use Rattle.std.specs.Cmp.{second_so}
+use Rattle.std.proofs.lemmas.Bool.{or_right}
 use Rattle.cql_text.specs.Patterns.{Piece, any, one, exactly, first_taken, is_like, piece_takes, some_end}
 
 -- no part for any number
@@ -10,30 +12,24 @@ IsPlain (any ∷ p) = ⊥
 IsPlain (one ∷ p) = IsPlain p
 IsPlain (exactly c ∷ p) = IsPlain p
 
-or_right : (a b : Bool) → b ≡ true → (a || b) ≡ true
-or_right a b h = grind arith
-
 -- what some end of an end has, some end has
 pub some_drop : (test : List ℕ → Bool) (k : ℕ) (text : List ℕ) → some_end test (drop k text) ≡ true → some_end test text ≡ true
 some_drop test zero text h = h
 some_drop test (suc k) [] h = h
 some_drop test (suc k) (c ∷ text) h = or_right (test (c ∷ text)) (some_end test text) (some_drop test k text h)
 
-and_second : (a b : Bool) → (a && b) ≡ true → b ≡ true
-and_second a b h = grind arith
-
 taken_then : (piece : Piece) (test : List ℕ → Bool) (text : List ℕ) → first_taken piece test text ≡ true → test (drop 1 text) ≡ true
 taken_then piece test [] h = cc
-taken_then piece test (c ∷ text) h = and_second (piece_takes piece c) (test text) h
+taken_then piece test (c ∷ text) h = second_so (piece_takes piece c) (test text) h
 
 -- plain parts take one character each
 pub plain_then : (m q : List Piece) (text : List ℕ) → IsPlain m → is_like (m ++ q) text ≡ true → is_like q (drop (length m) text) ≡ true
 plain_then [] q text plain h = h
 plain_then (any ∷ m) q text plain h = absurd plain
 plain_then (one ∷ m) q [] plain h = cc
-plain_then (one ∷ m) q (c ∷ text) plain h = plain_then m q text plain (and_second true (is_like (m ++ q) text) h)
+plain_then (one ∷ m) q (c ∷ text) plain h = plain_then m q text plain (second_so true (is_like (m ++ q) text) h)
 plain_then (exactly d ∷ m) q [] plain h = cc
-plain_then (exactly d ∷ m) q (c ∷ text) plain h = plain_then m q text plain (and_second _ (is_like (m ++ q) text) h)
+plain_then (exactly d ∷ m) q (c ∷ text) plain h = plain_then m q text plain (second_so _ (is_like (m ++ q) text) h)
 
 -- an end for which a test holds
 pub end_of : (test : List ℕ → Bool) (text : List ℕ) → some_end test text ≡ true → (k : ℕ) × (test (drop k text) ≡ true)
