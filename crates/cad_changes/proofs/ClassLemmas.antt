@@ -15,7 +15,7 @@ use Rattle.cad_versions.specs.declared.command.Command.TheVariants.{Enter, Amend
 use Rattle.cad_versions.specs.declared.object_id.ObjectId.{ObjectId}
 use Rattle.cad_versions.specs.BodyParts.{unit_named, party_named}
 use Rattle.cad_versions.specs.Class.{class_of, class_number}
-use Rattle.cad_versions.specs.DayBefore.{day_before}
+use Rattle.cad_day.specs.DayBefore.{day_before}
 use Rattle.cad_versions.specs.HistoryLemmas.{unrefused, neither}
 use Rattle.cad_versions.specs.ListLemmas.{all_weaker, all_mapped}
 use Rattle.cad_versions.specs.Objects.{object_number}

@@ -14,7 +14,7 @@ use Rattle.cad_versions.specs.declared.command.Command.{Command}
 use Rattle.cad_versions.specs.declared.command.Command.TheVariants.{Enter, Amend, Retire}
 use Rattle.cad_versions.specs.BodyParts.{name_in, unit_named, party_named}
 use Rattle.cad_versions.specs.Command.{object_named}
-use Rattle.cad_versions.specs.DayBefore.{day_before, number_of-day_before}
+use Rattle.cad_day.specs.DayBefore.{day_before, number_of-day_before}
 use Rattle.cad_versions.specs.Identifiers.{identifier_cmp, by_identifier as by_version, identifier_of as identifier_of_version}
 use Rattle.cad_versions.specs.ListLemmas.{map-map, map_same, filter-map, filter_same}
 use Rattle.cad_versions.specs.Objects.{object_number}

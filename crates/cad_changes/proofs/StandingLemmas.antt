@@ -10,7 +10,7 @@ use Rattle.cad_versions.specs.declared.command.Command.TheVariants.{Enter, Amend
 use Rattle.cad_versions.specs.declared.object_id.ObjectId.{ObjectId}
 use Rattle.cad_versions.specs.BodyParts.{name_in}
 use Rattle.cad_versions.specs.Command.{object_named}
-use Rattle.cad_versions.specs.DayBefore.{day_before, number_of-day_before}
+use Rattle.cad_day.specs.DayBefore.{day_before, number_of-day_before}
 use Rattle.cad_versions.specs.Histories.{IsForward, EndsBefore, IsHistory}
 use Rattle.cad_versions.specs.HistoryLemmas.{HasHistories, closed_is_not_open, find-filter, amends, retires, enters, le_fails, lt_fails}
 use Rattle.cad_versions.specs.Identifiers.{by_identifier}

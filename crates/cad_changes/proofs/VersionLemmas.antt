@@ -7,7 +7,7 @@ use Rattle.cad_day.specs.declared.day.Day.{Day}
 use Rattle.cad_versions.specs.declared.object_id.ObjectId.{ObjectId}
 use Rattle.cad_versions.specs.declared.command.Command.{Command}
 use Rattle.cad_versions.specs.declared.command.Command.TheVariants.{Enter, Amend, Retire}
-use Rattle.cad_versions.specs.DayBefore.{day_before}
+use Rattle.cad_day.specs.DayBefore.{day_before}
 use Rattle.cad_versions.specs.HistoryLemmas.{HasHistories}
 use Rattle.cad_versions.specs.Identifiers.{identifier_of, identifier_cmp, by_identifier}
 use Rattle.cad_versions.specs.ListLemmas.{sort_by-map}

@@ -8,7 +8,7 @@ use Rattle.cad_versions.specs.declared.command.Command.TheVariants.{Enter, Amend
 use Rattle.cad_versions.specs.declared.object_id.ObjectId.{ObjectId}
 use Rattle.cad_versions.specs.BodyParts.{unit_named, party_named}
 use Rattle.cad_versions.specs.Command.{object_named}
-use Rattle.cad_versions.specs.DayBefore.{day_before}
+use Rattle.cad_day.specs.DayBefore.{day_before}
 use Rattle.cad_versions.specs.Identifiers.{by_identifier as by_version}
 use Rattle.cad_versions.specs.Objects.{object_number}
 use Rattle.cad_versions.specs.VersionedObject.{VersionedObject}

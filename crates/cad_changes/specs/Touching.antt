@@ -10,7 +10,7 @@ use Rattle.cad_versions.specs.declared.command.Command.TheVariants.{Enter, Amend
 use Rattle.cad_versions.specs.declared.object_id.ObjectId.{ObjectId}
 use Rattle.cad_versions.specs.BodyParts.{name_in, unit_named, party_named}
 use Rattle.cad_versions.specs.Command.{object_named, body_added}
-use Rattle.cad_versions.specs.DayBefore.{day_before}
+use Rattle.cad_day.specs.DayBefore.{day_before}
 use Rattle.cad_versions.specs.Objects.{object_number}
 use Rattle.cad_versions.specs.Refusals.{most_versions}
 use Rattle.cad_versions.specs.VersionedObject.{VersionedObject}

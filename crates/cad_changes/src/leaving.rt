@@ -11,7 +11,6 @@ ghost use Rattle.cad_changes.specs.Told.{datum_if_any};
 ghost use Rattle.cad_changes.specs.Touching as spec;
 
 use crate::adding::are_listed;
-use crate::days::day_before;
 use crate::dependents::dependents;
 use crate::edits::{NewValues, edited};
 use crate::reading::{first_of, last_of, party_of, unit_of};
@@ -28,7 +27,7 @@ fn closing_day(command: &Command) -> Option<Day>
 {
     match command {
         Command::Enter { .. } => None,
-        Command::Amend { first, .. } => Some(day_before(*first)),
+        Command::Amend { first, .. } => Some(first.before()),
         Command::Retire { last, .. } => Some(*last),
     }
 }

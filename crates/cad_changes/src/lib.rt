@@ -9,7 +9,6 @@
 #![tactic(auto)]
 
 mod adding;
-mod days;
 mod dependents;
 mod edits;
 mod following;

@@ -1,6 +1,7 @@
 pub mod DayNumbers
 pub mod Days
 pub mod SameLemmas
+pub mod DayBefore
 pub mod Intervals
 pub mod DayTexts
 pub mod Calendar

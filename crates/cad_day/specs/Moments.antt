@@ -1,5 +1,5 @@
 -- Moments and intervals of days as they are asked for (OGC 17-069r4, 7.15.4: parameter datetime; RFC 3339's texts, as jiff reads them).
-use Rattle.std.specs.Prelude.{ℕ, ℤ, pos, neg_ℤ, int_lt, nat_lt, ◌==◌, ◌||◌, Bool, if◌then◌else◌, List, length, codes, Option, Some, None, option_map, option_and_then, Result, Ok, Err}
+use Rattle.std.specs.Prelude.{ℕ, ℤ, pos, int_lt, nat_lt, ◌==◌, ◌||◌, Bool, if◌then◌else◌, List, length, codes, Option, Some, None, option_map, option_and_then, Result, Ok, Err}
 use Rattle.std.specs.Option.{option_or, ok_or}
 use Rattle.std.specs.Result.{result_ok, result_map_both}
 use Rattle.std.specs.Int.{int_div_euclid}
@@ -9,6 +9,7 @@ use Rattle.jiff_fmt.specs.Temporal.{parse_timestamp}
 use Rattle.cad_day.specs.declared.interval.Interval.{Interval}
 use Rattle.cad_day.specs.declared.fault.DatetimeFault.{DatetimeFault}
 use Rattle.cad_day.specs.declared.fault.DatetimeFault.TheVariants.{NotADate, EndsTurned}
+use Rattle.cad_day.specs.DayNumbers.{first_number, last_number}
 use Rattle.cad_day.specs.Days.{number_of}
 use Rattle.cad_day.specs.DayTexts.{day_named}
 
@@ -16,7 +17,7 @@ use Rattle.cad_day.specs.DayTexts.{day_named}
 abbrev pub utc_day : ℤ → Option ℤ
 utc_day nanosecond =
     let number = int_div_euclid nanosecond (pos 86_400_000_000_000) in
-    if int_lt number (neg_ℤ (pos 719528)) || int_lt (pos 2932896) number then None else Some number
+    if int_lt number first_number || int_lt last_number number then None else Some number
 
 -- the day of an instant's text that says nothing in brackets
 abbrev pub instant_day : List ℕ → Option ℤ

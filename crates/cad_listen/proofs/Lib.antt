@@ -1,3 +1,2 @@
 pub mod LineLemmas
-pub mod ArgumentLemmas
 pub mod ListenLemmas

@@ -3,7 +3,7 @@ use Rattle.std.specs.Prelude.{ℕ, ◌&&◌, nat_le, List, ◌++◌, length, cod
 use Rattle.std.specs.Option.{option_and_then}
 use Rattle.std.specs.declared.net.socket_addr.SocketAddr.{SocketAddr}
 use Rattle.std.specs.Net.Text.{socket_text}
-use Rattle.cad_query.specs.Numerals.{number_in}
+use Rattle.cad_decimal.specs.Decimals.{number_in}
 
 -- how many connections: one to seven digits that spell a number from 1 to 1,000,000
 abbrev pub count_of : List ℕ → Option ℕ

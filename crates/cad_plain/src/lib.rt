@@ -10,7 +10,6 @@
 //! ```
 #![tactic(auto)]
 
-mod days;
 mod kept;
 mod ledger;
 mod showing;

@@ -2,11 +2,10 @@
 
 ghost use Rattle.std.specs.Prelude.{◌≡◌, ◌∷◌, [], ◌++◌, ◌<◌, ◌+◌, length, map, MatchResult};
 ghost use Rattle.std.specs.List.{AllByRecursion};
-ghost use Rattle.cad_versions.specs.DayBefore.{day_before as before};
+ghost use Rattle.cad_day.specs.DayBefore.{day_before as before};
 ghost use Rattle.cad_versions.specs.Versions.{begun, history};
 ghost use Rattle.cad_versions.specs.Entries.{version_in, entered_at, close_entry, ClosesInTime};
 
-use crate::days::day_before;
 use crate::kept::StoredVersion;
 use crate::standing::count_of;
 use cad_day::Day;
@@ -48,7 +47,7 @@ pub(crate) fn amend(
 {
     let number = count_of(kept, object) as u32 + 1;
     kept.reserve(1)?;
-    close(kept, object, day_before(first), revision);
+    close(kept, object, first.before(), revision);
     kept.push(StoredVersion::new(object, number, first, body, revision))?;
     Ok(())
 }

@@ -11,9 +11,10 @@ use Rattle.std.proofs.lemmas.List.{take_at, drop_at, length-append}
 use Rattle.std.proofs.lemmas.List.Sums.{split_at_first, passes_at_first}
 use Rattle.std.proofs.lemmas.Fmt.{decimal_nonempty, digits_decimal, digits_value-decimal, decimal-digits_value, first_decimal}
 use Rattle.cad_query.specs.Parts.{is_byte, parted}
-use Rattle.cad_query.specs.Numerals.{is_number, number_in, counting_number}
+use Rattle.cad_decimal.specs.Decimals.{is_number, number_in}
+use Rattle.cad_query.specs.Numerals.{counting_number}
 use Rattle.cad_query.specs.Identifiers.{Numbers, IsVersionNumber, Identifies, identifier_text, both_numbers, identifier_named, ReadsWhatIsIdentified}
-use Rattle.cad_query.proofs.NumeralLemmas.{digit_model}
+use Rattle.cad_decimal.specs.DigitLemmas.{digit_model}
 
 -- ---- numerals
 

@@ -1,5 +1,4 @@
 pub mod PartLemmas
-pub mod NumeralLemmas
 pub mod LinkLemmas
 pub mod FaultLemmas
 pub mod TextLemmas

@@ -4,7 +4,8 @@ use Rattle.std.specs.Option.{option_and_then}
 use Rattle.std.specs.List.{list_all}
 use Rattle.std.specs.Str.Parse.{starts_with_minus}
 use Rattle.cad_shape.specs.declared.boxes.Bounds.{Bounds}
-use Rattle.cad_query.specs.Numerals.{number_in}
+use Rattle.cad_shape.specs.Coordinates.{farthest}
+use Rattle.cad_decimal.specs.Decimals.{number_in}
 use Rattle.cad_query.specs.Parts.{is_byte, parted}
 
 -- x_min, y_min, x_max, y_max
@@ -19,9 +20,9 @@ abbrev pub whole_part : List ℕ → Option (List ℕ × List ℕ) → Option (L
 whole_part text None = Some text
 whole_part text (Some parts) = if list_all (is_byte 48) parts.1 then Some parts.0 else None
 
--- at most 100,000 kilometres
+-- no farther than any coordinate
 abbrev pub within_reach : ℕ → Option ℕ
-within_reach n = if nat_le n 100000000000 then Some n else None
+within_reach n = if nat_le n farthest then Some n else None
 
 -- digits, then optionally a point and any number of zeros
 abbrev pub magnitude_of : List ℕ → Option ℕ

@@ -2,14 +2,14 @@
 
 ghost use Rattle.std.specs.Prelude.{◌≡◌, ◌≤◌, IfSome, option_map, option_copied};
 ghost use Rattle.std.specs.List.{list_all};
-ghost use Rattle.cad_shape.specs.Coordinates.{IsCoordinate};
+ghost use Rattle.cad_shape.specs.Coordinates.{IsCoordinate, farthest};
 ghost use Rattle.cad_query.specs.Parts.{is_byte, parted};
 ghost use Rattle.cad_query.specs.Boxes as spec;
 ghost use Rattle.cad_query.specs.Boxes.{magnitude_of, coordinate_of, box_numbers, unless_turned, four_numbers, box_of};
 
-use crate::numerals::number;
 use crate::parts::part;
-use cad_shape::Bounds;
+use cad_decimal::number;
+use cad_shape::{Bounds, FARTHEST};
 
 /// The box of four numbers with commas: x_min,y_min,x_max,y_max.
 pub(crate) fn bounds_in(text: &str) -> Option<Bounds>
@@ -54,10 +54,10 @@ fn coordinate(text: &[u8]) -> Option<i64>
 
 fn magnitude(text: &[u8]) -> Option<u64>
     ensures value { result ≡ magnitude_of text.now }
-    ensures bound { IfSome result (λ n. n ≤ 100000000000) }
+    ensures bound { IfSome result (λ n. n ≤ farthest) }
 {
     let number = number(whole_part(text)?)?;
-    if number <= 100_000_000_000 {
+    if number <= FARTHEST as u64 {
         Some(number)
     } else {
         None

@@ -1,42 +1,16 @@
-//! Decimal numbers in texts.
+//! Numbers that are asked for.
 
-ghost use Rattle.std.specs.Prelude.{◌≡◌, ◌≤◌, ◌+◌, ◌*◌, nat_le, min, length, option_map, IfSome};
+ghost use Rattle.std.specs.Prelude.{◌≡◌, IfSome};
 ghost use Rattle.cad_versions.specs.Objects.{IsObjectNumber};
 ghost use Rattle.cad_query.specs.Numerals as spec;
-ghost use Rattle.cad_query.specs.Numerals.{number_in, limit_of, revision_of};
+ghost use Rattle.cad_decimal.specs.Decimals.{number_in};
+ghost use Rattle.cad_query.specs.Numerals.{limit_of, revision_of};
 
+use cad_decimal::{number, short_number};
 use cad_versions::MOST_NUMBER;
 
-/// More than every number that is asked for with a bound: 10^18.
-pub(crate) const MANY: u64 = 1_000_000_000_000_000_000;
-
-/// The number that decimal digits spell, or 10^18 where it is more.
-pub(crate) fn number(digits: &[u8]) -> Option<u64>
-    ensures value { result ≡ option_map (min 1000000000000000000) (number_in digits.now) }
-    ensures bound { IfSome result (λ n. n ≤ 1000000000000000000) }
-{
-    if digits.is_empty() {
-        return None;
-    }
-    let mut number = 0;
-    for digit in digits {
-        if !digit.is_ascii_digit() {
-            return None;
-        }
-        number = one_more(number, *digit - b'0');
-    }
-    Some(number)
-}
-
-/// The number with one more digit, or 10^18 where it is more.
-fn one_more(number: u64, digit: u8) -> u64
-    requires number { number ≤ 1000000000000000000 }
-    requires digit { digit ≤ 9 }
-    ensures { result ≡ min 1000000000000000000 (number * 10 + digit) }
-{
-    let more = number * 10 + u64::from(digit);
-    if more < MANY { more } else { MANY }
-}
+/// The most digits of a revision.
+const MOST_REVISION_DIGITS: usize = 18;
 
 /// A number from 1 to 2,147,483,647 without leading zeros.
 pub(crate) fn counting_number(digits: &[u8]) -> Option<u32>
@@ -69,15 +43,8 @@ pub(crate) fn limit_in(text: &str) -> Option<u32>
 pub(crate) fn revision_in(text: &str) -> Option<u64>
     ensures { result ≡ revision_of text.now }
 {
-    if !is_short(text) {
+    if text.len() > MOST_REVISION_DIGITS {
         return None;
     }
-    number(text.as_bytes())
-}
-
-/// At most 18 bytes.
-fn is_short(text: &str) -> bool
-    ensures { result ≡ nat_le (length text.now) 18 }
-{
-    text.len() <= 18
+    short_number(text.as_bytes())
 }

@@ -12,7 +12,7 @@ use Rattle.cad_versions.specs.declared.command.Command.TheVariants.{Enter, Amend
 use Rattle.cad_versions.specs.declared.fault.RegisterFault.TheVariants as fault
 use Rattle.cad_versions.specs.BodyLemmas.{same_class}
 use Rattle.cad_versions.specs.Class.{class_of, class_number}
-use Rattle.cad_versions.specs.DayBefore.{day_before}
+use Rattle.cad_day.specs.DayBefore.{day_before}
 use Rattle.cad_versions.specs.VersionedObject.{VersionedObject}
 use Rattle.cad_versions.specs.Versions.{is_of, is_open_of, closed_on, closed_if_open, begun, next_number, after, versions}
 use Rattle.cad_versions.specs.Refusals.{class_at, open_since, refuses_object, refusal, AreAccepted}

@@ -6,7 +6,7 @@ use Rattle.cad_versions.specs.declared.object_id.ObjectId.{ObjectId}
 use Rattle.cad_versions.specs.declared.command.Command.{Command}
 use Rattle.cad_versions.specs.declared.command.Command.TheVariants.{Enter, Amend, Retire}
 use Rattle.cad_versions.specs.VersionedObject.{VersionedObject}
-use Rattle.cad_versions.specs.DayBefore.{day_before}
+use Rattle.cad_day.specs.DayBefore.{day_before}
 use Rattle.cad_versions.specs.Versions.{is_of, history, closed_if_open, begun, next_number, after, versions}
 use Rattle.cad_versions.specs.Refusals.{is_full}
 use Rattle.cad_versions.specs.AsOf.{as_of}

@@ -22,7 +22,7 @@ use Rattle.cad_versions.specs.declared.command.Command.TheVariants.{Enter, Amend
 use Rattle.cad_versions.specs.Objects.{object_number}
 use Rattle.cad_versions.specs.Command.{object_named}
 use Rattle.cad_versions.specs.VersionedObject.{VersionedObject}
-use Rattle.cad_versions.specs.DayBefore.{day_before, number_of-day_before}
+use Rattle.cad_day.specs.DayBefore.{day_before, number_of-day_before}
 use Rattle.cad_versions.specs.Versions.{is_of, is_open_of, history, closed_on, begun, next_number, versions}
 use Rattle.cad_versions.specs.declared.fault.RegisterFault.{RegisterFault}
 use Rattle.cad_versions.specs.declared.fault.RegisterFault.TheVariants as fault

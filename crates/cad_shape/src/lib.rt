@@ -1,6 +1,6 @@
 //! Shapes on the register's plane, in whole millimetres, judged exactly.
 //!
-//! - `Point`: a point within 100,000 kilometres of the origin either way.
+//! - `Point`: a point no coordinate of which is farther from 0 than `FARTHEST`, 100,000 kilometres.
 //! - `Bounds`: a closed box with sides along the axes.
 //! - `Ring`: a simple closed line with area through 3 to 1,000 corners; `RingFault` says why a list of corners is none.
 //! - `Region`: an outer ring and the holes in it, at most 100 rings; `RegionFault` says why a list of rings is none.
@@ -37,7 +37,7 @@ mod shape;
 
 pub use boxes::Bounds;
 pub use location::in_region;
-pub use point::Point;
+pub use point::{FARTHEST, Point};
 pub use polygon::{Region, RegionFault};
 pub use relation::{bounds, meets, within};
 pub use ring::{Ring, RingFault};

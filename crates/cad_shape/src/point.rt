@@ -16,8 +16,9 @@ pub struct Point {
     pub ghost y_in_range: { IsCoordinate y },
 }
 
-// At most 100,000 kilometres: products of two differences fit 128 bits with room to spare.
-const FARTHEST: i64 = 100_000_000_000;
+/// The farthest coordinate, in millimetres: 100,000 kilometres from the origin. Products of two differences of coordinates
+/// fit 128 bits with room to spare.
+pub const FARTHEST: i64 = 100_000_000_000;
 
 pub(crate) fn is_coordinate(n: i64) -> bool
     ensures { IsTrue result ↔ IsCoordinate n }

@@ -10,7 +10,7 @@ use Rattle.cad_versions.specs.declared.body.Body.{Body}
 use Rattle.cad_versions.specs.declared.command.Command.{Command}
 use Rattle.cad_versions.specs.declared.command.Command.TheVariants.{Enter, Amend, Retire}
 use Rattle.cad_versions.specs.Command.{body_added}
-use Rattle.cad_versions.specs.DayBefore.{day_before, number_of-day_before}
+use Rattle.cad_day.specs.DayBefore.{day_before, number_of-day_before}
 use Rattle.cad_versions.specs.VersionedObject.{VersionedObject}
 use Rattle.cad_versions.specs.Versions.{is_open_of, begun, next_number}
 use Rattle.cad_versions.specs.Refusals.{refusal, refuses_body, most_versions, is_full, AreAccepted}

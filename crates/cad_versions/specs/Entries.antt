@@ -6,7 +6,7 @@ use Rattle.cad_versions.specs.declared.object_id.ObjectId.{ObjectId}
 use Rattle.cad_versions.specs.declared.command.Command.{Command}
 use Rattle.cad_versions.specs.declared.command.Command.TheVariants.{Enter, Amend, Retire}
 use Rattle.cad_versions.specs.VersionedObject.{VersionedObject}
-use Rattle.cad_versions.specs.DayBefore.{day_before}
+use Rattle.cad_day.specs.DayBefore.{day_before}
 use Rattle.cad_versions.specs.Versions.{is_open_of, closed_on, begun, next_number}
 
 pub record Entry : Type 0 where

@@ -16,7 +16,7 @@ use Rattle.cad_versions.specs.Objects.{object_number}
 use Rattle.cad_versions.specs.Class.{class_of}
 use Rattle.cad_versions.specs.Command.{object_named}
 use Rattle.cad_versions.specs.VersionedObject.{VersionedObject}
-use Rattle.cad_versions.specs.DayBefore.{day_before, number_of-day_before}
+use Rattle.cad_day.specs.DayBefore.{day_before, number_of-day_before}
 use Rattle.cad_versions.specs.Versions.{is_of, is_open_of, history, closed_on, closed_if_open, begun, next_number, after, versions}
 use Rattle.cad_versions.specs.Refusals.{class_at, open_since, refuse_if, refuses_closing, refuses_object, or_else, refusal, AreAccepted}
 use Rattle.cad_versions.specs.Histories.{EndsBefore, IsHistory}

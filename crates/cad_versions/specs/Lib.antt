@@ -5,7 +5,6 @@ pub mod Class
 pub mod VersionedObject
 pub mod Command
 pub mod Fault
-pub mod DayBefore
 pub mod Versions
 pub mod Refusals
 pub mod Histories

@@ -12,7 +12,7 @@ use Rattle.cad_versions.specs.declared.command.Command.{Command}
 use Rattle.cad_versions.specs.declared.command.Command.TheVariants.{Enter, Amend, Retire}
 use Rattle.cad_versions.specs.AsOf.{as_of}
 use Rattle.cad_versions.specs.ClosingLemmas.{entries_few}
-use Rattle.cad_versions.specs.DayBefore.{day_before}
+use Rattle.cad_day.specs.DayBefore.{day_before}
 use Rattle.cad_versions.specs.Entries.{version_in, entries_of}
 use Rattle.cad_versions.specs.EntryLemmas.{versions_of_entries}
 use Rattle.cad_versions.specs.Histories.{IsForward, IsHistory}

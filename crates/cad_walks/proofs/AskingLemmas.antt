@@ -13,7 +13,8 @@ use Rattle.cad_schema.specs.NameLemmas.{each_passes}
 use Rattle.cad_bodies.specs.Paths.{items_path}
 use Rattle.cad_head.specs.Request.{Request, path, query}
 use Rattle.cad_query.specs.Laws.{IsPath}
-use Rattle.cad_query.specs.Numerals.{limit_of, number_in}
+use Rattle.cad_decimal.specs.Decimals.{number_in}
+use Rattle.cad_query.specs.Numerals.{limit_of}
 use Rattle.cad_query.specs.Pairs.{PairText, pairs_of, given}
 use Rattle.cad_query.specs.Parts.{is_byte}
 use Rattle.cad_ask.specs.declared.ask.Ask.{Ask}

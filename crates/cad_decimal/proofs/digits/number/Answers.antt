@@ -1,6 +1,6 @@
 use Rattle.std.proofs.Common.{rules}
-use Rattle.cad_query.proofs.NumeralLemmas.{one_digit_more}
-use Rattle.cad_query.proofs.numerals.number.Goals as goal
+use Rattle.cad_decimal.proofs.NumberLemmas.{one_digit_more}
+use Rattle.cad_decimal.proofs.digits.number.Goals as goal
 
 pub loop-digit-preserved : goal.loop-digit-preserved
 loop-digit-preserved c =

@@ -1,23 +1,16 @@
--- Decimal digits and the numbers that they spell.
+-- A number that grows by one digit, and numbers that are below the most.
 use Rattle.std.proofs.Common.{◌≡◌, ℕ, ◌+◌, ◌-◌, ◌*◌, ◌<◌, ◌≤◌, min, Bool, true, false, ◌&&◌, ◌⊎◌, inl, inr, Some, None, List, length, take, get_or, refl, ap, ◌∙◌, arith}
-use Rattle.std.proofs.lemmas.Bool.Decides.{nat_tests}
-use Rattle.std.proofs.lemmas.Bool.{and_parts, and_from}
+use Rattle.std.proofs.lemmas.Bool.{and_from}
 use Rattle.std.proofs.lemmas.List.Folds.{list_all_more}
 use Rattle.std.proofs.lemmas.Int.Digits.{digits_value_more}
-use Rattle.std.proofs.lemmas.Str.Parse.{IsDigitsTest, IsNumeralModel, numerals_by_value, digits_value_short}
+use Rattle.std.proofs.lemmas.Str.Parse.{digits_value_short}
 use Rattle.std.proofs.lemmas.Str.{digit_value_digit}
 use Rattle.std.specs.List.{list_all}
-use Rattle.std.specs.Int.{IsInRange}
 use Rattle.std.specs.Char.{is_ascii_digit, digit_value}
 use Rattle.std.specs.Str.Parse.{digits_value}
 use Rattle.std.specs.Prelude.{option_map, nat_lt, if◌then◌else◌}
-use Rattle.cad_query.specs.Numerals.{is_number, number_in}
-
-digit_bounds : (c : ℕ) → is_ascii_digit c ≡ true → IsInRange 48 57 c
-digit_bounds c digit = grind (arith, nat_tests)
-
-digit_test : (c : ℕ) → IsInRange 48 57 c → is_ascii_digit c ≡ true
-digit_test c bounds = let low = bounds.0 in let high = bounds.1 in grind (arith, nat_tests)
+use Rattle.cad_decimal.specs.Decimals.{is_number, number_in}
+use Rattle.cad_decimal.specs.DigitLemmas.{digit_bounds, digit_model}
 
 -- one more digit, where a number above the most counts as the most
 capped_more : (v n m d : ℕ) → n ≡ min 1000000000000000000 v → m ≡ min 1000000000000000000 (n * 10 + d) → m ≡ min 1000000000000000000 (v * 10 + d)
@@ -34,17 +27,6 @@ one_digit_more digits i n m below before digit after =
       list_all_more is_ascii_digit digits i 0 below ∙ and_from _ _ before.0 digit,
       capped_more (digits_value 10 (take i digits)) n m (d - 48) before.1 after ∙ ap (min 1000000000000000000) (omega (arith, value, worth)),
     )
-
-digit_texts : IsDigitsTest (λ (ds : List ℕ). list_all is_ascii_digit ds ≡ true)
-digit_texts = record {
-  empty = refl;
-  parts = λ c cs digits. let both = and_parts (is_ascii_digit c) (list_all is_ascii_digit cs) digits in (digit_bounds c both.0, both.1);
-  more = λ c cs bounds digits. and_from _ _ (digit_test c bounds) digits;
-}
-
--- texts of digits, and the numbers that they spell
-pub digit_model : IsNumeralModel (λ (ds : List ℕ). list_all is_ascii_digit ds ≡ true) (digits_value 10)
-digit_model = numerals_by_value (λ ds. list_all is_ascii_digit ds ≡ true) digit_texts
 
 -- a number of 18 digits is below the most
 short_number : (t : Bool) (digits : List ℕ) → (list_all is_ascii_digit digits ≡ true) ⊎ (t ≡ false) → length digits ≤ 18

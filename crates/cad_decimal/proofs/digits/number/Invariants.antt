@@ -2,7 +2,7 @@ use Rattle.std.proofs.Common.{◌≡◌, min, true, take}
 use Rattle.std.specs.List.{list_all}
 use Rattle.std.specs.Char.{is_ascii_digit}
 use Rattle.std.specs.Str.Parse.{digits_value}
-use Rattle.cad_query.proofs.numerals.number.Given as goal
+use Rattle.cad_decimal.proofs.digits.number.Given as goal
 
 -- the digits so far are digits, and the number is theirs
 abbrev pub invariant-loop-digit : goal.invariant-loop-digit
