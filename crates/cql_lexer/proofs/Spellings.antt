@@ -1,5 +1,5 @@
 -- A text has one spelling, whose tokens stand in order.
-use Rattle.std.proofs.Common.{◌≡◌, ℕ, ◌-◌, ◌≤◌, ◌<◌, true, List, [], ◌∷◌, ◌++◌, length, refl, sym, ap, subst, ◌∙◌, arith, append-nil, length-append, append_assoc, drop}
+use Rattle.std.proofs.Common.{◌+◌, ◌≡◌, ℕ, ◌-◌, ◌≤◌, ◌<◌, true, List, [], ◌∷◌, ◌++◌, length, refl, sym, ap, subst, ◌∙◌, arith, append-nil, length-append, append_assoc, drop}
 use Rattle.std.proofs.lemmas.List.{drop_at}
 use Rattle.std.proofs.lemmas.Bool.Decides.{nat_tests}
 use Rattle.std.specs.Str.{IsUtf8}
@@ -7,6 +7,7 @@ use Rattle.cql_lexer.specs.Mark.{Sort, Mark, at}
 use Rattle.cql_lexer.specs.Runs.{Run, stop, more}
 use Rattle.cql_lexer.specs.Spelling.{Leads, here, blank, token_first, is_blank}
 use Rattle.cql_lexer.specs.Laws.{HasOneSpelling, AscendWithin, HasPlacesInOrder, StandAtPlaces, HasTokensAtPlaces}
+use Rattle.cql_lexer.specs.Order.{Ascend}
 use Rattle.cql_lexer.proofs.Longest.{token_no_blank, token_shorter, token_splits, longest_same}
 use Rattle.cql_lexer.proofs.Utf8.{cut}
 
@@ -92,6 +93,14 @@ places size {xs} within (token_first {ys} {marks} longest leads) =
 
 pub places_in_order : HasPlacesInOrder
 places_in_order bytes tokens spells = later (length bytes - length bytes) 0 (length bytes) tokens (omega arith) (places (length bytes) (omega arith) spells)
+
+ascends : (first end : ℕ) (tokens : List Mark) → AscendWithin first end tokens → Ascend first tokens
+ascends first end [] h = tt
+ascends first end (at place s ∷ tokens) h = (h.0, ascends (place + 1) end tokens h.2)
+
+-- the places of the tokens that were read so far
+pub leads_ascend : (bytes : List ℕ) {ys : List ℕ} {tokens : List Mark} → Leads (length bytes) bytes tokens ys → Ascend 0 tokens
+leads_ascend bytes {tokens} leads = ascends 0 (length bytes) tokens (later (length bytes - length bytes) 0 (length bytes) tokens (omega arith) (places (length bytes) (omega arith) leads))
 
 -- what is left of the text begins at the place that it has
 rest_at : (before xs : List ℕ) (n : ℕ) → n ≡ length (before ++ xs) - length xs → drop n (before ++ xs) ≡ xs

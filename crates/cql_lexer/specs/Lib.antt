@@ -1,4 +1,5 @@
 pub mod Mark
+pub mod Order
 pub mod Runs
 pub mod Tables
 pub mod Symbols

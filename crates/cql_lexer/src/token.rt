@@ -1,5 +1,8 @@
 //! The tokens of the filter language.
 
+ghost use Rattle.cql_lexer.specs.Mark.{marks};
+ghost use Rattle.cql_lexer.specs.Order.{Ascend, ascend_prop};
+
 use cad_day::Relation;
 
 /// How two values are compared.
@@ -120,4 +123,6 @@ pub struct Tokens {
     pub list: Vec<Token>,
     /// The length of the text in bytes.
     pub end: usize,
+    /// Each token begins behind the one before it.
+    pub ghost ordered: { Ascend 0 (marks list.items) } by { ascend_prop 0 (marks list.items) },
 }

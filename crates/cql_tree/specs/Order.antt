@@ -1,12 +1,7 @@
 -- Places ascend in the order of reading.
-use Rattle.std.specs.Prelude.{ℕ, ◌<◌, ◌≤◌, ◌+◌, List, [], ◌∷◌}
-use Rattle.cql_lexer.specs.Mark.{Mark, at}
+use Rattle.std.specs.Prelude.{ℕ, ◌<◌, ◌≤◌}
+pub use Rattle.cql_lexer.specs.Order.{Ascend}
 use Rattle.cql_tree.specs.Syntax.{Syntax, Parts, none, part, leaf, node, Leaf, Op, keyed, place_in}
-
--- the places of the tokens ascend from the first on
-abbrev pub Ascend : ℕ → List Mark → Type 0
-Ascend first [] = Unit {0}
-Ascend first (at place sort ∷ tokens) = (first ≤ place) × Ascend (place + 1) tokens
 
 mutual
   -- the places of the tree are from one on and below another, in order: a keyword before its parts, and each part before

@@ -4,7 +4,7 @@ use Rattle.cql_lexer.specs.Mark.{at, marks, mark_of, sort_of}
 use Rattle.cql_lexer.specs.Lexed.{Reaches}
 use Rattle.cql_lexer.specs.Spelling.{token_first}
 use Rattle.cql_lexer.proofs.Longest.{token_shorter, token_utf8}
-use Rattle.cql_lexer.proofs.Spellings.{leads_on}
+use Rattle.cql_lexer.proofs.Spellings.{leads_on, leads_ascend}
 use Rattle.cql_lexer.proofs.Ends.{stuck}
 use Rattle.cql_lexer.proofs.lex.read_tokens.Goals as goal
 
@@ -49,3 +49,6 @@ returns-in_default c =
       few_tokens = rw (length-map c.loop-rest.list.items mark_of) c.loop-rest.invariant.few_tokens;
     } in
     stuck c.loop-rest.rest.now c.no_token.result reaches c.loop-rest.invariant.past (sym c.loop-rest-test.ensures) (rw c.in_default.is at c.in_ok-kind.ensures) c.no_token.ensures
+
+pub invariant_of-result : goal.invariant_of-result
+invariant_of-result c = record { ordered = leads_ascend c.args.text.now c.loop-rest.invariant.leads }
