@@ -1,10 +1,9 @@
 -- The places of a tree ascend where those of its tokens do.
 use Rattle.std.proofs.Common.{◌≡◌, ℕ, ◌+◌, ◌<◌, ◌≤◌, Bool, List, [], ◌∷◌, refl, arith}
 use Rattle.cql_lexer.specs.Mark.{Mark, at}
-use Rattle.cql_tree.specs.Syntax.{Syntax, Parts, part, parts_of, joined, node, Op, or_op, and_op, not_op, compare_op, like_op, between_op, in_op, is_null_op, sum_op, product_op, casei_op, date_op, interval_op, point_op, polygon_op, ring_op, bbox_op, spatial_op, temporal_op, keyed, place_of}
+use Rattle.cql_tree.specs.Syntax.{Syntax, Parts, part, parts_of, joined, node, Op, or_op, and_op, not_op, compare_op, like_op, between_op, in_op, is_null_op, computed_op, casei_op, date_op, interval_op, point_op, polygon_op, ring_op, bbox_op, spatial_op, temporal_op, keyed, place_of}
 use Rattle.cql_parser.specs.Grammar.{IsWhole, number_rule, plus_rule, minus_rule, IsBound, text_bound, name_bound, IsCornersRest, corners_end, corners_more, IsRing, ring_rule, IsRingsRest, rings_end, rings_more, IsNegation, plain, negated, IsOr, or_rule, IsOrRest, or_end, or_more, IsAnd, and_rule, IsAndRest, and_end, and_more, IsNot, not_rule, plain_rule, IsPredicate, predicate_rule, IsTail, no_tail, compare_tail, like_tail, between_tail, in_tail, null_tail, IsItemsRest, items_end, items_more, IsSum, sum_rule, IsSumRest, sum_end, sum_more, IsProduct, product_rule, IsProductRest, product_end, product_more, IsPrimary, paren_rule, name_rule, text_rule, whole_rule, true_rule, false_rule, casei_rule, date_rule, interval_rule, point_rule, polygon_rule, bbox_rule, spatial_rule, temporal_rule}
-use Rattle.cql_tree.specs.declared.tree.Addition.{Addition}
-use Rattle.cql_tree.specs.declared.tree.Multiplication.{Multiplication}
+use Rattle.cql_tree.specs.declared.tree.Operation.{Operation}
 use Rattle.cql_tree.specs.Order.{Ascend, InOrder, leaf_in_order, node_in_order, AreInOrder, no_part, one_part, IsOrdered}
 
 -- ---- orders
@@ -213,30 +212,30 @@ mutual
       (r.0, one_part (earlier from (omega (arith, e)) f.1) r.1, r.2)
 
   sum_orders : {xs ys : List Mark} {t : Syntax} (from : ℕ) → IsSum xs t ys → Ascend from xs → Ordered from t ys
-  sum_orders from (sum_rule {signs = signs} {ts = ts} a rest) h =
+  sum_orders from (sum_rule {operations = operations} {ts = ts} a rest) h =
       let f = product_orders from a h in
       let r = sum_rest f.0 rest f.2 in
-      (r.0, joined_orders (sum_op signs) ts (λ n. refl) f.1 r.1, r.2)
+      (r.0, joined_orders (computed_op operations) ts (λ n. refl) f.1 r.1, r.2)
 
-  sum_rest : {xs ys : List Mark} {signs : List Addition} {ts : List Syntax} (from : ℕ) → IsSumRest xs signs ts ys → Ascend from xs →
+  sum_rest : {xs ys : List Mark} {operations : List Operation} {ts : List Syntax} (from : ℕ) → IsSumRest xs operations ts ys → Ascend from xs →
       AllOrdered from ts ys
   sum_rest from sum_end h = (from, no_part (same _), h)
-  sum_rest from (sum_more {p} a rest) h =
+  sum_rest from (sum_more {p} s a rest) h =
       let e = h.0 in
       let f = product_orders (p + 1) a h.1 in
       let r = sum_rest f.0 rest f.2 in
       (r.0, one_part (earlier from (omega (arith, e)) f.1) r.1, r.2)
 
   product_orders : {xs ys : List Mark} {t : Syntax} (from : ℕ) → IsProduct xs t ys → Ascend from xs → Ordered from t ys
-  product_orders from (product_rule {signs = signs} {ts = ts} a rest) h =
+  product_orders from (product_rule {operations = operations} {ts = ts} a rest) h =
       let f = primary_orders from a h in
       let r = product_rest f.0 rest f.2 in
-      (r.0, joined_orders (product_op signs) ts (λ n. refl) f.1 r.1, r.2)
+      (r.0, joined_orders (computed_op operations) ts (λ n. refl) f.1 r.1, r.2)
 
-  product_rest : {xs ys : List Mark} {signs : List Multiplication} {ts : List Syntax} (from : ℕ) → IsProductRest xs signs ts ys →
+  product_rest : {xs ys : List Mark} {operations : List Operation} {ts : List Syntax} (from : ℕ) → IsProductRest xs operations ts ys →
       Ascend from xs → AllOrdered from ts ys
   product_rest from product_end h = (from, no_part (same _), h)
-  product_rest from (product_more {p} a rest) h =
+  product_rest from (product_more {p} s a rest) h =
       let e = h.0 in
       let f = primary_orders (p + 1) a h.1 in
       let r = product_rest f.0 rest f.2 in

@@ -4,14 +4,12 @@ use Rattle.cad_day.specs.declared.relation.Relation.{Relation}
 use Rattle.cql_lexer.specs.Mark.{Mark, at, opening, closing, comma, plus, minus, times, modulo, compare, word, name, text, number}
 use Rattle.cql_lexer.specs.declared.token.SpatialRelation.{SpatialRelation}
 use Rattle.cql_lexer.specs.declared.token.Keyword.TheVariants.{And, Or, Not, Like, Between, In, Is, Null, True, False, Div, Casei, Date, Interval, Point, Polygon, Bbox, Spatial, Temporal}
-use Rattle.cql_tree.specs.declared.tree.Addition.{Addition}
-use Rattle.cql_tree.specs.declared.tree.Addition.TheVariants.{Plus, Minus}
-use Rattle.cql_tree.specs.declared.tree.Multiplication.{Multiplication}
-use Rattle.cql_tree.specs.declared.tree.Multiplication.TheVariants as by
-use Rattle.cql_tree.specs.Syntax.{Syntax, joined, leaf, name_leaf, number_leaf, day_leaf, bound_leaf, Op, or_op, and_op, sum_op, product_op, casei_op, date_op, interval_op, point_op, polygon_op, ring_op, bbox_op, spatial_op, temporal_op}
-use Rattle.cql_parser.specs.Grammar.{IsWhole, number_rule, plus_rule, minus_rule, IsBound, text_bound, name_bound, IsCornersRest, corners_end, corners_more, IsRing, ring_rule, IsRingsRest, rings_end, rings_more, IsNegation, negated, IsOr, or_rule, IsOrRest, or_end, or_more, IsAnd, and_rule, IsAndRest, and_end, and_more, IsNot, not_rule, plain_rule, IsPredicate, predicate_rule, IsTail, no_tail, compare_tail, like_tail, between_tail, in_tail, null_tail, IsItemsRest, items_end, items_more, IsSum, sum_rule, IsSumRest, sum_end, sum_more, IsProduct, product_rule, IsProductRest, product_end, product_more, IsPrimary, paren_rule, name_rule, text_rule, whole_rule, true_rule, false_rule, casei_rule, date_rule, interval_rule, point_rule, polygon_rule, bbox_rule, spatial_rule, temporal_rule}
+use Rattle.cql_tree.specs.declared.tree.Operation.{Operation}
+use Rattle.cql_tree.specs.declared.tree.Operation.TheVariants as operation
+use Rattle.cql_tree.specs.Syntax.{Syntax, joined, leaf, name_leaf, number_leaf, day_leaf, bound_leaf, Op, or_op, and_op, computed_op, casei_op, date_op, interval_op, point_op, polygon_op, ring_op, bbox_op, spatial_op, temporal_op}
+use Rattle.cql_parser.specs.Grammar.{IsWhole, number_rule, plus_rule, minus_rule, IsBound, text_bound, name_bound, IsCornersRest, corners_end, corners_more, IsRing, ring_rule, IsRingsRest, rings_end, rings_more, IsNegation, negated, IsOr, or_rule, IsOrRest, or_end, or_more, IsAnd, and_rule, IsAndRest, and_end, and_more, IsNot, not_rule, plain_rule, IsPredicate, predicate_rule, IsTail, no_tail, compare_tail, like_tail, between_tail, in_tail, null_tail, IsItemsRest, items_end, items_more, IsSum, sum_rule, IsSumRest, sum_end, sum_more, plus_adds, minus_adds, IsProduct, product_rule, IsProductRest, product_end, product_more, times_multiplies, div_multiplies, modulo_multiplies, IsPrimary, paren_rule, name_rule, text_rule, whole_rule, true_rule, false_rule, casei_rule, date_rule, interval_rule, point_rule, polygon_rule, bbox_rule, spatial_rule, temporal_rule}
 use Rattle.cql_parser.specs.Grammar as grammar
-use Rattle.cql_parser.specs.Machine.{Sign, comma_sign, close_sign, Slot, open_slot, sign_slot, text_slot, bound_slot, whole_slot, corners_slot, sum_slot, ForOr, whole, in_paren, ForAnd, or_part, ForNot, and_part, ForPredicate, plain, under_not, ForSum, left, right, pattern, low, high, item, argument, ForProduct, sum_part, ForPrimary, product_part, ring_part, ForWhole, as_primary, as_slot, State, want_not, want_primary, after_sign, after_not, after_in, after_is, want_null, want_slot, have_factors, have_terms, have_sum, have_items, have_rings, have_ands, have_ors, have_or, want_product, want_sum, want_predicate, want_and, want_or, have_primary, have_predicate, have_whole, want_slots, not_node, compare_node, like_node, between_node, in_node, null_node, filled, Inner, tails, adds, multiplies, Role, joins_or, joins_and, inner, role_of, Step, refuse, whole_tree, go_on, or_step, ors_step, and_step, ands_step, not_step, predicate_step, left_step, low_step, item_step, sign_step, sum_step, terms_step, product_step, factors_step, two_sums, date_slots, interval_slots, point_slots, ring_slots, polygon_slots, bbox_slots, begin_digits, begin_whole, begin_primary, begin_not, begin_negated, begin_items, begin_null, begin_is, slot_step, rings_step, on_first, step}
+use Rattle.cql_parser.specs.Machine.{Sign, comma_sign, close_sign, Slot, open_slot, sign_slot, text_slot, bound_slot, whole_slot, corners_slot, sum_slot, ForOr, whole, in_paren, ForAnd, or_part, ForNot, and_part, ForPredicate, plain, under_not, ForSum, left, right, pattern, low, high, item, argument, ForProduct, sum_part, ForPrimary, product_part, ring_part, ForWhole, as_primary, as_slot, State, want_not, want_primary, after_sign, after_not, after_in, after_is, want_null, want_slot, have_factors, have_terms, have_sum, have_items, have_rings, have_ands, have_ors, have_or, want_product, want_sum, want_predicate, want_and, want_or, have_primary, have_predicate, have_whole, want_slots, not_node, compare_node, like_node, between_node, in_node, null_node, filled, Inner, tails, computes, Role, joins_or, joins_and, inner, role_of, Step, refuse, whole_tree, go_on, or_step, ors_step, and_step, ands_step, not_step, predicate_step, left_step, low_step, item_step, sign_step, sum_step, terms_step, product_step, factors_step, two_sums, date_slots, interval_slots, point_slots, ring_slots, polygon_slots, bbox_slots, begin_digits, begin_whole, begin_primary, begin_not, begin_negated, begin_items, begin_null, begin_is, slot_step, rings_step, on_first, step}
 
 -- ---- the parts of a rule that no line of the grammar names
 
@@ -105,13 +103,13 @@ abbrev mutual
 
   pub GetsProduct : ForProduct → Syntax → List Mark → Syntax → Type 0
   GetsProduct (sum_part js us k) t xs tree =
-      (signs : List Addition) × (ts : List Syntax) × (ys : List Mark) × IsSumRest xs signs ts ys ×
-      GetsSum k (joined (sum_op (js ++ signs)) ((us ++ t ∷ []) ++ ts)) ys tree
+      (operations : List Operation) × (ts : List Syntax) × (ys : List Mark) × IsSumRest xs operations ts ys ×
+      GetsSum k (joined (computed_op (js ++ operations)) ((us ++ t ∷ []) ++ ts)) ys tree
 
   pub GetsPrimary : ForPrimary → Syntax → List Mark → Syntax → Type 0
   GetsPrimary (product_part ms us k) t xs tree =
-      (signs : List Multiplication) × (ts : List Syntax) × (ys : List Mark) × IsProductRest xs signs ts ys ×
-      GetsProduct k (joined (product_op (ms ++ signs)) ((us ++ t ∷ []) ++ ts)) ys tree
+      (operations : List Operation) × (ts : List Syntax) × (ys : List Mark) × IsProductRest xs operations ts ys ×
+      GetsProduct k (joined (computed_op (ms ++ operations)) ((us ++ t ∷ []) ++ ts)) ys tree
   GetsPrimary (ring_part p us k) t xs tree =
       (ts : List Syntax) × (ys : List Mark) × IsRingsRest xs ts ys ×
       GetsPrimary k (filled (polygon_op p) ((us ++ t ∷ []) ++ ts)) ys tree
@@ -139,11 +137,11 @@ Completes (want_null n a k) xs tree =
     (ys : List Mark) × TakesNull xs ys × GetsPredicate k (null_node n a) ys tree
 Completes (want_slot s ss op us k) xs tree = GetsSlots (s ∷ ss) op us k xs tree
 Completes (have_factors k ms us) xs tree =
-    (signs : List Multiplication) × (ts : List Syntax) × (ys : List Mark) × IsProductRest xs signs ts ys ×
-    GetsProduct k (joined (product_op (ms ++ signs)) (us ++ ts)) ys tree
+    (operations : List Operation) × (ts : List Syntax) × (ys : List Mark) × IsProductRest xs operations ts ys ×
+    GetsProduct k (joined (computed_op (ms ++ operations)) (us ++ ts)) ys tree
 Completes (have_terms k js us) xs tree =
-    (signs : List Addition) × (ts : List Syntax) × (ys : List Mark) × IsSumRest xs signs ts ys ×
-    GetsSum k (joined (sum_op (js ++ signs)) (us ++ ts)) ys tree
+    (operations : List Operation) × (ts : List Syntax) × (ys : List Mark) × IsSumRest xs operations ts ys ×
+    GetsSum k (joined (computed_op (js ++ operations)) (us ++ ts)) ys tree
 Completes (have_sum k t) xs tree = GetsSum k t xs tree
 Completes (have_items n a us k) xs tree =
     (ts : List Syntax) × (ys : List Mark) × IsItemsRest xs ts ys × GetsPredicate k (in_node n a (us ++ ts)) ys tree
@@ -499,90 +497,79 @@ sum_from (argument s ss op us k) t xs tree h =
     (w.0, w.1, v.0, v.1, v.2, v.3)
 
 -- a sign of sums or products goes on no sum's rule
-adds_refused : (a : Addition) (k : ForSum) (t : Syntax) (xs : List Mark) (tree : Syntax) →
-    Follows (sum_step (inner (adds a)) k t) xs tree → ⊥
-adds_refused x (left k) t xs tree h = predicate_refuses (adds x) k t xs tree h
-adds_refused x (right c a k) t xs tree h = predicate_refuses (adds x) k (compare_node c a t) xs tree h
-adds_refused x (pattern n a k) t xs tree h = predicate_refuses (adds x) k (like_node n a t) xs tree h
-adds_refused x (low n a k) t xs tree h = h
-adds_refused x (high n a b k) t xs tree h = predicate_refuses (adds x) k (between_node n a b t) xs tree h
-adds_refused x (item n a us k) t xs tree h = h
-adds_refused x (argument s ss op us k) t xs tree h = h
+computes_refused : (by : Operation) (k : ForSum) (t : Syntax) (xs : List Mark) (tree : Syntax) →
+    Follows (sum_step (inner (computes by)) k t) xs tree → ⊥
+computes_refused x (left k) t xs tree h = predicate_refuses (computes x) k t xs tree h
+computes_refused x (right c a k) t xs tree h = predicate_refuses (computes x) k (compare_node c a t) xs tree h
+computes_refused x (pattern n a k) t xs tree h = predicate_refuses (computes x) k (like_node n a t) xs tree h
+computes_refused x (low n a k) t xs tree h = h
+computes_refused x (high n a b k) t xs tree h = predicate_refuses (computes x) k (between_node n a b t) xs tree h
+computes_refused x (item n a us k) t xs tree h = h
+computes_refused x (argument s ss op us k) t xs tree h = h
 
-multiplies_refused : (m : Multiplication) (k : ForSum) (t : Syntax) (xs : List Mark) (tree : Syntax) →
-    Follows (sum_step (inner (multiplies m)) k t) xs tree → ⊥
-multiplies_refused x (left k) t xs tree h = predicate_refuses (multiplies x) k t xs tree h
-multiplies_refused x (right c a k) t xs tree h = predicate_refuses (multiplies x) k (compare_node c a t) xs tree h
-multiplies_refused x (pattern n a k) t xs tree h = predicate_refuses (multiplies x) k (like_node n a t) xs tree h
-multiplies_refused x (low n a k) t xs tree h = h
-multiplies_refused x (high n a b k) t xs tree h = predicate_refuses (multiplies x) k (between_node n a b t) xs tree h
-multiplies_refused x (item n a us k) t xs tree h = h
-multiplies_refused x (argument s ss op us k) t xs tree h = h
-
-terms_pass : (r : Role) (k : ForSum) (js : List Addition) (us : List Syntax) (xs : List Mark) (tree : Syntax) →
-    Follows (sum_step r k (joined (sum_op js) us)) xs tree → Follows (terms_step r k js us) xs tree
-terms_pass (inner (adds a)) k js us xs tree h = absurd (adds_refused a k (joined (sum_op js) us) xs tree h)
+terms_pass : (r : Role) (k : ForSum) (js : List Operation) (us : List Syntax) (xs : List Mark) (tree : Syntax) →
+    Follows (sum_step r k (joined (computed_op js) us)) xs tree → Follows (terms_step r k js us) xs tree
+terms_pass (inner (computes operation.Plus)) k js us xs tree h =
+    absurd (computes_refused operation.Plus k (joined (computed_op js) us) xs tree h)
+terms_pass (inner (computes operation.Minus)) k js us xs tree h =
+    absurd (computes_refused operation.Minus k (joined (computed_op js) us) xs tree h)
 terms_pass r k js us xs tree h = h
 
--- a list of signs and one of parts, each with one more
-sum_regroups : (k : ForSum) (js signs : List Addition) (a : Addition) (us ts : List Syntax) (t : Syntax) (ys : List Mark)
-    (tree : Syntax) → GetsSum k (joined (sum_op (js ++ a ∷ signs)) (us ++ t ∷ ts)) ys tree →
-    GetsSum k (joined (sum_op ((js ++ a ∷ []) ++ signs)) ((us ++ t ∷ []) ++ ts)) ys tree
-sum_regroups k js signs a us ts t ys tree g = rw (append_assoc js (a ∷ []) signs, append_assoc us (t ∷ []) ts) g
+-- a list of operations and one of parts, each with one more
+sum_regroups : (k : ForSum) (js bs : List Operation) (by : Operation) (us ts : List Syntax) (t : Syntax) (ys : List Mark)
+    (tree : Syntax) → GetsSum k (joined (computed_op (js ++ by ∷ bs)) (us ++ t ∷ ts)) ys tree →
+    GetsSum k (joined (computed_op ((js ++ by ∷ []) ++ bs)) ((us ++ t ∷ []) ++ ts)) ys tree
+sum_regroups k js bs by us ts t ys tree g = rw (append_assoc js (by ∷ []) bs, append_assoc us (t ∷ []) ts) g
 
-sum_ungroups : (k : ForSum) (js signs : List Addition) (a : Addition) (us ts : List Syntax) (t : Syntax) (ys : List Mark)
-    (tree : Syntax) → GetsSum k (joined (sum_op ((js ++ a ∷ []) ++ signs)) ((us ++ t ∷ []) ++ ts)) ys tree →
-    GetsSum k (joined (sum_op (js ++ a ∷ signs)) (us ++ t ∷ ts)) ys tree
-sum_ungroups k js signs a us ts t ys tree g = rw (append_assoc js (a ∷ []) signs, append_assoc us (t ∷ []) ts) at g
+sum_ungroups : (k : ForSum) (js bs : List Operation) (by : Operation) (us ts : List Syntax) (t : Syntax) (ys : List Mark)
+    (tree : Syntax) → GetsSum k (joined (computed_op ((js ++ by ∷ []) ++ bs)) ((us ++ t ∷ []) ++ ts)) ys tree →
+    GetsSum k (joined (computed_op (js ++ by ∷ bs)) (us ++ t ∷ ts)) ys tree
+sum_ungroups k js bs by us ts t ys tree g = rw (append_assoc js (by ∷ []) bs, append_assoc us (t ∷ []) ts) at g
 
-terms_more : {xs ys zs : List Mark} {t : Syntax} {signs : List Addition} {ts : List Syntax} (p : ℕ) (a : Addition)
-    (k : ForSum) (js : List Addition) (us : List Syntax) (tree : Syntax) → IsProduct xs t ys → IsSumRest ys signs ts zs →
-    GetsSum k (joined (sum_op (js ++ a ∷ signs)) (us ++ t ∷ ts)) zs tree →
-    Follows (terms_step (role_of (at p (grammar.addition_sort a) ∷ xs)) k js us) (at p (grammar.addition_sort a) ∷ xs) tree
-terms_more {zs = zs} {t = t} {signs = signs} {ts = ts} p Plus k js us tree b rest g =
-    want_product_to (sum_part (js ++ Plus ∷ []) us k) tree b (_, _, _, rest, sum_regroups k js signs Plus us ts t zs tree g)
-terms_more {zs = zs} {t = t} {signs = signs} {ts = ts} p Minus k js us tree b rest g =
-    want_product_to (sum_part (js ++ Minus ∷ []) us k) tree b (_, _, _, rest, sum_regroups k js signs Minus us ts t zs tree g)
-
-terms_go : {xs ys : List Mark} {signs : List Addition} {ts : List Syntax} (k : ForSum) (js : List Addition)
-    (us : List Syntax) (tree : Syntax) → IsSumRest xs signs ts ys →
-    GetsSum k (joined (sum_op (js ++ signs)) (us ++ ts)) ys tree → Follows (terms_step (role_of xs) k js us) xs tree
+terms_go : {xs ys : List Mark} {operations : List Operation} {ts : List Syntax} (k : ForSum) (js : List Operation)
+    (us : List Syntax) (tree : Syntax) → IsSumRest xs operations ts ys →
+    GetsSum k (joined (computed_op (js ++ operations)) (us ++ ts)) ys tree → Follows (terms_step (role_of xs) k js us) xs tree
 terms_go {xs} k js us tree sum_end g =
     terms_pass (role_of xs) k js us xs tree
-    (sum_to k (joined (sum_op js) us) xs tree (rw (append-nil js, append-nil us) at g))
-terms_go k js us tree (sum_more {p} {a} b rest) g = terms_more p a k js us tree b rest g
+    (sum_to k (joined (computed_op js) us) xs tree (rw (append-nil js, append-nil us) at g))
+terms_go {ys = ys} k js us tree (sum_more {t = t} {operations = bs} {ts = ts} plus_adds b rest) g =
+    want_product_to (sum_part (js ++ operation.Plus ∷ []) us k) tree b
+    (_, _, _, rest, sum_regroups k js bs operation.Plus us ts t ys tree g)
+terms_go {ys = ys} k js us tree (sum_more {t = t} {operations = bs} {ts = ts} minus_adds b rest) g =
+    want_product_to (sum_part (js ++ operation.Minus ∷ []) us k) tree b
+    (_, _, _, rest, sum_regroups k js bs operation.Minus us ts t ys tree g)
 
-terms_to : (k : ForSum) (js : List Addition) (us : List Syntax) (xs : List Mark) (tree : Syntax) →
+terms_to : (k : ForSum) (js : List Operation) (us : List Syntax) (xs : List Mark) (tree : Syntax) →
     Completes (have_terms k js us) xs tree → Follows (terms_step (role_of xs) k js us) xs tree
 terms_to k js us xs tree h = terms_go k js us tree h.3 h.4
 
-terms_from : (k : ForSum) (js : List Addition) (us : List Syntax) (xs : List Mark) (tree : Syntax) →
+terms_from : (k : ForSum) (js : List Operation) (us : List Syntax) (xs : List Mark) (tree : Syntax) →
     Follows (terms_step (role_of xs) k js us) xs tree → Completes (have_terms k js us) xs tree
 terms_from k js us (at p plus ∷ xs) tree h =
-    let w = want_product_from (sum_part (js ++ Plus ∷ []) us k) xs tree h in (
-      Plus ∷ w.3.0,
+    let w = want_product_from (sum_part (js ++ operation.Plus ∷ []) us k) xs tree h in (
+      operation.Plus ∷ w.3.0,
       w.0 ∷ w.3.1,
       w.3.2,
-      sum_more {a = Plus} w.2 w.3.3,
-      sum_ungroups k js w.3.0 Plus us w.3.1 w.0 w.3.2 tree w.3.4,
+      sum_more plus_adds w.2 w.3.3,
+      sum_ungroups k js w.3.0 operation.Plus us w.3.1 w.0 w.3.2 tree w.3.4,
     )
 terms_from k js us (at p minus ∷ xs) tree h =
-    let w = want_product_from (sum_part (js ++ Minus ∷ []) us k) xs tree h in (
-      Minus ∷ w.3.0,
+    let w = want_product_from (sum_part (js ++ operation.Minus ∷ []) us k) xs tree h in (
+      operation.Minus ∷ w.3.0,
       w.0 ∷ w.3.1,
       w.3.2,
-      sum_more {a = Minus} w.2 w.3.3,
-      sum_ungroups k js w.3.0 Minus us w.3.1 w.0 w.3.2 tree w.3.4,
+      sum_more minus_adds w.2 w.3.3,
+      sum_ungroups k js w.3.0 operation.Minus us w.3.1 w.0 w.3.2 tree w.3.4,
     )
 terms_from k js us (at p (word And) ∷ xs) tree h = (
   [],
   [],
   at p (word And) ∷ xs,
   sum_end,
-  rw (append-nil js, append-nil us) (sum_from k (joined (sum_op js) us) (at p (word And) ∷ xs) tree h),
+  rw (append-nil js, append-nil us) (sum_from k (joined (computed_op js) us) (at p (word And) ∷ xs) tree h),
 )
 terms_from k js us xs tree h =
-    ([], [], xs, sum_end, rw (append-nil js, append-nil us) (sum_from k (joined (sum_op js) us) xs tree h))
+    ([], [], xs, sum_end, rw (append-nil js, append-nil us) (sum_from k (joined (computed_op js) us) xs tree h))
 
 -- ---- product
 
@@ -594,77 +581,70 @@ product_from : (k : ForProduct) (t : Syntax) (xs : List Mark) (tree : Syntax) �
     Follows (product_step (role_of xs) k t) xs tree → GetsProduct k t xs tree
 product_from (sum_part js us k) t xs tree h = terms_from k js (us ++ t ∷ []) xs tree h
 
-product_refuses : (m : Multiplication) (k : ForProduct) (t : Syntax) (xs : List Mark) (tree : Syntax) →
-    Follows (product_step (inner (multiplies m)) k t) xs tree → ⊥
-product_refuses m (sum_part js us k) t xs tree h =
-    multiplies_refused m k (joined (sum_op js) (us ++ t ∷ [])) xs tree h
-
-factors_pass : (r : Role) (k : ForProduct) (ms : List Multiplication) (us : List Syntax) (xs : List Mark) (tree : Syntax) →
-    Follows (product_step r k (joined (product_op ms) us)) xs tree → Follows (factors_step r k ms us) xs tree
-factors_pass (inner (multiplies m)) k ms us xs tree h = absurd (product_refuses m k (joined (product_op ms) us) xs tree h)
+factors_pass : (r : Role) (k : ForProduct) (ms : List Operation) (us : List Syntax) (xs : List Mark) (tree : Syntax) →
+    Follows (product_step r k (joined (computed_op ms) us)) xs tree → Follows (factors_step r k ms us) xs tree
+factors_pass (inner (computes operation.Times)) (sum_part js vs k) ms us xs tree h =
+    absurd (computes_refused operation.Times k (joined (computed_op js) (vs ++ joined (computed_op ms) us ∷ [])) xs tree h)
+factors_pass (inner (computes operation.Div)) (sum_part js vs k) ms us xs tree h =
+    absurd (computes_refused operation.Div k (joined (computed_op js) (vs ++ joined (computed_op ms) us ∷ [])) xs tree h)
+factors_pass (inner (computes operation.Modulo)) (sum_part js vs k) ms us xs tree h =
+    absurd (computes_refused operation.Modulo k (joined (computed_op js) (vs ++ joined (computed_op ms) us ∷ [])) xs tree h)
 factors_pass r k ms us xs tree h = h
 
-product_regroups : (k : ForProduct) (ms signs : List Multiplication) (m : Multiplication) (us ts : List Syntax) (t : Syntax)
-    (ys : List Mark) (tree : Syntax) → GetsProduct k (joined (product_op (ms ++ m ∷ signs)) (us ++ t ∷ ts)) ys tree →
-    GetsProduct k (joined (product_op ((ms ++ m ∷ []) ++ signs)) ((us ++ t ∷ []) ++ ts)) ys tree
-product_regroups k ms signs m us ts t ys tree g = rw (append_assoc ms (m ∷ []) signs, append_assoc us (t ∷ []) ts) g
+product_regroups : (k : ForProduct) (ms bs : List Operation) (by : Operation) (us ts : List Syntax) (t : Syntax)
+    (ys : List Mark) (tree : Syntax) → GetsProduct k (joined (computed_op (ms ++ by ∷ bs)) (us ++ t ∷ ts)) ys tree →
+    GetsProduct k (joined (computed_op ((ms ++ by ∷ []) ++ bs)) ((us ++ t ∷ []) ++ ts)) ys tree
+product_regroups k ms bs by us ts t ys tree g = rw (append_assoc ms (by ∷ []) bs, append_assoc us (t ∷ []) ts) g
 
-product_ungroups : (k : ForProduct) (ms signs : List Multiplication) (m : Multiplication) (us ts : List Syntax) (t : Syntax)
+product_ungroups : (k : ForProduct) (ms bs : List Operation) (by : Operation) (us ts : List Syntax) (t : Syntax)
     (ys : List Mark) (tree : Syntax) →
-    GetsProduct k (joined (product_op ((ms ++ m ∷ []) ++ signs)) ((us ++ t ∷ []) ++ ts)) ys tree →
-    GetsProduct k (joined (product_op (ms ++ m ∷ signs)) (us ++ t ∷ ts)) ys tree
-product_ungroups k ms signs m us ts t ys tree g = rw (append_assoc ms (m ∷ []) signs, append_assoc us (t ∷ []) ts) at g
+    GetsProduct k (joined (computed_op ((ms ++ by ∷ []) ++ bs)) ((us ++ t ∷ []) ++ ts)) ys tree →
+    GetsProduct k (joined (computed_op (ms ++ by ∷ bs)) (us ++ t ∷ ts)) ys tree
+product_ungroups k ms bs by us ts t ys tree g = rw (append_assoc ms (by ∷ []) bs, append_assoc us (t ∷ []) ts) at g
 
-factors_more : {xs ys zs : List Mark} {t : Syntax} {signs : List Multiplication} {ts : List Syntax} (p : ℕ)
-    (m : Multiplication) (k : ForProduct) (ms : List Multiplication) (us : List Syntax) (tree : Syntax) →
-    IsPrimary xs t ys → IsProductRest ys signs ts zs →
-    GetsProduct k (joined (product_op (ms ++ m ∷ signs)) (us ++ t ∷ ts)) zs tree →
-    Follows (factors_step (role_of (at p (grammar.multiplication_sort m) ∷ xs)) k ms us)
-    (at p (grammar.multiplication_sort m) ∷ xs) tree
-factors_more {zs = zs} {t = t} {signs = signs} {ts = ts} p by.Times k ms us tree b rest g =
-    (_, _, b, (_, _, _, rest, product_regroups k ms signs by.Times us ts t zs tree g))
-factors_more {zs = zs} {t = t} {signs = signs} {ts = ts} p by.Div k ms us tree b rest g =
-    (_, _, b, (_, _, _, rest, product_regroups k ms signs by.Div us ts t zs tree g))
-factors_more {zs = zs} {t = t} {signs = signs} {ts = ts} p by.Modulo k ms us tree b rest g =
-    (_, _, b, (_, _, _, rest, product_regroups k ms signs by.Modulo us ts t zs tree g))
-
-factors_go : {xs ys : List Mark} {signs : List Multiplication} {ts : List Syntax} (k : ForProduct)
-    (ms : List Multiplication) (us : List Syntax) (tree : Syntax) → IsProductRest xs signs ts ys →
-    GetsProduct k (joined (product_op (ms ++ signs)) (us ++ ts)) ys tree → Follows (factors_step (role_of xs) k ms us) xs tree
+factors_go : {xs ys : List Mark} {operations : List Operation} {ts : List Syntax} (k : ForProduct)
+    (ms : List Operation) (us : List Syntax) (tree : Syntax) → IsProductRest xs operations ts ys →
+    GetsProduct k (joined (computed_op (ms ++ operations)) (us ++ ts)) ys tree →
+    Follows (factors_step (role_of xs) k ms us) xs tree
 factors_go {xs} k ms us tree product_end g =
     factors_pass (role_of xs) k ms us xs tree
-    (product_to k (joined (product_op ms) us) xs tree (rw (append-nil ms, append-nil us) at g))
-factors_go k ms us tree (product_more {p} {m} b rest) g = factors_more p m k ms us tree b rest g
+    (product_to k (joined (computed_op ms) us) xs tree (rw (append-nil ms, append-nil us) at g))
+factors_go {ys = ys} k ms us tree (product_more {t = t} {operations = bs} {ts = ts} times_multiplies b rest) g =
+    (_, _, b, (_, _, _, rest, product_regroups k ms bs operation.Times us ts t ys tree g))
+factors_go {ys = ys} k ms us tree (product_more {t = t} {operations = bs} {ts = ts} div_multiplies b rest) g =
+    (_, _, b, (_, _, _, rest, product_regroups k ms bs operation.Div us ts t ys tree g))
+factors_go {ys = ys} k ms us tree (product_more {t = t} {operations = bs} {ts = ts} modulo_multiplies b rest) g =
+    (_, _, b, (_, _, _, rest, product_regroups k ms bs operation.Modulo us ts t ys tree g))
 
-factors_to : (k : ForProduct) (ms : List Multiplication) (us : List Syntax) (xs : List Mark) (tree : Syntax) →
+factors_to : (k : ForProduct) (ms : List Operation) (us : List Syntax) (xs : List Mark) (tree : Syntax) →
     Completes (have_factors k ms us) xs tree → Follows (factors_step (role_of xs) k ms us) xs tree
 factors_to k ms us xs tree h = factors_go k ms us tree h.3 h.4
 
-factors_from : (k : ForProduct) (ms : List Multiplication) (us : List Syntax) (xs : List Mark) (tree : Syntax) →
+factors_from : (k : ForProduct) (ms : List Operation) (us : List Syntax) (xs : List Mark) (tree : Syntax) →
     Follows (factors_step (role_of xs) k ms us) xs tree → Completes (have_factors k ms us) xs tree
 factors_from k ms us (at p times ∷ xs) tree h = (
-  by.Times ∷ h.3.0,
+  operation.Times ∷ h.3.0,
   h.0 ∷ h.3.1,
   h.3.2,
-  product_more {m = by.Times} h.2 h.3.3,
-  product_ungroups k ms h.3.0 by.Times us h.3.1 h.0 h.3.2 tree h.3.4,
+  product_more times_multiplies h.2 h.3.3,
+  product_ungroups k ms h.3.0 operation.Times us h.3.1 h.0 h.3.2 tree h.3.4,
 )
 factors_from k ms us (at p (word Div) ∷ xs) tree h = (
-  by.Div ∷ h.3.0,
+  operation.Div ∷ h.3.0,
   h.0 ∷ h.3.1,
   h.3.2,
-  product_more {m = by.Div} h.2 h.3.3,
-  product_ungroups k ms h.3.0 by.Div us h.3.1 h.0 h.3.2 tree h.3.4,
+  product_more div_multiplies h.2 h.3.3,
+  product_ungroups k ms h.3.0 operation.Div us h.3.1 h.0 h.3.2 tree h.3.4,
 )
 factors_from k ms us (at p modulo ∷ xs) tree h = (
-  by.Modulo ∷ h.3.0,
+  operation.Modulo ∷ h.3.0,
   h.0 ∷ h.3.1,
   h.3.2,
-  product_more {m = by.Modulo} h.2 h.3.3,
-  product_ungroups k ms h.3.0 by.Modulo us h.3.1 h.0 h.3.2 tree h.3.4,
+  product_more modulo_multiplies h.2 h.3.3,
+  product_ungroups k ms h.3.0 operation.Modulo us h.3.1 h.0 h.3.2 tree h.3.4,
 )
 factors_from k ms us xs tree h =
-    ([], [], xs, product_end, rw (append-nil ms, append-nil us) (product_from k (joined (product_op ms) us) xs tree h))
+    ([], [], xs, product_end, rw (append-nil ms, append-nil us) (product_from k (joined (computed_op ms) us) xs tree h))
 
 -- ---- numbers
 

@@ -2,7 +2,7 @@
 use Rattle.std.proofs.Common.{◌≡◌, ℕ, true, false, List, [], ◌∷◌, ◌++◌, refl, subst, ap}
 use Rattle.cql_lexer.specs.Mark.{Sort, Mark, at, opening, closing, comma, word, text, number}
 use Rattle.cql_lexer.specs.declared.token.Keyword.TheVariants.{And, Like, Null}
-use Rattle.cql_tree.specs.Syntax.{Syntax, leaf, number_leaf, day_leaf, bound_leaf, joined, or_op, and_op, sum_op, product_op, polygon_op}
+use Rattle.cql_tree.specs.Syntax.{Syntax, leaf, number_leaf, day_leaf, bound_leaf, joined, or_op, and_op, computed_op, polygon_op}
 use Rattle.cql_parser.specs.Grammar.{rings_end, or_end, and_end, plain_rule, predicate_rule, no_tail, items_end, IsSum, sum_rule, sum_end, product_rule, product_end, whole_rule, number_rule, text_bound}
 use Rattle.cql_parser.specs.Machine.{Sign, comma_sign, close_sign, Slot, open_slot, sign_slot, text_slot, bound_slot, whole_slot, corners_slot, sum_slot, ForOr, whole, in_paren, ForAnd, or_part, ForNot, and_part, ForPredicate, plain, under_not, ForSum, left, right, pattern, low, high, item, argument, ForProduct, sum_part, ForPrimary, product_part, ring_part, ForWhole, as_primary, as_slot, State, want_not, want_primary, after_sign, after_not, after_in, after_is, want_null, want_slot, have_factors, have_terms, have_sum, have_items, have_rings, have_ands, have_ors, have_or, not_node, compare_node, like_node, between_node, in_node, null_node, filled, Step, refuse, whole_tree, go_on, step, Outcome, spells, stops, ended, continued, run}
 use Rattle.cql_parser.proofs.Residual.{Takes, closed, parted, digits, high_end, items, is_null, null, not_like, Fills, fill_end, fill_open, fill_sign, fill_text, fill_bound, fill_whole, fill_last, fill_sum, GetsOr, GetsAnd, GetsNot, GetsPredicate, GetsSum, GetsProduct, GetsPrimary, GetsWhole, Completes, Follows, step_to, step_from}
@@ -17,7 +17,7 @@ abbrev one_leaf : Syntax
 one_leaf = leaf 0 (number_leaf false (49 ∷ []))
 
 one : (xs : List Mark) → IsSum (one_mark ∷ xs) one_leaf xs
-one xs = sum_rule {signs = []} {ts = []} (product_rule {signs = []} {ts = []} (whole_rule number_rule) product_end) sum_end
+one xs = sum_rule {operations = []} {ts = []} (product_rule {operations = []} {ts = []} (whole_rule number_rule) product_end) sum_end
 
 abbrev sign_mark : Sign → Mark
 sign_mark comma_sign = at 0 comma
@@ -95,12 +95,12 @@ mutual
 
   closes_product : (k : ForProduct) (t : Syntax) → (more : List Mark) × (tree : Syntax) × GetsProduct k t more tree
   closes_product (sum_part js us k) t =
-      let c = closes_sum k (joined (sum_op (js ++ [])) ((us ++ t ∷ []) ++ [])) in
+      let c = closes_sum k (joined (computed_op (js ++ [])) ((us ++ t ∷ []) ++ [])) in
       (c.0, c.1, ([], [], c.0, sum_end, c.2))
 
   closes_primary : (k : ForPrimary) (t : Syntax) → (more : List Mark) × (tree : Syntax) × GetsPrimary k t more tree
   closes_primary (product_part ms us k) t =
-      let c = closes_product k (joined (product_op (ms ++ [])) ((us ++ t ∷ []) ++ [])) in
+      let c = closes_product k (joined (computed_op (ms ++ [])) ((us ++ t ∷ []) ++ [])) in
       (c.0, c.1, ([], [], c.0, product_end, c.2))
   closes_primary (ring_part p us k) t =
       let c = closes_primary k (filled (polygon_op p) ((us ++ t ∷ []) ++ [])) in
@@ -136,9 +136,9 @@ lives (want_slot s ss op us k) =
     let c = closes_primary k (filled op (us ++ parts_for (s ∷ ss))) in
     (marks_for (s ∷ ss) c.0, c.1, (parts_for (s ∷ ss), c.0, fills (s ∷ ss) c.0, c.2))
 lives (have_factors k ms us) =
-    let c = closes_product k (joined (product_op (ms ++ [])) (us ++ [])) in (c.0, c.1, ([], [], c.0, product_end, c.2))
+    let c = closes_product k (joined (computed_op (ms ++ [])) (us ++ [])) in (c.0, c.1, ([], [], c.0, product_end, c.2))
 lives (have_terms k js us) =
-    let c = closes_sum k (joined (sum_op (js ++ [])) (us ++ [])) in (c.0, c.1, ([], [], c.0, sum_end, c.2))
+    let c = closes_sum k (joined (computed_op (js ++ [])) (us ++ [])) in (c.0, c.1, ([], [], c.0, sum_end, c.2))
 lives (have_sum k t) = closes_sum k t
 lives (have_items n a us k) =
     let c = closes_predicate k (in_node n a (us ++ [])) in (at 0 closing ∷ c.0, c.1, ([], c.0, items_end, c.2))

@@ -7,15 +7,13 @@ use Rattle.cql_lexer.specs.declared.token.Comparison.{Comparison}
 use Rattle.cql_lexer.specs.declared.token.Keyword.{Keyword}
 use Rattle.cql_lexer.specs.declared.token.Keyword.TheVariants.{And, Or, Not, Like, Between, In, Is, Null, True, False, Div, Casei, Date, Interval, Point, Polygon, Bbox, Spatial, Temporal}
 use Rattle.cql_lexer.specs.declared.token.Token.{Token}
-use Rattle.cql_tree.specs.declared.tree.Addition.{Addition}
-use Rattle.cql_tree.specs.declared.tree.Addition.TheVariants.{Plus, Minus}
-use Rattle.cql_tree.specs.declared.tree.Multiplication.{Multiplication}
-use Rattle.cql_tree.specs.declared.tree.Multiplication.TheVariants as by
+use Rattle.cql_tree.specs.declared.tree.Operation.{Operation}
+use Rattle.cql_tree.specs.declared.tree.Operation.TheVariants as operation
 use Rattle.cql_tree.specs.declared.tree.Corner.{Corner}
 use Rattle.cql_parser.specs.declared.start.Pairing.{Pairing}
 use Rattle.cql_parser.specs.declared.start.Pairing.TheVariants as pairing
-use Rattle.cql_parser.specs.Grammar.{addition_sort, multiplication_sort}
-use Rattle.cql_tree.specs.Syntax.{Syntax, Op, joined, leaf, name_leaf, number_leaf, day_leaf, bound_leaf, truth_leaf, or_op, and_op, sum_op, product_op, polygon_op, ring_op}
+use Rattle.cql_parser.specs.Grammar.{operation_sort, IsAddition, plus_adds, minus_adds, IsMultiplication, times_multiplies, div_multiplies, modulo_multiplies}
+use Rattle.cql_tree.specs.Syntax.{Syntax, Op, joined, leaf, name_leaf, number_leaf, day_leaf, bound_leaf, truth_leaf, or_op, and_op, computed_op, polygon_op, ring_op}
 use Rattle.cql_parser.specs.Descent.{Begins, BeginsNo, Parses, IsStopped, ForSlot, for_slot, want_here, pass_here, have_here, want_corner, want_pair, have_corner, want_ring, have_corners}
 use Rattle.cql_parser.specs.Starts.{IsNoTail, IsNoNegated, BeginsNegated, IsNoCall, IsNoLiteral, word_of, pair_op}
 use Rattle.cql_tree.specs.Views.{syntax_of, number_of, numbers_of}
@@ -194,47 +192,47 @@ null_stops n a k xs h = refuses (want_null n a k) xs (null_is n a k xs h)
 
 -- ---- sum, product
 
-sum_is : (k : ForSum) (js : List Addition) (us : List Syntax) (xs : List Mark) → BeginsNo plus xs → BeginsNo minus xs →
-    step (have_terms k js us) xs ≡ step (have_sum k (joined (sum_op js) us)) xs
+sum_is : (k : ForSum) (js : List Operation) (us : List Syntax) (xs : List Mark) → BeginsNo plus xs → BeginsNo minus xs →
+    step (have_terms k js us) xs ≡ step (have_sum k (joined (computed_op js) us)) xs
 sum_is k js us (at p plus ∷ xs) h g = absurd (h xs (refl, refl))
 sum_is k js us (at p minus ∷ xs) h g = absurd (g xs (refl, refl))
 sum_is k js us (at p (word And) ∷ xs) h g = refl
 sum_is k js us xs h g = refl
 
-pub sum_stays : (k : ForSum) (js : List Addition) (us : List Syntax) (xs : List Mark) → BeginsNo plus xs →
-    BeginsNo minus xs → run (have_terms k js us) xs ≡ run (have_sum k (joined (sum_op js) us)) xs
-sum_stays k js us xs h g = run_same (have_terms k js us) (have_sum k (joined (sum_op js) us)) xs (sum_is k js us xs h g)
+pub sum_stays : (k : ForSum) (js : List Operation) (us : List Syntax) (xs : List Mark) → BeginsNo plus xs →
+    BeginsNo minus xs → run (have_terms k js us) xs ≡ run (have_sum k (joined (computed_op js) us)) xs
+sum_stays k js us xs h g = run_same (have_terms k js us) (have_sum k (joined (computed_op js) us)) xs (sum_is k js us xs h g)
 
-pub term_goes : (a : Addition) (k : ForSum) (js : List Addition) (us : List Syntax) (xs ys : List Mark) →
-    Begins (addition_sort a) xs ys → run (have_terms k js us) xs ≡ run (want_product (sum_part (js ++ a ∷ []) us k)) ys
-term_goes Plus k js us xs ys h =
-    goes (have_terms k js us) (want_product (sum_part (js ++ Plus ∷ []) us k)) plus xs ys (λ p. refl) h
-term_goes Minus k js us xs ys h =
-    goes (have_terms k js us) (want_product (sum_part (js ++ Minus ∷ []) us k)) minus xs ys (λ p. refl) h
+pub term_goes : {by : Operation} → IsAddition by → (k : ForSum) (js : List Operation) (us : List Syntax) (xs ys : List Mark) →
+    Begins (operation_sort by) xs ys → run (have_terms k js us) xs ≡ run (want_product (sum_part (js ++ by ∷ []) us k)) ys
+term_goes plus_adds k js us xs ys h =
+    goes (have_terms k js us) (want_product (sum_part (js ++ operation.Plus ∷ []) us k)) plus xs ys (λ p. refl) h
+term_goes minus_adds k js us xs ys h =
+    goes (have_terms k js us) (want_product (sum_part (js ++ operation.Minus ∷ []) us k)) minus xs ys (λ p. refl) h
 
-product_is : (k : ForProduct) (ms : List Multiplication) (us : List Syntax) (xs : List Mark) → BeginsNo times xs →
+product_is : (k : ForProduct) (ms : List Operation) (us : List Syntax) (xs : List Mark) → BeginsNo times xs →
     BeginsNo (word Div) xs → BeginsNo modulo xs →
-    step (have_factors k ms us) xs ≡ step (have_product k (joined (product_op ms) us)) xs
+    step (have_factors k ms us) xs ≡ step (have_product k (joined (computed_op ms) us)) xs
 product_is k ms us (at p times ∷ xs) h g f = absurd (h xs (refl, refl))
 product_is k ms us (at p (word Div) ∷ xs) h g f = absurd (g xs (refl, refl))
 product_is k ms us (at p modulo ∷ xs) h g f = absurd (f xs (refl, refl))
 product_is (sum_part js vs k) ms us xs h g f = refl
 
-pub product_stays : (k : ForProduct) (ms : List Multiplication) (us : List Syntax) (xs : List Mark) → BeginsNo times xs →
+pub product_stays : (k : ForProduct) (ms : List Operation) (us : List Syntax) (xs : List Mark) → BeginsNo times xs →
     BeginsNo (word Div) xs → BeginsNo modulo xs →
-    run (have_factors k ms us) xs ≡ run (have_product k (joined (product_op ms) us)) xs
+    run (have_factors k ms us) xs ≡ run (have_product k (joined (computed_op ms) us)) xs
 product_stays k ms us xs h g f =
-    run_same (have_factors k ms us) (have_product k (joined (product_op ms) us)) xs (product_is k ms us xs h g f)
+    run_same (have_factors k ms us) (have_product k (joined (computed_op ms) us)) xs (product_is k ms us xs h g f)
 
-pub factor_goes : (m : Multiplication) (k : ForProduct) (ms : List Multiplication) (us : List Syntax) (xs ys : List Mark) →
-    Begins (multiplication_sort m) xs ys →
-    run (have_factors k ms us) xs ≡ run (want_primary (product_part (ms ++ m ∷ []) us k)) ys
-factor_goes by.Times k ms us xs ys h =
-    goes (have_factors k ms us) (want_primary (product_part (ms ++ by.Times ∷ []) us k)) times xs ys (λ p. refl) h
-factor_goes by.Div k ms us xs ys h =
-    goes (have_factors k ms us) (want_primary (product_part (ms ++ by.Div ∷ []) us k)) (word Div) xs ys (λ p. refl) h
-factor_goes by.Modulo k ms us xs ys h =
-    goes (have_factors k ms us) (want_primary (product_part (ms ++ by.Modulo ∷ []) us k)) modulo xs ys (λ p. refl) h
+pub factor_goes : {by : Operation} → IsMultiplication by → (k : ForProduct) (ms : List Operation) (us : List Syntax)
+    (xs ys : List Mark) → Begins (operation_sort by) xs ys →
+    run (have_factors k ms us) xs ≡ run (want_primary (product_part (ms ++ by ∷ []) us k)) ys
+factor_goes times_multiplies k ms us xs ys h =
+    goes (have_factors k ms us) (want_primary (product_part (ms ++ operation.Times ∷ []) us k)) times xs ys (λ p. refl) h
+factor_goes div_multiplies k ms us xs ys h =
+    goes (have_factors k ms us) (want_primary (product_part (ms ++ operation.Div ∷ []) us k)) (word Div) xs ys (λ p. refl) h
+factor_goes modulo_multiplies k ms us xs ys h =
+    goes (have_factors k ms us) (want_primary (product_part (ms ++ operation.Modulo ∷ []) us k)) modulo xs ys (λ p. refl) h
 
 -- ---- parentheses and functions
 

@@ -7,11 +7,9 @@ use Rattle.cql_lexer.specs.Mark.{Sort, Mark, at, opening, closing, comma, plus, 
 use Rattle.cql_lexer.specs.declared.token.Comparison.{Comparison}
 use Rattle.cql_lexer.specs.declared.token.SpatialRelation.{SpatialRelation}
 use Rattle.cql_lexer.specs.declared.token.Keyword.TheVariants.{And, Or, Not, Like, Between, In, Is, Null, True, False, Div, Casei, Date, Interval, Point, Polygon, Bbox, Spatial, Temporal}
-use Rattle.cql_tree.specs.declared.tree.Addition.{Addition}
-use Rattle.cql_tree.specs.declared.tree.Addition.TheVariants.{Plus, Minus}
-use Rattle.cql_tree.specs.declared.tree.Multiplication.{Multiplication}
-use Rattle.cql_tree.specs.declared.tree.Multiplication.TheVariants as by
-use Rattle.cql_tree.specs.Syntax.{Syntax, parts_of, joined, leaf, node, name_leaf, number_leaf, text_leaf, truth_leaf, day_leaf, bound_leaf, or_op, and_op, not_op, compare_op, like_op, between_op, in_op, is_null_op, sum_op, product_op, casei_op, date_op, interval_op, point_op, polygon_op, ring_op, bbox_op, spatial_op, temporal_op}
+use Rattle.cql_tree.specs.declared.tree.Operation.{Operation}
+use Rattle.cql_tree.specs.declared.tree.Operation.TheVariants as operation
+use Rattle.cql_tree.specs.Syntax.{Syntax, parts_of, joined, leaf, node, name_leaf, number_leaf, text_leaf, truth_leaf, day_leaf, bound_leaf, or_op, and_op, not_op, compare_op, like_op, between_op, in_op, is_null_op, computed_op, casei_op, date_op, interval_op, point_op, polygon_op, ring_op, bbox_op, spatial_op, temporal_op}
 
 -- whole = [ + | - ] number
 pub data IsWhole : List Mark → Syntax → List Mark → Type 0 where
@@ -49,16 +47,24 @@ pub data IsNegation : Bool → List Mark → List Mark → Type 0 where
   plain : {xs : List Mark} → IsNegation false xs xs
   negated : {p : ℕ} {xs : List Mark} → IsNegation true (at p (word Not) ∷ xs) xs
 
+-- how an operation is written
+abbrev pub operation_sort : Operation → Sort
+operation_sort operation.Plus = plus
+operation_sort operation.Minus = minus
+operation_sort operation.Times = times
+operation_sort operation.Div = word Div
+operation_sort operation.Modulo = modulo
+
 -- + | -
-abbrev pub addition_sort : Addition → Sort
-addition_sort Plus = plus
-addition_sort Minus = minus
+pub data IsAddition : Operation → Type 0 where
+  plus_adds : IsAddition operation.Plus
+  minus_adds : IsAddition operation.Minus
 
 -- * | DIV | %
-abbrev pub multiplication_sort : Multiplication → Sort
-multiplication_sort by.Times = times
-multiplication_sort by.Div = word Div
-multiplication_sort by.Modulo = modulo
+pub data IsMultiplication : Operation → Type 0 where
+  times_multiplies : IsMultiplication operation.Times
+  div_multiplies : IsMultiplication operation.Div
+  modulo_multiplies : IsMultiplication operation.Modulo
 
 mutual
   -- or = and { OR and }
@@ -121,25 +127,26 @@ mutual
 
   -- sum = product { ( + | - ) product }
   pub data IsSum : List Mark → Syntax → List Mark → Type 0 where
-    sum_rule : {f : Syntax} {signs : List Addition} {ts : List Syntax} {xs ys zs : List Mark} →
-        IsProduct xs f ys → IsSumRest ys signs ts zs → IsSum xs (joined (sum_op signs) (f ∷ ts)) zs
+    sum_rule : {f : Syntax} {operations : List Operation} {ts : List Syntax} {xs ys zs : List Mark} →
+        IsProduct xs f ys → IsSumRest ys operations ts zs → IsSum xs (joined (computed_op operations) (f ∷ ts)) zs
 
-  pub data IsSumRest : List Mark → List Addition → List Syntax → List Mark → Type 0 where
+  pub data IsSumRest : List Mark → List Operation → List Syntax → List Mark → Type 0 where
     sum_end : {xs : List Mark} → IsSumRest xs [] [] xs
-    sum_more : {p : ℕ} {a : Addition} {t : Syntax} {signs : List Addition} {ts : List Syntax} {xs ys zs : List Mark} →
-        IsProduct xs t ys → IsSumRest ys signs ts zs →
-        IsSumRest (at p (addition_sort a) ∷ xs) (a ∷ signs) (t ∷ ts) zs
+    sum_more : {p : ℕ} {by : Operation} {t : Syntax} {operations : List Operation} {ts : List Syntax}
+        {xs ys zs : List Mark} → IsAddition by → IsProduct xs t ys → IsSumRest ys operations ts zs →
+        IsSumRest (at p (operation_sort by) ∷ xs) (by ∷ operations) (t ∷ ts) zs
 
   -- product = primary { ( * | DIV | % ) primary }
   pub data IsProduct : List Mark → Syntax → List Mark → Type 0 where
-    product_rule : {f : Syntax} {signs : List Multiplication} {ts : List Syntax} {xs ys zs : List Mark} →
-        IsPrimary xs f ys → IsProductRest ys signs ts zs → IsProduct xs (joined (product_op signs) (f ∷ ts)) zs
+    product_rule : {f : Syntax} {operations : List Operation} {ts : List Syntax} {xs ys zs : List Mark} →
+        IsPrimary xs f ys → IsProductRest ys operations ts zs →
+        IsProduct xs (joined (computed_op operations) (f ∷ ts)) zs
 
-  pub data IsProductRest : List Mark → List Multiplication → List Syntax → List Mark → Type 0 where
+  pub data IsProductRest : List Mark → List Operation → List Syntax → List Mark → Type 0 where
     product_end : {xs : List Mark} → IsProductRest xs [] [] xs
-    product_more : {p : ℕ} {m : Multiplication} {t : Syntax} {signs : List Multiplication} {ts : List Syntax}
-        {xs ys zs : List Mark} → IsPrimary xs t ys → IsProductRest ys signs ts zs →
-        IsProductRest (at p (multiplication_sort m) ∷ xs) (m ∷ signs) (t ∷ ts) zs
+    product_more : {p : ℕ} {by : Operation} {t : Syntax} {operations : List Operation} {ts : List Syntax}
+        {xs ys zs : List Mark} → IsMultiplication by → IsPrimary xs t ys → IsProductRest ys operations ts zs →
+        IsProductRest (at p (operation_sort by) ∷ xs) (by ∷ operations) (t ∷ ts) zs
 
   -- primary:
   pub data IsPrimary : List Mark → Syntax → List Mark → Type 0 where

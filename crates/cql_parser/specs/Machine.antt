@@ -4,11 +4,9 @@ use Rattle.cql_lexer.specs.Mark.{Sort, Mark, at, opening, closing, comma, plus, 
 use Rattle.cql_lexer.specs.declared.token.Comparison.{Comparison}
 use Rattle.cql_lexer.specs.declared.token.Keyword.{Keyword}
 use Rattle.cql_lexer.specs.declared.token.Keyword.TheVariants.{And, Or, Not, Like, Between, In, Is, Null, True, False, Div, Casei, Date, Interval, Point, Polygon, Bbox, Spatial, Temporal}
-use Rattle.cql_tree.specs.declared.tree.Addition.{Addition}
-use Rattle.cql_tree.specs.declared.tree.Addition.TheVariants.{Plus, Minus}
-use Rattle.cql_tree.specs.declared.tree.Multiplication.{Multiplication}
-use Rattle.cql_tree.specs.declared.tree.Multiplication.TheVariants as by
-use Rattle.cql_tree.specs.Syntax.{Syntax, parts_of, joined, leaf, node, name_leaf, number_leaf, text_leaf, truth_leaf, day_leaf, bound_leaf, Op, or_op, and_op, not_op, compare_op, like_op, between_op, in_op, is_null_op, sum_op, product_op, casei_op, date_op, interval_op, point_op, polygon_op, ring_op, bbox_op, spatial_op, temporal_op}
+use Rattle.cql_tree.specs.declared.tree.Operation.{Operation}
+use Rattle.cql_tree.specs.declared.tree.Operation.TheVariants as operation
+use Rattle.cql_tree.specs.Syntax.{Syntax, parts_of, joined, leaf, node, name_leaf, number_leaf, text_leaf, truth_leaf, day_leaf, bound_leaf, Op, or_op, and_op, not_op, compare_op, like_op, between_op, in_op, is_null_op, computed_op, casei_op, date_op, interval_op, point_op, polygon_op, ring_op, bbox_op, spatial_op, temporal_op}
 
 -- the sign that ends an argument
 pub data Sign : Type 0 where
@@ -53,11 +51,11 @@ mutual
     argument : Sign → (after : List Slot) → Op → (before : List Syntax) → ForPrimary → ForSum
 
   pub data ForProduct : Type 0 where
-    sum_part : (signs : List Addition) → (before : List Syntax) → ForSum → ForProduct
+    sum_part : (operations : List Operation) → (before : List Syntax) → ForSum → ForProduct
 
   -- around a primary, or around a ring of a polygon: its keyword's place, and the rings before this one
   pub data ForPrimary : Type 0 where
-    product_part : (signs : List Multiplication) → (before : List Syntax) → ForProduct → ForPrimary
+    product_part : (operations : List Operation) → (before : List Syntax) → ForProduct → ForPrimary
     ring_part : (place : ℕ) → (before : List Syntax) → ForPrimary → ForPrimary
 
 -- what is open around a number
@@ -75,8 +73,8 @@ pub data State : Type 0 where
   after_is : (value : Syntax) → ForPredicate → State
   want_null : (is_negated : Bool) → (value : Syntax) → ForPredicate → State
   want_slot : Slot → (after : List Slot) → Op → (before : List Syntax) → ForPrimary → State
-  have_factors : ForProduct → (signs : List Multiplication) → (parts : List Syntax) → State
-  have_terms : ForSum → (signs : List Addition) → (parts : List Syntax) → State
+  have_factors : ForProduct → (operations : List Operation) → (parts : List Syntax) → State
+  have_terms : ForSum → (operations : List Operation) → (parts : List Syntax) → State
   have_sum : ForSum → Syntax → State
   have_items : (is_negated : Bool) → (value : Syntax) → (items : List Syntax) → ForPredicate → State
   have_rings : (place : ℕ) → (rings : List Syntax) → ForPrimary → State
@@ -100,11 +98,11 @@ abbrev pub want_or : ForOr → State
 want_or k = want_and (or_part [] k)
 
 abbrev pub have_primary : ForPrimary → Syntax → State
-have_primary (product_part signs ts k) t = have_factors k signs (ts ++ t ∷ [])
+have_primary (product_part operations ts k) t = have_factors k operations (ts ++ t ∷ [])
 have_primary (ring_part p ts k) t = have_rings p (ts ++ t ∷ []) k
 
 abbrev pub have_product : ForProduct → Syntax → State
-have_product (sum_part signs ts k) t = have_terms k signs (ts ++ t ∷ [])
+have_product (sum_part operations ts k) t = have_terms k operations (ts ++ t ∷ [])
 
 abbrev pub have_not : ForNot → Syntax → State
 have_not (and_part ts k) t = have_ands k (ts ++ t ∷ [])
@@ -158,8 +156,7 @@ pub data Tail : Type 0 where
 
 pub data Inner : Type 0 where
   tails : Tail → Inner
-  adds : Addition → Inner
-  multiplies : Multiplication → Inner
+  computes : Operation → Inner
 
 -- what the next token does to a part that may go on
 pub data Role : Type 0 where
@@ -182,11 +179,11 @@ sort_role (word Between) = inner (tails ranges)
 sort_role (word In) = inner (tails lists)
 sort_role (word Is) = inner (tails tests)
 sort_role (word Not) = inner (tails negates)
-sort_role plus = inner (adds Plus)
-sort_role minus = inner (adds Minus)
-sort_role times = inner (multiplies by.Times)
-sort_role (word Div) = inner (multiplies by.Div)
-sort_role modulo = inner (multiplies by.Modulo)
+sort_role plus = inner (computes operation.Plus)
+sort_role minus = inner (computes operation.Minus)
+sort_role times = inner (computes operation.Times)
+sort_role (word Div) = inner (computes operation.Div)
+sort_role modulo = inner (computes operation.Modulo)
 sort_role _ = other
 
 abbrev pub role_of : List Mark → Role
@@ -256,16 +253,24 @@ sum_step r (high n a b k) t = predicate_step r k (between_node n a b t)
 sum_step r (item n a ts k) t = item_step r n a (ts ++ t ∷ []) k
 sum_step r (argument s ss op ts k) t = sign_step r s (want_slots ss op (ts ++ t ∷ []) k)
 
-abbrev pub terms_step : Role → ForSum → List Addition → List Syntax → Step
-terms_step (inner (adds a)) k signs ts = go_on (want_product (sum_part (signs ++ a ∷ []) ts k))
-terms_step r k signs ts = sum_step r k (joined (sum_op signs) ts)
+abbrev pub terms_step : Role → ForSum → List Operation → List Syntax → Step
+terms_step (inner (computes operation.Plus)) k operations ts =
+    go_on (want_product (sum_part (operations ++ operation.Plus ∷ []) ts k))
+terms_step (inner (computes operation.Minus)) k operations ts =
+    go_on (want_product (sum_part (operations ++ operation.Minus ∷ []) ts k))
+terms_step r k operations ts = sum_step r k (joined (computed_op operations) ts)
 
 abbrev pub product_step : Role → ForProduct → Syntax → Step
-product_step r (sum_part signs ts k) t = terms_step r k signs (ts ++ t ∷ [])
+product_step r (sum_part operations ts k) t = terms_step r k operations (ts ++ t ∷ [])
 
-abbrev pub factors_step : Role → ForProduct → List Multiplication → List Syntax → Step
-factors_step (inner (multiplies m)) k signs ts = go_on (want_primary (product_part (signs ++ m ∷ []) ts k))
-factors_step r k signs ts = product_step r k (joined (product_op signs) ts)
+abbrev pub factors_step : Role → ForProduct → List Operation → List Syntax → Step
+factors_step (inner (computes operation.Times)) k operations ts =
+    go_on (want_primary (product_part (operations ++ operation.Times ∷ []) ts k))
+factors_step (inner (computes operation.Div)) k operations ts =
+    go_on (want_primary (product_part (operations ++ operation.Div ∷ []) ts k))
+factors_step (inner (computes operation.Modulo)) k operations ts =
+    go_on (want_primary (product_part (operations ++ operation.Modulo ∷ []) ts k))
+factors_step r k operations ts = product_step r k (joined (computed_op operations) ts)
 
 -- what stands behind a keyword
 abbrev pub two_sums : List Slot
@@ -376,8 +381,8 @@ step (after_in n a k) xs = on_first xs (λ p. begin_items n a k)
 step (after_is a k) xs = on_first xs (λ p. begin_is a k)
 step (want_null n a k) xs = on_first xs (λ p. begin_null n a k)
 step (want_slot s ss op ts k) xs = on_first xs (slot_step s ss op ts k)
-step (have_factors k signs ts) xs = factors_step (role_of xs) k signs ts
-step (have_terms k signs ts) xs = terms_step (role_of xs) k signs ts
+step (have_factors k operations ts) xs = factors_step (role_of xs) k operations ts
+step (have_terms k operations ts) xs = terms_step (role_of xs) k operations ts
 step (have_sum k t) xs = sum_step (role_of xs) k t
 step (have_items n a ts k) xs = item_step (role_of xs) n a ts k
 step (have_rings p ts k) xs = rings_step (role_of xs) p ts k

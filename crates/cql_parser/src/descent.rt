@@ -14,14 +14,14 @@ use crate::lookahead::{
     after_null, after_open, after_or,
 };
 use crate::node::{
-    and_tree, between_tree, casei_tree, compare_tree, in_tree, like_tree, not_tree, null_tree,
-    or_tree, pair_tree, product_tree, sum_tree,
+    and_tree, between_tree, casei_tree, compare_tree, computed_tree, in_tree, like_tree, not_tree,
+    null_tree, or_tree, pair_tree,
 };
 use crate::slot::{pass_close, pass_comma, pass_open};
 use crate::start::{CallStart, Pairing, TailStart, call_start, tail_start};
 use crate::stop::{Parsed, Stop};
 use cql_lexer::{Comparison, Token};
-use cql_tree::{Factor, Term, Tree};
+use cql_tree::{Operand, Tree};
 use std::alloc::Global;
 
 /// Reads a whole filter: `or`, and nothing after it.
@@ -261,9 +261,9 @@ fn parse_sum<'a>(alloc: Global, tokens: &'a [Token]) -> Result<Parsed<'a>, Stop<
         let next = parse_product(alloc, after)?;
         rest = next.rest;
         let tree = Box::into_inner(next.tree);
-        others.push(Term { by, tree })?;
+        others.push(Operand { by, tree })?;
     }
-    let tree = sum_tree(alloc, first, others)?;
+    let tree = computed_tree(alloc, first, others)?;
     Ok(Parsed { tree, rest })
 }
 
@@ -282,9 +282,9 @@ fn parse_product<'a>(alloc: Global, tokens: &'a [Token]) -> Result<Parsed<'a>, S
         let next = parse_primary(alloc, after)?;
         rest = next.rest;
         let tree = Box::into_inner(next.tree);
-        others.push(Factor { by, tree })?;
+        others.push(Operand { by, tree })?;
     }
-    let tree = product_tree(alloc, first, others)?;
+    let tree = computed_tree(alloc, first, others)?;
     Ok(Parsed { tree, rest })
 }
 

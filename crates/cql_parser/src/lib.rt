@@ -21,6 +21,6 @@ mod slot;
 mod start;
 mod stop;
 
-pub use cql_tree::{Addition, Bound, Corner, Factor, Multiplication, Number, Ring, Term, Tree};
+pub use cql_tree::{Bound, Corner, Number, Operand, Operation, Ring, Tree};
 pub use fault::{GrammarFault, ParseFault};
 pub use parser::parse;

@@ -3,11 +3,11 @@
 ghost use Rattle.std.specs.Prelude.{IfSome, IfNone, length, ◌<◌, List, ◌≡◌, ◌∷◌, ℕ, string_bytes, if◌then◌else◌};
 ghost use Rattle.cql_lexer.specs.Mark.{marks, at, opening, closing, comma, plus, minus, times, modulo, word, name, text, number};
 ghost use Rattle.cql_parser.specs.Descent.{Begins, BeginsNo};
-ghost use Rattle.cql_parser.specs.Grammar.{addition_sort, multiplication_sort};
+ghost use Rattle.cql_parser.specs.Grammar.{IsAddition, IsMultiplication, operation_sort};
 ghost use Rattle.cql_lexer.specs.declared.token.Keyword.TheVariants.{And, Or, Not, Null, Div};
 
 use cql_lexer::{Keyword, Kind, Token};
-use cql_tree::{Addition, Multiplication};
+use cql_tree::Operation;
 
 /// What follows an OR.
 pub fn after_or(tokens: &[Token]) -> Option<&[Token]>
@@ -116,23 +116,25 @@ pub fn after_sign(tokens: &[Token]) -> Option<(bool, &[Token])>
 }
 
 /// A sign between the parts of a sum, and what follows it.
-pub fn after_addition(tokens: &[Token]) -> Option<(Addition, &[Token])>
-    ensures found { IfSome result (λ r. Begins (addition_sort r.0) (marks tokens.now) (marks r.1.now)) }
+pub fn after_addition(tokens: &[Token]) -> Option<(Operation, &[Token])>
+    ensures adds { IfSome result (λ r. IsAddition r.0) }
+    ensures found { IfSome result (λ r. Begins (operation_sort r.0) (marks tokens.now) (marks r.1.now)) }
     ensures no_plus { IfNone result (BeginsNo plus (marks tokens.now)) }
     ensures no_minus { IfNone result (BeginsNo minus (marks tokens.now)) }
     ensures shorter { IfSome result (λ r. length r.1.now < length tokens.now) }
 {
     let (first, rest) = tokens.split_first()?;
     match first.kind {
-        Kind::Plus => Some((Addition::Plus, rest)),
-        Kind::Minus => Some((Addition::Minus, rest)),
+        Kind::Plus => Some((Operation::Plus, rest)),
+        Kind::Minus => Some((Operation::Minus, rest)),
         _ => None,
     }
 }
 
 /// A sign between the parts of a product, and what follows it.
-pub fn after_multiplication(tokens: &[Token]) -> Option<(Multiplication, &[Token])>
-    ensures found { IfSome result (λ r. Begins (multiplication_sort r.0) (marks tokens.now) (marks r.1.now)) }
+pub fn after_multiplication(tokens: &[Token]) -> Option<(Operation, &[Token])>
+    ensures multiplies { IfSome result (λ r. IsMultiplication r.0) }
+    ensures found { IfSome result (λ r. Begins (operation_sort r.0) (marks tokens.now) (marks r.1.now)) }
     ensures no_times { IfNone result (BeginsNo times (marks tokens.now)) }
     ensures no_div { IfNone result (BeginsNo (word Div) (marks tokens.now)) }
     ensures no_modulo { IfNone result (BeginsNo modulo (marks tokens.now)) }
@@ -140,9 +142,9 @@ pub fn after_multiplication(tokens: &[Token]) -> Option<(Multiplication, &[Token
 {
     let (first, rest) = tokens.split_first()?;
     match first.kind {
-        Kind::Times => Some((Multiplication::Times, rest)),
-        Kind::Word(Keyword::Div) => Some((Multiplication::Div, rest)),
-        Kind::Modulo => Some((Multiplication::Modulo, rest)),
+        Kind::Times => Some((Operation::Times, rest)),
+        Kind::Word(Keyword::Div) => Some((Operation::Div, rest)),
+        Kind::Modulo => Some((Operation::Modulo, rest)),
         _ => None,
     }
 }

@@ -1,15 +1,15 @@
 //! Nodes from their parts.
 
 ghost use Rattle.std.specs.Prelude.{◌≡◌, [], ◌∷◌, IfOk, string_bytes};
-ghost use Rattle.cql_tree.specs.Syntax.{joined, leaf, name_leaf, text_leaf, truth_leaf, or_op, and_op, sum_op, product_op, spatial_op, temporal_op, casei_op, date_op, interval_op, point_op, polygon_op, bbox_op, day_leaf, bound_leaf, number_leaf};
+ghost use Rattle.cql_tree.specs.Syntax.{joined, leaf, name_leaf, text_leaf, truth_leaf, or_op, and_op, computed_op, spatial_op, temporal_op, casei_op, date_op, interval_op, point_op, polygon_op, bbox_op, day_leaf, bound_leaf, number_leaf};
 ghost use Rattle.cql_parser.specs.Starts.{pair_op};
 ghost use Rattle.cql_parser.specs.Machine.{not_node, compare_node, like_node, between_node, in_node, null_node, filled};
-ghost use Rattle.cql_tree.specs.Views.{syntax_of, syntaxes_of, terms_of, additions_of, factors_of, multiplications_of, number_of, bound_of, numbers_of, rings_of};
+ghost use Rattle.cql_tree.specs.Views.{syntax_of, syntaxes_of, operands_of, operations_of, number_of, bound_of, numbers_of, rings_of};
 
 use crate::start::Pairing;
 use cad_day::Relation;
 use cql_lexer::{Comparison, SpatialRelation};
-use cql_tree::{Bound, Corner, Factor, Number, Ring, Term, Tree};
+use cql_tree::{Bound, Corner, Number, Operand, Ring, Tree};
 use std::alloc::{AllocError, Global};
 
 /// The parts joined by OR; one part alone is that part.
@@ -32,30 +32,19 @@ pub fn and_tree(alloc: Global, first: Box<Tree>, others: Vec<Tree>) -> Result<Bo
     Ok(Box::new(alloc, Tree::And { first, others })?)
 }
 
-/// The parts added and taken off; one part alone is that part.
-pub fn sum_tree(alloc: Global, first: Box<Tree>, others: Vec<Term>) -> Result<Box<Tree>, AllocError>
-    ensures { IfOk result (λ t. syntax_of t.value ≡
-        joined (sum_op (additions_of others.items)) (syntax_of first.value ∷ terms_of others.items)) }
-{
-    if others.is_empty() {
-        return Ok(first);
-    }
-    Ok(Box::new(alloc, Tree::Sum { first, others })?)
-}
-
-/// The parts multiplied and divided; one part alone is that part.
-pub fn product_tree(
+/// The parts computed from the left; one part alone is that part.
+pub fn computed_tree(
     alloc: Global,
     first: Box<Tree>,
-    others: Vec<Factor>,
+    others: Vec<Operand>,
 ) -> Result<Box<Tree>, AllocError>
     ensures { IfOk result (λ t. syntax_of t.value ≡
-        joined (product_op (multiplications_of others.items)) (syntax_of first.value ∷ factors_of others.items)) }
+        joined (computed_op (operations_of others.items)) (syntax_of first.value ∷ operands_of others.items)) }
 {
     if others.is_empty() {
         return Ok(first);
     }
-    Ok(Box::new(alloc, Tree::Product { first, others })?)
+    Ok(Box::new(alloc, Tree::Computed { first, others })?)
 }
 
 /// A tree with NOT before it.

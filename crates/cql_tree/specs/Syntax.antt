@@ -3,8 +3,7 @@ use Rattle.std.specs.Prelude.{ℕ, Bool, List, [], ◌∷◌}
 use Rattle.cad_day.specs.declared.relation.Relation.{Relation}
 use Rattle.cql_lexer.specs.declared.token.Comparison.{Comparison}
 use Rattle.cql_lexer.specs.declared.token.SpatialRelation.{SpatialRelation}
-use Rattle.cql_tree.specs.declared.tree.Addition.{Addition}
-use Rattle.cql_tree.specs.declared.tree.Multiplication.{Multiplication}
+use Rattle.cql_tree.specs.declared.tree.Operation.{Operation}
 
 pub data Leaf : Type 0 where
   name_leaf : (name : List ℕ) → Leaf
@@ -26,9 +25,8 @@ pub data Op : Type 0 where
   between_op : (is_negated : Bool) → Op
   in_op : (is_negated : Bool) → Op
   is_null_op : (is_negated : Bool) → Op
-  -- the signs between the parts
-  sum_op : (signs : List Addition) → Op
-  product_op : (signs : List Multiplication) → Op
+  -- what is done with each part behind the first
+  computed_op : (by : List Operation) → Op
   casei_op : (place : ℕ) → Op
   date_op : (place : ℕ) → Op
   interval_op : (place : ℕ) → Op

@@ -1,18 +1,16 @@
 -- A tree without where it lies in memory.
 use Rattle.std.specs.Prelude.{List, [], ◌∷◌, map, string_bytes}
-use Rattle.cql_tree.specs.Syntax.{Syntax, Parts, none, part, parts_of, leaf, node, name_leaf, number_leaf, text_leaf, truth_leaf, day_leaf, bound_leaf, or_op, and_op, not_op, compare_op, like_op, between_op, in_op, is_null_op, sum_op, product_op, casei_op, date_op, interval_op, point_op, polygon_op, ring_op, bbox_op, spatial_op, temporal_op}
-use Rattle.cql_tree.specs.declared.tree.Addition.{Addition}
-use Rattle.cql_tree.specs.declared.tree.Multiplication.{Multiplication}
+use Rattle.cql_tree.specs.Syntax.{Syntax, Parts, none, part, parts_of, leaf, node, name_leaf, number_leaf, text_leaf, truth_leaf, day_leaf, bound_leaf, or_op, and_op, not_op, compare_op, like_op, between_op, in_op, is_null_op, computed_op, casei_op, date_op, interval_op, point_op, polygon_op, ring_op, bbox_op, spatial_op, temporal_op}
+use Rattle.cql_tree.specs.declared.tree.Operation.{Operation}
 use Rattle.cql_tree.specs.declared.tree.Number.{Number}
 use Rattle.cql_tree.specs.declared.tree.Bound.{Bound}
 use Rattle.cql_tree.specs.declared.tree.Bound.TheVariants as bound
 use Rattle.cql_tree.specs.declared.tree.Tree.TheVariants as tree
 use Rattle.cql_tree.specs.declared.tree.Corner.{Corner}
 use Rattle.cql_tree.specs.declared.tree.Ring.{Ring}
-use Rattle.cql_tree.specs.declared.tree.Term.{Term}
-use Rattle.cql_tree.specs.declared.tree.Factor.{Factor}
-use Rattle.cql_tree.specs.declared.tree.Tree.{Tree, Row_of-Tree, end_of-Tree, more_of-Tree, Row_of-Term, end_of-Term, more_of-Term, Row_of-Factor, end_of-Factor, more_of-Factor}
-use Rattle.cql_tree.specs.declared.tree.Tree.TheVariants.{Name, Text, Truth, Or', And', Not', Compare', Like', Between', In', IsNull', Sum', Product', Casei', Date, Interval, Point, Polygon, Bbox, Spatial', Temporal'}
+use Rattle.cql_tree.specs.declared.tree.Operand.{Operand}
+use Rattle.cql_tree.specs.declared.tree.Tree.{Tree, Row_of-Tree, end_of-Tree, more_of-Tree, Row_of-Operand, end_of-Operand, more_of-Operand}
+use Rattle.cql_tree.specs.declared.tree.Tree.TheVariants.{Name, Text, Truth, Or', And', Not', Compare', Like', Between', In', IsNull', Computed', Casei', Date, Interval, Point, Polygon, Bbox, Spatial', Temporal'}
 
 abbrev pub number_of : Number → Syntax
 number_of n = leaf n.place (number_leaf n.is_negative (string_bytes n.digits))
@@ -47,9 +45,7 @@ unfoldable mutual
       node (between_op n) (part (syntax_of a) (part (syntax_of b) (part (syntax_of c) none)))
   syntax_of (In' n p a q f shape all) = node (in_op n) (part (syntax_of a) (part (syntax_of f) (parts_in all)))
   syntax_of (IsNull' n p a) = node (is_null_op n) (part (syntax_of a) none)
-  syntax_of (Sum' p f shape all) = node (sum_op (additions_in all)) (part (syntax_of f) (terms_in all))
-  syntax_of (Product' p f shape all) =
-      node (product_op (multiplications_in all)) (part (syntax_of f) (factors_in all))
+  syntax_of (Computed' p f shape all) = node (computed_op (operations_in all)) (part (syntax_of f) (operands_in all))
   syntax_of (Casei' place p t) = node (casei_op place) (part (syntax_of t) none)
   syntax_of (Date p q s) = node (date_op p) (part (leaf q (day_leaf (string_bytes s))) none)
   syntax_of (Interval p a b) = node (interval_op p) (part (bound_of a) (part (bound_of b) none))
@@ -63,39 +59,19 @@ unfoldable mutual
   parts_in end_of-Tree = none
   parts_in (more_of-Tree t rest) = part (syntax_of t) (parts_in rest)
 
-  pub terms_in : {m : _} → Row_of-Term m → Parts
-  terms_in end_of-Term = none
-  terms_in (more_of-Term by t rest) = part (syntax_of t) (terms_in rest)
+  pub operands_in : {m : _} → Row_of-Operand m → Parts
+  operands_in end_of-Operand = none
+  operands_in (more_of-Operand by t rest) = part (syntax_of t) (operands_in rest)
 
-  pub additions_in : {m : _} → Row_of-Term m → List Addition
-  additions_in end_of-Term = []
-  additions_in (more_of-Term by t rest) = by ∷ additions_in rest
-
-  pub factors_in : {m : _} → Row_of-Factor m → Parts
-  factors_in end_of-Factor = none
-  factors_in (more_of-Factor by t rest) = part (syntax_of t) (factors_in rest)
-
-  pub multiplications_in : {m : _} → Row_of-Factor m → List Multiplication
-  multiplications_in end_of-Factor = []
-  multiplications_in (more_of-Factor by t rest) = by ∷ multiplications_in rest
+  pub operations_in : {m : _} → Row_of-Operand m → List Operation
+  operations_in end_of-Operand = []
+  operations_in (more_of-Operand by t rest) = by ∷ operations_in rest
 
 abbrev pub syntaxes_of : List Tree → List Syntax
 syntaxes_of ts = map syntax_of ts
 
-abbrev pub term_of : Term → Syntax
-term_of t = syntax_of t.tree
+abbrev pub operands_of : List Operand → List Syntax
+operands_of ts = map (λ t. syntax_of t.tree) ts
 
-abbrev pub terms_of : List Term → List Syntax
-terms_of ts = map term_of ts
-
-abbrev pub additions_of : List Term → List Addition
-additions_of ts = map (λ t. t.by) ts
-
-abbrev pub factor_of : Factor → Syntax
-factor_of t = syntax_of t.tree
-
-abbrev pub factors_of : List Factor → List Syntax
-factors_of ts = map factor_of ts
-
-abbrev pub multiplications_of : List Factor → List Multiplication
-multiplications_of ts = map (λ t. t.by) ts
+abbrev pub operations_of : List Operand → List Operation
+operations_of ts = map (λ t. t.by) ts

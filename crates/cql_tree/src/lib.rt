@@ -2,7 +2,7 @@
 //!
 //! - [`Tree`]: a filter, each name, literal and keyword at its place. `NOT area BETWEEN 5 AND 7` is `Not` at place 0, over
 //!   `Between` of the name at place 4 and the numbers at places 17 and 23.
-//! - [`Term`], [`Factor`]: a further part of a sum or a product, with the sign before it.
+//! - [`Operand`]: a further part of a sum or a product, and the [`Operation`] before it.
 //! - [`Bound`], [`Number`], [`Corner`], [`Ring`]: what literals of several parts hold.
 //!
 //! The definitions say what a tree is without where it lies in memory (`Syntax`, `Views`), and that its places ascend in
@@ -11,4 +11,4 @@
 
 mod tree;
 
-pub use tree::{Addition, Bound, Corner, Factor, Multiplication, Number, Ring, Term, Tree};
+pub use tree::{Bound, Corner, Number, Operand, Operation, Ring, Tree};

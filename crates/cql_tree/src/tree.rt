@@ -99,19 +99,12 @@ pub enum Tree {
         /// What is to have no value.
         value: Box<Tree>,
     },
-    /// Two parts or more, added and taken off from the left.
-    Sum {
+    /// Two parts or more, computed from the left.
+    Computed {
         /// The first part.
         first: Box<Tree>,
-        /// The further parts, each with its sign, one at least.
-        others: Vec<Term>,
-    },
-    /// Two parts or more, multiplied and divided from the left.
-    Product {
-        /// The first part.
-        first: Box<Tree>,
-        /// The further parts, each with its sign, one at least.
-        others: Vec<Factor>,
+        /// The further parts and what is done with each, one at least.
+        others: Vec<Operand>,
     },
     /// `CASEI(..)`
     Casei {
@@ -196,42 +189,27 @@ pub struct Number {
     pub digits: String,
 }
 
-/// The sign between two parts of a sum.
+/// What is done with the next part of a sum or a product.
 #[derive(Clone, Copy, PartialEq, Eq, Debug)]
-pub enum Addition {
+pub enum Operation {
     /// `+`
     Plus,
     /// `-`
     Minus,
-}
-
-/// The sign between two parts of a product.
-#[derive(Clone, Copy, PartialEq, Eq, Debug)]
-pub enum Multiplication {
     /// `*`
     Times,
-    /// `DIV`
+    /// `DIV`, cut toward zero
     Div,
-    /// `%`
+    /// `%`, what is left by `DIV`
     Modulo,
 }
 
-/// A part of a sum behind the first, and the sign before it.
+/// A part of a sum or a product behind the first, and what is done with it.
 #[derive(Drop)]
 #[cycle(tree)]
-pub struct Term {
-    /// The sign before it.
-    pub by: Addition,
-    /// The part.
-    pub tree: Tree,
-}
-
-/// A part of a product behind the first, and the sign before it.
-#[derive(Drop)]
-#[cycle(tree)]
-pub struct Factor {
-    /// The sign before it.
-    pub by: Multiplication,
+pub struct Operand {
+    /// What is done with it.
+    pub by: Operation,
     /// The part.
     pub tree: Tree,
 }

@@ -7,7 +7,7 @@ use Rattle.cql_lexer.specs.Mark.{compare}
 use Rattle.cql_tree.specs.Syntax.{casei_op}
 use Rattle.cql_parser.specs.Machine.{open_slot, sign_slot, sum_slot, comma_sign, close_sign, two_sums, left, right, pattern, low, high, item, argument, in_paren, plain, under_not, or_part, and_part, sum_part, product_part, want_or, want_and, want_not, want_predicate, want_sum, want_product, want_primary, want_slot, want_slots, after_in, after_is, have_or, have_not, have_predicate, have_sum, have_primary, have_ors, have_ands, have_items}
 use Rattle.cql_parser.specs.Starts.{pair_op}
-use Rattle.cql_tree.specs.Views.{syntax_of, syntaxes_of, term_of, terms_of, additions_of, factor_of, factors_of, multiplications_of}
+use Rattle.cql_tree.specs.Views.{syntax_of, syntaxes_of, operands_of, operations_of}
 use Rattle.cql_parser.specs.Descent.{for_slot, want_here}
 use Rattle.cql_parser.proofs.Turns.{goes, goes_at, or_stays, and_stays, not_stays, right_done, pattern_done, high_done, left_stays, tail_goes, negated_stops, low_stops, in_stops, item_had, items_stop, sum_stays, term_goes, product_stays, factor_goes, paren_stops, pair_goes, argument_had, stops_from, parses_from}
 use Rattle.cql_parser.proofs.descent.+rules.Goals as goal
@@ -208,19 +208,19 @@ pub parse_sum-returns-in_err-next-clause-parses : goal.parse_sum-returns-in_err-
 parse_sum-returns-in_err-next-clause-parses t c =
     let p = err_from_is_err_and c.from_residual-in_err-next.result c.from_residual-in_err-next.ensures.1 in
     rw (p.1, p.2)
-    (stops_from want_sum want_product (marks c.args.tokens.now) _ c.in_err-next.field-0.0 (λ k. sum_part (additions_of c.loop-by.others.items ++ c.in-Some.by ∷ []) (syntax_of c.in_ok-first.field-0.tree.value ∷ terms_of c.loop-by.others.items) k)
-    (λ k. c.loop-by.invariant.reads k ∙ term_goes c.in-Some.by k _ _ _ _ c.in-Some.ensures.found) c.in_err-next.ensures.parses)
+    (stops_from want_sum want_product (marks c.args.tokens.now) _ c.in_err-next.field-0.0 (λ k. sum_part (operations_of c.loop-by.others.items ++ c.in-Some.by ∷ []) (syntax_of c.in_ok-first.field-0.tree.value ∷ operands_of c.loop-by.others.items) k)
+    (λ k. c.loop-by.invariant.reads k ∙ term_goes c.in-Some.ensures.adds k _ _ _ _ c.in-Some.ensures.found) c.in_err-next.ensures.parses)
 
 pub parse_sum-loop-by-preserved : goal.parse_sum-loop-by-preserved
 parse_sum-loop-by-preserved t c =
-    let e : terms_of c.push.new.self.items ≡ terms_of c.loop-by.others.items ++ syntax_of c.in_ok-next.next.tree.value ∷ [] =
-    rw (c.in_ok-push.ensures.items, map_push term_of c.loop-by.others.items _, c.into_inner-tree.ensures) refl in
-    let f : additions_of c.push.new.self.items ≡ additions_of c.loop-by.others.items ++ c.in-Some.by ∷ [] =
+    let e : operands_of c.push.new.self.items ≡ operands_of c.loop-by.others.items ++ syntax_of c.in_ok-next.next.tree.value ∷ [] =
+    rw (c.in_ok-push.ensures.items, map_push (λ s. syntax_of s.tree) c.loop-by.others.items _, c.into_inner-tree.ensures) refl in
+    let f : operations_of c.push.new.self.items ≡ operations_of c.loop-by.others.items ++ c.in-Some.by ∷ [] =
     rw (c.in_ok-push.ensures.items) (map_push (λ s. s.by) c.loop-by.others.items _) in
     record {
       shorter = omega (arith, c.in-Some.ensures.shorter, c.in_ok-next.ensures.shorter, c.loop-by.invariant.shorter);
       reads = λ k.
-          rw (e, f) (c.loop-by.invariant.reads k ∙ (term_goes c.in-Some.by k _ _ _ _ c.in-Some.ensures.found ∙ c.in_ok-next.ensures.parses (sum_part (additions_of c.loop-by.others.items ++ c.in-Some.by ∷ []) (syntax_of c.in_ok-first.field-0.tree.value ∷ terms_of c.loop-by.others.items) k)));
+          rw (e, f) (c.loop-by.invariant.reads k ∙ (term_goes c.in-Some.ensures.adds k _ _ _ _ c.in-Some.ensures.found ∙ c.in_ok-next.ensures.parses (sum_part (operations_of c.loop-by.others.items ++ c.in-Some.by ∷ []) (syntax_of c.in_ok-first.field-0.tree.value ∷ operands_of c.loop-by.others.items) k)));
     }
 
 pub parse_sum-returns-clause-parses : goal.parse_sum-returns-clause-parses
@@ -231,19 +231,19 @@ pub parse_product-returns-in_err-next-clause-parses : goal.parse_product-returns
 parse_product-returns-in_err-next-clause-parses t c =
     let p = err_from_is_err_and c.from_residual-in_err-next.result c.from_residual-in_err-next.ensures.1 in
     rw (p.1, p.2)
-    (stops_from want_product want_primary (marks c.args.tokens.now) _ c.in_err-next.field-0.0 (λ k. product_part (multiplications_of c.loop-by.others.items ++ c.in-Some.by ∷ []) (syntax_of c.in_ok-first.field-0.tree.value ∷ factors_of c.loop-by.others.items) k)
-    (λ k. c.loop-by.invariant.reads k ∙ factor_goes c.in-Some.by k _ _ _ _ c.in-Some.ensures.found) c.in_err-next.ensures.parses)
+    (stops_from want_product want_primary (marks c.args.tokens.now) _ c.in_err-next.field-0.0 (λ k. product_part (operations_of c.loop-by.others.items ++ c.in-Some.by ∷ []) (syntax_of c.in_ok-first.field-0.tree.value ∷ operands_of c.loop-by.others.items) k)
+    (λ k. c.loop-by.invariant.reads k ∙ factor_goes c.in-Some.ensures.multiplies k _ _ _ _ c.in-Some.ensures.found) c.in_err-next.ensures.parses)
 
 pub parse_product-loop-by-preserved : goal.parse_product-loop-by-preserved
 parse_product-loop-by-preserved t c =
-    let e : factors_of c.push.new.self.items ≡ factors_of c.loop-by.others.items ++ syntax_of c.in_ok-next.next.tree.value ∷ [] =
-    rw (c.in_ok-push.ensures.items, map_push factor_of c.loop-by.others.items _, c.into_inner-tree.ensures) refl in
-    let f : multiplications_of c.push.new.self.items ≡ multiplications_of c.loop-by.others.items ++ c.in-Some.by ∷ [] =
+    let e : operands_of c.push.new.self.items ≡ operands_of c.loop-by.others.items ++ syntax_of c.in_ok-next.next.tree.value ∷ [] =
+    rw (c.in_ok-push.ensures.items, map_push (λ s. syntax_of s.tree) c.loop-by.others.items _, c.into_inner-tree.ensures) refl in
+    let f : operations_of c.push.new.self.items ≡ operations_of c.loop-by.others.items ++ c.in-Some.by ∷ [] =
     rw (c.in_ok-push.ensures.items) (map_push (λ s. s.by) c.loop-by.others.items _) in
     record {
       shorter = omega (arith, c.in-Some.ensures.shorter, c.in_ok-next.ensures.shorter, c.loop-by.invariant.shorter);
       reads = λ k.
-          rw (e, f) (c.loop-by.invariant.reads k ∙ (factor_goes c.in-Some.by k _ _ _ _ c.in-Some.ensures.found ∙ c.in_ok-next.ensures.parses (product_part (multiplications_of c.loop-by.others.items ++ c.in-Some.by ∷ []) (syntax_of c.in_ok-first.field-0.tree.value ∷ factors_of c.loop-by.others.items) k)));
+          rw (e, f) (c.loop-by.invariant.reads k ∙ (factor_goes c.in-Some.ensures.multiplies k _ _ _ _ c.in-Some.ensures.found ∙ c.in_ok-next.ensures.parses (product_part (operations_of c.loop-by.others.items ++ c.in-Some.by ∷ []) (syntax_of c.in_ok-first.field-0.tree.value ∷ operands_of c.loop-by.others.items) k)));
     }
 
 pub parse_product-returns-clause-parses : goal.parse_product-returns-clause-parses

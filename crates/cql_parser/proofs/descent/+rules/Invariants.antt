@@ -1,7 +1,7 @@
 use Rattle.std.proofs.Common.{◌≡◌, ◌∷◌, ◌+◌, ◌*◌, ◌<◌, length}
 use Rattle.cql_lexer.specs.Mark.{marks}
 use Rattle.cql_parser.specs.Machine.{ForOr, ForAnd, ForSum, ForProduct, ForPredicate, want_or, want_and, want_sum, want_product, after_in, have_ors, have_ands, have_terms, have_factors, have_items, run}
-use Rattle.cql_tree.specs.Views.{syntax_of, syntaxes_of, terms_of, additions_of, factors_of, multiplications_of}
+use Rattle.cql_tree.specs.Views.{syntax_of, syntaxes_of, operands_of, operations_of}
 use Rattle.cql_parser.proofs.descent.+rules.Given as goal
 
 -- fewer tokens, and for the same tokens an inner rule
@@ -86,7 +86,7 @@ invariant-parse_sum-loop-by l = record {
   shorter : length l.rest < length l.tokens;
   reads : (k : ForSum) →
       run (want_sum k) (marks l.tokens) ≡
-      run (have_terms k (additions_of l.others.items) (syntax_of l.first.value ∷ terms_of l.others.items)) (marks l.rest);
+      run (have_terms k (operations_of l.others.items) (syntax_of l.first.value ∷ operands_of l.others.items)) (marks l.rest);
 }
 
 abbrev pub decreases-parse_sum-loop-by : goal.decreases-parse_sum-loop-by
@@ -97,7 +97,7 @@ invariant-parse_product-loop-by l = record {
   shorter : length l.rest < length l.tokens;
   reads : (k : ForProduct) →
       run (want_product k) (marks l.tokens) ≡
-      run (have_factors k (multiplications_of l.others.items) (syntax_of l.first.value ∷ factors_of l.others.items)) (marks l.rest);
+      run (have_factors k (operations_of l.others.items) (syntax_of l.first.value ∷ operands_of l.others.items)) (marks l.rest);
 }
 
 abbrev pub decreases-parse_product-loop-by : goal.decreases-parse_product-loop-by
