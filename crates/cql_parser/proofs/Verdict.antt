@@ -7,7 +7,6 @@ use Rattle.cql_parser.specs.Grammar.{Reads, IsViable, IsOr}
 use Rattle.cql_parser.specs.Faults.{deep_at, IsUnexpected, IsUnfinished, HasFault}
 use Rattle.cql_parser.specs.Answer.{IsReading, IsParsed, Answers, OrMemory, fault_of}
 use Rattle.cql_parser.specs.Laws.{HasTreeOrFault, HasFaultOrTree, HasOneFault}
-use Rattle.cql_tree.specs.Order.{Ascend, IsOrdered}
 use Rattle.cql_tree.specs.Views.{syntax_of}
 use Rattle.cql_tree.specs.declared.tree.Tree.{Tree}
 use Rattle.cql_parser.specs.declared.fault.ParseFault.{ParseFault}
@@ -17,7 +16,6 @@ use Rattle.cql_parser.specs.declared.fault.GrammarFault.TheVariants.{TooDeep, No
 use Rattle.cql_parser.specs.Machine.{whole, want_or, run, Outcome, spells, stops}
 use Rattle.cql_parser.proofs.Residual.{Completes, want_or_to, want_or_from}
 use Rattle.cql_parser.proofs.Runs.{Says, Spells, Stops, run_says}
-use Rattle.cql_parser.proofs.Ordering.{is_ordered}
 
 reads_to : (xs : List Mark) (tree : Syntax) → Reads xs tree → Completes (want_or whole) xs tree
 reads_to xs tree r = want_or_to whole tree r (refl, refl)
@@ -200,15 +198,9 @@ accepted xs end (Err (At f)) a tree h = absurd (fault_or_tree xs end f tree a h)
 
 pub refused : (xs : List Mark) (end : ℕ) (r : Result Tree ParseFault) → Answers xs end r →
     (fault : GrammarFault) → HasFault xs end fault → OrMemory r (r ≡ Err (At fault))
-refused xs end (Ok t) a f h = absurd (fault_or_tree xs end f (syntax_of t) h (record { shallow = a.0; reads = a.1.reads }))
+refused xs end (Ok t) a f h = absurd (fault_or_tree xs end f (syntax_of t.root) h (record { shallow = a.0; reads = a.1.reads }))
 refused xs end (Err Memory) a f h = inl refl
 refused xs end (Err (At g)) a f h = inr (ap (λ k. Err (At k)) (one_fault xs end g f a h))
-
-pub ordered_of : (xs : List Mark) (end : ℕ) (r : Result Tree ParseFault) → Answers xs end r →
-    IfOk r (λ tree. Ascend 0 xs → IsOrdered (syntax_of tree))
-ordered_of xs end (Ok t) a = λ h. is_ordered xs [] (syntax_of t) a.1.reads h
-ordered_of xs end (Err Memory) a = tt
-ordered_of xs end (Err (At f)) a = tt
 
 one_completes : (xs : List Mark) (o : Outcome) (a b : Syntax) → Says (want_or whole) xs o →
     Completes (want_or whole) xs a → Completes (want_or whole) xs b → a ≡ b

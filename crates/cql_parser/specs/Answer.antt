@@ -24,7 +24,7 @@ pub record IsParsed (tokens : List Mark) (tree : Syntax) : Type 0 where
 -- The tree, or the first fault of the tokens of a text that ends there.
 -- Where memory ran out, nothing is said of the tokens.
 abbrev pub Answers : List Mark → ℕ → Result Tree ParseFault → Type 0
-Answers tokens end (Ok tree) = (deep_at 0 tokens ≡ None) × IsReading tokens (syntax_of tree)
+Answers tokens end (Ok tree) = (deep_at 0 tokens ≡ None) × IsReading tokens (syntax_of tree.root)
 Answers tokens end (Err Memory) = Unit {0}
 Answers tokens end (Err (At fault)) = HasFault tokens end fault
 

@@ -1,12 +1,10 @@
 //! From tokens to a tree, or the first fault.
 
-ghost use Rattle.std.specs.Prelude.{◌≡◌, Err, IfOk, IsOk};
+ghost use Rattle.std.specs.Prelude.{◌≡◌, Err, IsOk};
 ghost use Rattle.cql_lexer.specs.Mark.{marks};
 ghost use Rattle.cql_parser.specs.Answer.{Answers, IsParsed, OrMemory, fault_of};
 ghost use Rattle.cql_parser.specs.Faults.{deep_at, HasFault};
-ghost use Rattle.cql_tree.specs.Order.{Ascend, IsOrdered};
 ghost use Rattle.cql_tree.specs.Syntax.{Syntax};
-ghost use Rattle.cql_tree.specs.Views.{syntax_of};
 ghost use Rattle.cql_parser.specs.declared.fault.GrammarFault.{GrammarFault};
 ghost use Rattle.cql_parser.specs.declared.fault.ParseFault.TheVariants.{At};
 
@@ -27,8 +25,6 @@ pub fn parse(alloc: Global, tokens: &Tokens) -> Result<Tree, ParseFault>
     ensures accepted { (tree : Syntax) → IsParsed (marks tokens.now.list.items) tree → OrMemory result (IsOk result) }
     ensures refused { (fault : GrammarFault) → HasFault (marks tokens.now.list.items) tokens.now.end fault
         → OrMemory result (result ≡ Err (At fault)) }
-    // The tree's places ascend where the tokens' do.
-    ensures ordered { IfOk result (λ tree. Ascend 0 (marks tokens.now.list.items) → IsOrdered (syntax_of tree)) }
 {
     first_answer(alloc, tokens)
 }
@@ -41,7 +37,9 @@ fn first_answer(alloc: Global, tokens: &Tokens) -> Result<Tree, ParseFault>
         return Err(ParseFault::At(GrammarFault::TooDeep { place }));
     }
     match parse_filter(alloc, list) {
-        Ok(tree) => Ok(Box::into_inner(tree)),
+        Ok(root) => Ok(Tree {
+            root: Box::into_inner(root),
+        }),
         Err(Stop::Memory) => Err(ParseFault::Memory),
         Err(Stop::At(rest)) => Err(ParseFault::At(fault_at(rest, tokens.end))),
     }
