@@ -1,7 +1,7 @@
 -- A tree has one kind or a fault, and the first fault in the order of reading is the least.
 use Rattle.std.proofs.Common.{if◌then◌else◌, ◌≡◌, ◌⊎◌, inl, inr, ◌<◌, ◌≤◌, refl, ap, sym, subst, ◌∙◌, ℕ, Bool, true, false, List, [], ◌∷◌, Option, Some, None, Result, Ok, Err, arith}
 use Rattle.cad_schema.specs.Attributes.{Named}
-use Rattle.cql_tree.specs.Syntax.{Syntax, Parts, none, part, leaf, node, Leaf, Op, place_of, or_op, and_op, not_op, compare_op, like_op, between_op, in_op, is_null_op, sum_op, product_op, casei_op, date_op, interval_op, point_op, polygon_op, ring_op, bbox_op, spatial_op, temporal_op}
+use Rattle.cql_tree.specs.Syntax.{Syntax, Parts, none, part, leaf, node, Leaf, Op, place_of, or_op, and_op, not_op, compare_op, like_op, between_op, in_op, is_null_op, computed_op, casei_op, date_op, interval_op, point_op, polygon_op, ring_op, bbox_op, spatial_op, temporal_op}
 use Rattle.cql_types.specs.declared.fault.Misuse.{Misuse}
 use Rattle.cql_types.specs.declared.fault.Fault.{Fault}
 use Rattle.cql_types.specs.Kinds.{Kind, Mark, first_not, first_unlike, misfit, made, leaf_kind, wrong_kind, unsound, Has, Have, leaf_has, node_has, no_more, one_more, IsWrong, IsWrongIn, leaf_wrong, node_wrong, node_unsound, inside, here, later}
@@ -151,8 +151,7 @@ misfit_between (like_op n) bs e = first_unlike_between _ _ bs e
 misfit_between (between_op n) bs e = first_not_between _ bs e
 misfit_between (in_op n) bs e = first_unlike_between _ _ bs e
 misfit_between (is_null_op n) bs e = first_not_between _ bs e
-misfit_between (sum_op n) bs e = first_not_between _ bs e
-misfit_between (product_op n) bs e = first_not_between _ bs e
+misfit_between (computed_op n) bs e = first_not_between _ bs e
 misfit_between (casei_op p) bs e = first_not_between _ bs e
 misfit_between (date_op p) bs e = first_not_between _ bs e
 misfit_between (interval_op p) bs e = first_not_between _ bs e

@@ -8,7 +8,7 @@ use Rattle.cad_shape.specs.declared.ring.Ring.{Ring}
 use Rattle.cad_shape.specs.RegionRings.{rings_of, region_is}
 use Rattle.cql_tree.specs.Syntax.{Syntax, Parts, Leaf, Op, part, node, place_of}
 use Rattle.cql_types.specs.declared.filter.EndTerm.{EndTerm}
-use Rattle.cql_types.specs.declared.filter.Operation.{Operation}
+use Rattle.cql_tree.specs.declared.tree.Operation.{Operation}
 use Rattle.cql_types.specs.declared.filter.Step.{Step}
 use Rattle.cql_types.specs.declared.judged.Judged.{Judged}
 use Rattle.cql_types.specs.declared.judged.Node.{Node}
@@ -16,7 +16,7 @@ use Rattle.cql_types.specs.Kinds.{Kind, Mark, whole, text, pattern, day, flag, t
 use Rattle.cql_types.specs.Kinds as kinds
 use Rattle.cql_types.specs.Fits.{whole_fits, text_fits, pattern_fits, day_fits, flag_fits, span_fits, shape_fits, any_fits, condition_fits}
 use Rattle.cql_types.specs.Literals.{AreNumbers, no_number, one_number, AreRings, no_ring, one_ring}
-use Rattle.cql_types.specs.Means.{kind_of, mark_of, marks_of, whole_of, Are, no_term, one_term, AreSteps, no_step, one_step, property_node, IsLeaf, property_name, number, literal, date, Makes, sum, product, casei, casei_pattern, like, between, date_node, compare_whole, compare_text, compare_day, compare_flag, in_whole, in_text, in_day, in_flag, is_null, negation, conjunction, disjunction, spatial, temporal, IsEnd, open_text, day_text, day_name, Draws, interval, point, region, box, Means, Mean, leaf_means, node_means, literal_means}
+use Rattle.cql_types.specs.Means.{kind_of, mark_of, marks_of, whole_of, Are, no_term, one_term, AreSteps, no_step, one_step, property_node, IsLeaf, property_name, number, literal, date, Makes, computed, casei, casei_pattern, like, between, date_node, compare_whole, compare_text, compare_day, compare_flag, in_whole, in_text, in_day, in_flag, is_null, negation, conjunction, disjunction, spatial, temporal, IsEnd, open_text, day_text, day_name, Draws, interval, point, region, box, Means, Mean, leaf_means, node_means, literal_means}
 use Rattle.cql_types.specs.Means as means
 use Rattle.cql_types.proofs.Terms.{is_true}
 
@@ -204,8 +204,7 @@ no_misfit (in_day {i = i} {js = js} xs e r t) = let k = is_true (day_fits i.node
 no_misfit (in_flag {i = i} {js = js} xs e r t) = let k = is_true (flag_fits i.node) e in
     beside_fits (is_comparable true) is_same i.place (kind_of i.node) (marks_of js) (flag_compares true refl (kind_of i.node) k) (flag_same (kind_of i.node) k) (all_fit is_flag flag_fits r)
 no_misfit (is_null {j = j} e t) = one_fits is_value j.place (kind_of j.node) (is_true (any_fits j.node) e)
-no_misfit (sum {j = j} {js = js} first steps e r) = more_fit is_whole j.place (kind_of j.node) (marks_of js) (is_true (whole_fits j.node) e) (steps_fit r)
-no_misfit (product {j = j} {js = js} first steps e r) = more_fit is_whole j.place (kind_of j.node) (marks_of js) (is_true (whole_fits j.node) e) (steps_fit r)
+no_misfit (computed {j = j} {js = js} first steps e r) = more_fit is_whole j.place (kind_of j.node) (marks_of js) (is_true (whole_fits j.node) e) (steps_fit r)
 no_misfit (casei {j = j} x e) = one_fits is_text j.place (kind_of j.node) (ap (λ y. is_text (kind_of y)) e)
 no_misfit (casei_pattern {j = j} x e) = one_fits is_text j.place (kind_of j.node) (ap (λ y. is_text (kind_of y)) e)
 no_misfit (date_node {j = j} e) = one_fits is_day j.place (kind_of j.node) (is_true (day_fits j.node) e)
@@ -228,8 +227,7 @@ made_kind (in_text xs e r t) = refl
 made_kind (in_day xs e r t) = refl
 made_kind (in_flag xs e r t) = refl
 made_kind (is_null e t) = refl
-made_kind (sum first steps e r) = refl
-made_kind (product first steps e r) = refl
+made_kind (computed first steps e r) = refl
 made_kind (casei x e) = ap (λ y. if is_pattern (kind_of y) then pattern else text) e
 made_kind (casei_pattern x e) = ap (λ y. if is_pattern (kind_of y) then pattern else text) e
 made_kind (date_node e) = refl
@@ -252,8 +250,7 @@ sound ps (in_text xs e r t) = tt
 sound ps (in_day xs e r t) = tt
 sound ps (in_flag xs e r t) = tt
 sound ps (is_null e t) = tt
-sound ps (sum first steps e r) = tt
-sound ps (product first steps e r) = tt
+sound ps (computed first steps e r) = tt
 sound ps (casei x e) = tt
 sound ps (casei_pattern x e) = tt
 sound ps (date_node e) = tt

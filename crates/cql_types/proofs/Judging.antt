@@ -1,15 +1,17 @@
 -- From what the parts are to what the node is.
 use Rattle.std.proofs.Common.{◌≡◌, refl, ap, sym, subst, ◌∙◌, ℕ, ◌≤◌, List, [], ◌∷◌, ◌++◌, length, get_or, ◌<◌, ◌+◌, drop, drop-cons, add-one, drop_of_length-le, append-nil, append_assoc, map, Result, Ok, Err}
 use Rattle.cad_schema.specs.Attributes.{Named}
-use Rattle.cql_tree.specs.Syntax.{Syntax, Parts, none, part, parts_of, node, Op, keyed, place_in}
+use Rattle.cql_tree.specs.Syntax.{Syntax, Parts, none, part, parts_of, node, Op, computed_op, keyed, place_in}
+use Rattle.cql_tree.specs.Views.{operations_of}
+use Rattle.cql_tree.specs.declared.tree.Operand.{Operand}
 use Rattle.cql_types.specs.declared.fault.Fault.{Fault}
 use Rattle.cql_types.specs.declared.fault.TypeFault.{TypeFault}
 use Rattle.cql_types.specs.declared.fault.TypeFault.TheVariants.{Memory, At}
-use Rattle.cql_types.specs.declared.filter.Operation.{Operation}
+use Rattle.cql_tree.specs.declared.tree.Operation.{Operation}
 use Rattle.cql_types.specs.declared.judged.Judged.{Judged}
 use Rattle.cql_types.specs.declared.judged.JudgedStep.{JudgedStep}
 use Rattle.cql_types.specs.Means.{Mean, no_more, one_more, node_means}
-use Rattle.cql_types.specs.Contract.{ForFault, IsFirst, IsFirstIn, node_first, inside_first, here_first, later_first, IsJudged, Judges, Combines, place_first, parts_judged, operations_of, AreJudgedSteps}
+use Rattle.cql_types.specs.Contract.{ForFault, IsFirst, IsFirstIn, node_first, inside_first, here_first, later_first, IsJudged, Judges, Combines, place_first, parts_judged, operations_judged, AreJudgedSteps}
 use Rattle.cql_types.proofs.Fitting.{means_has, mean_have}
 
 place_mean : {s : List Named} {ps : Parts} {js : List Judged} → Mean s ps js → place_in ps ≡ place_first js
@@ -59,9 +61,11 @@ pub list_judged : {s : List Named} (op : Op) {t : Syntax} {ts : Parts} {i j k : 
 list_judged op {i = i} {js = js} r h e f m c = node_judged op r (and_part h m) (subst (λ j. Combines op (j ∷ js) r) (f ∙ e) c)
 
 -- the same where the others are steps
-pub steps_judged : {s : List Named} (op : Op) {t : Syntax} {ts : Parts} {bs : List Operation} {i j k : Judged} {steps : List JudgedStep} (r : Result Judged TypeFault) →
-    IsJudged s t i → j ≡ i → k ≡ j → AreJudgedSteps s ts bs steps → (bs ≡ operations_of steps → Combines op (k ∷ parts_judged steps) r) → Judges s (node op (part t ts)) r
-steps_judged op r h e f m c = list_judged op r h e f m.mean (c (sym m.by))
+pub steps_judged : {s : List Named} {t : Syntax} {ts : Parts} {bs : List Operation} {i j k : Judged} {steps : List JudgedStep} (r : Result Judged TypeFault) →
+    IsJudged s t i → j ≡ i → k ≡ j → AreJudgedSteps s ts bs steps → Combines (computed_op (operations_judged steps)) (k ∷ parts_judged steps) r →
+    Judges s (node (computed_op bs) (part t ts)) r
+steps_judged {bs = bs} {k = k} {steps = steps} r h e f m c =
+    list_judged (computed_op bs) r h e f m.mean (subst (λ bs. Combines (computed_op bs) (k ∷ parts_judged steps) r) m.by c)
 
 -- the parts that are left, and all
 pub completes_more : {s : List Named} {all rest rest' : Parts} {t : Syntax} {j : Judged} {after : List Judged} (before : List Judged) →
@@ -86,15 +90,14 @@ fault_among t Memory so_far is h = tt
 fault_among t (At f) so_far is h = so_far f (rw is (here_first h))
 
 -- what is done with the parts that are left, and with all
-pub signs_from : {A S : Type 0} (sign : A → S) (by : S → Operation) (ts : List A) (i : ℕ) (t : A) → i < length ts → t ≡ get_or ts i t →
-    map by (map sign (drop i ts)) ≡ by (sign t) ∷ map by (map sign (drop (i + 1) ts))
-signs_from sign by ts i t within is = ap (λ us. map by (map sign us)) (drop-cons ts i t within) ∙ rw (add-one, ← is)
+pub operations_from : (ts : List Operand) (i : ℕ) (t : Operand) → i < length ts → t ≡ get_or ts i t →
+    operations_of (drop i ts) ≡ t.by ∷ operations_of (drop (i + 1) ts)
+operations_from ts i t within is = ap (λ us. operations_of us) (drop-cons ts i t within) ∙ rw (add-one, ← is)
 
 pub by_more : (before : List Operation) {after rest rest' all : List Operation} (b : Operation) → before ++ rest ≡ all → rest ≡ b ∷ rest' → after ≡ before ++ b ∷ [] → after ++ rest' ≡ all
 by_more before b so_far is e = rw (e, append_assoc) (rw is at so_far)
 
-pub by_all : {A S : Type 0} (sign : A → S) (by : S → Operation) (ts : List A) (i : ℕ) (before all : List Operation) → length ts ≤ i →
-    before ++ map by (map sign (drop i ts)) ≡ all → before ≡ all
-by_all sign by ts i before all past so_far =
+pub by_all : (ts : List Operand) (i : ℕ) (before all : List Operation) → length ts ≤ i → before ++ operations_of (drop i ts) ≡ all → before ≡ all
+by_all ts i before all past so_far =
     let none_left : drop i ts ≡ [] = drop_of_length-le ts past in
     rw append-nil at (rw none_left at so_far)

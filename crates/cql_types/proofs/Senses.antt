@@ -18,7 +18,7 @@ use Rattle.cad_shape.specs.declared.shape.Shape.TheVariants as shape
 use Rattle.cql_lexer.specs.declared.token.Comparison.{Comparison}
 use Rattle.cql_lexer.specs.declared.token.SpatialRelation.{SpatialRelation}
 use Rattle.cql_tree.specs.Syntax.{Syntax, Parts, Leaf, Op}
-use Rattle.cql_types.specs.declared.filter.Operation.{Operation}
+use Rattle.cql_tree.specs.declared.tree.Operation.{Operation}
 use Rattle.cql_types.specs.declared.filter.WholeTerm.{WholeTerm}
 use Rattle.cql_types.specs.declared.filter.WholeTerm.TheVariants as whole
 use Rattle.cql_types.specs.declared.filter.WholeTerm.TheOpen.{WholeTerm-F}
@@ -378,8 +378,7 @@ same_made (more_alike e r) (m.in_flag xs h k t) (m.in_flag ys l o u) =
     turned_alike (in_flag _ xs ∙ (ap₂ c.among_flags (flag_seen e h l) (same_terms (λ x y a b e f g. flag_seen e f g) r k o) ∙ sym (in_flag _ ys))) t u
 same_made (more_alike e none_alike) (m.is_null h t) (m.is_null k u) =
     turned_alike (in_is_null _ ∙ (ap c.is_null (any_seen e h k) ∙ sym (in_is_null _))) t u
-same_made (more_alike e r) (m.sum x s h k) (m.sum y t l o) = computed_alike s t (whole_seen e h l) (steps_alike r k o)
-same_made (more_alike e r) (m.product x s h k) (m.product y t l o) = computed_alike s t (whole_seen e h l) (steps_alike r k o)
+same_made (more_alike e r) (m.computed x s h k) (m.computed y t l o) = computed_alike s t (whole_seen e h l) (steps_alike r k o)
 same_made (more_alike e none_alike) (m.casei x h) (m.casei y k) = same_text (folded_same x y (text_seen e (ap text_of h) (ap text_of k)))
 same_made (more_alike e none_alike) (m.casei x h) (m.casei_pattern y k) = absurd (no_text_pattern e h k)
 same_made (more_alike e none_alike) (m.casei_pattern x h) (m.casei y k) = absurd (no_text_pattern (other_way e) k h)

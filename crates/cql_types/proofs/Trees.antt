@@ -8,19 +8,17 @@ use Rattle.std.specs.declared.vec.Vec.{Vec}
 use Rattle.cad_day.specs.declared.relation.Relation.{Relation}
 use Rattle.cql_lexer.specs.declared.token.Comparison.{Comparison}
 use Rattle.cql_lexer.specs.declared.token.SpatialRelation.{SpatialRelation}
-use Rattle.cql_tree.specs.declared.tree.Addition.{Addition}
-use Rattle.cql_tree.specs.declared.tree.Multiplication.{Multiplication}
 use Rattle.cql_tree.specs.declared.tree.Bound.{Bound}
 use Rattle.cql_tree.specs.declared.tree.Corner.{Corner}
-use Rattle.cql_tree.specs.declared.tree.Factor.{Factor}
+use Rattle.cql_tree.specs.declared.tree.Operand.{Operand}
+use Rattle.cql_tree.specs.declared.tree.Operation.{Operation}
 use Rattle.cql_tree.specs.declared.tree.Ring.{Ring}
-use Rattle.cql_tree.specs.declared.tree.Term.{Term}
-use Rattle.cql_tree.specs.Syntax.{Syntax, Parts, leaf, node, part, none, parts_of, name_leaf, text_leaf, truth_leaf, day_leaf, or_op, and_op, not_op, compare_op, like_op, between_op, in_op, is_null_op, sum_op, product_op, casei_op, date_op, interval_op, point_op, polygon_op, bbox_op, spatial_op, temporal_op}
-use Rattle.cql_tree.specs.Views.{syntax_of, syntaxes_of, terms_of, additions_of, factors_of, multiplications_of, number_of, numbers_of, bound_of, rings_of}
-use Rattle.cql_tree.specs.Rows.{vec_parts, vec_terms, vec_additions, vec_factors, vec_multiplications}
+use Rattle.cql_tree.specs.Syntax.{Syntax, Parts, leaf, node, part, none, parts_of, name_leaf, text_leaf, truth_leaf, day_leaf, or_op, and_op, not_op, compare_op, like_op, between_op, in_op, is_null_op, computed_op, casei_op, date_op, interval_op, point_op, polygon_op, bbox_op, spatial_op, temporal_op}
+use Rattle.cql_tree.specs.Views.{syntax_of, syntaxes_of, operands_of, operations_of, number_of, numbers_of, bound_of, rings_of}
+use Rattle.cql_tree.specs.Rows.{vec_parts, vec_operands, vec_operations}
 use Rattle.cql_tree.specs.declared.tree.Number.{Number}
 use Rattle.cql_tree.specs.declared.tree.Tree.{Tree}
-use Rattle.cql_tree.specs.declared.tree.Tree.TheVariants.{Name, Text, Truth, Or, And, Not, Compare, Like, Between, In, IsNull, Sum, Product, Casei, Date, Interval, Point, Polygon, Bbox, Spatial, Temporal}
+use Rattle.cql_tree.specs.declared.tree.Tree.TheVariants.{Name, Text, Truth, Or, And, Not, Compare, Like, Between, In, IsNull, Computed, Casei, Date, Interval, Point, Polygon, Bbox, Spatial, Temporal}
 use Rattle.cql_tree.specs.declared.tree.Tree.TheVariants as tree
 
 pub syntax_of-Name : (p : ℕ) (s : String Global) → syntax_of (Name p s) ≡ leaf p (name_leaf (string_bytes s))
@@ -71,19 +69,12 @@ pub syntax_of-IsNull : (n : Bool) (a : Box Tree Global) → syntax_of (IsNull n 
 unfolding syntax_of
 syntax_of-IsNull n a = refl
 
-sum_node : {bs cs : List Addition} {ps qs : Parts} (t : Syntax) → bs ≡ cs → ps ≡ qs → node (sum_op bs) (part t ps) ≡ node (sum_op cs) (part t qs)
-sum_node t e f = cc
+computed_node : {bs cs : List Operation} {ps qs : Parts} (t : Syntax) → bs ≡ cs → ps ≡ qs → node (computed_op bs) (part t ps) ≡ node (computed_op cs) (part t qs)
+computed_node t e f = cc
 
-product_node : {bs cs : List Multiplication} {ps qs : Parts} (t : Syntax) → bs ≡ cs → ps ≡ qs → node (product_op bs) (part t ps) ≡ node (product_op cs) (part t qs)
-product_node t e f = cc
-
-pub syntax_of-Sum : (t : Box Tree Global) (ts : Vec Term Global) → syntax_of (Sum t ts) ≡ node (sum_op (additions_of ts.items)) (part (syntax_of t.value) (parts_of (terms_of ts.items)))
+pub syntax_of-Computed : (t : Box Tree Global) (ts : Vec Operand Global) → syntax_of (Computed t ts) ≡ node (computed_op (operations_of ts.items)) (part (syntax_of t.value) (parts_of (operands_of ts.items)))
 unfolding syntax_of
-syntax_of-Sum t ts = sum_node (syntax_of t.value) (vec_additions ts) (vec_terms ts)
-
-pub syntax_of-Product : (t : Box Tree Global) (ts : Vec Factor Global) → syntax_of (Product t ts) ≡ node (product_op (multiplications_of ts.items)) (part (syntax_of t.value) (parts_of (factors_of ts.items)))
-unfolding syntax_of
-syntax_of-Product t ts = product_node (syntax_of t.value) (vec_multiplications ts) (vec_factors ts)
+syntax_of-Computed t ts = computed_node (syntax_of t.value) (vec_operations ts) (vec_operands ts)
 
 pub syntax_of-Casei : (p : ℕ) (t : Box Tree Global) → syntax_of (Casei p t) ≡ node (casei_op p) (part (syntax_of t.value) none)
 unfolding syntax_of

@@ -11,7 +11,7 @@ use Rattle.cql_types.specs.declared.fault.TypeFault.TheVariants.{Memory, At}
 use Rattle.cql_types.specs.declared.filter.Filter.{Filter}
 use Rattle.cql_types.specs.declared.filter.FlagTerm.{FlagTerm}
 use Rattle.cql_types.specs.declared.filter.TextTerm.{TextTerm}
-use Rattle.cql_types.specs.declared.filter.Operation.{Operation}
+use Rattle.cql_tree.specs.declared.tree.Operation.{Operation}
 use Rattle.cql_types.specs.declared.judged.Judged.{Judged}
 use Rattle.cql_types.specs.declared.judged.JudgedStep.{JudgedStep}
 use Rattle.cql_types.specs.Kinds.{Kind, Mark, leaf_kind, misfit, IsSound, unsound, Has, Have}
@@ -59,12 +59,12 @@ JudgesList s t ts r = MatchResult r (λ both. Mean s (part t ts) (both.0 ∷ bot
 abbrev pub parts_judged : List JudgedStep → List Judged
 parts_judged steps = map (λ step. step.part) steps
 
-abbrev pub operations_of : List JudgedStep → List Operation
-operations_of steps = map (λ step. step.by) steps
+abbrev pub operations_judged : List JudgedStep → List Operation
+operations_judged steps = map (λ step. step.by) steps
 
 pub record AreJudgedSteps (s : List Named) (ps : Parts) (bs : List Operation) (steps : List JudgedStep) : Type 0 where
   pub mean : Mean s ps (parts_judged steps)
-  pub by : operations_of steps ≡ bs
+  pub by : operations_judged steps ≡ bs
 
 -- the parts of a sum or a product behind the first
 abbrev pub JudgesSteps : List Named → Parts → List Operation → Result (Vec JudgedStep Global) TypeFault → Type 0

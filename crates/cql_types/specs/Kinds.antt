@@ -10,7 +10,7 @@ use Rattle.cql_lexer.specs.declared.token.Comparison.{Comparison}
 use Rattle.cql_lexer.specs.declared.token.Comparison.TheVariants as by
 use Rattle.cql_lexer.specs.declared.token.SpatialRelation.{SpatialRelation}
 use Rattle.cql_lexer.specs.declared.token.SpatialRelation.TheVariants as spatial
-use Rattle.cql_tree.specs.Syntax.{Syntax, Parts, none, part, leaf, node, place_of, place_in, keyed, Leaf, name_leaf, number_leaf, text_leaf, truth_leaf, day_leaf, bound_leaf, Op, or_op, and_op, not_op, compare_op, like_op, between_op, in_op, is_null_op, sum_op, product_op, casei_op, date_op, interval_op, point_op, polygon_op, ring_op, bbox_op, spatial_op, temporal_op}
+use Rattle.cql_tree.specs.Syntax.{Syntax, Parts, none, part, leaf, node, place_of, place_in, keyed, Leaf, name_leaf, number_leaf, text_leaf, truth_leaf, day_leaf, bound_leaf, Op, or_op, and_op, not_op, compare_op, like_op, between_op, in_op, is_null_op, computed_op, casei_op, date_op, interval_op, point_op, polygon_op, ring_op, bbox_op, spatial_op, temporal_op}
 use Rattle.cql_types.specs.declared.fault.Misuse.{Misuse}
 use Rattle.cql_types.specs.declared.fault.Misuse.TheVariants as cause
 use Rattle.cql_types.specs.declared.fault.Fault.{Fault}
@@ -195,8 +195,7 @@ misfit (like_op n) = first_unlike is_text is_always_pattern
 misfit (between_op n) = first_not is_whole
 misfit (in_op n) = first_unlike (is_comparable true) is_same
 misfit (is_null_op n) = first_not is_value
-misfit (sum_op signs) = first_not is_whole
-misfit (product_op signs) = first_not is_whole
+misfit (computed_op by) = first_not is_whole
 misfit (casei_op p) = first_not is_text
 misfit (date_op p) = first_not is_day
 misfit (interval_op p) = first_not is_end
@@ -214,8 +213,7 @@ folded (m ∷ ms) = if is_pattern m.1 then pattern else text
 
 -- and the kind of a node whose parts fit
 abbrev pub made : Op → List Mark → Kind
-made (sum_op signs) ms = whole
-made (product_op signs) ms = whole
+made (computed_op by) ms = whole
 made (casei_op p) ms = folded ms
 made (date_op p) ms = day
 made (interval_op p) ms = span

@@ -17,13 +17,8 @@ use Rattle.cad_shape.specs.declared.shape.Shape.TheVariants as shape
 use Rattle.cad_shape.specs.RegionRings.{rings_of}
 use Rattle.cql_lexer.specs.declared.token.Comparison.{Comparison}
 use Rattle.cql_lexer.specs.declared.token.SpatialRelation.{SpatialRelation}
-use Rattle.cql_tree.specs.declared.tree.Addition.{Addition}
-use Rattle.cql_tree.specs.declared.tree.Addition.TheVariants as addition
-use Rattle.cql_tree.specs.declared.tree.Multiplication.{Multiplication}
-use Rattle.cql_tree.specs.declared.tree.Multiplication.TheVariants as multiplication
-use Rattle.cql_tree.specs.Syntax.{Syntax, Parts, none, part, leaf, node, place_of, Leaf, name_leaf, number_leaf, text_leaf, truth_leaf, day_leaf, bound_leaf, Op, or_op, and_op, not_op, compare_op, like_op, between_op, in_op, is_null_op, sum_op, product_op, casei_op, date_op, interval_op, point_op, polygon_op, bbox_op, spatial_op, temporal_op}
-use Rattle.cql_types.specs.declared.filter.Operation.{Operation}
-use Rattle.cql_types.specs.declared.filter.Operation.TheVariants as operation
+use Rattle.cql_tree.specs.Syntax.{Syntax, Parts, none, part, leaf, node, place_of, Leaf, name_leaf, number_leaf, text_leaf, truth_leaf, day_leaf, bound_leaf, Op, or_op, and_op, not_op, compare_op, like_op, between_op, in_op, is_null_op, computed_op, casei_op, date_op, interval_op, point_op, polygon_op, bbox_op, spatial_op, temporal_op}
+use Rattle.cql_tree.specs.declared.tree.Operation.{Operation}
 use Rattle.cql_types.specs.declared.filter.WholeTerm.{WholeTerm}
 use Rattle.cql_types.specs.declared.filter.WholeTerm.TheVariants as whole
 use Rattle.cql_types.specs.declared.filter.Step.{Step}
@@ -151,15 +146,6 @@ pub data IsLeaf (s : List Named) : Leaf → Node → Type 0 where
 
 -- ---- nodes over terms
 
-abbrev pub added_by : Addition → Operation
-added_by addition.Plus = operation.Plus
-added_by addition.Minus = operation.Minus
-
-abbrev pub multiplied_by : Multiplication → Operation
-multiplied_by multiplication.Times = operation.Times
-multiplied_by multiplication.Div = operation.Div
-multiplied_by multiplication.Modulo = operation.Modulo
-
 -- what is done, part for part
 pub data AreSteps : List Operation → List Judged → List Step → Type 0 where
   no_step : AreSteps [] [] []
@@ -194,10 +180,8 @@ pub data Makes : Op → List Judged → Node → Type 0 where
       IsNegatedIf (filter.InFlag x xs) is_negated f → Makes (in_op is_negated) (i ∷ js) (n.Condition f)
   is_null : {is_negated : Bool} {j : Judged} {x : AnyTerm} {f : Filter} → any_of j.node ≡ Some x →
       IsNegatedIf (filter.IsNull x) is_negated f → Makes (is_null_op is_negated) (j ∷ []) (n.Condition f)
-  sum : {signs : List Addition} {j : Judged} {js : List Judged} (first : Box WholeTerm Global) (steps : Vec Step Global) → whole_of j.node ≡ Some first.value →
-      AreSteps (map added_by signs) js steps.items → Makes (sum_op signs) (j ∷ js) (n.Whole (whole.Computed first steps))
-  product : {signs : List Multiplication} {j : Judged} {js : List Judged} (first : Box WholeTerm Global) (steps : Vec Step Global) → whole_of j.node ≡ Some first.value →
-      AreSteps (map multiplied_by signs) js steps.items → Makes (product_op signs) (j ∷ js) (n.Whole (whole.Computed first steps))
+  computed : {bs : List Operation} {j : Judged} {js : List Judged} (first : Box WholeTerm Global) (steps : Vec Step Global) → whole_of j.node ≡ Some first.value →
+      AreSteps bs js steps.items → Makes (computed_op bs) (j ∷ js) (n.Whole (whole.Computed first steps))
   casei : {p : ℕ} {j : Judged} (x : Box TextTerm Global) → j.node ≡ n.Text x.value → Makes (casei_op p) (j ∷ []) (n.Text (text.Folded x))
   casei_pattern : {p : ℕ} {j : Judged} (x : Box TextTerm Global) → j.node ≡ n.Pattern x.value → Makes (casei_op p) (j ∷ []) (n.Pattern (text.Folded x))
   date_node : {p : ℕ} {j : Judged} {x : DayTerm} → day_of j.node ≡ Some x → Makes (date_op p) (j ∷ []) (n.Day x)

@@ -1,26 +1,26 @@
 //! The walk over a tree.
 
-ghost use Rattle.std.specs.Prelude.{◌≡◌, Err, IfErr, IfOk, IsOk, OnOk, map};
+ghost use Rattle.std.specs.Prelude.{◌≡◌, Err, IfErr, IfOk, IsOk, OnOk};
 ghost use Rattle.cad_schema.specs.Schema.{schema_of};
-ghost use Rattle.cql_tree.specs.Syntax.{leaf, node, part, parts_of, none, day_leaf, or_op, and_op, not_op, compare_op, like_op, between_op, in_op, is_null_op, sum_op, product_op, casei_op, date_op, spatial_op, temporal_op};
-ghost use Rattle.cql_tree.specs.Views.{syntax_of, syntaxes_of, terms_of, factors_of, additions_of, multiplications_of};
+ghost use Rattle.cql_tree.specs.Syntax.{leaf, node, part, parts_of, none, day_leaf, or_op, and_op, not_op, compare_op, like_op, between_op, in_op, is_null_op, computed_op, casei_op, date_op, spatial_op, temporal_op};
+ghost use Rattle.cql_tree.specs.Views.{syntax_of, syntaxes_of, operands_of, operations_of};
 ghost use Rattle.cql_types.specs.Contract.{ForFault, OrMemory, Judges, JudgesList, JudgesPair, JudgesParts, JudgesSteps};
 ghost use Rattle.cql_types.specs.Kinds.{IsCondition, IsFault, IsLeast};
-ghost use Rattle.cql_types.specs.Means.{IsFilter, added_by, multiplied_by};
+ghost use Rattle.cql_types.specs.Means.{IsFilter};
 ghost use Rattle.cql_types.specs.declared.fault.Fault.{Fault};
 ghost use Rattle.cql_types.specs.declared.fault.TypeFault.TheVariants.{At};
 ghost use Rattle.cql_tree.specs.Order.{IsOrdered};
 
 use crate::collect::one;
 use crate::fault::TypeFault;
-use crate::filter::{Filter, Operation};
+use crate::filter::Filter;
 use crate::judged::{Judged, JudgedStep};
 use crate::laws::{fault_or_condition, one_least_fault};
 use crate::{combine, leaf, literal};
 use cad_day::Relation;
 use cad_schema::Collection;
 use cql_lexer::{Comparison, SpatialRelation};
-use cql_tree::{Addition, Factor, Multiplication, Term, Tree};
+use cql_tree::{Operand, Tree};
 use std::alloc::Global;
 
 /// The filter of the collection that the tree writes, or the fault with the least place.
@@ -83,8 +83,7 @@ fn judge(alloc: Global, tree: &Tree, collection: Collection) -> Result<Judged, T
             others,
         } => judge_in(alloc, *is_negated, value, first, others, collection),
         Tree::IsNull { is_negated, value } => judge_is_null(alloc, *is_negated, value, collection),
-        Tree::Sum { first, others } => judge_sum(alloc, first, others, collection),
-        Tree::Product { first, others } => judge_product(alloc, first, others, collection),
+        Tree::Computed { first, others } => judge_computed(alloc, first, others, collection),
         Tree::Casei { place, part } => judge_casei(alloc, *place, part, collection),
         Tree::Date {
             place,
@@ -253,30 +252,16 @@ fn judge_is_null(
 }
 
 #[cycle(judges)]
-fn judge_sum(
+fn judge_computed(
     alloc: Global,
     first: &Tree,
-    others: &[Term],
+    others: &[Operand],
     collection: Collection,
 ) -> Result<Judged, TypeFault>
-    ensures { Judges (schema_of collection) (node (sum_op (additions_of others.now)) (part (syntax_of first.now) (parts_of (terms_of others.now)))) result }
+    ensures { Judges (schema_of collection) (node (computed_op (operations_of others.now)) (part (syntax_of first.now) (parts_of (operands_of others.now)))) result }
 {
     let first = Box::new(alloc, judge(alloc, first, collection)?)?;
-    let steps = judge_terms(alloc, others, collection)?;
-    combine::computed(alloc, Box::into_inner(first), steps)
-}
-
-#[cycle(judges)]
-fn judge_product(
-    alloc: Global,
-    first: &Tree,
-    others: &[Factor],
-    collection: Collection,
-) -> Result<Judged, TypeFault>
-    ensures { Judges (schema_of collection) (node (product_op (multiplications_of others.now)) (part (syntax_of first.now) (parts_of (factors_of others.now)))) result }
-{
-    let first = Box::new(alloc, judge(alloc, first, collection)?)?;
-    let steps = judge_factors(alloc, others, collection)?;
+    let steps = judge_steps(alloc, others, collection)?;
     combine::computed(alloc, Box::into_inner(first), steps)
 }
 
@@ -351,58 +336,18 @@ fn judge_all(
 }
 
 #[cycle(judges)]
-fn judge_terms(
+fn judge_steps(
     alloc: Global,
-    terms: &[Term],
+    operands: &[Operand],
     collection: Collection,
 ) -> Result<Vec<JudgedStep>, TypeFault>
-    ensures { JudgesSteps (schema_of collection) (parts_of (terms_of terms.now)) (map added_by (additions_of terms.now)) result }
+    ensures { JudgesSteps (schema_of collection) (parts_of (operands_of operands.now)) (operations_of operands.now) result }
 {
     let mut steps = Vec::new(alloc);
-    for term in terms {
-        let part = judge(alloc, &term.tree, collection)?;
-        steps.push(JudgedStep {
-            by: added(term.by),
-            part,
-        })?;
+    for operand in operands {
+        let part = judge(alloc, &operand.tree, collection)?;
+        let by = operand.by;
+        steps.push(JudgedStep { by, part })?;
     }
     Ok(steps)
-}
-
-#[cycle(judges)]
-fn judge_factors(
-    alloc: Global,
-    factors: &[Factor],
-    collection: Collection,
-) -> Result<Vec<JudgedStep>, TypeFault>
-    ensures { JudgesSteps (schema_of collection) (parts_of (factors_of factors.now)) (map multiplied_by (multiplications_of factors.now)) result }
-{
-    let mut steps = Vec::new(alloc);
-    for factor in factors {
-        let part = judge(alloc, &factor.tree, collection)?;
-        steps.push(JudgedStep {
-            by: multiplied(factor.by),
-            part,
-        })?;
-    }
-    Ok(steps)
-}
-
-fn added(by: Addition) -> Operation
-    ensures { result ≡ added_by by }
-{
-    match by {
-        Addition::Plus => Operation::Plus,
-        Addition::Minus => Operation::Minus,
-    }
-}
-
-fn multiplied(by: Multiplication) -> Operation
-    ensures { result ≡ multiplied_by by }
-{
-    match by {
-        Multiplication::Times => Operation::Times,
-        Multiplication::Div => Operation::Div,
-        Multiplication::Modulo => Operation::Modulo,
-    }
 }

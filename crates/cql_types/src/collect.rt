@@ -4,7 +4,7 @@ ghost use Rattle.std.specs.Prelude.{◌≡◌, ℕ, Bool, false, Option, Some, i
 ghost use Rattle.cql_types.specs.Kinds.{Kind, is_whole, is_text, is_day, is_flag, is_time, is_shape, is_value, is_condition, first_not, wrong_kind};
 ghost use Rattle.cql_types.specs.Means.{kind_of, marks_of, whole_of, text_of, day_of, flag_of, span_of, shape_of, any_of, condition_of, Are, AreSteps};
 ghost use Rattle.cql_types.specs.Fits.{whole_fits, text_fits, day_fits, flag_fits, span_fits, shape_fits, any_fits, condition_fits};
-ghost use Rattle.cql_types.specs.Contract.{ForFault, parts_judged, operations_of};
+ghost use Rattle.cql_types.specs.Contract.{ForFault, parts_judged, operations_judged};
 ghost use Rattle.cql_types.specs.declared.judged.Node.{Node};
 ghost use Rattle.cql_types.specs.declared.judged.Judged.{Judged};
 ghost use Rattle.cql_types.specs.declared.fault.TypeFault.TheVariants.{At};
@@ -228,7 +228,7 @@ pub fn gather<T: Term>(
 
 /// The parts of a sum or a product behind the first as terms.
 pub fn collect_steps(alloc: Global, steps: Vec<JudgedStep>) -> Result<Vec<Step>, TypeFault>
-    ensures ok { IfOk result (λ xs. AreSteps (operations_of steps.items) (parts_judged steps.items) xs.items) }
+    ensures ok { IfOk result (λ xs. AreSteps (operations_judged steps.items) (parts_judged steps.items) xs.items) }
     ensures err { IfErr result (ForFault (λ f. first_not is_whole (marks_of (parts_judged steps.items)) ≡ Some f)) }
 {
     let mut terms = Vec::new(alloc);

@@ -3,14 +3,12 @@
 //! A part is made a term, or dropped by a call, before a fault is told: where it is left to its scope it is taken apart
 //! there, variant by variant down to the least part, and proved so.
 
-ghost use Rattle.std.specs.Prelude.{◌≡◌, [], ◌∷◌, map, List, Some, Bool, IfOk, IfErr, IsTrue, ◌↔◌, true, false};
-ghost use Rattle.cql_tree.specs.Syntax.{or_op, and_op, not_op, compare_op, like_op, between_op, in_op, is_null_op, sum_op, product_op, casei_op, date_op, spatial_op, temporal_op};
-ghost use Rattle.cql_tree.specs.declared.tree.Addition.{Addition};
-ghost use Rattle.cql_tree.specs.declared.tree.Multiplication.{Multiplication};
+ghost use Rattle.std.specs.Prelude.{◌≡◌, [], ◌∷◌, Some, Bool, IfOk, IfErr, IsTrue, ◌↔◌, true, false};
+ghost use Rattle.cql_tree.specs.Syntax.{or_op, and_op, not_op, compare_op, like_op, between_op, in_op, is_null_op, computed_op, casei_op, date_op, spatial_op, temporal_op};
 ghost use Rattle.cql_types.specs.Kinds as kinds;
 ghost use Rattle.cql_types.specs.Kinds.{is_equality, is_pattern, is_related, misfit};
-ghost use Rattle.cql_types.specs.Means.{Makes, kind_of, marks_of, pattern_of, IsNegatedIf, added_by, multiplied_by};
-ghost use Rattle.cql_types.specs.Contract.{Combines, ForFault, CombinesFlags, CombinesTexts, parts_judged, operations_of};
+ghost use Rattle.cql_types.specs.Means.{Makes, kind_of, marks_of, pattern_of, IsNegatedIf};
+ghost use Rattle.cql_types.specs.Contract.{Combines, ForFault, CombinesFlags, CombinesTexts, parts_judged, operations_judged};
 ghost use Rattle.cql_types.specs.declared.judged.Node.TheVariants as n;
 ghost use Rattle.cql_types.specs.declared.fault.TypeFault.TheVariants.{At};
 
@@ -247,8 +245,7 @@ pub fn is_null(alloc: Global, is_negated: bool, value: Judged) -> Result<Judged,
 
 /// A sum or a product, by what is done with each part behind the first.
 pub fn computed(alloc: Global, first: Judged, steps: Vec<JudgedStep>) -> Result<Judged, TypeFault>
-    ensures sum { (signs : List Addition) → map added_by signs ≡ operations_of steps.items → Combines (sum_op signs) (first ∷ parts_judged steps.items) result }
-    ensures product { (signs : List Multiplication) → map multiplied_by signs ≡ operations_of steps.items → Combines (product_op signs) (first ∷ parts_judged steps.items) result }
+    ensures { Combines (computed_op (operations_judged steps.items)) (first ∷ parts_judged steps.items) result }
 {
     let place = first.place;
     let first: WholeTerm = one(first)?;

@@ -3,21 +3,7 @@
 use cad_day::{Day, Relation};
 use cad_shape::Shape;
 use cql_lexer::{Comparison, SpatialRelation};
-
-/// What is done with the next part of a sum or a product.
-#[derive(Clone, Copy, PartialEq, Eq, Debug)]
-pub enum Operation {
-    /// `+`
-    Plus,
-    /// `-`
-    Minus,
-    /// `*`
-    Times,
-    /// `DIV`, cut toward zero
-    Div,
-    /// `%`, what is left by `DIV`
-    Modulo,
-}
+use cql_tree::Operation;
 
 /// A whole number of 64 bits, or none. A property is named by its place in the schema.
 #[derive(Drop)]

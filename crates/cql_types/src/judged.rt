@@ -1,8 +1,7 @@
 //! What a tree is, once it is judged.
 
-use crate::filter::{
-    DayTerm, Filter, FlagTerm, Operation, ShapeTerm, SpanTerm, TextTerm, WholeTerm,
-};
+use crate::filter::{DayTerm, Filter, FlagTerm, ShapeTerm, SpanTerm, TextTerm, WholeTerm};
+use cql_tree::Operation;
 
 /// A tree whose kind fits. TRUE and FALSE are of two kinds.
 #[derive(Drop)]

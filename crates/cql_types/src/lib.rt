@@ -19,8 +19,8 @@ mod literal;
 mod number;
 
 pub use checking::check;
+pub use cql_tree::Operation;
 pub use fault::{Fault, Misuse, TypeFault};
 pub use filter::{
-    AnyTerm, DayTerm, EndTerm, Filter, FlagTerm, Operation, ShapeTerm, SpanTerm, Step, TextTerm,
-    WholeTerm,
+    AnyTerm, DayTerm, EndTerm, Filter, FlagTerm, ShapeTerm, SpanTerm, Step, TextTerm, WholeTerm,
 };

@@ -1,15 +1,12 @@
-use Rattle.std.proofs.Common.{◌∙◌, ap, arith, [], ◌∷◌, ◌++◌}
+use Rattle.std.proofs.Common.{◌∙◌, ap, arith}
 use Rattle.std.proofs.lemmas.Result.{err_from_is_err_and}
 use Rattle.cad_schema.specs.Schema.{schema_of}
-use Rattle.cql_tree.specs.Syntax.{none, part, parts_of, or_op, and_op, not_op, compare_op, like_op, between_op, in_op, is_null_op, sum_op, product_op, casei_op, spatial_op, temporal_op}
-use Rattle.cql_tree.specs.Views.{syntax_of, syntaxes_of, term_of, terms_of, factor_of, factors_of, additions_of, multiplications_of}
-use Rattle.cql_types.proofs.Judging.{node_judged, list_judged, steps_judged, last_part, and_part, boxed, fault_here, fault_later, fault_inside, first_fault, next_fault, completes_more, completes_all, first_more, fault_among, signs_from, by_more, by_all}
-use Rattle.cql_tree.specs.declared.tree.Term.{Term}
-use Rattle.cql_tree.specs.declared.tree.Factor.{Factor}
-use Rattle.cql_types.specs.Contract.{parts_judged, operations_of}
-use Rattle.cql_types.specs.Means.{added_by, multiplied_by}
+use Rattle.cql_tree.specs.Syntax.{none, part, parts_of, or_op, and_op, not_op, compare_op, like_op, between_op, in_op, is_null_op, computed_op, casei_op, spatial_op, temporal_op}
+use Rattle.cql_tree.specs.Views.{syntax_of, syntaxes_of, operands_of, operations_of}
+use Rattle.cql_types.proofs.Judging.{node_judged, list_judged, steps_judged, last_part, and_part, boxed, fault_here, fault_later, fault_inside, first_fault, next_fault, completes_more, completes_all, first_more, fault_among, operations_from, by_more, by_all}
+use Rattle.cql_types.specs.Contract.{parts_judged, operations_judged}
 use Rattle.cql_types.proofs.Terms.{parts_more, operations_more}
-use Rattle.cql_types.proofs.Trees.{parts_from, syntax_of-Name, syntax_of-Number, syntax_of-Text, syntax_of-Truth, syntax_of-Or, syntax_of-And, syntax_of-Not, syntax_of-Compare, syntax_of-Like, syntax_of-Between, syntax_of-In, syntax_of-IsNull, syntax_of-Sum, syntax_of-Product, syntax_of-Casei, syntax_of-Date, syntax_of-Interval, syntax_of-Point, syntax_of-Polygon, syntax_of-Bbox, syntax_of-Spatial, syntax_of-Temporal}
+use Rattle.cql_types.proofs.Trees.{parts_from, syntax_of-Name, syntax_of-Number, syntax_of-Text, syntax_of-Truth, syntax_of-Or, syntax_of-And, syntax_of-Not, syntax_of-Compare, syntax_of-Like, syntax_of-Between, syntax_of-In, syntax_of-IsNull, syntax_of-Computed, syntax_of-Casei, syntax_of-Date, syntax_of-Interval, syntax_of-Point, syntax_of-Polygon, syntax_of-Bbox, syntax_of-Spatial, syntax_of-Temporal}
 use Rattle.cql_types.proofs.Weights.{falls_inside, falls_among}
 use Rattle.cql_types.proofs.checking.+judges.Goals as goal
 
@@ -45,13 +42,9 @@ pub judge-judge_is_null-requires : goal.judge-judge_is_null-requires
 judge-judge_is_null-requires t c =
     (rw (← c.deref-in-IsNull.ensures) at (falls_inside 1 (omega arith) (ap syntax_of c.in-IsNull.is ∙ syntax_of-IsNull _ _) c.decreases), tt)
 
-pub judge-judge_sum-requires : goal.judge-judge_sum-requires
-judge-judge_sum-requires t c =
-    (rw (← c.deref-in-Sum.ensures, ← c.deref-in-Sum-2.ensures.value) at (falls_inside 2 (omega arith) (ap syntax_of c.in-Sum.is ∙ syntax_of-Sum _ _) c.decreases), tt)
-
-pub judge-judge_product-requires : goal.judge-judge_product-requires
-judge-judge_product-requires t c =
-    (rw (← c.deref-in-Product.ensures, ← c.deref-in-Product-2.ensures.value) at (falls_inside 2 (omega arith) (ap syntax_of c.in-Product.is ∙ syntax_of-Product _ _) c.decreases), tt)
+pub judge-judge_computed-requires : goal.judge-judge_computed-requires
+judge-judge_computed-requires t c =
+    (rw (← c.deref-in-Computed.ensures, ← c.deref-in-Computed-2.ensures.value) at (falls_inside 2 (omega arith) (ap syntax_of c.in-Computed.is ∙ syntax_of-Computed _ _) c.decreases), tt)
 
 pub judge-judge_casei-requires : goal.judge-judge_casei-requires
 judge-judge_casei-requires t c =
@@ -69,13 +62,9 @@ pub judge_all-judge-requires : goal.judge_all-judge-requires
 judge_all-judge-requires t c =
     (falls_among syntax_of c.args.trees.now c.loop-tree.tree-index c.tree-item.result c.loop-tree-test.true c.tree-item.is c.decreases, tt)
 
-pub judge_terms-judge-requires : goal.judge_terms-judge-requires
-judge_terms-judge-requires t c =
-    (falls_among term_of c.args.terms.now c.loop-term.term-index c.term-item.result c.loop-term-test.true c.term-item.is c.decreases, tt)
-
-pub judge_factors-judge-requires : goal.judge_factors-judge-requires
-judge_factors-judge-requires t c =
-    (falls_among factor_of c.args.factors.now c.loop-factor.factor-index c.factor-item.result c.loop-factor-test.true c.factor-item.is c.decreases, tt)
+pub judge_steps-judge-requires : goal.judge_steps-judge-requires
+judge_steps-judge-requires t c =
+    (falls_among (λ u. syntax_of u.tree) c.args.operands.now c.loop-operand.operand-index c.operand-item.result c.loop-operand-test.true c.operand-item.is c.decreases, tt)
 
 pub judge-returns-in-Name : goal.judge-returns-in-Name
 judge-returns-in-Name t c =
@@ -125,13 +114,9 @@ pub judge-returns-in-IsNull : goal.judge-returns-in-IsNull
 judge-returns-in-IsNull t c =
     rw (c.in-IsNull.is, syntax_of-IsNull) (rw c.deref-in-IsNull.ensures at c.judge_is_null.ensures)
 
-pub judge-returns-in-Sum : goal.judge-returns-in-Sum
-judge-returns-in-Sum t c =
-    rw (c.in-Sum.is, syntax_of-Sum) (rw (c.deref-in-Sum.ensures, c.deref-in-Sum-2.ensures.value) at c.judge_sum.ensures)
-
-pub judge-returns-in-Product : goal.judge-returns-in-Product
-judge-returns-in-Product t c =
-    rw (c.in-Product.is, syntax_of-Product) (rw (c.deref-in-Product.ensures, c.deref-in-Product-2.ensures.value) at c.judge_product.ensures)
+pub judge-returns-in-Computed : goal.judge-returns-in-Computed
+judge-returns-in-Computed t c =
+    rw (c.in-Computed.is, syntax_of-Computed) (rw (c.deref-in-Computed.ensures, c.deref-in-Computed-2.ensures.value) at c.judge_computed.ensures)
 
 pub judge-returns-in-Casei : goal.judge-returns-in-Casei
 judge-returns-in-Casei t c =
@@ -303,33 +288,19 @@ pub judge_in-returns : goal.judge_in-returns
 judge_in-returns t c =
     list_judged (in_op c.args.is_negated) _ c.in_ok-judge.ensures c.in_ok-value.ensures.ok c.into_inner.ensures c.in_ok-first.ensures c.is_in.ensures
 
-pub judge_sum-returns-in_err-judge : goal.judge_sum-returns-in_err-judge
-judge_sum-returns-in_err-judge t c =
+pub judge_computed-returns-in_err-judge : goal.judge_computed-returns-in_err-judge
+judge_computed-returns-in_err-judge t c =
     let p = err_from_is_err_and c.from_residual.result c.from_residual.ensures.1 in
-    rw (p.1, p.2) (fault_here (schema_of c.args.collection) (sum_op (additions_of c.args.others.now)) (syntax_of c.args.first.now) (parts_of (terms_of c.args.others.now)) c.in_err-judge.field-0.0 c.in_err-judge.ensures)
+    rw (p.1, p.2) (fault_here (schema_of c.args.collection) (computed_op (operations_of c.args.others.now)) (syntax_of c.args.first.now) (parts_of (operands_of c.args.others.now)) c.in_err-judge.field-0.0 c.in_err-judge.ensures)
 
-pub judge_sum-returns-in_err-steps : goal.judge_sum-returns-in_err-steps
-judge_sum-returns-in_err-steps t c =
+pub judge_computed-returns-in_err-steps : goal.judge_computed-returns-in_err-steps
+judge_computed-returns-in_err-steps t c =
     let p = err_from_is_err_and c.from_residual-in_err-steps.result c.from_residual-in_err-steps.ensures.1 in
-    rw (p.1, p.2) (fault_later (schema_of c.args.collection) (sum_op (additions_of c.args.others.now)) (syntax_of c.args.first.now) (parts_of (terms_of c.args.others.now)) c.in_err-steps.field-0.0 c.in_ok-judge.ensures c.in_err-steps.ensures)
+    rw (p.1, p.2) (fault_later (schema_of c.args.collection) (computed_op (operations_of c.args.others.now)) (syntax_of c.args.first.now) (parts_of (operands_of c.args.others.now)) c.in_err-steps.field-0.0 c.in_ok-judge.ensures c.in_err-steps.ensures)
 
-pub judge_sum-returns : goal.judge_sum-returns
-judge_sum-returns t c =
-    steps_judged (sum_op (additions_of c.args.others.now)) _ c.in_ok-judge.ensures c.in_ok-first.ensures.ok c.into_inner.ensures c.in_ok-steps.ensures (c.computed.ensures.sum (additions_of c.args.others.now))
-
-pub judge_product-returns-in_err-judge : goal.judge_product-returns-in_err-judge
-judge_product-returns-in_err-judge t c =
-    let p = err_from_is_err_and c.from_residual.result c.from_residual.ensures.1 in
-    rw (p.1, p.2) (fault_here (schema_of c.args.collection) (product_op (multiplications_of c.args.others.now)) (syntax_of c.args.first.now) (parts_of (factors_of c.args.others.now)) c.in_err-judge.field-0.0 c.in_err-judge.ensures)
-
-pub judge_product-returns-in_err-steps : goal.judge_product-returns-in_err-steps
-judge_product-returns-in_err-steps t c =
-    let p = err_from_is_err_and c.from_residual-in_err-steps.result c.from_residual-in_err-steps.ensures.1 in
-    rw (p.1, p.2) (fault_later (schema_of c.args.collection) (product_op (multiplications_of c.args.others.now)) (syntax_of c.args.first.now) (parts_of (factors_of c.args.others.now)) c.in_err-steps.field-0.0 c.in_ok-judge.ensures c.in_err-steps.ensures)
-
-pub judge_product-returns : goal.judge_product-returns
-judge_product-returns t c =
-    steps_judged (product_op (multiplications_of c.args.others.now)) _ c.in_ok-judge.ensures c.in_ok-first.ensures.ok c.into_inner.ensures c.in_ok-steps.ensures (c.computed.ensures.product (multiplications_of c.args.others.now))
+pub judge_computed-returns : goal.judge_computed-returns
+judge_computed-returns t c =
+    steps_judged _ c.in_ok-judge.ensures c.in_ok-first.ensures.ok c.into_inner.ensures c.in_ok-steps.ensures c.computed.ensures
 
 pub judge_all-loop-tree-preserved : goal.judge_all-loop-tree-preserved
 judge_all-loop-tree-preserved t c =
@@ -348,50 +319,26 @@ judge_all-returns-in_err-judge t c =
 pub judge_all-returns : goal.judge_all-returns
 judge_all-returns t c = completes_all syntax_of _ _ _ c.loop-tree-test.false c.loop-tree.invariant.completes
 
-pub judge_terms-loop-term-preserved : goal.judge_terms-loop-term-preserved
-judge_terms-loop-term-preserved t c =
-    let e = parts_from term_of c.args.terms.now c.loop-term.term-index c.term-item.result c.loop-term-test.true c.term-item.is in
+pub judge_steps-loop-operand-preserved : goal.judge_steps-loop-operand-preserved
+judge_steps-loop-operand-preserved t c =
+    let e = parts_from (λ u. syntax_of u.tree) c.args.operands.now c.loop-operand.operand-index c.operand-item.result c.loop-operand-test.true c.operand-item.is in
     record {
-      completes = completes_more (parts_judged c.loop-term.steps.items) c.loop-term.invariant.completes e c.in_ok-part.ensures
-          (ap parts_judged c.in_ok-push.ensures.items ∙ parts_more c.loop-term.steps.items _);
-      first = first_more c.loop-term.invariant.first e c.in_ok-part.ensures;
-      by = by_more (operations_of c.loop-term.steps.items) (added_by c.term-item.result.by) c.loop-term.invariant.by
-          (signs_from (λ (u : Term). u.by) added_by c.args.terms.now c.loop-term.term-index c.term-item.result c.loop-term-test.true c.term-item.is)
-          (ap operations_of c.in_ok-push.ensures.items ∙ (operations_more c.loop-term.steps.items _ ∙ ap (λ b. operations_of c.loop-term.steps.items ++ b ∷ []) c.added.ensures));
+      completes = completes_more (parts_judged c.loop-operand.steps.items) c.loop-operand.invariant.completes e c.in_ok-part.ensures
+          (ap parts_judged c.in_ok-push.ensures.items ∙ parts_more c.loop-operand.steps.items _);
+      first = first_more c.loop-operand.invariant.first e c.in_ok-part.ensures;
+      by = by_more (operations_judged c.loop-operand.steps.items) c.operand-item.result.by c.loop-operand.invariant.by
+          (operations_from c.args.operands.now c.loop-operand.operand-index c.operand-item.result c.loop-operand-test.true c.operand-item.is)
+          (ap operations_judged c.in_ok-push.ensures.items ∙ operations_more c.loop-operand.steps.items _);
     }
 
-pub judge_terms-returns-in_err-part : goal.judge_terms-returns-in_err-part
-judge_terms-returns-in_err-part t c =
-    let e = parts_from term_of c.args.terms.now c.loop-term.term-index c.term-item.result c.loop-term-test.true c.term-item.is in
+pub judge_steps-returns-in_err-part : goal.judge_steps-returns-in_err-part
+judge_steps-returns-in_err-part t c =
+    let e = parts_from (λ u. syntax_of u.tree) c.args.operands.now c.loop-operand.operand-index c.operand-item.result c.loop-operand-test.true c.operand-item.is in
     let p = err_from_is_err_and c.from_residual.result c.from_residual.ensures.1 in
-    rw (p.1, p.2) (fault_among (syntax_of c.term-item.result.tree) c.in_err-part.field-0.0 c.loop-term.invariant.first e c.in_err-part.ensures)
+    rw (p.1, p.2) (fault_among (syntax_of c.operand-item.result.tree) c.in_err-part.field-0.0 c.loop-operand.invariant.first e c.in_err-part.ensures)
 
-pub judge_terms-returns : goal.judge_terms-returns
-judge_terms-returns t c = record {
-  mean = completes_all term_of _ _ _ c.loop-term-test.false c.loop-term.invariant.completes;
-  by = by_all (λ (u : Term). u.by) added_by c.args.terms.now c.loop-term.term-index _ _ c.loop-term-test.false c.loop-term.invariant.by;
-}
-
-pub judge_factors-loop-factor-preserved : goal.judge_factors-loop-factor-preserved
-judge_factors-loop-factor-preserved t c =
-    let e = parts_from factor_of c.args.factors.now c.loop-factor.factor-index c.factor-item.result c.loop-factor-test.true c.factor-item.is in
-    record {
-      completes = completes_more (parts_judged c.loop-factor.steps.items) c.loop-factor.invariant.completes e c.in_ok-part.ensures
-          (ap parts_judged c.in_ok-push.ensures.items ∙ parts_more c.loop-factor.steps.items _);
-      first = first_more c.loop-factor.invariant.first e c.in_ok-part.ensures;
-      by = by_more (operations_of c.loop-factor.steps.items) (multiplied_by c.factor-item.result.by) c.loop-factor.invariant.by
-          (signs_from (λ (u : Factor). u.by) multiplied_by c.args.factors.now c.loop-factor.factor-index c.factor-item.result c.loop-factor-test.true c.factor-item.is)
-          (ap operations_of c.in_ok-push.ensures.items ∙ (operations_more c.loop-factor.steps.items _ ∙ ap (λ b. operations_of c.loop-factor.steps.items ++ b ∷ []) c.multiplied.ensures));
-    }
-
-pub judge_factors-returns-in_err-part : goal.judge_factors-returns-in_err-part
-judge_factors-returns-in_err-part t c =
-    let e = parts_from factor_of c.args.factors.now c.loop-factor.factor-index c.factor-item.result c.loop-factor-test.true c.factor-item.is in
-    let p = err_from_is_err_and c.from_residual.result c.from_residual.ensures.1 in
-    rw (p.1, p.2) (fault_among (syntax_of c.factor-item.result.tree) c.in_err-part.field-0.0 c.loop-factor.invariant.first e c.in_err-part.ensures)
-
-pub judge_factors-returns : goal.judge_factors-returns
-judge_factors-returns t c = record {
-  mean = completes_all factor_of _ _ _ c.loop-factor-test.false c.loop-factor.invariant.completes;
-  by = by_all (λ (u : Factor). u.by) multiplied_by c.args.factors.now c.loop-factor.factor-index _ _ c.loop-factor-test.false c.loop-factor.invariant.by;
+pub judge_steps-returns : goal.judge_steps-returns
+judge_steps-returns t c = record {
+  mean = completes_all (λ u. syntax_of u.tree) _ _ _ c.loop-operand-test.false c.loop-operand.invariant.completes;
+  by = by_all c.args.operands.now c.loop-operand.operand-index _ _ c.loop-operand-test.false c.loop-operand.invariant.by;
 }

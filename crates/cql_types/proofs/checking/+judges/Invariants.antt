@@ -1,11 +1,11 @@
-use Rattle.std.proofs.Common.{◌≡◌, ◌+◌, ◌*◌, ◌++◌, List, drop, map}
+use Rattle.std.proofs.Common.{◌≡◌, ◌+◌, ◌*◌, ◌++◌, List, drop}
 use Rattle.cad_schema.specs.Schema.{schema_of}
 use Rattle.cql_tree.specs.Syntax.{none, part, parts_of}
-use Rattle.cql_tree.specs.Views.{syntax_of, syntaxes_of, terms_of, factors_of, additions_of, multiplications_of}
+use Rattle.cql_tree.specs.Views.{syntax_of, syntaxes_of, operands_of, operations_of}
 use Rattle.cql_types.specs.declared.fault.Fault.{Fault}
 use Rattle.cql_types.specs.declared.judged.Judged.{Judged}
-use Rattle.cql_types.specs.Means.{Mean, added_by, multiplied_by}
-use Rattle.cql_types.specs.Contract.{IsFirstIn, parts_judged, operations_of}
+use Rattle.cql_types.specs.Means.{Mean}
+use Rattle.cql_types.specs.Contract.{IsFirstIn, parts_judged, operations_judged}
 use Rattle.cql_types.proofs.Weights.{weight_of, weight_in}
 use Rattle.cql_types.proofs.checking.+judges.Given as goal
 
@@ -16,11 +16,8 @@ decreases-judge l = 4 * weight_of (syntax_of l.tree.now)
 abbrev pub decreases-judge_all : goal.decreases-judge_all
 decreases-judge_all l = 4 * weight_in (parts_of (syntaxes_of l.trees.now)) + 1
 
-abbrev pub decreases-judge_terms : goal.decreases-judge_terms
-decreases-judge_terms l = 4 * weight_in (parts_of (terms_of l.terms.now)) + 1
-
-abbrev pub decreases-judge_factors : goal.decreases-judge_factors
-decreases-judge_factors l = 4 * weight_in (parts_of (factors_of l.factors.now)) + 1
+abbrev pub decreases-judge_steps : goal.decreases-judge_steps
+decreases-judge_steps l = 4 * weight_in (parts_of (operands_of l.operands.now)) + 1
 
 abbrev pub decreases-judge_pair : goal.decreases-judge_pair
 decreases-judge_pair l = 4 * weight_in (part (syntax_of l.left.now) (part (syntax_of l.right.now) none)) + 1
@@ -52,11 +49,8 @@ decreases-judge_in l = 4 * weight_in (part (syntax_of l.value.now) (part (syntax
 abbrev pub decreases-judge_is_null : goal.decreases-judge_is_null
 decreases-judge_is_null l = 4 * weight_in (part (syntax_of l.value.now) none) + 1
 
-abbrev pub decreases-judge_sum : goal.decreases-judge_sum
-decreases-judge_sum l = 4 * weight_in (part (syntax_of l.first.now) (parts_of (terms_of l.others.now))) + 2
-
-abbrev pub decreases-judge_product : goal.decreases-judge_product
-decreases-judge_product l = 4 * weight_in (part (syntax_of l.first.now) (parts_of (factors_of l.others.now))) + 2
+abbrev pub decreases-judge_computed : goal.decreases-judge_computed
+decreases-judge_computed l = 4 * weight_in (part (syntax_of l.first.now) (parts_of (operands_of l.others.now))) + 2
 
 abbrev pub decreases-judge_casei : goal.decreases-judge_casei
 decreases-judge_casei l = 4 * weight_in (part (syntax_of l.operand.now) none) + 1
@@ -76,20 +70,11 @@ invariant-judge_all-loop-tree l = record {
       IsFirstIn (schema_of l.collection) (parts_of (syntaxes_of l.trees)) f;
 }
 
-abbrev pub invariant-judge_terms-loop-term : goal.invariant-judge_terms-loop-term
-invariant-judge_terms-loop-term l = record {
-  completes : (js : List Judged) → Mean (schema_of l.collection) (parts_of (terms_of (drop l.term-index l.terms))) js →
-      Mean (schema_of l.collection) (parts_of (terms_of l.terms)) (parts_judged l.steps.items ++ js);
-  first : (f : Fault) → IsFirstIn (schema_of l.collection) (parts_of (terms_of (drop l.term-index l.terms))) f →
-      IsFirstIn (schema_of l.collection) (parts_of (terms_of l.terms)) f;
-  by : operations_of l.steps.items ++ map added_by (additions_of (drop l.term-index l.terms)) ≡ map added_by (additions_of l.terms);
-}
-
-abbrev pub invariant-judge_factors-loop-factor : goal.invariant-judge_factors-loop-factor
-invariant-judge_factors-loop-factor l = record {
-  completes : (js : List Judged) → Mean (schema_of l.collection) (parts_of (factors_of (drop l.factor-index l.factors))) js →
-      Mean (schema_of l.collection) (parts_of (factors_of l.factors)) (parts_judged l.steps.items ++ js);
-  first : (f : Fault) → IsFirstIn (schema_of l.collection) (parts_of (factors_of (drop l.factor-index l.factors))) f →
-      IsFirstIn (schema_of l.collection) (parts_of (factors_of l.factors)) f;
-  by : operations_of l.steps.items ++ map multiplied_by (multiplications_of (drop l.factor-index l.factors)) ≡ map multiplied_by (multiplications_of l.factors);
+abbrev pub invariant-judge_steps-loop-operand : goal.invariant-judge_steps-loop-operand
+invariant-judge_steps-loop-operand l = record {
+  completes : (js : List Judged) → Mean (schema_of l.collection) (parts_of (operands_of (drop l.operand-index l.operands))) js →
+      Mean (schema_of l.collection) (parts_of (operands_of l.operands)) (parts_judged l.steps.items ++ js);
+  first : (f : Fault) → IsFirstIn (schema_of l.collection) (parts_of (operands_of (drop l.operand-index l.operands))) f →
+      IsFirstIn (schema_of l.collection) (parts_of (operands_of l.operands)) f;
+  by : operations_judged l.steps.items ++ operations_of (drop l.operand-index l.operands) ≡ operations_of l.operands;
 }
