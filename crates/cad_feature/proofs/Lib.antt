@@ -2,3 +2,4 @@ mod FeatureLemmas
 mod LawLemmas
 mod ListLemmas
 mod RunLemmas
+mod StretchLemmas

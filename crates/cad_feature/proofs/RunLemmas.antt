@@ -12,10 +12,8 @@ use Rattle.cad_versions.specs.Objects.{object_number}
 use Rattle.cad_versions.specs.Identifiers.{by_identifier}
 use Rattle.cad_versions.specs.VersionedObject.{VersionedObject}
 use Rattle.cad_versions.specs.Versions.{is_of, history}
+use Rattle.cad_feature.specs.Stretches.{number_in}
 use lib.Dec.{ltb, leb}
-
-abbrev pub number_in : VersionedObject → ℕ
-number_in v = object_number v.object
 
 -- what stands from a place on, as a slice has it
 pub rest_is : (vs : List VersionedObject) (first : ℕ) → take (length vs - first) (drop first vs) ≡ drop first vs
@@ -87,11 +85,11 @@ module _ (object : ObjectId) where
       run_is vs first count ((λ k d le h. start.0 (suc k) d (omega arith) (omega (arith, h))), λ k d le h. start.1 (suc k) d (omega (arith, le)) (omega (arith, h))) stop
       ∙ sym (left v vs (less_is_other v (start.0 0 v (omega arith) (omega arith))))
 
-  pub begins : (vs : List VersionedObject) → IsStrictlySortedBy by_identifier vs → IsPartitionedBy is_less vs
-  begins vs up = IsPartitionedBy-ltb number_in vs (object_number object) (numbers_rise vs up)
+  pub begins : (vs : List VersionedObject) → IsNonDecreasingBy number_in vs → IsPartitionedBy is_less vs
+  begins vs rising = IsPartitionedBy-ltb number_in vs (object_number object) rising
 
-  pub ends : (vs : List VersionedObject) (first : ℕ) → IsStrictlySortedBy by_identifier vs → IsPartitionedBy is_no_more (drop first vs)
-  ends vs first up = IsPartitionedBy-leb number_in (drop first vs) (object_number object) (IsNonDecreasingBy-drop number_in first vs (numbers_rise vs up))
+  pub ends : (vs : List VersionedObject) (first : ℕ) → IsNonDecreasingBy number_in vs → IsPartitionedBy is_no_more (drop first vs)
+  ends vs first rising = IsPartitionedBy-leb number_in (drop first vs) (object_number object) (IsNonDecreasingBy-drop number_in first vs rising)
 
   pub run_of : (vs rest : List VersionedObject) (first count : ℕ) → rest ≡ drop first vs → StartsAt vs first → StopsAt rest count → take count rest ≡ history object vs
   run_of vs rest first count is start stop = rw is (run_is vs first count start (rw is at stop))

@@ -3,4 +3,5 @@ pub mod Flatten
 pub mod Laws
 pub mod Lifespans
 pub mod Limits
+pub mod Stretches
 pub mod Values

@@ -6,8 +6,9 @@ ghost use Rattle.cad_feature.specs.Features.{IsFeatureOf, AreFeaturesOf};
 ghost use Rattle.cad_feature.specs.Flatten.{class_for, is_in as is_of_class, feature_in, features_in};
 
 use crate::Feature;
+use crate::objects::Objects;
 use crate::values::value;
-use cad_schema::{Collection, schema};
+use cad_schema::{Attribute, Collection, schema};
 use cad_versions::{Class, Version};
 use std::alloc::{AllocError, Global};
 
@@ -34,18 +35,17 @@ fn is_in(version: &Version, collection: Collection) -> bool
 /// The version as a feature of the collection.
 fn feature(
     alloc: Global,
-    versions: &[Version],
+    objects: &Objects<'_>,
     version: &Version,
     collection: Collection,
 ) -> Result<Feature, AllocError>
-    requires { IsListing versions.now }
-    ensures feature { IfOk result (λ x. x ≡ feature_in versions.now collection version.now) }
+    ensures feature { IfOk result (λ x. x ≡ feature_in objects.now.versions.now collection version.now) }
     ensures fits { IfOk result (IsFeatureOf collection) }
 {
     let properties = schema(collection);
     let mut values = Vec::with_capacity(alloc, properties.len())?;
     for property in properties {
-        let value = value(alloc, versions, version, property.attribute)?;
+        let value = value(alloc, objects, version, property.attribute)?;
         values.push(value)?;
     }
     Ok(Feature {
@@ -53,6 +53,32 @@ fn feature(
         number: version.number,
         values,
     })
+}
+
+/// Whether the collection's schema has the name of a unit or of a party.
+fn joins_names(collection: Collection) -> bool {
+    schema(collection).iter().any(|property| {
+        matches!(
+            property.attribute,
+            Attribute::UnitName | Attribute::PartyName
+        )
+    })
+}
+
+/// The versions as the collection's features find names among them: with starts, unless there is no name to find.
+fn objects(
+    alloc: Global,
+    versions: &[Version],
+    collection: Collection,
+) -> Result<Objects<'_>, AllocError>
+    requires { IsListing versions.now }
+    ensures { IfOk result (λ objects. objects.versions.now ≡ versions.now) }
+{
+    if joins_names(collection) {
+        Objects::marked(alloc, versions)
+    } else {
+        Ok(Objects::unmarked(alloc, versions))
+    }
 }
 
 /// One feature for each version of the collection's class, by object and number.
@@ -67,10 +93,11 @@ pub fn flatten(
     ensures features { IfOk result (λ features. features.items ≡ features_in versions.now collection) }
     ensures listed { IfOk result (λ features. AreFeaturesOf collection features.items) }
 {
+    let objects = objects(alloc, versions, collection)?;
     let mut features = Vec::new(alloc);
     for version in versions {
         if is_in(version, collection) {
-            let feature = feature(alloc, versions, version, collection)?;
+            let feature = feature(alloc, &objects, version, collection)?;
             features.push(feature)?;
         }
     }

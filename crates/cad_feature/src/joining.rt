@@ -2,22 +2,22 @@
 
 ghost use Rattle.std.specs.Prelude.{◌≡◌};
 ghost use Rattle.std.specs.Option.{option_copied};
-ghost use Rattle.cad_versions.specs.Listing.{IsListing};
 ghost use Rattle.cad_versions.specs.Versions.{history};
 ghost use Rattle.cad_feature.specs.Lifespans.{holds_on};
 ghost use Rattle.cad_feature.specs.Flatten.{version_on as version_holding, joined_name as name_joined};
 
+use crate::objects::Objects;
 use cad_day::Day;
 use cad_versions::{ObjectId, Version, Words};
 
-/// The versions of the object, the oldest first: one run of the list, which is searched by halves.
-fn versions_of(versions: &[Version], object: ObjectId) -> &[Version]
-    requires { IsListing versions.now }
-    ensures { result.now ≡ history object versions.now }
+/// The versions of the object, the oldest first: one run of those near it, which are searched by halves.
+fn versions_of<'a>(objects: &Objects<'a>, object: ObjectId) -> &'a [Version]
+    ensures { result.now ≡ history object objects.now.versions.now }
 {
     let number = object.number();
-    let first = versions.partition_point(|version| version.object.number() < number);
-    let rest = &versions[first..];
+    let near = objects.near(object);
+    let first = near.partition_point(|version| version.object.number() < number);
+    let rest = &near[first..];
     let count = rest.partition_point(|version| version.object.number() <= number);
     &rest[..count]
 }
@@ -35,11 +35,10 @@ fn holds(version: &Version, day: Day) -> bool
 }
 
 /// The first version of the object that holds the day.
-fn version_on(versions: &[Version], day: Day, object: ObjectId) -> Option<&Version>
-    requires { IsListing versions.now }
-    ensures { option_copied result ≡ version_holding versions.now day object }
+fn version_on<'a>(objects: &Objects<'a>, day: Day, object: ObjectId) -> Option<&'a Version>
+    ensures { option_copied result ≡ version_holding objects.now.versions.now day object }
 {
-    for version in versions_of(versions, object) {
+    for version in versions_of(objects, object) {
         if holds(version, day) {
             return Some(version);
         }
@@ -48,14 +47,13 @@ fn version_on(versions: &[Version], day: Day, object: ObjectId) -> Option<&Versi
 }
 
 /// The name that the object had on the day.
-pub(crate) fn joined_name(
-    versions: &[Version],
+pub(crate) fn joined_name<'a>(
+    objects: &Objects<'a>,
     day: Day,
     object: Option<ObjectId>,
-) -> Option<&Words>
-    requires { IsListing versions.now }
-    ensures { option_copied result ≡ name_joined versions.now day object }
+) -> Option<&'a Words>
+    ensures { option_copied result ≡ name_joined objects.now.versions.now day object }
 {
-    let version = version_on(versions, day, object?)?;
+    let version = version_on(objects, day, object?)?;
     version.body.name()
 }

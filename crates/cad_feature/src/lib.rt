@@ -13,6 +13,7 @@ mod feature;
 mod flattening;
 mod joining;
 pub mod laws;
+mod objects;
 mod range;
 mod value;
 mod values;

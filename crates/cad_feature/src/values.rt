@@ -2,7 +2,6 @@
 
 ghost use Rattle.std.specs.Prelude.{IfOk, Some};
 ghost use Rattle.std.specs.Option.{option_copied};
-ghost use Rattle.cad_versions.specs.Listing.{IsListing};
 ghost use Rattle.cad_schema.specs.declared.property.PropertyKind.TheVariants as kind;
 ghost use Rattle.cad_schema.specs.Attributes.{named};
 ghost use Rattle.cad_feature.specs.Flatten.{or_null, as_text, as_whole, value_in};
@@ -11,6 +10,7 @@ ghost use Rattle.cad_feature.specs.Values.{Shows, a_day, a_span, a_flag, a_spot,
 
 use crate::Value;
 use crate::joining::joined_name;
+use crate::objects::Objects;
 use cad_day::{Day, Interval};
 use cad_schema::Attribute;
 use cad_shape::{Point, Region};
@@ -86,15 +86,14 @@ fn region(alloc: Global, region: Option<&Region>) -> Result<Value, AllocError>
     }
 }
 
-/// What the version says, one of these versions. Names are joined on its first day.
+/// What the version says, one of these. Names are joined on its first day.
 pub(crate) fn value(
     alloc: Global,
-    versions: &[Version],
+    objects: &Objects<'_>,
     version: &Version,
     attribute: Attribute,
 ) -> Result<Value, AllocError>
-    requires { IsListing versions.now }
-    ensures { IfOk result (Shows ((named attribute).1) (value_in versions.now version.now attribute)) }
+    ensures { IfOk result (Shows ((named attribute).1) (value_in objects.now.versions.now version.now attribute)) }
 {
     let body = &version.body;
     match attribute {
@@ -111,12 +110,12 @@ pub(crate) fn value(
         Attribute::ReferencePoint => Ok(spot(body.spot())),
         Attribute::Unit => Ok(whole(body.unit().map(|unit| unit.number()))),
         Attribute::UnitName => {
-            let name = joined_name(versions, version.first, body.unit());
+            let name = joined_name(objects, version.first, body.unit());
             Ok(text(alloc, name)?)
         }
         Attribute::Party => Ok(whole(body.party().map(|party| party.number()))),
         Attribute::PartyName => {
-            let name = joined_name(versions, version.first, body.party());
+            let name = joined_name(objects, version.first, body.party());
             Ok(text(alloc, name)?)
         }
         Attribute::ShareNum => Ok(whole(body.share().map(|share| share.num()))),

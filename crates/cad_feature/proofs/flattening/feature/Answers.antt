@@ -7,7 +7,7 @@ pub loop-property-preserved : goal.loop-property-preserved
 loop-property-preserved c =
     let properties = c.schema-properties.result.now in
     let i = c.loop-property.property-index in
-    let vs = c.args.versions.now in
+    let vs = c.args.objects.now.versions.now in
     let v = c.args.version.now in
     record {
       said = map_more (says vs v) datum_of properties i _ c.loop-property.values.items c.push.new.self.items c.in_ok-value.value c.loop-property-test.true c.loop-property.invariant.said c.in_ok-push.ensures.items c.in_ok-value.ensures.0;
@@ -19,5 +19,5 @@ returns-clause-fits c =
     record {
       positive = c.version.invariant.positive;
       small = c.version.invariant.small;
-      fits = all_fit c.args.collection c.args.versions.now c.args.version.now c.schema-properties.result.now c.loop-property.property-index _ c.schema-properties.ensures.attributes c.loop-property-test.false c.loop-property.invariant.fit c.loop-property.invariant.said;
+      fits = all_fit c.args.collection c.args.objects.now.versions.now c.args.version.now c.schema-properties.result.now c.loop-property.property-index _ c.schema-properties.ensures.attributes c.loop-property-test.false c.loop-property.invariant.fit c.loop-property.invariant.said;
     }

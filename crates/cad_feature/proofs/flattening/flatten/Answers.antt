@@ -1,4 +1,4 @@
-use Rattle.std.proofs.Common.{◌∙◌, sym}
+use Rattle.std.proofs.Common.{◌∙◌, sym, ap}
 use Rattle.std.proofs.lemmas.List.{take_all}
 use Rattle.std.proofs.lemmas.List.Elements.{All-push}
 use Rattle.cad_feature.specs.Features.{IsFeatureOf, by_identifier}
@@ -14,7 +14,7 @@ loop-version-preserved c =
     let so_far = c.loop-version.invariant.so_far in
     elim c.if-is_in.branch [
       | then-is_in+in_ok-feature+in_ok-push w ↦ rw w.features-is (record {
-        so_far = kept_more (feature_in vs c.args.collection) (is_in c.args.collection) vs i c.version-item.result c.loop-version.features.items _ _ c.loop-version-test.true c.version-item.is (sym c.is_in.ensures ∙ w.if-is_in.true) so_far w.in_ok-push.ensures.items w.in_ok-feature.ensures.feature;
+        so_far = kept_more (feature_in vs c.args.collection) (is_in c.args.collection) vs i c.version-item.result c.loop-version.features.items _ _ c.loop-version-test.true c.version-item.is (sym c.is_in.ensures ∙ w.if-is_in.true) so_far w.in_ok-push.ensures.items (w.in_ok-feature.ensures.feature ∙ ap (λ us. feature_in us c.args.collection c.version-item.result) c.in_ok-objects.ensures);
         each = rw w.in_ok-push.ensures.items (All-push (IsFeatureOf c.args.collection) c.loop-version.features.items w.in_ok-feature.feature c.loop-version.invariant.each w.in_ok-feature.ensures.fits);
       })
       | else-is_in w ↦ rw w.features-is (record {
