@@ -10,7 +10,6 @@ ghost use Rattle.cql_filter.specs.declared.cause.FilterFault.TheVariants.{Refuse
 use crate::cause::FilterFault;
 use crate::laws::{fault_or_filter, one_first_fault};
 use cad_schema::Collection;
-use cql_lexer::laws::places_in_order;
 use cql_lexer::tokens;
 use cql_parser::parse;
 use cql_types::laws::filters_are_of_conditions;
@@ -36,8 +35,6 @@ pub fn read(alloc: Global, text: &str, collection: Collection) -> Result<Filter,
 fn read_filter(alloc: Global, text: &str, collection: Collection) -> Result<Filter, FilterFault>
     ensures { Answers (schema_of collection) text.now result }
 {
-    // The least fault is asked of a tree whose places ascend, as those of tokens do.
-    places_in_order();
     filters_are_of_conditions();
     let tokens = tokens(alloc, text)?;
     let parsed = parse(alloc, &tokens);

@@ -4,8 +4,8 @@ use Rattle.cad_day.specs.declared.relation.Relation.{Relation}
 use Rattle.cql_lexer.specs.Mark.{Mark, at, opening, closing, comma, plus, minus, times, modulo, compare, word, name, text, number}
 use Rattle.cql_lexer.specs.declared.token.SpatialRelation.{SpatialRelation}
 use Rattle.cql_lexer.specs.declared.token.Keyword.TheVariants.{And, Or, Not, Like, Between, In, Is, Null, True, False, Div, Casei, Date, Interval, Point, Polygon, Bbox, Spatial, Temporal}
-use Rattle.cql_tree.specs.declared.node.Operation.{Operation}
-use Rattle.cql_tree.specs.declared.node.Operation.TheVariants as operation
+use Rattle.cql_tree.specs.declared.expression.Operation.{Operation}
+use Rattle.cql_tree.specs.declared.expression.Operation.TheVariants as operation
 use Rattle.cql_tree.specs.Syntax.{Syntax, joined, leaf, name_leaf, number_leaf, day_leaf, bound_leaf, Op, or_op, and_op, computed_op, casei_op, date_op, interval_op, point_op, polygon_op, ring_op, bbox_op, spatial_op, temporal_op}
 use Rattle.cql_parser.specs.Grammar.{IsWhole, number_rule, plus_rule, minus_rule, IsBound, text_bound, name_bound, IsCornersRest, corners_end, corners_more, IsRing, ring_rule, IsRingsRest, rings_end, rings_more, IsNegation, negated, IsOr, or_rule, IsOrRest, or_end, or_more, IsAnd, and_rule, IsAndRest, and_end, and_more, IsNot, not_rule, plain_rule, IsPredicate, predicate_rule, IsTail, no_tail, compare_tail, like_tail, between_tail, in_tail, null_tail, IsItemsRest, items_end, items_more, IsSum, sum_rule, IsSumRest, sum_end, sum_more, plus_adds, minus_adds, IsProduct, product_rule, IsProductRest, product_end, product_more, times_multiplies, div_multiplies, modulo_multiplies, IsPrimary, paren_rule, name_rule, text_rule, whole_rule, true_rule, false_rule, casei_rule, date_rule, interval_rule, point_rule, polygon_rule, bbox_rule, spatial_rule, temporal_rule}
 use Rattle.cql_parser.specs.Grammar as grammar

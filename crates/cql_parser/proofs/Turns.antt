@@ -7,9 +7,9 @@ use Rattle.cql_lexer.specs.declared.token.Comparison.{Comparison}
 use Rattle.cql_lexer.specs.declared.token.Keyword.{Keyword}
 use Rattle.cql_lexer.specs.declared.token.Keyword.TheVariants.{And, Or, Not, Like, Between, In, Is, Null, True, False, Div, Casei, Date, Interval, Point, Polygon, Bbox, Spatial, Temporal}
 use Rattle.cql_lexer.specs.declared.token.Token.{Token}
-use Rattle.cql_tree.specs.declared.node.Operation.{Operation}
-use Rattle.cql_tree.specs.declared.node.Operation.TheVariants as operation
-use Rattle.cql_tree.specs.declared.node.Corner.{Corner}
+use Rattle.cql_tree.specs.declared.expression.Operation.{Operation}
+use Rattle.cql_tree.specs.declared.expression.Operation.TheVariants as operation
+use Rattle.cql_tree.specs.declared.expression.Corner.{Corner}
 use Rattle.cql_parser.specs.declared.start.Pairing.{Pairing}
 use Rattle.cql_parser.specs.declared.start.Pairing.TheVariants as pairing
 use Rattle.cql_parser.specs.Grammar.{operation_sort, IsAddition, plus_adds, minus_adds, IsMultiplication, times_multiplies, div_multiplies, modulo_multiplies}

@@ -9,8 +9,8 @@ use Rattle.cql_tree.specs.Views.{syntax_of, numbers_of}
 use Rattle.cql_parser.specs.declared.stop.Stop.{Stop}
 use Rattle.cql_parser.specs.declared.stop.Stop.TheVariants.{Memory, At}
 use Rattle.cql_parser.specs.declared.stop.Parsed.{Parsed}
-use Rattle.cql_tree.specs.declared.node.Corner.{Corner}
-use Rattle.cql_tree.specs.declared.node.Node.{Node}
+use Rattle.cql_tree.specs.declared.expression.Corner.{Corner}
+use Rattle.cql_tree.specs.declared.expression.Expression.{Expression}
 
 -- no tree can come at these tokens, unless memory ran out
 abbrev pub IsStopped : {K : Type 0} → (K → State) → List Mark → Stop → Type 0
@@ -25,7 +25,7 @@ Parses {K} want have xs result =
     (IsStopped want xs)
 
 -- the run over all tokens ends with the tree, or stops
-abbrev pub ParsesAll : List Mark → Result (Box Node Global) Stop → Type 0
+abbrev pub ParsesAll : List Mark → Result (Box Expression Global) Stop → Type 0
 ParsesAll xs result =
     MatchResult result
     (λ t. run (want_or whole) xs ≡ spells (syntax_of t.value))

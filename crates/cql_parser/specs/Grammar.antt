@@ -7,8 +7,8 @@ use Rattle.cql_lexer.specs.Mark.{Sort, Mark, at, opening, closing, comma, plus, 
 use Rattle.cql_lexer.specs.declared.token.Comparison.{Comparison}
 use Rattle.cql_lexer.specs.declared.token.SpatialRelation.{SpatialRelation}
 use Rattle.cql_lexer.specs.declared.token.Keyword.TheVariants.{And, Or, Not, Like, Between, In, Is, Null, True, False, Div, Casei, Date, Interval, Point, Polygon, Bbox, Spatial, Temporal}
-use Rattle.cql_tree.specs.declared.node.Operation.{Operation}
-use Rattle.cql_tree.specs.declared.node.Operation.TheVariants as operation
+use Rattle.cql_tree.specs.declared.expression.Operation.{Operation}
+use Rattle.cql_tree.specs.declared.expression.Operation.TheVariants as operation
 use Rattle.cql_tree.specs.Syntax.{Syntax, parts_of, joined, leaf, node, name_leaf, number_leaf, text_leaf, truth_leaf, day_leaf, bound_leaf, or_op, and_op, not_op, compare_op, like_op, between_op, in_op, is_null_op, computed_op, casei_op, date_op, interval_op, point_op, polygon_op, ring_op, bbox_op, spatial_op, temporal_op}
 
 -- whole = [ + | - ] number

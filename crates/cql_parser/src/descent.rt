@@ -21,11 +21,11 @@ use crate::slot::{pass_close, pass_comma, pass_open};
 use crate::start::{CallStart, Pairing, TailStart, call_start, tail_start};
 use crate::stop::{Parsed, Stop};
 use cql_lexer::{Comparison, Token};
-use cql_tree::{Node, Operand};
+use cql_tree::{Expression, Operand};
 use std::alloc::Global;
 
 /// Reads a whole filter: `or`, and nothing after it.
-pub fn parse_filter<'a>(alloc: Global, tokens: &'a [Token]) -> Result<Box<Node>, Stop<'a>>
+pub fn parse_filter<'a>(alloc: Global, tokens: &'a [Token]) -> Result<Box<Expression>, Stop<'a>>
     ensures { ParsesAll (marks tokens.now) result }
 {
     let Parsed { tree, rest } = parse_or(alloc, tokens)?;
@@ -106,7 +106,7 @@ fn parse_predicate<'a>(alloc: Global, tokens: &'a [Token]) -> Result<Parsed<'a>,
 #[cycle(rules)]
 fn parse_tail<'a>(
     alloc: Global,
-    value: Box<Node>,
+    value: Box<Expression>,
     tokens: &'a [Token],
 ) -> Result<Parsed<'a>, Stop<'a>>
     ensures parses { Parses (λ k. have_sum (left k) (syntax_of value.value)) have_predicate (marks tokens.now) result }
@@ -131,7 +131,7 @@ fn parse_tail<'a>(
 fn parse_right<'a>(
     alloc: Global,
     by: Comparison,
-    value: Box<Node>,
+    value: Box<Expression>,
     tokens: &'a [Token],
 ) -> Result<Parsed<'a>, Stop<'a>>
     ensures parses { Parses (λ k. want_sum (right by (syntax_of value.value) k)) have_predicate
@@ -148,7 +148,7 @@ fn parse_right<'a>(
 fn parse_pattern<'a>(
     alloc: Global,
     is_negated: bool,
-    value: Box<Node>,
+    value: Box<Expression>,
     tokens: &'a [Token],
 ) -> Result<Parsed<'a>, Stop<'a>>
     ensures parses { Parses (λ k. want_sum (pattern is_negated (syntax_of value.value) k)) have_predicate
@@ -165,7 +165,7 @@ fn parse_pattern<'a>(
 fn parse_range<'a>(
     alloc: Global,
     is_negated: bool,
-    value: Box<Node>,
+    value: Box<Expression>,
     tokens: &'a [Token],
 ) -> Result<Parsed<'a>, Stop<'a>>
     ensures parses { Parses (λ k. want_sum (low is_negated (syntax_of value.value) k)) have_predicate
@@ -186,7 +186,7 @@ fn parse_range<'a>(
 fn parse_items<'a>(
     alloc: Global,
     is_negated: bool,
-    value: Box<Node>,
+    value: Box<Expression>,
     tokens: &'a [Token],
 ) -> Result<Parsed<'a>, Stop<'a>>
     ensures parses { Parses (after_in is_negated (syntax_of value.value)) have_predicate (marks tokens.now) result }
@@ -215,7 +215,7 @@ fn parse_items<'a>(
 // [ NOT ] NULL, behind IS
 fn parse_is<'a>(
     alloc: Global,
-    value: Box<Node>,
+    value: Box<Expression>,
     tokens: &'a [Token],
 ) -> Result<Parsed<'a>, Stop<'a>>
     ensures parses { Parses (after_is (syntax_of value.value)) have_predicate (marks tokens.now) result }
@@ -231,7 +231,7 @@ fn parse_is<'a>(
 fn parse_null<'a>(
     alloc: Global,
     is_negated: bool,
-    value: Box<Node>,
+    value: Box<Expression>,
     tokens: &'a [Token],
 ) -> Result<Parsed<'a>, Stop<'a>>
     ensures parses { Parses (want_null is_negated (syntax_of value.value)) have_predicate (marks tokens.now) result }

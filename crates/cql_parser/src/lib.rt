@@ -5,7 +5,7 @@
 //! at byte 6, and those of `a = b = c` the fault `NotExpected` at byte 6. At most 64 parentheses
 //! may be open at one time.
 //!
-//! - [`Tree`]: a filter, by its root; [`Node`]: a filter or a part of one, each name, literal and keyword at its place.
+//! - [`Tree`]: a filter, by its root; [`Expression`]: a filter or a part of one, each name, literal and keyword at its place.
 //! - [`ParseFault`]: why tokens are no filter; a [`GrammarFault`] is the first fault, with its place.
 //! - [`laws`]: a list of tokens has one tree or one fault, and never both, and a tree's places ascend.
 #![tactic(auto)]
@@ -21,6 +21,6 @@ mod slot;
 mod start;
 mod stop;
 
-pub use cql_tree::{Bound, Corner, Node, Number, Operand, Operation, Ring, Tree};
+pub use cql_tree::{Bound, Corner, Expression, Number, Operand, Operation, Ring, Tree};
 pub use fault::{GrammarFault, ParseFault};
 pub use parser::parse;

@@ -9,50 +9,62 @@ ghost use Rattle.cql_tree.specs.Views.{syntax_of, syntaxes_of, operands_of, oper
 use crate::start::Pairing;
 use cad_day::Relation;
 use cql_lexer::{Comparison, SpatialRelation};
-use cql_tree::{Bound, Corner, Node, Number, Operand, Ring};
+use cql_tree::{Bound, Corner, Expression, Number, Operand, Ring};
 use std::alloc::{AllocError, Global};
 
 /// The parts joined by OR; one part alone is that part.
-pub fn or_tree(alloc: Global, first: Box<Node>, others: Vec<Node>) -> Result<Box<Node>, AllocError>
+pub fn or_tree(
+    alloc: Global,
+    first: Box<Expression>,
+    others: Vec<Expression>,
+) -> Result<Box<Expression>, AllocError>
     ensures { IfOk result (λ t. syntax_of t.value ≡ joined or_op (syntax_of first.value ∷ syntaxes_of others.items)) }
 {
     if others.is_empty() {
         return Ok(first);
     }
-    Ok(Box::new(alloc, Node::Or { first, others })?)
+    Ok(Box::new(alloc, Expression::Or { first, others })?)
 }
 
 /// The parts joined by AND; one part alone is that part.
-pub fn and_tree(alloc: Global, first: Box<Node>, others: Vec<Node>) -> Result<Box<Node>, AllocError>
+pub fn and_tree(
+    alloc: Global,
+    first: Box<Expression>,
+    others: Vec<Expression>,
+) -> Result<Box<Expression>, AllocError>
     ensures { IfOk result (λ t. syntax_of t.value ≡ joined and_op (syntax_of first.value ∷ syntaxes_of others.items)) }
 {
     if others.is_empty() {
         return Ok(first);
     }
-    Ok(Box::new(alloc, Node::And { first, others })?)
+    Ok(Box::new(alloc, Expression::And { first, others })?)
 }
 
 /// The parts computed from the left; one part alone is that part.
 pub fn computed_tree(
     alloc: Global,
-    first: Box<Node>,
+    first: Box<Expression>,
     others: Vec<Operand>,
-) -> Result<Box<Node>, AllocError>
+) -> Result<Box<Expression>, AllocError>
     ensures { IfOk result (λ t. syntax_of t.value ≡
         joined (computed_op (operations_of others.items)) (syntax_of first.value ∷ operands_of others.items)) }
 {
     if others.is_empty() {
         return Ok(first);
     }
-    Ok(Box::new(alloc, Node::Computed { first, others })?)
+    Ok(Box::new(alloc, Expression::Computed { first, others })?)
 }
 
 /// A tree with NOT before it.
 #[tactic(auto, unfolding(cql_tree::specs::Views::syntax_of))]
-pub fn not_tree(alloc: Global, place: usize, part: Box<Node>) -> Result<Box<Node>, AllocError>
+pub fn not_tree(
+    alloc: Global,
+    place: usize,
+    part: Box<Expression>,
+) -> Result<Box<Expression>, AllocError>
     ensures { IfOk result (λ t. syntax_of t.value ≡ not_node place (syntax_of part.value)) }
 {
-    Ok(Box::new(alloc, Node::Not { place, part })?)
+    Ok(Box::new(alloc, Expression::Not { place, part })?)
 }
 
 /// Two trees compared.
@@ -60,12 +72,12 @@ pub fn not_tree(alloc: Global, place: usize, part: Box<Node>) -> Result<Box<Node
 pub fn compare_tree(
     alloc: Global,
     by: Comparison,
-    left: Box<Node>,
-    right: Box<Node>,
-) -> Result<Box<Node>, AllocError>
+    left: Box<Expression>,
+    right: Box<Expression>,
+) -> Result<Box<Expression>, AllocError>
     ensures { IfOk result (λ t. syntax_of t.value ≡ compare_node by (syntax_of left.value) (syntax_of right.value)) }
 {
-    Ok(Box::new(alloc, Node::Compare { by, left, right })?)
+    Ok(Box::new(alloc, Expression::Compare { by, left, right })?)
 }
 
 /// A value held against a pattern.
@@ -73,12 +85,12 @@ pub fn compare_tree(
 pub fn like_tree(
     alloc: Global,
     is_negated: bool,
-    value: Box<Node>,
-    pattern: Box<Node>,
-) -> Result<Box<Node>, AllocError>
+    value: Box<Expression>,
+    pattern: Box<Expression>,
+) -> Result<Box<Expression>, AllocError>
     ensures { IfOk result (λ t. syntax_of t.value ≡ like_node is_negated (syntax_of value.value) (syntax_of pattern.value)) }
 {
-    let tree = Node::Like {
+    let tree = Expression::Like {
         is_negated,
         value,
         pattern,
@@ -91,14 +103,14 @@ pub fn like_tree(
 pub fn between_tree(
     alloc: Global,
     is_negated: bool,
-    value: Box<Node>,
-    low: Box<Node>,
-    high: Box<Node>,
-) -> Result<Box<Node>, AllocError>
+    value: Box<Expression>,
+    low: Box<Expression>,
+    high: Box<Expression>,
+) -> Result<Box<Expression>, AllocError>
     ensures { IfOk result (λ t. syntax_of t.value ≡
         between_node is_negated (syntax_of value.value) (syntax_of low.value) (syntax_of high.value)) }
 {
-    let tree = Node::Between {
+    let tree = Expression::Between {
         is_negated,
         value,
         low,
@@ -111,14 +123,14 @@ pub fn between_tree(
 pub fn in_tree(
     alloc: Global,
     is_negated: bool,
-    value: Box<Node>,
-    first: Box<Node>,
-    others: Vec<Node>,
-) -> Result<Box<Node>, AllocError>
+    value: Box<Expression>,
+    first: Box<Expression>,
+    others: Vec<Expression>,
+) -> Result<Box<Expression>, AllocError>
     ensures { IfOk result (λ t. syntax_of t.value ≡
         in_node is_negated (syntax_of value.value) (syntax_of first.value ∷ syntaxes_of others.items)) }
 {
-    let tree = Node::In {
+    let tree = Expression::In {
         is_negated,
         value,
         first,
@@ -129,18 +141,26 @@ pub fn in_tree(
 
 /// A value that is asked for.
 #[tactic(auto, unfolding(cql_tree::specs::Views::syntax_of))]
-pub fn null_tree(alloc: Global, is_negated: bool, value: Box<Node>) -> Result<Box<Node>, AllocError>
+pub fn null_tree(
+    alloc: Global,
+    is_negated: bool,
+    value: Box<Expression>,
+) -> Result<Box<Expression>, AllocError>
     ensures { IfOk result (λ t. syntax_of t.value ≡ null_node is_negated (syntax_of value.value)) }
 {
-    Ok(Box::new(alloc, Node::IsNull { is_negated, value })?)
+    Ok(Box::new(alloc, Expression::IsNull { is_negated, value })?)
 }
 
 /// A text whose case is folded.
 #[tactic(auto, unfolding(cql_tree::specs::Views::syntax_of))]
-pub fn casei_tree(alloc: Global, place: usize, part: Box<Node>) -> Result<Box<Node>, AllocError>
+pub fn casei_tree(
+    alloc: Global,
+    place: usize,
+    part: Box<Expression>,
+) -> Result<Box<Expression>, AllocError>
     ensures { IfOk result (λ t. syntax_of t.value ≡ filled (casei_op place) (syntax_of part.value ∷ [])) }
 {
-    Ok(Box::new(alloc, Node::Casei { place, part })?)
+    Ok(Box::new(alloc, Expression::Casei { place, part })?)
 }
 
 /// Two shapes compared.
@@ -149,13 +169,13 @@ pub fn spatial_tree(
     alloc: Global,
     place: usize,
     by: SpatialRelation,
-    left: Box<Node>,
-    right: Box<Node>,
-) -> Result<Box<Node>, AllocError>
+    left: Box<Expression>,
+    right: Box<Expression>,
+) -> Result<Box<Expression>, AllocError>
     ensures { IfOk result (λ t. syntax_of t.value ≡
         filled (spatial_op place by) (syntax_of left.value ∷ syntax_of right.value ∷ [])) }
 {
-    let tree = Node::Spatial {
+    let tree = Expression::Spatial {
         place,
         by,
         left,
@@ -170,13 +190,13 @@ pub fn temporal_tree(
     alloc: Global,
     place: usize,
     by: Relation,
-    left: Box<Node>,
-    right: Box<Node>,
-) -> Result<Box<Node>, AllocError>
+    left: Box<Expression>,
+    right: Box<Expression>,
+) -> Result<Box<Expression>, AllocError>
     ensures { IfOk result (λ t. syntax_of t.value ≡
         filled (temporal_op place by) (syntax_of left.value ∷ syntax_of right.value ∷ [])) }
 {
-    let tree = Node::Temporal {
+    let tree = Expression::Temporal {
         place,
         by,
         left,
@@ -187,36 +207,40 @@ pub fn temporal_tree(
 
 /// A name.
 #[tactic(auto, unfolding(cql_tree::specs::Views::syntax_of))]
-pub fn name_tree(alloc: Global, place: usize, name: &String) -> Result<Box<Node>, AllocError>
+pub fn name_tree(alloc: Global, place: usize, name: &String) -> Result<Box<Expression>, AllocError>
     ensures { IfOk result (λ t. syntax_of t.value ≡ leaf place (name_leaf (string_bytes name.now))) }
 {
     let name = name.clone()?;
-    Ok(Box::new(alloc, Node::Name { place, name })?)
+    Ok(Box::new(alloc, Expression::Name { place, name })?)
 }
 
 /// A text.
 #[tactic(auto, unfolding(cql_tree::specs::Views::syntax_of))]
-pub fn text_tree(alloc: Global, place: usize, content: &String) -> Result<Box<Node>, AllocError>
+pub fn text_tree(
+    alloc: Global,
+    place: usize,
+    content: &String,
+) -> Result<Box<Expression>, AllocError>
     ensures { IfOk result (λ t. syntax_of t.value ≡ leaf place (text_leaf (string_bytes content.now))) }
 {
     let content = content.clone()?;
-    Ok(Box::new(alloc, Node::Text { place, content })?)
+    Ok(Box::new(alloc, Expression::Text { place, content })?)
 }
 
 /// TRUE or FALSE.
 #[tactic(auto, unfolding(cql_tree::specs::Views::syntax_of))]
-pub fn truth_tree(alloc: Global, place: usize, value: bool) -> Result<Box<Node>, AllocError>
+pub fn truth_tree(alloc: Global, place: usize, value: bool) -> Result<Box<Expression>, AllocError>
     ensures { IfOk result (λ t. syntax_of t.value ≡ leaf place (truth_leaf value)) }
 {
-    Ok(Box::new(alloc, Node::Truth { place, value })?)
+    Ok(Box::new(alloc, Expression::Truth { place, value })?)
 }
 
 /// A number.
 #[tactic(auto, unfolding(cql_tree::specs::Views::syntax_of))]
-pub fn number_tree(alloc: Global, number: Number) -> Result<Box<Node>, AllocError>
+pub fn number_tree(alloc: Global, number: Number) -> Result<Box<Expression>, AllocError>
     ensures { IfOk result (λ t. syntax_of t.value ≡ number_of number) }
 {
-    Ok(Box::new(alloc, Node::Number(number))?)
+    Ok(Box::new(alloc, Expression::Number(number))?)
 }
 
 /// A day.
@@ -226,12 +250,12 @@ pub fn date_tree(
     place: usize,
     text_place: usize,
     text: &String,
-) -> Result<Box<Node>, AllocError>
+) -> Result<Box<Expression>, AllocError>
     ensures { IfOk result (λ t. syntax_of t.value ≡
         filled (date_op place) (leaf text_place (day_leaf (string_bytes text.now)) ∷ [])) }
 {
     let text = text.clone()?;
-    let tree = Node::Date {
+    let tree = Expression::Date {
         place,
         text_place,
         text,
@@ -246,18 +270,22 @@ pub fn interval_tree(
     place: usize,
     from: Bound,
     to: Bound,
-) -> Result<Box<Node>, AllocError>
+) -> Result<Box<Expression>, AllocError>
     ensures { IfOk result (λ t. syntax_of t.value ≡ filled (interval_op place) (bound_of from ∷ bound_of to ∷ [])) }
 {
-    Ok(Box::new(alloc, Node::Interval { place, from, to })?)
+    Ok(Box::new(alloc, Expression::Interval { place, from, to })?)
 }
 
 /// A point.
 #[tactic(auto, unfolding(cql_tree::specs::Views::syntax_of))]
-pub fn point_tree(alloc: Global, place: usize, corner: Corner) -> Result<Box<Node>, AllocError>
+pub fn point_tree(
+    alloc: Global,
+    place: usize,
+    corner: Corner,
+) -> Result<Box<Expression>, AllocError>
     ensures { IfOk result (λ t. syntax_of t.value ≡ filled (point_op place) (numbers_of (corner ∷ []))) }
 {
-    Ok(Box::new(alloc, Node::Point { place, corner })?)
+    Ok(Box::new(alloc, Expression::Point { place, corner })?)
 }
 
 /// A frame.
@@ -267,18 +295,22 @@ pub fn bbox_tree(
     place: usize,
     low: Corner,
     high: Corner,
-) -> Result<Box<Node>, AllocError>
+) -> Result<Box<Expression>, AllocError>
     ensures { IfOk result (λ t. syntax_of t.value ≡ filled (bbox_op place) (numbers_of (low ∷ high ∷ []))) }
 {
-    Ok(Box::new(alloc, Node::Bbox { place, low, high })?)
+    Ok(Box::new(alloc, Expression::Bbox { place, low, high })?)
 }
 
 /// An area: its outer ring, then those of its holes.
 #[tactic(auto, unfolding(cql_tree::specs::Views::syntax_of))]
-pub fn polygon_tree(alloc: Global, place: usize, rings: Vec<Ring>) -> Result<Box<Node>, AllocError>
+pub fn polygon_tree(
+    alloc: Global,
+    place: usize,
+    rings: Vec<Ring>,
+) -> Result<Box<Expression>, AllocError>
     ensures { IfOk result (λ t. syntax_of t.value ≡ filled (polygon_op place) (rings_of rings.items)) }
 {
-    Ok(Box::new(alloc, Node::Polygon { place, rings })?)
+    Ok(Box::new(alloc, Expression::Polygon { place, rings })?)
 }
 
 /// A function of two values.
@@ -286,9 +318,9 @@ pub fn pair_tree(
     alloc: Global,
     place: usize,
     by: Pairing,
-    left: Box<Node>,
-    right: Box<Node>,
-) -> Result<Box<Node>, AllocError>
+    left: Box<Expression>,
+    right: Box<Expression>,
+) -> Result<Box<Expression>, AllocError>
     ensures { IfOk result (λ t. syntax_of t.value ≡
         filled (pair_op place by) (syntax_of left.value ∷ syntax_of right.value ∷ [])) }
 {

@@ -4,7 +4,7 @@ ghost use Rattle.std.specs.Prelude.{◌≡◌};
 ghost use Rattle.cql_parser.specs.declared.stop.Stop.TheVariants.{Memory};
 
 use cql_lexer::Token;
-use cql_tree::Node;
+use cql_tree::Expression;
 use std::alloc::{AllocError, AllocFailed};
 
 /// Memory ran out, or no tree can come at the first of these tokens.
@@ -20,7 +20,7 @@ pub enum Stop<'a> {
 #[derive(Drop)]
 pub struct Parsed<'a> {
     /// The part.
-    pub tree: Box<Node>,
+    pub tree: Box<Expression>,
     /// The tokens that no part has yet.
     pub rest: &'a [Token],
 }

@@ -4,20 +4,20 @@ use Rattle.std.specs.declared.alloc.Global.{Global}
 use Rattle.std.specs.declared.vec.Vec.{Vec}
 use Rattle.cql_tree.specs.Syntax.{part, parts_of}
 use Rattle.cql_tree.specs.Views.{syntax_of, parts_in, syntaxes_of, operands_in, operands_of, operations_in, operations_of}
-use Rattle.cql_tree.specs.declared.node.Operand.{Operand}
-use Rattle.cql_tree.specs.declared.node.Node.{Node, Row_of-Node, end_of-Node, more_of-Node, items-the_row-Node, items_hidden-the_row-Node-0, Row_of-Operand, end_of-Operand, more_of-Operand, items-the_row-Operand, items_hidden-the_row-Operand-1}
-use Rattle.cql_tree.specs.declared.node.Node.TheBlock.{hidden-the_row-Node-0, hidden-the_row-Operand-1}
+use Rattle.cql_tree.specs.declared.expression.Operand.{Operand}
+use Rattle.cql_tree.specs.declared.expression.Expression.{Expression, Row_of-Expression, end_of-Expression, more_of-Expression, items-the_row-Expression, items_hidden-the_row-Expression-0, Row_of-Operand, end_of-Operand, more_of-Operand, items-the_row-Operand, items_hidden-the_row-Operand-1}
+use Rattle.cql_tree.specs.declared.expression.Expression.TheBlock.{hidden-the_row-Expression-0, hidden-the_row-Operand-1}
 
-row_parts : (n : _) (row : Row_of-Node n) → parts_in row ≡ parts_of (syntaxes_of (items-the_row-Node n row))
+row_parts : (n : _) (row : Row_of-Expression n) → parts_in row ≡ parts_of (syntaxes_of (items-the_row-Expression n row))
 unfolding syntax_of
-row_parts n end_of-Node = refl
-row_parts n (more_of-Node t rest) = ap (part (syntax_of t)) (row_parts _ rest)
+row_parts n end_of-Expression = refl
+row_parts n (more_of-Expression t rest) = ap (part (syntax_of t)) (row_parts _ rest)
 
 -- the parts of a vector
-pub vec_parts : (ts : Vec Node Global) → parts_in (hidden-the_row-Node-0 ts) ≡ parts_of (syntaxes_of ts.items)
+pub vec_parts : (ts : Vec Expression Global) → parts_in (hidden-the_row-Expression-0 ts) ≡ parts_of (syntaxes_of ts.items)
 vec_parts ts =
-    row_parts _ (hidden-the_row-Node-0 ts) ∙
-    ap (λ us. parts_of (syntaxes_of us)) (items_hidden-the_row-Node-0 ts)
+    row_parts _ (hidden-the_row-Expression-0 ts) ∙
+    ap (λ us. parts_of (syntaxes_of us)) (items_hidden-the_row-Expression-0 ts)
 
 row_operands : (n : _) (row : Row_of-Operand n) → operands_in row ≡ parts_of (operands_of (items-the_row-Operand n row))
 unfolding syntax_of

@@ -3,7 +3,7 @@ use Rattle.std.specs.Prelude.{ℕ, Bool, List, [], ◌∷◌}
 use Rattle.cad_day.specs.declared.relation.Relation.{Relation}
 use Rattle.cql_lexer.specs.declared.token.Comparison.{Comparison}
 use Rattle.cql_lexer.specs.declared.token.SpatialRelation.{SpatialRelation}
-use Rattle.cql_tree.specs.declared.node.Operation.{Operation}
+use Rattle.cql_tree.specs.declared.expression.Operation.{Operation}
 
 pub data Leaf : Type 0 where
   name_leaf : (name : List ℕ) → Leaf

@@ -1,16 +1,16 @@
 -- A tree without where it lies in memory.
 use Rattle.std.specs.Prelude.{List, [], ◌∷◌, map, string_bytes}
 use Rattle.cql_tree.specs.Syntax.{Syntax, Parts, none, part, parts_of, leaf, node, name_leaf, number_leaf, text_leaf, truth_leaf, day_leaf, bound_leaf, or_op, and_op, not_op, compare_op, like_op, between_op, in_op, is_null_op, computed_op, casei_op, date_op, interval_op, point_op, polygon_op, ring_op, bbox_op, spatial_op, temporal_op}
-use Rattle.cql_tree.specs.declared.node.Operation.{Operation}
-use Rattle.cql_tree.specs.declared.node.Number.{Number}
-use Rattle.cql_tree.specs.declared.node.Bound.{Bound}
-use Rattle.cql_tree.specs.declared.node.Bound.TheVariants as bound
-use Rattle.cql_tree.specs.declared.node.Node.TheVariants as tree
-use Rattle.cql_tree.specs.declared.node.Corner.{Corner}
-use Rattle.cql_tree.specs.declared.node.Ring.{Ring}
-use Rattle.cql_tree.specs.declared.node.Operand.{Operand}
-use Rattle.cql_tree.specs.declared.node.Node.{Node, Row_of-Node, end_of-Node, more_of-Node, Row_of-Operand, end_of-Operand, more_of-Operand}
-use Rattle.cql_tree.specs.declared.node.Node.TheVariants.{Name, Text, Truth, Or', And', Not', Compare', Like', Between', In', IsNull', Computed', Casei', Date, Interval, Point, Polygon, Bbox, Spatial', Temporal'}
+use Rattle.cql_tree.specs.declared.expression.Operation.{Operation}
+use Rattle.cql_tree.specs.declared.expression.Number.{Number}
+use Rattle.cql_tree.specs.declared.expression.Bound.{Bound}
+use Rattle.cql_tree.specs.declared.expression.Bound.TheVariants as bound
+use Rattle.cql_tree.specs.declared.expression.Expression.TheVariants as tree
+use Rattle.cql_tree.specs.declared.expression.Corner.{Corner}
+use Rattle.cql_tree.specs.declared.expression.Ring.{Ring}
+use Rattle.cql_tree.specs.declared.expression.Operand.{Operand}
+use Rattle.cql_tree.specs.declared.expression.Expression.{Expression, Row_of-Expression, end_of-Expression, more_of-Expression, Row_of-Operand, end_of-Operand, more_of-Operand}
+use Rattle.cql_tree.specs.declared.expression.Expression.TheVariants.{Name, Text, Truth, Or', And', Not', Compare', Like', Between', In', IsNull', Computed', Casei', Date, Interval, Point, Polygon, Bbox, Spatial', Temporal'}
 
 abbrev pub number_of : Number → Syntax
 number_of n = leaf n.place (number_leaf n.is_negative (string_bytes n.digits))
@@ -31,7 +31,7 @@ abbrev pub rings_of : List Ring → List Syntax
 rings_of rs = map ring_of rs
 
 unfoldable mutual
-  pub syntax_of : Node → Syntax
+  pub syntax_of : Expression → Syntax
   syntax_of (Name p s) = leaf p (name_leaf (string_bytes s))
   syntax_of (tree.Number n) = number_of n
   syntax_of (Text p s) = leaf p (text_leaf (string_bytes s))
@@ -55,9 +55,9 @@ unfoldable mutual
   syntax_of (Spatial' place c p a q b) = node (spatial_op place c) (part (syntax_of a) (part (syntax_of b) none))
   syntax_of (Temporal' place c p a q b) = node (temporal_op place c) (part (syntax_of a) (part (syntax_of b) none))
 
-  pub parts_in : {m : _} → Row_of-Node m → Parts
-  parts_in end_of-Node = none
-  parts_in (more_of-Node t rest) = part (syntax_of t) (parts_in rest)
+  pub parts_in : {m : _} → Row_of-Expression m → Parts
+  parts_in end_of-Expression = none
+  parts_in (more_of-Expression t rest) = part (syntax_of t) (parts_in rest)
 
   pub operands_in : {m : _} → Row_of-Operand m → Parts
   operands_in end_of-Operand = none
@@ -67,7 +67,7 @@ unfoldable mutual
   operations_in end_of-Operand = []
   operations_in (more_of-Operand by t rest) = by ∷ operations_in rest
 
-abbrev pub syntaxes_of : List Node → List Syntax
+abbrev pub syntaxes_of : List Expression → List Syntax
 syntaxes_of ts = map syntax_of ts
 
 abbrev pub operands_of : List Operand → List Syntax

@@ -4,7 +4,7 @@ use Rattle.std.specs.Prelude.{is_none, chars}
 use Rattle.cad_feature.specs.Features.{Item, datum_at}
 use Rattle.cql_types.specs.Conditions as c
 use Rattle.cql_types.specs.Conditions.{NumericExpression, NumericSteps, CharacterExpression, ScalarExpression, numeric, numeric_step, operation_step, character, character_step, scalar}
-use Rattle.cql_tree.specs.declared.tree.Operation.{Operation}
+use Rattle.cql_tree.specs.declared.expression.Operation.{Operation}
 use Rattle.cql_types.specs.declared.filter.WholeTerm.{WholeTerm}
 use Rattle.cql_types.specs.declared.filter.WholeTerm.TheOpen.{WholeTerm-F, Step-F}
 use Rattle.cql_types.specs.declared.filter.WholeTerm.TheFolds.{fold-roll-WholeTerm, ind-WholeTerm, map-WholeTerm}

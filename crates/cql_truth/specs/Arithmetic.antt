@@ -3,8 +3,8 @@ use Rattle.std.specs.Prelude.{◌^◌, ℤ, zero, suc, pos, negsuc, ◌+ℤ◌, 
 use Rattle.std.specs.Int.RustNames.{int_div, int_rem}
 use Rattle.cad_feature.specs.Values.{Datum, a_whole}
 use Rattle.cad_feature.specs.Features.{Item, datum_at}
-use Rattle.cql_tree.specs.declared.tree.Operation.{Operation}
-use Rattle.cql_tree.specs.declared.tree.Operation.TheVariants.{Plus, Minus, Times, Div, Modulo}
+use Rattle.cql_tree.specs.declared.expression.Operation.{Operation}
+use Rattle.cql_tree.specs.declared.expression.Operation.TheVariants.{Plus, Minus, Times, Div, Modulo}
 use Rattle.cql_types.specs.declared.filter.WholeTerm.{WholeTerm}
 use Rattle.cql_types.specs.declared.filter.WholeTerm.TheOpen.{WholeTerm-F, Step-F}
 use Rattle.cql_types.specs.declared.filter.WholeTerm.TheFolds.{fold-WholeTerm}

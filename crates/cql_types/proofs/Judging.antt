@@ -3,11 +3,11 @@ use Rattle.std.proofs.Common.{◌≡◌, refl, ap, sym, subst, ◌∙◌, ℕ, �
 use Rattle.cad_schema.specs.Attributes.{Named}
 use Rattle.cql_tree.specs.Syntax.{Syntax, Parts, none, part, parts_of, node, Op, computed_op, keyed, place_in}
 use Rattle.cql_tree.specs.Views.{operations_of}
-use Rattle.cql_tree.specs.declared.tree.Operand.{Operand}
+use Rattle.cql_tree.specs.declared.expression.Operand.{Operand}
 use Rattle.cql_types.specs.declared.fault.Fault.{Fault}
 use Rattle.cql_types.specs.declared.fault.TypeFault.{TypeFault}
 use Rattle.cql_types.specs.declared.fault.TypeFault.TheVariants.{Memory, At}
-use Rattle.cql_tree.specs.declared.tree.Operation.{Operation}
+use Rattle.cql_tree.specs.declared.expression.Operation.{Operation}
 use Rattle.cql_types.specs.declared.judged.Judged.{Judged}
 use Rattle.cql_types.specs.declared.judged.JudgedStep.{JudgedStep}
 use Rattle.cql_types.specs.Means.{Mean, no_more, one_more, node_means}

@@ -15,9 +15,9 @@ use Rattle.std.specs.declared.alloc.Global.{Global}
 use Rattle.std.specs.declared.vec.Vec.{Vec}
 use Rattle.std.specs.Prelude.{MatchResult, MatchOption}
 use Rattle.std.specs.Result.{result_ok}
-use Rattle.cql_tree.specs.declared.tree.Number.{Number}
-use Rattle.cql_tree.specs.declared.tree.Corner.{Corner}
-use Rattle.cql_tree.specs.declared.tree.Ring.{Ring as Line}
+use Rattle.cql_tree.specs.declared.expression.Number.{Number}
+use Rattle.cql_tree.specs.declared.expression.Corner.{Corner}
+use Rattle.cql_tree.specs.declared.expression.Ring.{Ring as Line}
 use Rattle.cql_tree.specs.Syntax.{Syntax, Parts, none, part, parts_of, node, Op, ring_op, point_op, bbox_op, polygon_op}
 use Rattle.cql_tree.specs.Views.{number_of, numbers_of, ring_of, rings_of}
 use Rattle.cql_types.specs.declared.fault.Misuse.{Misuse}
@@ -28,10 +28,10 @@ use Rattle.cql_types.specs.declared.filter.ShapeTerm.TheVariants as place
 use Rattle.cql_types.specs.declared.judged.Node.TheVariants as n
 use Rattle.cad_shape.specs.declared.boxes.Bounds.{Bounds}
 use Rattle.cad_shape.specs.declared.shape.Shape.TheVariants as shape
+use Rattle.cad_shape.specs.SameLemmas.{same_point}
 use Rattle.cql_types.specs.Means.{Draws, point, box, region}
 use Rattle.cql_types.proofs.Fitting.{numbers_have}
 use Rattle.std.specs.List.{slice_get}
-use Rattle.std.proofs.Math.Dec.{T_prop}
 use Rattle.cql_types.specs.declared.literal.Position.{Position}
 use Rattle.cql_types.specs.Kinds.{Mark, Have, leaf_has, node_has, no_more, one_more, is_line, kind_of_number, first_not, unsound}
 use Rattle.cql_types.specs.Numbers.{written}
@@ -148,15 +148,6 @@ positions_more (q ∷ qs) p zs = ap (λ ws. q.x ∷ q.y ∷ ws) (positions_more 
 
 -- ---- points
 
-coordinate_prop : (z : ℤ) → IsProp (IsCoordinate z)
-coordinate_prop z = hlevel T_prop
-
-pub point_same : (p q : Point) → p.x ≡ q.x → p.y ≡ q.y → p ≡ q
-point_same p q e f =
-    subst (λ (n : ℤ). (h : IsCoordinate n) (k : IsCoordinate q.y) → p ≡ record { x = n; y = q.y; x_in_range = h; y_in_range = k }) e
-    (λ h k. subst (λ (n : ℤ). (k : IsCoordinate n) → p ≡ record { x = p.x; y = n; x_in_range = h; y_in_range = k }) f
-    (λ k. ap₂ (λ (h : IsCoordinate p.x) (k : IsCoordinate p.y). record { x = p.x; y = p.y; x_in_range = h; y_in_range = k }) (coordinate_prop p.x p.x_in_range h) (coordinate_prop p.y p.y_in_range k)) k) q.x_in_range q.y_in_range
-
 first_two : {a b c d : ℤ} {zs ws : List ℤ} → a ∷ b ∷ zs ≡ c ∷ d ∷ ws → (a ≡ c) × (b ≡ d) × (zs ≡ ws)
 first_two e = (cc, cc, cc)
 
@@ -167,7 +158,7 @@ pub coordinates_once : (ps qs : List Point) → coordinates_of ps ≡ coordinate
 coordinates_once [] [] e = refl
 coordinates_once [] (q ∷ qs) e = absurd cc
 coordinates_once (p ∷ ps) [] e = absurd cc
-coordinates_once (p ∷ ps) (q ∷ qs) e = let parts = first_two e in same_points (point_same p q parts.0 parts.1) (coordinates_once ps qs parts.2)
+coordinates_once (p ∷ ps) (q ∷ qs) e = let parts = first_two e in same_points (same_point p q parts.0 parts.1) (coordinates_once ps qs parts.2)
 
 no_end : (ys : List Point) (y : Point) → [] ≡ ys ++ y ∷ [] → ⊥
 no_end [] y e = cc

@@ -1,26 +1,23 @@
 -- Decimal digits as std reads them.
-use Rattle.std.proofs.Common.{◌≡◌, refl, ℕ, ◌<◌, ◌^◌, Bool, true, false, ◌&&◌, List, [], ◌∷◌, length, Some, None, Result, Ok, Err, nat_eq, nat_lt, if◌then◌else◌, arith}
+use Rattle.std.proofs.Common.{◌≡◌, refl, ℕ, ◌<◌, ◌^◌, true, false, ◌&&◌, List, [], ◌∷◌, length, Some, None, Result, Ok, Err, nat_eq, nat_lt, if◌then◌else◌, arith}
 use Rattle.std.proofs.lemmas.Bool.Decides.{nat_tests}
 use Rattle.std.specs.Char.{is_ascii_digit, digit_value}
 use Rattle.std.specs.List.{list_all}
 use Rattle.std.specs.Result.{result_ok, OkIff}
 use Rattle.std.specs.Str.Parse.{AllDigits, IsNumeral, digits_value, without_leading_plus}
+use Rattle.std.proofs.lemmas.Bool.{and_parts}
 
 digit_is : (c : ℕ) → is_ascii_digit c ≡ true → digit_value c < 10
 digit_is c h = grind (arith, nat_tests)
 
-both : (a b : Bool) → (a && b) ≡ true → (a ≡ true) × (b ≡ true)
-both true b e = (refl, e)
-both false b e = absurd cc
-
 all_digits : (ds : List ℕ) → list_all is_ascii_digit ds ≡ true → AllDigits 10 ds
 all_digits [] h = tt
-all_digits (c ∷ cs) h = let p = both (is_ascii_digit c) (list_all is_ascii_digit cs) h in (digit_is c p.0, all_digits cs p.1)
+all_digits (c ∷ cs) h = let p = and_parts (is_ascii_digit c) (list_all is_ascii_digit cs) h in (digit_is c p.0, all_digits cs p.1)
 
 no_plus : (ds : List ℕ) → list_all is_ascii_digit ds ≡ true → without_leading_plus ds ≡ ds
 no_plus [] h = refl
 no_plus (c ∷ cs) h =
-    let p = both (is_ascii_digit c) (list_all is_ascii_digit cs) h in
+    let p = and_parts (is_ascii_digit c) (list_all is_ascii_digit cs) h in
     let not_plus : nat_eq c 43 ≡ false = let q = p.0 in grind (arith, nat_tests) in
     rw not_plus refl
 

@@ -1,15 +1,11 @@
 -- A tree means one filter.
-use Rattle.std.proofs.Common.{◌≡◌, refl, ap, ap₂, sym, subst, ◌∙◌, ℕ, ℤ, Bool, true, false, List, [], ◌∷◌, map, Option, Some, None, Result, Ok, ◌&&◌}
+use Rattle.std.proofs.Common.{◌≡◌, refl, ap, ap₂, sym, ◌∙◌, ℕ, ℤ, Bool, true, false, List, [], ◌∷◌, map, Option, Some, None, Result, Ok, ◌&&◌}
 use Rattle.std.specs.Prelude.{Box, Vec, String, string_bytes, option_map}
-use Rattle.std.proofs.Math.Dec.{T_prop}
 use Rattle.std.specs.declared.alloc.Global.{Global}
 use Rattle.cad_day.specs.declared.day.Day.{Day}
 use Rattle.cad_day.specs.declared.relation.Relation.{Relation}
-use Rattle.cad_day.specs.DayNumbers.{IsDayNumber}
-use Rattle.cad_day.specs.Days.{number_of}
 use Rattle.cad_schema.specs.declared.property.PropertyKind.{PropertyKind}
 use Rattle.cad_schema.specs.Attributes.{Named}
-use Rattle.cad_shape.specs.Boxes.{IsExtent}
 use Rattle.cad_shape.specs.declared.ring.Ring.{Ring}
 use Rattle.cad_shape.specs.RegionRings.{same_region}
 use Rattle.cad_shape.specs.declared.boxes.Bounds.{Bounds}
@@ -18,7 +14,7 @@ use Rattle.cad_shape.specs.declared.shape.Shape.TheVariants as shape
 use Rattle.cql_lexer.specs.declared.token.Comparison.{Comparison}
 use Rattle.cql_lexer.specs.declared.token.SpatialRelation.{SpatialRelation}
 use Rattle.cql_tree.specs.Syntax.{Syntax, Parts, Leaf, Op}
-use Rattle.cql_tree.specs.declared.tree.Operation.{Operation}
+use Rattle.cql_tree.specs.declared.expression.Operation.{Operation}
 use Rattle.cql_types.specs.declared.filter.WholeTerm.{WholeTerm}
 use Rattle.cql_types.specs.declared.filter.WholeTerm.TheVariants as whole
 use Rattle.cql_types.specs.declared.filter.WholeTerm.TheOpen.{WholeTerm-F}
@@ -54,7 +50,10 @@ use Rattle.cql_types.specs.Laws.{HasOneFilter}
 use Rattle.cql_types.specs.Literals.{AreRings, one_ring, no_ring}
 use Rattle.cql_types.specs.Means as m
 use Rattle.cql_types.specs.Means.{kind_of, whole_of, text_of, pattern_of, day_of, flag_of, span_of, shape_of, any_of, condition_of, Are, no_term, one_term, AreSteps, property_node, IsLeaf, IsNegatedIf, as_it_is, negated, Makes, IsEnd, open_text, day_text, day_name, Draws, Means, Mean, leaf_means, node_means, literal_means, no_more, one_more}
-use Rattle.cql_types.proofs.LiteralLemmas.{numbers_once, point_same, outline_once}
+use Rattle.cql_types.proofs.LiteralLemmas.{numbers_once, outline_once}
+use Rattle.cad_shape.specs.SameLemmas.{same_point}
+use Rattle.cad_shape.specs.SameLemmas.{same_bounds}
+use Rattle.cad_day.specs.SameLemmas.{same_day}
 use Rattle.cql_types.proofs.Terms.{is_true}
 
 -- ---- what a node is, without where it lies in memory
@@ -391,14 +390,6 @@ same_made (more_alike e (more_alike d none_alike)) (m.temporal {r = by} h k) (m.
 
 -- ---- leaves and literals
 
-day_prop : (z : ℤ) → IsProp (IsDayNumber z)
-day_prop z = hlevel T_prop
-
-same_day : (a b : Day) → number_of a ≡ number_of b → a ≡ b
-same_day a b e =
-    subst (λ (z : ℤ). (h : IsDayNumber z) → a ≡ record { number = z; in_range = h }) e
-    (λ h. ap (λ (k : IsDayNumber a.number). record { number = a.number; in_range = k }) (day_prop a.number a.in_range h)) b.in_range
-
 same_leaf : {s : List Named} {l : Leaf} {x y : Node} → IsLeaf s l x → IsLeaf s l y → Matches x y
 same_leaf (m.property_name e) (m.property_name f) = record { senses = ap (λ (p : ℕ × PropertyKind). sense (property_node p.0 p.1)) (same_some (sym e ∙ f)) }
 same_leaf (m.number e) (m.number f) = record { senses = ap (λ (z : ℤ). sense (n.Whole (whole.Constant z))) (same_ok e f) }
@@ -419,18 +410,6 @@ two_equal e = (cc, cc)
 four_same : {a b d e z w u v : ℤ} → a ∷ b ∷ d ∷ e ∷ [] ≡ z ∷ w ∷ u ∷ v ∷ [] → (a ≡ z) × (b ≡ w) × (d ≡ u) × (e ≡ v)
 four_same e = (cc, cc, cc, cc)
 
-extent_prop : (a b : ℤ) → IsProp (IsExtent a b)
-extent_prop a b = hlevel T_prop
-
-same_box : (a b : Bounds) → a.x_min ≡ b.x_min → a.y_min ≡ b.y_min → a.x_max ≡ b.x_max → a.y_max ≡ b.y_max → a ≡ b
-same_box a b e f g h =
-    subst (λ (z : ℤ). (w : IsExtent z b.x_max) (v : IsExtent b.y_min b.y_max) → a ≡ record { x_min = z; y_min = b.y_min; x_max = b.x_max; y_max = b.y_max; width = w; height = v }) e
-    (λ w v. subst (λ (z : ℤ). (w : IsExtent a.x_min b.x_max) (v : IsExtent z b.y_max) → a ≡ record { x_min = a.x_min; y_min = z; x_max = b.x_max; y_max = b.y_max; width = w; height = v }) f
-    (λ w v. subst (λ (z : ℤ). (w : IsExtent a.x_min z) (v : IsExtent a.y_min b.y_max) → a ≡ record { x_min = a.x_min; y_min = a.y_min; x_max = z; y_max = b.y_max; width = w; height = v }) g
-    (λ w v. subst (λ (z : ℤ). (w : IsExtent a.x_min a.x_max) (v : IsExtent a.y_min z) → a ≡ record { x_min = a.x_min; y_min = a.y_min; x_max = a.x_max; y_max = z; width = w; height = v }) h
-    (λ w v. ap₂ (λ (w : IsExtent a.x_min a.x_max) (v : IsExtent a.y_min a.y_max). record { x_min = a.x_min; y_min = a.y_min; x_max = a.x_max; y_max = a.y_max; width = w; height = v })
-    (extent_prop a.x_min a.x_max a.width w) (extent_prop a.y_min a.y_max a.height v)) w v) w v) w v) b.width b.height
-
 rings_once : {ps : Parts} {a b : List Ring} → AreRings ps a → AreRings ps b → a ≡ b
 rings_once no_ring no_ring = refl
 rings_once (one_ring {ring = a} h r) (one_ring {ring = b} k q) = ap₂ ◌∷◌ (outline_once a b (numbers_once h k)) (rings_once r q)
@@ -440,12 +419,12 @@ same_drawn (m.interval e f h) (m.interval g i k) =
     record { senses = ap₂ (λ (a b : EndTerm). sense (n.Span (span.Interval a b))) (same_end e g) (same_end f i) }
 same_drawn (m.point a h) (m.point b k) =
     let same = two_equal (numbers_once h k) in
-    record { senses = ap (λ (p : Point). sense (n.Spot (place.Constant (shape.Spot p)))) (point_same a b same.0 same.1) }
+    record { senses = ap (λ (p : Point). sense (n.Spot (place.Constant (shape.Spot p)))) (same_point a b same.0 same.1) }
 same_drawn (m.region a h) (m.region b k) =
     record { senses = ap (λ r. sense (n.Area (place.Constant (shape.Area r)))) (same_region a b (rings_once h k)) }
 same_drawn (m.box a h i j) (m.box b k o q) =
     let same = four_same (numbers_once h k) in
-    record { senses = ap (λ (d : Bounds). sense (n.Frame (place.Constant (shape.Frame d)))) (same_box a b same.0 same.1 same.2 same.3) }
+    record { senses = ap (λ (d : Bounds). sense (n.Frame (place.Constant (shape.Frame d)))) (same_bounds a b same.0 same.1 same.2 same.3) }
 
 drawn_or_made : {s : List Named} {op : Op} {ps : Parts} {js : List Judged} {x y : Node} → Draws s op ps x → Makes op js y → ⊥
 drawn_or_made (m.interval e f h) k = elim k [ ]

@@ -4,7 +4,7 @@ use Rattle.std.specs.Option.{is_some}
 use Rattle.cql_types.specs.declared.judged.Judged.{Judged}
 use Rattle.cql_types.specs.declared.judged.Node.{Node}
 use Rattle.cql_types.specs.Kinds.{Kind, first_not}
-use Rattle.cql_tree.specs.declared.tree.Operation.{Operation}
+use Rattle.cql_tree.specs.declared.expression.Operation.{Operation}
 use Rattle.cql_types.specs.declared.filter.Step.{Step}
 use Rattle.cql_types.specs.declared.filter.WholeTerm.{WholeTerm}
 use Rattle.cql_types.specs.declared.judged.JudgedStep.{JudgedStep}

@@ -8,18 +8,18 @@ use Rattle.std.specs.declared.vec.Vec.{Vec}
 use Rattle.cad_day.specs.declared.relation.Relation.{Relation}
 use Rattle.cql_lexer.specs.declared.token.Comparison.{Comparison}
 use Rattle.cql_lexer.specs.declared.token.SpatialRelation.{SpatialRelation}
-use Rattle.cql_tree.specs.declared.tree.Bound.{Bound}
-use Rattle.cql_tree.specs.declared.tree.Corner.{Corner}
-use Rattle.cql_tree.specs.declared.tree.Operand.{Operand}
-use Rattle.cql_tree.specs.declared.tree.Operation.{Operation}
-use Rattle.cql_tree.specs.declared.tree.Ring.{Ring}
+use Rattle.cql_tree.specs.declared.expression.Bound.{Bound}
+use Rattle.cql_tree.specs.declared.expression.Corner.{Corner}
+use Rattle.cql_tree.specs.declared.expression.Operand.{Operand}
+use Rattle.cql_tree.specs.declared.expression.Operation.{Operation}
+use Rattle.cql_tree.specs.declared.expression.Ring.{Ring}
 use Rattle.cql_tree.specs.Syntax.{Syntax, Parts, leaf, node, part, none, parts_of, name_leaf, text_leaf, truth_leaf, day_leaf, or_op, and_op, not_op, compare_op, like_op, between_op, in_op, is_null_op, computed_op, casei_op, date_op, interval_op, point_op, polygon_op, bbox_op, spatial_op, temporal_op}
 use Rattle.cql_tree.specs.Views.{syntax_of, syntaxes_of, operands_of, operations_of, number_of, numbers_of, bound_of, rings_of}
 use Rattle.cql_tree.specs.Rows.{vec_parts, vec_operands, vec_operations}
-use Rattle.cql_tree.specs.declared.tree.Number.{Number}
-use Rattle.cql_tree.specs.declared.tree.Tree.{Tree}
-use Rattle.cql_tree.specs.declared.tree.Tree.TheVariants.{Name, Text, Truth, Or, And, Not, Compare, Like, Between, In, IsNull, Computed, Casei, Date, Interval, Point, Polygon, Bbox, Spatial, Temporal}
-use Rattle.cql_tree.specs.declared.tree.Tree.TheVariants as tree
+use Rattle.cql_tree.specs.declared.expression.Number.{Number}
+use Rattle.cql_tree.specs.declared.expression.Expression.{Expression}
+use Rattle.cql_tree.specs.declared.expression.Expression.TheVariants.{Name, Text, Truth, Or, And, Not, Compare, Like, Between, In, IsNull, Computed, Casei, Date, Interval, Point, Polygon, Bbox, Spatial, Temporal}
+use Rattle.cql_tree.specs.declared.expression.Expression.TheVariants as tree
 
 pub syntax_of-Name : (p : ℕ) (s : String Global) → syntax_of (Name p s) ≡ leaf p (name_leaf (string_bytes s))
 unfolding syntax_of
@@ -37,46 +37,46 @@ pub syntax_of-Truth : (p : ℕ) (b : Bool) → syntax_of (Truth p b) ≡ leaf p 
 unfolding syntax_of
 syntax_of-Truth p b = refl
 
-pub syntax_of-Or : (t : Box Tree Global) (ts : Vec Tree Global) → syntax_of (Or t ts) ≡ node or_op (part (syntax_of t.value) (parts_of (syntaxes_of ts.items)))
+pub syntax_of-Or : (t : Box Expression Global) (ts : Vec Expression Global) → syntax_of (Or t ts) ≡ node or_op (part (syntax_of t.value) (parts_of (syntaxes_of ts.items)))
 unfolding syntax_of
 syntax_of-Or t ts = ap (λ ps. node or_op (part (syntax_of t.value) ps)) (vec_parts ts)
 
-pub syntax_of-And : (t : Box Tree Global) (ts : Vec Tree Global) → syntax_of (And t ts) ≡ node and_op (part (syntax_of t.value) (parts_of (syntaxes_of ts.items)))
+pub syntax_of-And : (t : Box Expression Global) (ts : Vec Expression Global) → syntax_of (And t ts) ≡ node and_op (part (syntax_of t.value) (parts_of (syntaxes_of ts.items)))
 unfolding syntax_of
 syntax_of-And t ts = ap (λ ps. node and_op (part (syntax_of t.value) ps)) (vec_parts ts)
 
-pub syntax_of-Not : (p : ℕ) (t : Box Tree Global) → syntax_of (Not p t) ≡ node (not_op p) (part (syntax_of t.value) none)
+pub syntax_of-Not : (p : ℕ) (t : Box Expression Global) → syntax_of (Not p t) ≡ node (not_op p) (part (syntax_of t.value) none)
 unfolding syntax_of
 syntax_of-Not p t = refl
 
-pub syntax_of-Compare : (c : Comparison) (a b : Box Tree Global) → syntax_of (Compare c a b) ≡ node (compare_op c) (part (syntax_of a.value) (part (syntax_of b.value) none))
+pub syntax_of-Compare : (c : Comparison) (a b : Box Expression Global) → syntax_of (Compare c a b) ≡ node (compare_op c) (part (syntax_of a.value) (part (syntax_of b.value) none))
 unfolding syntax_of
 syntax_of-Compare c a b = refl
 
-pub syntax_of-Like : (n : Bool) (a b : Box Tree Global) → syntax_of (Like n a b) ≡ node (like_op n) (part (syntax_of a.value) (part (syntax_of b.value) none))
+pub syntax_of-Like : (n : Bool) (a b : Box Expression Global) → syntax_of (Like n a b) ≡ node (like_op n) (part (syntax_of a.value) (part (syntax_of b.value) none))
 unfolding syntax_of
 syntax_of-Like n a b = refl
 
-pub syntax_of-Between : (n : Bool) (a b c : Box Tree Global) → syntax_of (Between n a b c) ≡ node (between_op n) (part (syntax_of a.value) (part (syntax_of b.value) (part (syntax_of c.value) none)))
+pub syntax_of-Between : (n : Bool) (a b c : Box Expression Global) → syntax_of (Between n a b c) ≡ node (between_op n) (part (syntax_of a.value) (part (syntax_of b.value) (part (syntax_of c.value) none)))
 unfolding syntax_of
 syntax_of-Between n a b c = refl
 
-pub syntax_of-In : (n : Bool) (a t : Box Tree Global) (ts : Vec Tree Global) → syntax_of (In n a t ts) ≡ node (in_op n) (part (syntax_of a.value) (part (syntax_of t.value) (parts_of (syntaxes_of ts.items))))
+pub syntax_of-In : (n : Bool) (a t : Box Expression Global) (ts : Vec Expression Global) → syntax_of (In n a t ts) ≡ node (in_op n) (part (syntax_of a.value) (part (syntax_of t.value) (parts_of (syntaxes_of ts.items))))
 unfolding syntax_of
 syntax_of-In n a t ts = ap (λ ps. node (in_op n) (part (syntax_of a.value) (part (syntax_of t.value) ps))) (vec_parts ts)
 
-pub syntax_of-IsNull : (n : Bool) (a : Box Tree Global) → syntax_of (IsNull n a) ≡ node (is_null_op n) (part (syntax_of a.value) none)
+pub syntax_of-IsNull : (n : Bool) (a : Box Expression Global) → syntax_of (IsNull n a) ≡ node (is_null_op n) (part (syntax_of a.value) none)
 unfolding syntax_of
 syntax_of-IsNull n a = refl
 
 computed_node : {bs cs : List Operation} {ps qs : Parts} (t : Syntax) → bs ≡ cs → ps ≡ qs → node (computed_op bs) (part t ps) ≡ node (computed_op cs) (part t qs)
 computed_node t e f = cc
 
-pub syntax_of-Computed : (t : Box Tree Global) (ts : Vec Operand Global) → syntax_of (Computed t ts) ≡ node (computed_op (operations_of ts.items)) (part (syntax_of t.value) (parts_of (operands_of ts.items)))
+pub syntax_of-Computed : (t : Box Expression Global) (ts : Vec Operand Global) → syntax_of (Computed t ts) ≡ node (computed_op (operations_of ts.items)) (part (syntax_of t.value) (parts_of (operands_of ts.items)))
 unfolding syntax_of
 syntax_of-Computed t ts = computed_node (syntax_of t.value) (vec_operations ts) (vec_operands ts)
 
-pub syntax_of-Casei : (p : ℕ) (t : Box Tree Global) → syntax_of (Casei p t) ≡ node (casei_op p) (part (syntax_of t.value) none)
+pub syntax_of-Casei : (p : ℕ) (t : Box Expression Global) → syntax_of (Casei p t) ≡ node (casei_op p) (part (syntax_of t.value) none)
 unfolding syntax_of
 syntax_of-Casei p t = refl
 
@@ -100,11 +100,11 @@ pub syntax_of-Bbox : (p : ℕ) (low high : Corner) → syntax_of (Bbox p low hig
 unfolding syntax_of
 syntax_of-Bbox p low high = refl
 
-pub syntax_of-Spatial : (p : ℕ) (c : SpatialRelation) (a b : Box Tree Global) → syntax_of (Spatial p c a b) ≡ node (spatial_op p c) (part (syntax_of a.value) (part (syntax_of b.value) none))
+pub syntax_of-Spatial : (p : ℕ) (c : SpatialRelation) (a b : Box Expression Global) → syntax_of (Spatial p c a b) ≡ node (spatial_op p c) (part (syntax_of a.value) (part (syntax_of b.value) none))
 unfolding syntax_of
 syntax_of-Spatial p c a b = refl
 
-pub syntax_of-Temporal : (p : ℕ) (c : Relation) (a b : Box Tree Global) → syntax_of (Temporal p c a b) ≡ node (temporal_op p c) (part (syntax_of a.value) (part (syntax_of b.value) none))
+pub syntax_of-Temporal : (p : ℕ) (c : Relation) (a b : Box Expression Global) → syntax_of (Temporal p c a b) ≡ node (temporal_op p c) (part (syntax_of a.value) (part (syntax_of b.value) none))
 unfolding syntax_of
 syntax_of-Temporal p c a b = refl
 

@@ -143,9 +143,9 @@ accepted law s t (Ok filter) fault h = inr refl
 accepted law s t (Err Memory) fault h = inl refl
 accepted law s t (Err (At f)) fault h = absurd (law s t f h fault)
 
--- a tree whose places ascend with its least fault
+-- and a tree whose places ascend with its least fault
 pub refused : HasFaultOrCondition → HasOneLeastFault → (s : List Named) (t : Syntax) (result : Result Filter TypeFault) → OnOk result (IsCondition s t)
-    → (IsOrdered t → IfErr result (ForFault (IsLeast s t))) → IsOrdered t → (f : Fault) → IsLeast s t f → OrMemory result (result ≡ Err (At f))
+    → IfErr result (ForFault (IsLeast s t)) → IsOrdered t → (f : Fault) → IsLeast s t f → OrMemory result (result ≡ Err (At f))
 refused law one s t (Ok filter) condition least o f h = absurd (law s t f condition h.fault)
 refused law one s t (Err Memory) condition least o f h = inl refl
-refused law one s t (Err (At g)) condition least o f h = inr (ap (λ x. Err (At x)) (one s t g f o (least o) h))
+refused law one s t (Err (At g)) condition least o f h = inr (ap (λ x. Err (At x)) (one s t g f o least h))

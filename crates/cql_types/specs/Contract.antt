@@ -11,7 +11,7 @@ use Rattle.cql_types.specs.declared.fault.TypeFault.TheVariants.{Memory, At}
 use Rattle.cql_types.specs.declared.filter.Filter.{Filter}
 use Rattle.cql_types.specs.declared.filter.FlagTerm.{FlagTerm}
 use Rattle.cql_types.specs.declared.filter.TextTerm.{TextTerm}
-use Rattle.cql_tree.specs.declared.tree.Operation.{Operation}
+use Rattle.cql_tree.specs.declared.expression.Operation.{Operation}
 use Rattle.cql_types.specs.declared.judged.Judged.{Judged}
 use Rattle.cql_types.specs.declared.judged.JudgedStep.{JudgedStep}
 use Rattle.cql_types.specs.Kinds.{Kind, Mark, leaf_kind, misfit, IsSound, unsound, Has, Have}

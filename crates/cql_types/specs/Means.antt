@@ -18,7 +18,7 @@ use Rattle.cad_shape.specs.RegionRings.{rings_of}
 use Rattle.cql_lexer.specs.declared.token.Comparison.{Comparison}
 use Rattle.cql_lexer.specs.declared.token.SpatialRelation.{SpatialRelation}
 use Rattle.cql_tree.specs.Syntax.{Syntax, Parts, none, part, leaf, node, place_of, Leaf, name_leaf, number_leaf, text_leaf, truth_leaf, day_leaf, bound_leaf, Op, or_op, and_op, not_op, compare_op, like_op, between_op, in_op, is_null_op, computed_op, casei_op, date_op, interval_op, point_op, polygon_op, bbox_op, spatial_op, temporal_op}
-use Rattle.cql_tree.specs.declared.tree.Operation.{Operation}
+use Rattle.cql_tree.specs.declared.expression.Operation.{Operation}
 use Rattle.cql_types.specs.declared.filter.WholeTerm.{WholeTerm}
 use Rattle.cql_types.specs.declared.filter.WholeTerm.TheVariants as whole
 use Rattle.cql_types.specs.declared.filter.Step.{Step}

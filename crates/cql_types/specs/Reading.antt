@@ -10,9 +10,9 @@ use Rattle.cad_shape.specs.declared.ring.Ring.{Ring as Outline}
 use Rattle.cad_shape.specs.declared.polygon.Region.{Region}
 use Rattle.cad_shape.specs.Polygons.{IsRegion}
 use Rattle.cad_shape.specs.RegionRings.{rings_of as region_rings}
-use Rattle.cql_tree.specs.declared.tree.Number.{Number}
-use Rattle.cql_tree.specs.declared.tree.Corner.{Corner}
-use Rattle.cql_tree.specs.declared.tree.Ring.{Ring}
+use Rattle.cql_tree.specs.declared.expression.Number.{Number}
+use Rattle.cql_tree.specs.declared.expression.Corner.{Corner}
+use Rattle.cql_tree.specs.declared.expression.Ring.{Ring}
 use Rattle.cql_tree.specs.Syntax.{Syntax, Parts, none, part, parts_of, node, ring_op}
 use Rattle.cql_tree.specs.Views.{numbers_of, rings_of}
 use Rattle.cql_types.specs.declared.fault.Fault.{Fault}

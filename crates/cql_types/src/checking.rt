@@ -9,7 +9,6 @@ ghost use Rattle.cql_types.specs.Kinds.{IsCondition, IsFault, IsLeast};
 ghost use Rattle.cql_types.specs.Means.{IsFilter};
 ghost use Rattle.cql_types.specs.declared.fault.Fault.{Fault};
 ghost use Rattle.cql_types.specs.declared.fault.TypeFault.TheVariants.{At};
-ghost use Rattle.cql_tree.specs.Order.{IsOrdered};
 
 use crate::collect::one;
 use crate::fault::TypeFault;
@@ -20,20 +19,20 @@ use crate::{combine, leaf, literal};
 use cad_day::Relation;
 use cad_schema::Collection;
 use cql_lexer::{Comparison, SpatialRelation};
-use cql_tree::{Operand, Tree};
+use cql_tree::{Expression, Operand, Tree};
 use std::alloc::Global;
 
 /// The filter of the collection that the tree writes, or the fault with the least place.
 ///
-/// The places of a tree that was read from tokens ascend in the order of reading, and then no fault has a lesser place
-/// than the one that is told. Memory apart, there is a filter exactly where the tree is a condition.
+/// The tree's places ascend in the order of reading, so no fault has a lesser place than the one that is told. Memory apart,
+/// there is a filter exactly where the tree is a condition.
 pub fn check(alloc: Global, tree: &Tree, collection: Collection) -> Result<Filter, TypeFault>
-    ensures condition { OnOk result (IsCondition (schema_of collection) (syntax_of tree.now)) }
-    ensures filter { IfOk result (IsFilter (schema_of collection) (syntax_of tree.now)) }
-    ensures fault { IfErr result (ForFault (IsFault (schema_of collection) (syntax_of tree.now))) }
-    ensures least { IsOrdered (syntax_of tree.now) → IfErr result (ForFault (IsLeast (schema_of collection) (syntax_of tree.now))) }
-    ensures accepted { IsCondition (schema_of collection) (syntax_of tree.now) → OrMemory result (IsOk result) }
-    ensures refused { IsOrdered (syntax_of tree.now) → (f : Fault) → IsLeast (schema_of collection) (syntax_of tree.now) f
+    ensures condition { OnOk result (IsCondition (schema_of collection) (syntax_of tree.now.root)) }
+    ensures filter { IfOk result (IsFilter (schema_of collection) (syntax_of tree.now.root)) }
+    ensures fault { IfErr result (ForFault (IsFault (schema_of collection) (syntax_of tree.now.root))) }
+    ensures least { IfErr result (ForFault (IsLeast (schema_of collection) (syntax_of tree.now.root))) }
+    ensures accepted { IsCondition (schema_of collection) (syntax_of tree.now.root) → OrMemory result (IsOk result) }
+    ensures refused { (f : Fault) → IsLeast (schema_of collection) (syntax_of tree.now.root) f
         → OrMemory result (result ≡ Err (At f)) }
 {
     // A condition has no fault, and of all faults one alone has the least place.
@@ -43,64 +42,71 @@ pub fn check(alloc: Global, tree: &Tree, collection: Collection) -> Result<Filte
 }
 
 fn check_tree(alloc: Global, tree: &Tree, collection: Collection) -> Result<Filter, TypeFault>
-    ensures condition { OnOk result (IsCondition (schema_of collection) (syntax_of tree.now)) }
-    ensures filter { IfOk result (IsFilter (schema_of collection) (syntax_of tree.now)) }
-    ensures fault { IfErr result (ForFault (IsFault (schema_of collection) (syntax_of tree.now))) }
-    ensures least { IsOrdered (syntax_of tree.now) → IfErr result (ForFault (IsLeast (schema_of collection) (syntax_of tree.now))) }
+    ensures condition { OnOk result (IsCondition (schema_of collection) (syntax_of tree.now.root)) }
+    ensures filter { IfOk result (IsFilter (schema_of collection) (syntax_of tree.now.root)) }
+    ensures fault { IfErr result (ForFault (IsFault (schema_of collection) (syntax_of tree.now.root))) }
+    ensures least { IfErr result (ForFault (IsLeast (schema_of collection) (syntax_of tree.now.root))) }
 {
-    let judged = judge(alloc, tree, collection)?;
+    let judged = judge(alloc, &tree.root, collection)?;
     one(judged)
 }
 
 #[cycle(judges)]
-fn judge(alloc: Global, tree: &Tree, collection: Collection) -> Result<Judged, TypeFault>
+fn judge(alloc: Global, tree: &Expression, collection: Collection) -> Result<Judged, TypeFault>
     ensures { Judges (schema_of collection) (syntax_of tree.now) result }
 {
     match tree {
-        Tree::Name { place, name } => leaf::name(*place, name, collection),
-        Tree::Number(number) => leaf::number(number, collection),
-        Tree::Text { place, content } => leaf::text(*place, content, collection),
-        Tree::Truth { place, value } => Ok(leaf::truth(*place, *value, collection)),
-        Tree::Or { first, others } => judge_or(alloc, first, others, collection),
-        Tree::And { first, others } => judge_and(alloc, first, others, collection),
-        Tree::Not { place, part } => judge_not(alloc, *place, part, collection),
-        Tree::Compare { by, left, right } => judge_compare(alloc, *by, left, right, collection),
-        Tree::Like {
+        Expression::Name { place, name } => leaf::name(*place, name, collection),
+        Expression::Number(number) => leaf::number(number, collection),
+        Expression::Text { place, content } => leaf::text(*place, content, collection),
+        Expression::Truth { place, value } => Ok(leaf::truth(*place, *value, collection)),
+        Expression::Or { first, others } => judge_or(alloc, first, others, collection),
+        Expression::And { first, others } => judge_and(alloc, first, others, collection),
+        Expression::Not { place, part } => judge_not(alloc, *place, part, collection),
+        Expression::Compare { by, left, right } => judge_compare(
+            alloc, *by, left, right, collection,
+        ),
+        Expression::Like {
             is_negated,
             value,
             pattern,
         } => judge_like(alloc, *is_negated, value, pattern, collection),
-        Tree::Between {
+        Expression::Between {
             is_negated,
             value,
             low,
             high,
         } => judge_between(alloc, *is_negated, value, low, high, collection),
-        Tree::In {
+        Expression::In {
             is_negated,
             value,
             first,
             others,
         } => judge_in(alloc, *is_negated, value, first, others, collection),
-        Tree::IsNull { is_negated, value } => judge_is_null(alloc, *is_negated, value, collection),
-        Tree::Computed { first, others } => judge_computed(alloc, first, others, collection),
-        Tree::Casei { place, part } => judge_casei(alloc, *place, part, collection),
-        Tree::Date {
+        Expression::IsNull { is_negated, value } => judge_is_null(
+            alloc,
+            *is_negated,
+            value,
+            collection,
+        ),
+        Expression::Computed { first, others } => judge_computed(alloc, first, others, collection),
+        Expression::Casei { place, part } => judge_casei(alloc, *place, part, collection),
+        Expression::Date {
             place,
             text_place,
             text,
         } => judge_date(*place, *text_place, text, collection),
-        Tree::Interval { place, from, to } => literal::interval(*place, from, to, collection),
-        Tree::Point { place, corner } => literal::point(*place, corner, collection),
-        Tree::Polygon { place, rings } => literal::polygon(alloc, *place, rings, collection),
-        Tree::Bbox { place, low, high } => literal::bbox(*place, low, high, collection),
-        Tree::Spatial {
+        Expression::Interval { place, from, to } => literal::interval(*place, from, to, collection),
+        Expression::Point { place, corner } => literal::point(*place, corner, collection),
+        Expression::Polygon { place, rings } => literal::polygon(alloc, *place, rings, collection),
+        Expression::Bbox { place, low, high } => literal::bbox(*place, low, high, collection),
+        Expression::Spatial {
             place,
             by,
             left,
             right,
         } => judge_spatial(alloc, *place, *by, left, right, collection),
-        Tree::Temporal {
+        Expression::Temporal {
             place,
             by,
             left,
@@ -113,8 +119,8 @@ fn judge(alloc: Global, tree: &Tree, collection: Collection) -> Result<Judged, T
 #[cycle(judges)]
 fn judge_pair(
     alloc: Global,
-    left: &Tree,
-    right: &Tree,
+    left: &Expression,
+    right: &Expression,
     collection: Collection,
 ) -> Result<(Judged, Judged), TypeFault>
     ensures { JudgesPair (schema_of collection) (syntax_of left.now) (syntax_of right.now) result }
@@ -128,8 +134,8 @@ fn judge_pair(
 #[cycle(judges)]
 fn judge_list(
     alloc: Global,
-    first: &Tree,
-    others: &[Tree],
+    first: &Expression,
+    others: &[Expression],
     collection: Collection,
 ) -> Result<(Judged, Vec<Judged>), TypeFault>
     ensures { JudgesList (schema_of collection) (syntax_of first.now) (parts_of (syntaxes_of others.now)) result }
@@ -142,8 +148,8 @@ fn judge_list(
 #[cycle(judges)]
 fn judge_or(
     alloc: Global,
-    first: &Tree,
-    others: &[Tree],
+    first: &Expression,
+    others: &[Expression],
     collection: Collection,
 ) -> Result<Judged, TypeFault>
     ensures { Judges (schema_of collection) (node or_op (part (syntax_of first.now) (parts_of (syntaxes_of others.now)))) result }
@@ -155,8 +161,8 @@ fn judge_or(
 #[cycle(judges)]
 fn judge_and(
     alloc: Global,
-    first: &Tree,
-    others: &[Tree],
+    first: &Expression,
+    others: &[Expression],
     collection: Collection,
 ) -> Result<Judged, TypeFault>
     ensures { Judges (schema_of collection) (node and_op (part (syntax_of first.now) (parts_of (syntaxes_of others.now)))) result }
@@ -169,7 +175,7 @@ fn judge_and(
 fn judge_not(
     alloc: Global,
     place: usize,
-    operand: &Tree,
+    operand: &Expression,
     collection: Collection,
 ) -> Result<Judged, TypeFault>
     ensures { Judges (schema_of collection) (node (not_op place) (part (syntax_of operand.now) none)) result }
@@ -182,8 +188,8 @@ fn judge_not(
 fn judge_compare(
     alloc: Global,
     by: Comparison,
-    left: &Tree,
-    right: &Tree,
+    left: &Expression,
+    right: &Expression,
     collection: Collection,
 ) -> Result<Judged, TypeFault>
     ensures { Judges (schema_of collection) (node (compare_op by) (part (syntax_of left.now) (part (syntax_of right.now) none))) result }
@@ -196,8 +202,8 @@ fn judge_compare(
 fn judge_like(
     alloc: Global,
     is_negated: bool,
-    value: &Tree,
-    pattern: &Tree,
+    value: &Expression,
+    pattern: &Expression,
     collection: Collection,
 ) -> Result<Judged, TypeFault>
     ensures { Judges (schema_of collection) (node (like_op is_negated) (part (syntax_of value.now) (part (syntax_of pattern.now) none))) result }
@@ -210,9 +216,9 @@ fn judge_like(
 fn judge_between(
     alloc: Global,
     is_negated: bool,
-    value: &Tree,
-    low: &Tree,
-    high: &Tree,
+    value: &Expression,
+    low: &Expression,
+    high: &Expression,
     collection: Collection,
 ) -> Result<Judged, TypeFault>
     ensures { Judges (schema_of collection) (node (between_op is_negated) (part (syntax_of value.now) (part (syntax_of low.now) (part (syntax_of high.now) none)))) result }
@@ -226,9 +232,9 @@ fn judge_between(
 fn judge_in(
     alloc: Global,
     is_negated: bool,
-    value: &Tree,
-    first: &Tree,
-    others: &[Tree],
+    value: &Expression,
+    first: &Expression,
+    others: &[Expression],
     collection: Collection,
 ) -> Result<Judged, TypeFault>
     ensures { Judges (schema_of collection) (node (in_op is_negated) (part (syntax_of value.now) (part (syntax_of first.now) (parts_of (syntaxes_of others.now))))) result }
@@ -242,7 +248,7 @@ fn judge_in(
 fn judge_is_null(
     alloc: Global,
     is_negated: bool,
-    value: &Tree,
+    value: &Expression,
     collection: Collection,
 ) -> Result<Judged, TypeFault>
     ensures { Judges (schema_of collection) (node (is_null_op is_negated) (part (syntax_of value.now) none)) result }
@@ -254,7 +260,7 @@ fn judge_is_null(
 #[cycle(judges)]
 fn judge_computed(
     alloc: Global,
-    first: &Tree,
+    first: &Expression,
     others: &[Operand],
     collection: Collection,
 ) -> Result<Judged, TypeFault>
@@ -269,7 +275,7 @@ fn judge_computed(
 fn judge_casei(
     alloc: Global,
     place: usize,
-    operand: &Tree,
+    operand: &Expression,
     collection: Collection,
 ) -> Result<Judged, TypeFault>
     ensures { Judges (schema_of collection) (node (casei_op place) (part (syntax_of operand.now) none)) result }
@@ -295,8 +301,8 @@ fn judge_spatial(
     alloc: Global,
     place: usize,
     by: SpatialRelation,
-    left: &Tree,
-    right: &Tree,
+    left: &Expression,
+    right: &Expression,
     collection: Collection,
 ) -> Result<Judged, TypeFault>
     ensures { Judges (schema_of collection) (node (spatial_op place by) (part (syntax_of left.now) (part (syntax_of right.now) none))) result }
@@ -310,8 +316,8 @@ fn judge_temporal(
     alloc: Global,
     place: usize,
     by: Relation,
-    left: &Tree,
-    right: &Tree,
+    left: &Expression,
+    right: &Expression,
     collection: Collection,
 ) -> Result<Judged, TypeFault>
     ensures { Judges (schema_of collection) (node (temporal_op place by) (part (syntax_of left.now) (part (syntax_of right.now) none))) result }
@@ -323,7 +329,7 @@ fn judge_temporal(
 #[cycle(judges)]
 fn judge_all(
     alloc: Global,
-    trees: &[Tree],
+    trees: &[Expression],
     collection: Collection,
 ) -> Result<Vec<Judged>, TypeFault>
     ensures { JudgesParts (schema_of collection) (parts_of (syntaxes_of trees.now)) result }

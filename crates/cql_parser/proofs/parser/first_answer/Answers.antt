@@ -19,6 +19,6 @@ returns-in-Err-At c =
 pub invariant_of-result : goal.invariant_of-result
 invariant_of-result c = record {
   ordered = rw c.into_inner.ensures
-  (is_ordered (marks c.as_slice-list.result.now) [] (syntax_of c.in-Ok.root.value) (is_reading _ _ c.in-Ok.ensures).reads
-  (rw c.as_slice-list.ensures.value c.args.tokens.now.ordered));
+      (is_ordered (marks c.as_slice-list.result.now) [] (syntax_of c.in-Ok.root.value) (is_reading _ _ c.in-Ok.ensures).reads
+      (rw c.as_slice-list.ensures.value c.args.tokens.now.ordered));
 }

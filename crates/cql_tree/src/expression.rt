@@ -7,7 +7,7 @@ use cql_lexer::{Comparison, SpatialRelation};
 /// A place is the byte of the text at which a token begins.
 #[derive(Drop)]
 #[cycle(tree)]
-pub enum Node {
+pub enum Expression {
     /// A property's name.
     Name {
         /// The byte at which it begins.
@@ -34,75 +34,75 @@ pub enum Node {
     /// Two parts or more, joined by OR.
     Or {
         /// The first part.
-        first: Box<Node>,
+        first: Box<Expression>,
         /// The further parts, one at least.
-        others: Vec<Node>,
+        others: Vec<Expression>,
     },
     /// Two parts or more, joined by AND.
     And {
         /// The first part.
-        first: Box<Node>,
+        first: Box<Expression>,
         /// The further parts, one at least.
-        others: Vec<Node>,
+        others: Vec<Expression>,
     },
     /// The part behind a NOT.
     Not {
         /// The byte at which NOT begins.
         place: usize,
         /// What is negated.
-        part: Box<Node>,
+        part: Box<Expression>,
     },
     /// Two values compared.
     Compare {
         /// How the sides are compared.
         by: Comparison,
         /// The side before the sign.
-        left: Box<Node>,
+        left: Box<Expression>,
         /// The side behind it.
-        right: Box<Node>,
+        right: Box<Expression>,
     },
     /// `[NOT] LIKE`
     Like {
         /// Whether NOT stands before LIKE.
         is_negated: bool,
         /// What is to be like the pattern.
-        value: Box<Node>,
+        value: Box<Expression>,
         /// The pattern.
-        pattern: Box<Node>,
+        pattern: Box<Expression>,
     },
     /// `[NOT] BETWEEN`, with both ends.
     Between {
         /// Whether NOT stands before BETWEEN.
         is_negated: bool,
         /// What is to lie between the bounds.
-        value: Box<Node>,
+        value: Box<Expression>,
         /// The lower bound.
-        low: Box<Node>,
+        low: Box<Expression>,
         /// The upper bound.
-        high: Box<Node>,
+        high: Box<Expression>,
     },
     /// `[NOT] IN`, with one item or more.
     In {
         /// Whether NOT stands before IN.
         is_negated: bool,
         /// What is to be one of the items.
-        value: Box<Node>,
+        value: Box<Expression>,
         /// The first item.
-        first: Box<Node>,
+        first: Box<Expression>,
         /// The further items.
-        others: Vec<Node>,
+        others: Vec<Expression>,
     },
     /// `IS [NOT] NULL`
     IsNull {
         /// Whether NOT stands behind IS.
         is_negated: bool,
         /// What is to have no value.
-        value: Box<Node>,
+        value: Box<Expression>,
     },
     /// Two parts or more, computed from the left.
     Computed {
         /// The first part.
-        first: Box<Node>,
+        first: Box<Expression>,
         /// The further parts and what is done with each, one at least.
         others: Vec<Operand>,
     },
@@ -111,7 +111,7 @@ pub enum Node {
         /// The byte at which the word begins.
         place: usize,
         /// What is folded.
-        part: Box<Node>,
+        part: Box<Expression>,
     },
     /// `DATE('..')`: the place of the keyword, and the text with its own place.
     Date {
@@ -161,9 +161,9 @@ pub enum Node {
         /// The relation that is asked for.
         by: SpatialRelation,
         /// The first argument.
-        left: Box<Node>,
+        left: Box<Expression>,
         /// The second argument.
-        right: Box<Node>,
+        right: Box<Expression>,
     },
     /// One of the functions whose names begin with `T_`.
     Temporal {
@@ -172,9 +172,9 @@ pub enum Node {
         /// The relation that is asked for.
         by: Relation,
         /// The first argument.
-        left: Box<Node>,
+        left: Box<Expression>,
         /// The second argument.
-        right: Box<Node>,
+        right: Box<Expression>,
     },
 }
 
@@ -211,7 +211,7 @@ pub struct Operand {
     /// What is done with it.
     pub by: Operation,
     /// The part.
-    pub tree: Node,
+    pub tree: Expression,
 }
 
 /// An end of INTERVAL.
