@@ -1,8 +1,9 @@
 //! Names of the objects that a version names.
 
 ghost use Rattle.std.specs.Prelude.{◌≡◌};
+ghost use Rattle.std.specs.List.{prefix_len};
 ghost use Rattle.std.specs.Option.{option_copied};
-ghost use Rattle.cad_versions.specs.Versions.{history};
+ghost use Rattle.cad_versions.specs.Versions.{is_of, history};
 ghost use Rattle.cad_feature.specs.Lifespans.{holds_on};
 ghost use Rattle.cad_feature.specs.Flatten.{version_on as version_holding, joined_name as name_joined};
 
@@ -10,7 +11,17 @@ use crate::objects::Objects;
 use cad_day::Day;
 use cad_versions::{ObjectId, Version, Words};
 
-/// The versions of the object, the oldest first: one run of those near it, which are searched by halves.
+/// How many versions at the front are of the object.
+fn count_of(versions: &[Version], object: ObjectId) -> usize
+    ensures { result ≡ prefix_len (is_of object) versions.now }
+{
+    versions
+        .iter()
+        .take_while(|version| version.object.number() == object.number())
+        .count()
+}
+
+/// The versions of the object, the oldest first: one run of those near it. Its start is searched by halves, and its end one by one, for it has few.
 fn versions_of<'a>(objects: &Objects<'a>, object: ObjectId) -> &'a [Version]
     ensures { result.now ≡ history object objects.now.versions.now }
 {
@@ -18,8 +29,7 @@ fn versions_of<'a>(objects: &Objects<'a>, object: ObjectId) -> &'a [Version]
     let near = objects.near(object);
     let first = near.partition_point(|version| version.object.number() < number);
     let rest = &near[first..];
-    let count = rest.partition_point(|version| version.object.number() <= number);
-    &rest[..count]
+    &rest[..count_of(rest, object)]
 }
 
 fn holds(version: &Version, day: Day) -> bool
