@@ -1,7 +1,6 @@
 //! Names of the objects that a version names.
 
-ghost use Rattle.std.specs.Prelude.{◌≡◌};
-ghost use Rattle.std.specs.List.{prefix_len};
+ghost use Rattle.std.specs.Prelude.{◌≡◌, take_while};
 ghost use Rattle.std.specs.Option.{option_copied};
 ghost use Rattle.cad_versions.specs.Versions.{is_of, history};
 ghost use Rattle.cad_feature.specs.Lifespans.{holds_on};
@@ -11,25 +10,14 @@ use crate::objects::Objects;
 use cad_day::Day;
 use cad_versions::{ObjectId, Version, Words};
 
-/// How many versions at the front are of the object.
-fn count_of(versions: &[Version], object: ObjectId) -> usize
-    ensures { result ≡ prefix_len (is_of object) versions.now }
-{
-    versions
-        .iter()
-        .take_while(|version| version.object.number() == object.number())
-        .count()
-}
-
-/// The versions of the object, the oldest first: one run of those near it. Its start is searched by halves, and its end one by one, for it has few.
-fn versions_of<'a>(objects: &Objects<'a>, object: ObjectId) -> &'a [Version]
-    ensures { result.now ≡ history object objects.now.versions.now }
+/// The versions from the object's first on: those near it are searched by halves.
+fn from_object<'a>(objects: &Objects<'a>, object: ObjectId) -> &'a [Version]
+    ensures { take_while (is_of object) result.now ≡ history object objects.now.versions.now }
 {
     let number = object.number();
     let near = objects.near(object);
     let first = near.partition_point(|version| version.object.number() < number);
-    let rest = &near[first..];
-    &rest[..count_of(rest, object)]
+    &near[first..]
 }
 
 fn holds(version: &Version, day: Day) -> bool
@@ -48,12 +36,10 @@ fn holds(version: &Version, day: Day) -> bool
 fn version_on<'a>(objects: &Objects<'a>, day: Day, object: ObjectId) -> Option<&'a Version>
     ensures { option_copied result ≡ version_holding objects.now.versions.now day object }
 {
-    for version in versions_of(objects, object) {
-        if holds(version, day) {
-            return Some(version);
-        }
-    }
-    None
+    from_object(objects, object)
+        .iter()
+        .take_while(|version| version.object.number() == object.number())
+        .find(|version| holds(version, day))
 }
 
 /// The name that the object had on the day.
