@@ -1,10 +1,54 @@
 -- Loops over lists that map or filter what they go through, and order that a filter and a map keep.
-use Rattle.std.proofs.Common.{◌≡◌, ℕ, ◌+◌, ◌<◌, Bool, true, false, cond, List, [], ◌∷◌, ◌++◌, length, map, filter, take, sym, ap, ◌∙◌, get_or, Ordering, Less, append-nil}
-use Rattle.std.specs.List.{AllByRecursion}
+use Rattle.std.proofs.Common.{◌≡◌, ℕ, ◌+◌, ◌<◌, ◌≤◌, zero, suc, Bool, true, false, not, ◌||◌, cond, List, [], ◌∷◌, ◌++◌, length, map, filter, take, drop, refl, sym, ap, ◌∙◌, get_or, Ordering, Less, append-nil, Some, None, arith, true≢false}
+use Rattle.std.specs.List.{AllByRecursion, position_or_len, list_any}
 use Rattle.std.specs.List.Sorted.{IsStrictlySortedBy}
 use Rattle.std.proofs.lemmas.List.{map_push, take_more}
 use Rattle.std.proofs.lemmas.List.Elements.{filter_more}
+use Rattle.std.proofs.lemmas.List.Sums.{prefix_len_passes}
+use Rattle.std.proofs.lemmas.Bool.Decides.{nat_tests}
 use Rattle.std.proofs.lemmas.List.Kept.{IsStrictlySortedBy-filter}
+use lib.Dec.{ltb}
+
+-- ---- what a filter leaves out may be cut off
+
+module _ {A : Type 0} (p : A → Bool) where
+  pub front_cut : (us : List A) (n : ℕ) → ((j : ℕ) (d : A) → j < n → j < length us → p (get_or us j d) ≡ false) → filter p (drop n us) ≡ filter p us
+  front_cut us zero none = refl
+  front_cut [] (suc n) none = refl
+  front_cut (u ∷ us) (suc n) none = rw (none 0 u (omega arith) (omega arith)) (front_cut us n (λ j d h k. none (suc j) d (omega (arith, h)) (omega (arith, k))))
+
+  pub back_cut : (us : List A) (n : ℕ) → ((j : ℕ) (d : A) → n ≤ j → j < length us → p (get_or us j d) ≡ false) → filter p (take n us) ≡ filter p us
+  back_cut [] zero none = refl
+  back_cut [] (suc n) none = refl
+  back_cut (u ∷ us) zero none = rw (none 0 u (omega arith) (omega arith)) (back_cut us zero (λ j d h k. none (suc j) d (omega arith) (omega (arith, k))))
+  back_cut (u ∷ us) (suc n) none = ap (λ ws. cond (p u) (u ∷ ws) ws) (back_cut us n (λ j d h k. none (suc j) d (omega (arith, h)) (omega (arith, k))))
+
+  -- as what stands before the first that passes
+  pub from_first : (us : List A) → filter p (drop (position_or_len p us) us) ≡ filter p us
+  from_first us = front_cut us (position_or_len p us) (λ j d h k. fails (p (get_or us j d)) (prefix_len_passes (λ u. not (p u)) us j d h))
+    where
+      fails : (b : Bool) → not b ≡ true → b ≡ false
+      fails true e = absurd (true≢false (sym e))
+      fails false e = refl
+
+-- the place of the first that passes, and that there is none
+pub found_at : (m n k : ℕ) → cond (ltb m n) (Some m) None ≡ Some k → m ≡ k
+found_at m n k = go (ltb m n)
+  where
+    go : (b : Bool) → cond b (Some m) None ≡ Some k → m ≡ k
+    go true e = cc
+    go false e = absurd cc
+
+pub found_nowhere : (m n : ℕ) → cond (ltb m n) (Some m) None ≡ None → n ≤ m
+found_nowhere m n e = go (ltb m n) refl e
+  where
+    go : (b : Bool) → ltb m n ≡ b → cond b (Some m) None ≡ None → n ≤ m
+    go true k e = absurd cc
+    go false k e = grind (arith, nat_tests)
+
+pub list_any_mapped : {A B : Type 0} (f : A → B) (p : B → Bool) (us : List A) → list_any (λ u. p (f u)) us ≡ list_any p (map f us)
+list_any_mapped f p [] = refl
+list_any_mapped f p (u ∷ us) = ap (λ b. p (f u) || b) (list_any_mapped f p us)
 
 module _ {A B : Type 0} (f : A → B) where
   -- one element more of those that are mapped; they are seen by g

@@ -1,19 +1,19 @@
 -- The versions of one object are one run of a list that ascends by identifier.
-use Rattle.std.proofs.Common.{◌≡◌, ℕ, zero, suc, ◌-◌, ◌≤◌, ◌<◌, pos, Bool, true, false, List, [], ◌∷◌, length, take, drop, refl, sym, ap, ◌∙◌, arith, get_or, Ordering, Less, int_cmp}
-use Rattle.std.specs.List.{AllByRecursion}
+use Rattle.std.proofs.Common.{◌≡◌, ℕ, zero, suc, ◌+◌, ◌-◌, cond, ◌≤◌, ◌<◌, pos, Bool, true, false, List, [], ◌∷◌, length, take, drop, refl, sym, ap, ◌∙◌, arith, get_or, Ordering, Less, int_cmp}
+use Rattle.std.specs.List.{AllByRecursion, prefix_len}
 use Rattle.std.specs.List.Sorted.{IsStrictlySortedBy, IsNonDecreasingBy, IsPartitionedBy, IsPartitionPoint}
 use Rattle.std.specs.Ordering.{ordering_then}
 use Rattle.std.proofs.lemmas.Int.{ints}
 use Rattle.std.proofs.lemmas.List.{take_all, length-drop}
 use Rattle.std.proofs.lemmas.Bool.Decides.{nat_tests}
-use Rattle.std.proofs.lemmas.List.Sorted.{IsPartitionedBy-ltb, IsPartitionedBy-leb, IsNonDecreasingBy-drop}
+use Rattle.std.proofs.lemmas.List.Sorted.{IsPartitionedBy-ltb, IsNonDecreasingBy-drop}
 use Rattle.cad_versions.specs.declared.object_id.ObjectId.{ObjectId}
 use Rattle.cad_versions.specs.Objects.{object_number}
 use Rattle.cad_versions.specs.Identifiers.{by_identifier}
 use Rattle.cad_versions.specs.VersionedObject.{VersionedObject}
 use Rattle.cad_versions.specs.Versions.{is_of, history}
 use Rattle.cad_feature.specs.Stretches.{number_in}
-use lib.Dec.{ltb, leb}
+use lib.Dec.{ltb}
 
 -- what stands from a place on, as a slice has it
 pub rest_is : (vs : List VersionedObject) (first : ℕ) → take (length vs - first) (drop first vs) ≡ drop first vs
@@ -43,53 +43,49 @@ module _ (object : ObjectId) where
   abbrev pub is_less : VersionedObject → Bool
   is_less v = ltb (number_in v) (object_number object)
 
-  abbrev pub is_no_more : VersionedObject → Bool
-  is_no_more v = leb (number_in v) (object_number object)
-
   abbrev pub StartsAt : List VersionedObject → ℕ → Type 0
   StartsAt = IsPartitionPoint (λ v. is_less v ≡ true) (λ v. is_less v ≡ false)
-
-  abbrev pub StopsAt : List VersionedObject → ℕ → Type 0
-  StopsAt = IsPartitionPoint (λ v. is_no_more v ≡ true) (λ v. is_no_more v ≡ false)
 
   less_is_other : (v : VersionedObject) → is_less v ≡ true → is_of object v ≡ false
   less_is_other v h = grind (arith, ints, nat_tests)
 
-  more_is_other : (v : VersionedObject) → is_no_more v ≡ false → is_of object v ≡ false
+  other_is_more : (v : VersionedObject) → is_less v ≡ false → is_of object v ≡ false → object_number object < number_in v
+  other_is_more v h k = grind (arith, ints, nat_tests)
+
+  more_is_other : (v : VersionedObject) → object_number object < number_in v → is_of object v ≡ false
   more_is_other v h = grind (arith, ints, nat_tests)
-
-  neither_is_it : (v : VersionedObject) → is_less v ≡ false → is_no_more v ≡ true → is_of object v ≡ true
-  neither_is_it v h k = grind (arith, ints, nat_tests)
-
-  kept : (v : VersionedObject) (vs : List VersionedObject) → is_of object v ≡ true → history object (v ∷ vs) ≡ v ∷ history object vs
-  kept v vs e = rw e refl
 
   left : (v : VersionedObject) (vs : List VersionedObject) → is_of object v ≡ false → history object (v ∷ vs) ≡ history object vs
   left v vs e = rw e refl
 
-  front_is : (vs : List VersionedObject) (count : ℕ) → StartsAt vs 0 → StopsAt vs count → take count vs ≡ history object vs
-  front_is [] zero start stop = refl
-  front_is [] (suc count) start stop = refl
-  front_is (v ∷ vs) zero start stop =
-      sym (left v vs (more_is_other v (stop.1 0 v (omega arith) (omega arith))) ∙ sym (front_is vs zero ((λ k d le h. absurd (omega (arith, h))), λ k d le h. start.1 (suc k) d (omega arith) (omega (arith, h))) ((λ k d le h. absurd (omega (arith, h))), λ k d le h. stop.1 (suc k) d (omega arith) (omega (arith, h)))))
-  front_is (v ∷ vs) (suc count) start stop =
-      ap (λ ws. v ∷ ws) (front_is vs count ((λ k d le h. absurd (omega (arith, h))), λ k d le h. start.1 (suc k) d (omega arith) (omega (arith, h)))
-      ((λ k d le h. stop.0 (suc k) d (omega arith) (omega (arith, h))), λ k d le h. stop.1 (suc k) d (omega (arith, le)) (omega (arith, h))))
-      ∙ sym (kept v vs (neither_is_it v (start.1 0 v (omega arith) (omega arith)) (stop.0 0 v (omega arith) (omega arith))))
+  -- no version is of the object where all have greater numbers
+  none_is : (vs : List VersionedObject) → ((j : ℕ) (d : VersionedObject) → j < length vs → object_number object < number_in (get_or vs j d)) → history object vs ≡ []
+  none_is [] more = refl
+  none_is (v ∷ vs) more = left v vs (more_is_other v (more 0 v (omega arith))) ∙ none_is vs (λ j d h. more (suc j) d (omega (arith, h)))
 
-  run_is : (vs : List VersionedObject) (first count : ℕ) → StartsAt vs first → StopsAt (drop first vs) count → take count (drop first vs) ≡ history object vs
-  run_is vs zero count start stop = front_is vs count start stop
-  run_is [] (suc first) zero start stop = refl
-  run_is [] (suc first) (suc count) start stop = refl
-  run_is (v ∷ vs) (suc first) count start stop =
-      run_is vs first count ((λ k d le h. start.0 (suc k) d (omega arith) (omega (arith, h))), λ k d le h. start.1 (suc k) d (omega (arith, le)) (omega (arith, h))) stop
+  front_is : (vs : List VersionedObject) → IsNonDecreasingBy number_in vs → StartsAt vs 0 → take (prefix_len (is_of object) vs) vs ≡ history object vs
+  front_is [] rising start = refl
+  front_is (v ∷ vs) rising start =
+      go (is_of object v) refl (front_is vs (λ i j d le h. rising (suc i) (suc j) d (omega (arith, le)) (omega (arith, h))) ((λ k d le h. absurd (omega (arith, h))), λ k d le h. start.1 (suc k) d (omega arith) (omega (arith, h))))
+    where
+      go : (b : Bool) → is_of object v ≡ b → take (prefix_len (is_of object) vs) vs ≡ history object vs → take (cond b (1 + prefix_len (is_of object) vs) 0) (v ∷ vs) ≡ cond b (v ∷ history object vs) (history object vs)
+      go true e rest = ap (λ n. take n (v ∷ vs)) one ∙ ap (λ ws. v ∷ ws) rest
+        where
+          one : 1 + prefix_len (is_of object) vs ≡ suc (prefix_len (is_of object) vs)
+          one = omega arith
+      go false e rest =
+          let least = other_is_more v (start.1 0 v (omega arith) (omega arith)) e in
+          sym (none_is vs (λ j d h. omega (arith, least, rising 0 (suc j) d (omega arith) (omega (arith, h)))))
+
+  run_is : (vs : List VersionedObject) (first : ℕ) → IsNonDecreasingBy number_in (drop first vs) → StartsAt vs first → take (prefix_len (is_of object) (drop first vs)) (drop first vs) ≡ history object vs
+  run_is vs zero rising start = front_is vs rising start
+  run_is [] (suc first) rising start = refl
+  run_is (v ∷ vs) (suc first) rising start =
+      run_is vs first rising ((λ k d le h. start.0 (suc k) d (omega arith) (omega (arith, h))), λ k d le h. start.1 (suc k) d (omega (arith, le)) (omega (arith, h)))
       ∙ sym (left v vs (less_is_other v (start.0 0 v (omega arith) (omega arith))))
 
   pub begins : (vs : List VersionedObject) → IsNonDecreasingBy number_in vs → IsPartitionedBy is_less vs
   begins vs rising = IsPartitionedBy-ltb number_in vs (object_number object) rising
 
-  pub ends : (vs : List VersionedObject) (first : ℕ) → IsNonDecreasingBy number_in vs → IsPartitionedBy is_no_more (drop first vs)
-  ends vs first rising = IsPartitionedBy-leb number_in (drop first vs) (object_number object) (IsNonDecreasingBy-drop number_in first vs rising)
-
-  pub run_of : (vs rest : List VersionedObject) (first count : ℕ) → rest ≡ drop first vs → StartsAt vs first → StopsAt rest count → take count rest ≡ history object vs
-  run_of vs rest first count is start stop = rw is (run_is vs first count start (rw is at stop))
+  pub run_of : (vs rest : List VersionedObject) (first : ℕ) → rest ≡ drop first vs → IsNonDecreasingBy number_in vs → StartsAt vs first → take (prefix_len (is_of object) rest) rest ≡ history object vs
+  run_of vs rest first is rising start = rw is (run_is vs first (IsNonDecreasingBy-drop number_in first vs rising) start)

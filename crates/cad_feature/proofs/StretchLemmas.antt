@@ -1,5 +1,5 @@
 -- Versions by the stretches of their objects' numbers.
-use Rattle.std.proofs.Common.{◌≡◌, ℕ, zero, suc, ◌+◌, ◌-◌, ◌/◌, ◌*◌, ◌≤◌, ◌<◌, Bool, true, false, List, [], ◌∷◌, ◌++◌, length, length-append, take, drop, filter, cond, refl, sym, ap, ◌∙◌, subst, arith, get_or, replicate}
+use Rattle.std.proofs.Common.{◌≡◌, ℕ, ◌+◌, ◌-◌, ◌/◌, ◌≤◌, ◌<◌, Bool, true, false, List, [], ◌∷◌, ◌++◌, length, length-append, take, drop, filter, refl, sym, ap, ◌∙◌, subst, arith, get_or, replicate}
 use Rattle.std.specs.List.{AllWithin}
 use Rattle.std.specs.List.Sorted.{IsNonDecreasingBy}
 use Rattle.std.proofs.Math.Nat.{div-mul-le_self}
@@ -12,27 +12,17 @@ use Rattle.cad_versions.specs.Objects.{object_number}
 use Rattle.cad_versions.specs.VersionedObject.{VersionedObject}
 use Rattle.cad_versions.specs.Versions.{is_of, history}
 use Rattle.cad_feature.specs.Stretches.{number_in, stretch_in, PartAt, AreStarts}
+use Rattle.cad_feature.proofs.ListLemmas.{front_cut, back_cut}
 use lib.Dec.{leb, ltb}
 
 -- ---- what a filter leaves out may be cut off
 
 module _ {A : Type 0} (p : A → Bool) where
-  front_cut : (us : List A) (n : ℕ) → ((j : ℕ) (d : A) → j < n → j < length us → p (get_or us j d) ≡ false) → filter p (drop n us) ≡ filter p us
-  front_cut us zero none = refl
-  front_cut [] (suc n) none = refl
-  front_cut (u ∷ us) (suc n) none = rw (none 0 u (omega arith) (omega arith)) (front_cut us n (λ j d h k. none (suc j) d (omega (arith, h)) (omega (arith, k))))
-
-  back_cut : (us : List A) (n : ℕ) → ((j : ℕ) (d : A) → n ≤ j → j < length us → p (get_or us j d) ≡ false) → filter p (take n us) ≡ filter p us
-  back_cut [] zero none = refl
-  back_cut [] (suc n) none = refl
-  back_cut (u ∷ us) zero none = rw (none 0 u (omega arith) (omega arith)) (back_cut us zero (λ j d h k. none (suc j) d (omega arith) (omega (arith, k))))
-  back_cut (u ∷ us) (suc n) none = ap (λ ws. cond (p u) (u ∷ ws) ws) (back_cut us n (λ j d h k. none (suc j) d (omega (arith, h)) (omega (arith, k))))
-
   -- what stands between two places
   between_is : (us : List A) (start end : ℕ) → start ≤ end → ((j : ℕ) (d : A) → j < start → j < length us → p (get_or us j d) ≡ false) → ((j : ℕ) (d : A) → end ≤ j → j < length us → p (get_or us j d) ≡ false) → filter p (take (end - start) (drop start us)) ≡ filter p us
   between_is us start end h before after =
-      back_cut (drop start us) (end - start) (λ j d k l. subst (λ x. p x ≡ false) (sym (get_or-drop start us j d)) (after (start + j) d (omega (arith, h, k)) (omega (arith, l, length-drop start us))))
-      ∙ front_cut us start before
+      back_cut p (drop start us) (end - start) (λ j d k l. subst (λ x. p x ≡ false) (sym (get_or-drop start us j d)) (after (start + j) d (omega (arith, h, k)) (omega (arith, l, length-drop start us))))
+      ∙ front_cut p us start before
 
 -- ---- those of one object stand in one stretch
 

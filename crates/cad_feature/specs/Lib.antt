@@ -1,5 +1,6 @@
 pub mod Features
 pub mod Flatten
+pub mod Joined
 pub mod Laws
 pub mod Lifespans
 pub mod Limits

@@ -1,8 +1,10 @@
 //! From versions to features.
 
-ghost use Rattle.std.specs.Prelude.{◌≡◌, IfOk, IsOk};
+ghost use Rattle.std.specs.Prelude.{◌≡◌, IfOk, drop};
+ghost use Rattle.std.specs.List.{position_or_len};
 ghost use Rattle.cad_versions.specs.Listing.{IsListing};
 ghost use Rattle.cad_feature.specs.Features.{IsFeatureOf, AreFeaturesOf};
+ghost use Rattle.cad_feature.specs.Joined.{is_joined as is_joined_of, joins_names as joins_names_of};
 ghost use Rattle.cad_feature.specs.Flatten.{class_for, is_in as is_of_class, feature_in, features_in};
 
 use crate::Feature;
@@ -55,26 +57,47 @@ fn feature(
     })
 }
 
-/// Whether the collection's schema has the name of a unit or of a party.
-fn joins_names(collection: Collection) -> bool {
-    schema(collection).iter().any(|property| {
-        matches!(
-            property.attribute,
-            Attribute::UnitName | Attribute::PartyName
-        )
-    })
+/// The versions from the first of the collection's class on.
+fn from_first(versions: &[Version], collection: Collection) -> &[Version]
+    ensures { result.now ≡ drop (position_or_len (is_of_class collection) versions.now) versions.now }
+{
+    match versions
+        .iter()
+        .position(|version| is_in(version, collection))
+    {
+        Some(first) => &versions[first..],
+        None => &[],
+    }
 }
 
-/// The versions as the collection's features find names among them: with starts, unless there is no name to find.
-fn objects(
+/// Whether it says the name of another object.
+fn is_joined(attribute: Attribute) -> bool
+    ensures { result ≡ is_joined_of attribute }
+{
+    matches!(attribute, Attribute::UnitName | Attribute::PartyName)
+}
+
+/// Whether features of the collection have names of other objects.
+fn joins_names(collection: Collection) -> bool
+    ensures { result ≡ joins_names_of collection }
+{
+    let properties = schema(collection);
+    properties
+        .iter()
+        .any(|property| is_joined(property.attribute))
+}
+
+/// All versions, as the features of some find names among them: with starts, unless there is no name to find.
+fn objects<'a>(
     alloc: Global,
-    versions: &[Version],
+    versions: &'a [Version],
+    some: &[Version],
     collection: Collection,
-) -> Result<Objects<'_>, AllocError>
+) -> Result<Objects<'a>, AllocError>
     requires { IsListing versions.now }
     ensures { IfOk result (λ objects. objects.versions.now ≡ versions.now) }
 {
-    if joins_names(collection) {
+    if !some.is_empty() && joins_names(collection) {
         Objects::marked(alloc, versions)
     } else {
         Ok(Objects::unmarked(alloc, versions))
@@ -93,9 +116,10 @@ pub fn flatten(
     ensures features { IfOk result (λ features. features.items ≡ features_in versions.now collection) }
     ensures listed { IfOk result (λ features. AreFeaturesOf collection features.items) }
 {
-    let objects = objects(alloc, versions, collection)?;
+    let rest = from_first(versions, collection);
+    let objects = objects(alloc, versions, rest, collection)?;
     let mut features = Vec::new(alloc);
-    for version in versions {
+    for version in rest {
         if is_in(version, collection) {
             let feature = feature(alloc, &objects, version, collection)?;
             features.push(feature)?;

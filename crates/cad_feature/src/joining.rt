@@ -1,8 +1,8 @@
 //! Names of the objects that a version names.
 
-ghost use Rattle.std.specs.Prelude.{◌≡◌};
+ghost use Rattle.std.specs.Prelude.{◌≡◌, take_while};
 ghost use Rattle.std.specs.Option.{option_copied};
-ghost use Rattle.cad_versions.specs.Versions.{history};
+ghost use Rattle.cad_versions.specs.Versions.{is_of, history};
 ghost use Rattle.cad_feature.specs.Lifespans.{holds_on};
 ghost use Rattle.cad_feature.specs.Flatten.{version_on as version_holding, joined_name as name_joined};
 
@@ -10,16 +10,14 @@ use crate::objects::Objects;
 use cad_day::Day;
 use cad_versions::{ObjectId, Version, Words};
 
-/// The versions of the object, the oldest first: one run of those near it, which are searched by halves.
-fn versions_of<'a>(objects: &Objects<'a>, object: ObjectId) -> &'a [Version]
-    ensures { result.now ≡ history object objects.now.versions.now }
+/// The versions from the object's first on: those near it are searched by halves.
+fn from_object<'a>(objects: &Objects<'a>, object: ObjectId) -> &'a [Version]
+    ensures { take_while (is_of object) result.now ≡ history object objects.now.versions.now }
 {
     let number = object.number();
     let near = objects.near(object);
     let first = near.partition_point(|version| version.object.number() < number);
-    let rest = &near[first..];
-    let count = rest.partition_point(|version| version.object.number() <= number);
-    &rest[..count]
+    &near[first..]
 }
 
 fn holds(version: &Version, day: Day) -> bool
@@ -38,12 +36,10 @@ fn holds(version: &Version, day: Day) -> bool
 fn version_on<'a>(objects: &Objects<'a>, day: Day, object: ObjectId) -> Option<&'a Version>
     ensures { option_copied result ≡ version_holding objects.now.versions.now day object }
 {
-    for version in versions_of(objects, object) {
-        if holds(version, day) {
-            return Some(version);
-        }
-    }
-    None
+    from_object(objects, object)
+        .iter()
+        .take_while(|version| version.object.number() == object.number())
+        .find(|version| holds(version, day))
 }
 
 /// The name that the object had on the day.

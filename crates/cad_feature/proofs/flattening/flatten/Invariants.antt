@@ -6,6 +6,6 @@ use Rattle.cad_feature.proofs.flattening.flatten.Given as goal
 
 abbrev pub invariant-loop-version : goal.invariant-loop-version
 invariant-loop-version l = record {
-  so_far : l.features.items ≡ map (feature_in l.versions l.collection) (filter (is_in l.collection) (take l.version-index l.versions));
+  so_far : l.features.items ≡ map (feature_in l.versions l.collection) (filter (is_in l.collection) (take l.version-index l.rest));
   each : All (IsFeatureOf l.collection) l.features.items;
 }

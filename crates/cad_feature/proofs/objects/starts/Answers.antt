@@ -1,4 +1,4 @@
-use Rattle.std.proofs.Common.{◌≡◌, refl, ◌+◌, ◌-◌, ◌/◌, ◌++◌, length, replicate, arith, sym, ap, ◌∙◌, subst}
+use Rattle.std.proofs.Common.{◌≡◌, refl, ◌+◌, ◌-◌, ◌/◌, ◌++◌, length, replicate, arith, ap, ◌∙◌, subst}
 use Rattle.cad_feature.specs.Stretches.{number_in, AreStarts}
 use Rattle.cad_feature.proofs.RunLemmas.{numbers_rise}
 use Rattle.cad_feature.proofs.StretchLemmas.{starts_more}

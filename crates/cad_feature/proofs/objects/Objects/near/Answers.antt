@@ -1,6 +1,4 @@
 use Rattle.std.proofs.Common.{◌/◌, ap}
-use Rattle.std.proofs.lemmas.List.Sorted.{IsNonDecreasingBy-take, IsNonDecreasingBy-drop}
-use Rattle.cad_feature.specs.Stretches.{number_in}
 use Rattle.cad_feature.proofs.StretchLemmas.{in_order, near_all}
 use Rattle.cad_feature.proofs.objects.Objects.near.Goals as goal
 

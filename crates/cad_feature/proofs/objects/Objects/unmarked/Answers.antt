@@ -1,4 +1,3 @@
-use Rattle.std.proofs.Common.{arith}
 use Rattle.cad_feature.proofs.RunLemmas.{numbers_rise}
 use Rattle.cad_feature.proofs.objects.Objects.unmarked.Goals as goal
 
