@@ -12,12 +12,12 @@
 #![tactic(auto)]
 
 mod answer;
-mod query_test;
 mod condition;
 pub mod laws;
 mod paging;
 mod places;
 mod query;
+mod query_test;
 
 pub use cad_run::{Layer, Page, Plan};
 pub use condition::Condition;

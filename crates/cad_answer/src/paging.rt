@@ -10,9 +10,9 @@ ghost use Rattle.cad_answer.specs.Answers.{after_of, restrictions_of, answer, an
 ghost use Rattle.cad_answer.specs.Passing.{Covers};
 ghost use Rattle.cad_answer.specs.Places.{places_of};
 
-use crate::query_test::QueryTest;
 use crate::places::Places;
 use crate::query::PageQuery;
+use crate::query_test::QueryTest;
 use cad_run::{Layer, Page, Plan};
 use cql_rewrite::laws::features_are_written;
 use std::alloc::{AllocError, Global};

@@ -60,10 +60,5 @@ fn place_of(collection: Collection, name: &str) -> Option<usize>
 fn value_at(feature: &Feature, place: Option<usize>) -> Option<&Value>
     ensures { MatchOption result (value_in place feature.now ≡ null) (λ value. datum_of value.now ≡ value_in place feature.now) }
 {
-    let place = place?;
-    if place < feature.values.len() {
-        Some(&feature.values[place])
-    } else {
-        None
-    }
+    feature.value(place?)
 }

@@ -11,7 +11,7 @@ ghost use Rattle.cad_changes.specs.Told.{datum_if_any};
 ghost use Rattle.cad_changes.specs.Touching as spec;
 
 use crate::edits::{NewValues, edited};
-use crate::reading::{first_of, last_of, value_at};
+use crate::reading::{first_of, last_of};
 use cad_day::Day;
 use cad_feature::{Feature, Value, flatten};
 use cad_merged::{Layer, copy_value};
@@ -67,7 +67,7 @@ fn has_day(feature: &Feature, day: Day) -> bool
 fn name_in(alloc: Global, feature: &Feature) -> Result<Value, AllocError>
     ensures { IfOk result (λ name. datum_of name ≡ datum_at feature.now 5) }
 {
-    match value_at(feature, NAME) {
+    match feature.value(NAME) {
         None => Ok(Value::Null),
         Some(name) => copy_value(alloc, name),
     }

@@ -1,8 +1,8 @@
 //! What a feature says.
 
-ghost use Rattle.std.specs.Prelude.{◌≡◌, MatchOption};
+ghost use Rattle.std.specs.Prelude.{◌≡◌};
 ghost use Rattle.cad_feature.specs.Features.{datum_at};
-ghost use Rattle.cad_feature.specs.Values.{datum_of, null};
+ghost use Rattle.cad_feature.specs.Values.{datum_of};
 ghost use Rattle.cad_changes.specs.Touching as spec;
 ghost use Rattle.cad_changes.specs.Touching.{day_in, whole_in};
 
@@ -15,17 +15,6 @@ const BEGIN: usize = 2;
 
 /// Where each feature says its last day.
 const END: usize = 3;
-
-/// The value of the property at that place of the schema, if there is such a place.
-pub(crate) fn value_at(feature: &Feature, place: usize) -> Option<&Value>
-    ensures { MatchOption result (datum_at feature.now place ≡ null) (λ value. datum_of value.now ≡ datum_at feature.now place) }
-{
-    if place < feature.values.len() {
-        Some(&feature.values[place])
-    } else {
-        None
-    }
-}
 
 fn day_of(value: &Value) -> Option<Day>
     ensures { result ≡ day_in (datum_of value.now) }
@@ -48,13 +37,13 @@ fn whole_of(value: &Value) -> Option<i64>
 fn day_at(feature: &Feature, place: usize) -> Option<Day>
     ensures { result ≡ day_in (datum_at feature.now place) }
 {
-    day_of(value_at(feature, place)?)
+    day_of(feature.value(place)?)
 }
 
 fn whole_at(feature: &Feature, place: usize) -> Option<i64>
     ensures { result ≡ whole_in (datum_at feature.now place) }
 {
-    whole_of(value_at(feature, place)?)
+    whole_of(feature.value(place)?)
 }
 
 /// The first day of the feature's version.

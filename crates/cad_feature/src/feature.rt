@@ -2,6 +2,7 @@
 
 use crate::Value;
 use cad_versions::ObjectId;
+use std::cmp::Ordering;
 use std::marker::Model;
 
 /// One version of an object as a feature of a collection: its values stand in the order of the collection's schema.
@@ -25,4 +26,29 @@ impl Model for Feature {
     ghost Value = { Item };
 
     ghost view = { λ x. record { object = x.object; number = x.number; values = map datum_of x.values.items } };
+}
+
+impl Feature {
+    ghost use Rattle.std.specs.Prelude.{◌≡◌, MatchOption};
+    ghost use Rattle.cad_feature.specs.Features.{by_identifier, datum_at};
+    ghost use Rattle.cad_feature.specs.Values.{datum_of, null};
+
+    /// How it stands to another by their identifiers.
+    pub fn compare(&self, other: &Feature) -> Ordering
+        ensures { result ≡ by_identifier self.now other.now }
+    {
+        let by_object = self.object.number().cmp(&other.object.number());
+        by_object.then(self.number.cmp(&other.number))
+    }
+
+    /// The value of the property at that place of the schema, if there is such a place.
+    pub fn value(&self, place: usize) -> Option<&Value>
+        ensures { MatchOption result (datum_at self.now place ≡ null) (λ value. datum_of value.now ≡ datum_at self.now place) }
+    {
+        if place < self.values.len() {
+            Some(&self.values[place])
+        } else {
+            None
+        }
+    }
 }

@@ -1,8 +1,5 @@
 //! Walks through a base and the changes to it.
 
-ghost use Rattle.std.specs.Prelude.{◌≡◌};
-ghost use Rattle.cad_feature.specs.Features.{by_identifier};
-
 use crate::finding::{rest_after, run_of};
 use cad_feature::Feature;
 use cad_versions::ObjectId;
@@ -13,14 +10,6 @@ use std::cmp::Ordering;
 pub struct Walk<'a> {
     base: &'a [Feature],
     changes: &'a [Feature],
-}
-
-/// How one feature stands to another by their identifiers.
-fn compare(one: &Feature, other: &Feature) -> Ordering
-    ensures { result ≡ by_identifier one.now other.now }
-{
-    let by_object = one.object.number().cmp(&other.object.number());
-    by_object.then(one.number.cmp(&other.number))
 }
 
 impl<'a> Walk<'a> {
@@ -76,7 +65,7 @@ impl<'a> Walk<'a> {
             self.changes = changes;
             return Some(c);
         };
-        match compare(c, b) {
+        match c.compare(b) {
             Ordering::Less => {
                 self.changes = changes;
                 Some(c)

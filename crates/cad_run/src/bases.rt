@@ -1,8 +1,5 @@
 //! The candidates of a base.
 
-ghost use Rattle.std.specs.Prelude.{◌≡◌};
-ghost use Rattle.cad_feature.specs.Features.{by_identifier};
-
 use crate::after::first_after;
 use crate::planned::source_of;
 use cad_feature::Feature;
@@ -19,14 +16,6 @@ pub(crate) struct Bases<'a> {
     features: &'a [Feature],
     rows: Rows<'a>,
     front: Option<&'a Feature>,
-}
-
-/// How one feature stands to another by their identifiers.
-fn compare(one: &Feature, other: &Feature) -> Ordering
-    ensures { result ≡ by_identifier one.now other.now }
-{
-    let by_object = one.object.number().cmp(&other.object.number());
-    by_object.then(one.number.cmp(&other.number))
 }
 
 impl<'a> Bases<'a> {
@@ -100,7 +89,7 @@ impl<'a> Bases<'a> {
         let Some(first) = self.peek() else {
             return true;
         };
-        match compare(change, first) {
+        match change.compare(first) {
             Ordering::Less => true,
             Ordering::Equal => {
                 self.front = None;

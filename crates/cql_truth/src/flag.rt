@@ -8,7 +8,6 @@ ghost use Rattle.cql_truth.specs.Values.{flag_in as flag_in_of, flag_value};
 ghost use Rattle.cql_lexer.specs.declared.token.Comparison.TheVariants.{Equal};
 
 use crate::comparison::stands;
-use crate::property::value_at;
 use crate::verdict::{Truth, or, told};
 use cad_feature::{Feature, Value};
 use cql_lexer::Comparison;
@@ -29,7 +28,7 @@ pub(crate) fn flag(term: &FlagTerm, feature: &Feature) -> Option<bool>
 {
     match term {
         FlagTerm::Constant(flag) => Some(*flag),
-        FlagTerm::Property(place) => flag_in(value_at(feature, *place)?),
+        FlagTerm::Property(place) => flag_in(feature.value(*place)?),
     }
 }
 

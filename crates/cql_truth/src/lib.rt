@@ -13,7 +13,6 @@ mod constant;
 mod decide;
 mod flag;
 pub mod laws;
-mod property;
 mod shape;
 mod text;
 mod time;

@@ -7,7 +7,6 @@ ghost use Rattle.cql_truth.specs.Said.{said};
 ghost use Rattle.cql_truth.specs.Sides.{told as told_of, spatial as spatial_of};
 ghost use Rattle.cql_truth.specs.Values.{both, shape_in as shape_in_of, shape_value};
 
-use crate::property::value_at;
 use crate::verdict::{Truth, told};
 use cad_feature::{Feature, Value};
 use cad_shape::ShapeRef;
@@ -30,7 +29,7 @@ pub(crate) fn shape<'a>(term: &'a ShapeTerm, feature: &'a Feature) -> Option<Sha
 {
     match term {
         ShapeTerm::Constant(shape) => Some(shape.lent()),
-        ShapeTerm::Property(place) => shape_in(value_at(feature, *place)?),
+        ShapeTerm::Property(place) => shape_in(feature.value(*place)?),
     }
 }
 

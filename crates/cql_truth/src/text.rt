@@ -12,7 +12,6 @@ ghost use Rattle.cql_truth.specs.Values.{folded_content, text_in as text_in_of, 
 ghost use Rattle.cql_lexer.specs.declared.token.Comparison.TheVariants.{Equal};
 
 use crate::comparison::stands;
-use crate::property::value_at;
 use crate::verdict::{Truth, or, told};
 use cad_feature::{Feature, Value};
 use cql_lexer::Comparison;
@@ -33,7 +32,7 @@ fn text_in(value: &Value) -> Option<CowStr<'_>>
 fn text_at(feature: &Feature, place: usize) -> Option<CowStr<'_>>
     ensures { content result ≡ text_in_of (datum_at feature.now place) }
 {
-    text_in(value_at(feature, place)?)
+    text_in(feature.value(place)?)
 }
 
 // The text with its case folded, where there is one.

@@ -10,7 +10,6 @@ ghost use Rattle.cql_truth.specs.Values.{day_in as day_in_of, day_value, end_val
 ghost use Rattle.cql_lexer.specs.declared.token.Comparison.TheVariants.{Equal};
 
 use crate::comparison::stands;
-use crate::property::value_at;
 use crate::verdict::{Truth, or, told};
 use cad_day::{Day, Interval, Relation, holds};
 use cad_feature::{Feature, Value};
@@ -32,7 +31,7 @@ pub(crate) fn day(term: &DayTerm, feature: &Feature) -> Option<Day>
 {
     match term {
         DayTerm::Constant(day) => Some(*day),
-        DayTerm::Property(place) => day_in(value_at(feature, *place)?),
+        DayTerm::Property(place) => day_in(feature.value(*place)?),
     }
 }
 
@@ -96,7 +95,7 @@ pub(crate) fn span(term: &SpanTerm, feature: &Feature) -> Option<Interval>
             let day = day(term, feature)?;
             interval(Some(day), Some(day))
         }
-        SpanTerm::Property(place) => span_in(value_at(feature, *place)?),
+        SpanTerm::Property(place) => span_in(feature.value(*place)?),
         SpanTerm::Interval { from, to } => {
             let from = end(from, feature)?;
             let to = end(to, feature)?;

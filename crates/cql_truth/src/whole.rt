@@ -8,7 +8,6 @@ ghost use Rattle.cql_truth.specs.Sides.{among, between as between_of, compared, 
 ghost use Rattle.cql_lexer.specs.declared.token.Comparison.TheVariants.{Equal};
 
 use crate::comparison::stands;
-use crate::property::value_at;
 use crate::verdict::{Truth, and, or, told};
 use cad_feature::{Feature, Value};
 use cql_lexer::Comparison;
@@ -55,7 +54,7 @@ pub(crate) fn whole(term: &WholeTerm, feature: &Feature) -> Option<i64>
 {
     match term {
         WholeTerm::Constant(number) => Some(*number),
-        WholeTerm::Property(place) => whole_in(value_at(feature, *place)?),
+        WholeTerm::Property(place) => whole_in(feature.value(*place)?),
         WholeTerm::Computed { first, steps } => {
             let mut value = whole(first, feature);
             for step in steps {
