@@ -12,7 +12,7 @@ use std::alloc::{AllocError, Global};
 
 /// Versions by their objects, and where those of the first stretches begin.
 ///
-/// Where starts are kept, there are as many stretches as versions: a search looks at few versions, and takes as long whatever their count.
+/// Where starts are kept, there are no more stretches than versions. So a search looks at a few versions where numbers lie about evenly, and at worst by halves at all.
 #[derive(Drop)]
 pub(crate) struct Objects<'a> {
     pub(crate) versions: &'a [Version],
