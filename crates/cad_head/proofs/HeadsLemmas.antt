@@ -135,6 +135,6 @@ stays_incomplete held piece unsettled waits =
     let parts = or_parts (list_any (λ b. b == 10) piece) (nat_le front_len (length held + length piece)) unsettled in
     let none = no_head_after held piece parts.0 waits.1.1 in
     (λ head rest f. none head rest f.reads, (short held piece parts.1, none))
-
+  where
     short : (held piece : List ℕ) → nat_le front_len (length held + length piece) ≡ false → length (held ++ piece) < front_len
     short held piece h = let l = length-append held piece in grind (arith, nat_tests)
