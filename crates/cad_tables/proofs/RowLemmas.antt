@@ -24,14 +24,8 @@ use Rattle.cad_tables.specs.declared.faults.TableFault.{TableFault}
 use Rattle.cad_tables.specs.declared.faults.TableFault.TheVariants.{Memory}
 use Rattle.cad_tables.proofs.QueryTexts.{query_plain}
 use Rattle.cad_tables.proofs.Quiet.{reads_shown, reads_refused}
+use Rattle.std.proofs.lemmas.Slice.Zip.{all_zipped_more}
 use Rattle.std.proofs.lemmas.Result.{IfOk-weaker, IfErr-weaker}
-
--- one row more, and what is read of it
-pub zip_push : {A B : Type 0} (R : A → B → Type 0) (xs : List A) (ys : List B) (x : A) (y : B) → AllZip R xs ys → R x y → AllZip R (xs ++ x ∷ []) (ys ++ y ∷ [])
-zip_push R [] [] x y all here = (here, tt)
-zip_push R [] (z ∷ ys) x y all here = absurd all
-zip_push R (z ∷ xs) [] x y all here = absurd all
-zip_push R (z ∷ xs) (w ∷ ys) x y all here = (all.0, zip_push R xs ys x y all.1 here)
 
 -- What is said of a query at a later moment, with all as it was, is true of it from the first.
 module _ (sql : List ℕ) (params : Row) (query : IsQuery (first sql)) (old mid new : State) (same : IsUnchanged old mid) (counts : old.faults ≤ mid.faults) (limit : mid.step_limit ≡ old.step_limit) where
@@ -110,7 +104,7 @@ module _ {S : Type 0} (g : Ghosts S) {X : Type 0} (Fits : Row → X → Type 0) 
       pub one_more : (now.in_transaction ≡ false → new.in_transaction ≡ false) → (row : Row) (x : X) → (HasCleanDisk (state g new) → Advances g now new (Some row)) → Fits row x → HasReadOn start new (found ++ x ∷ [])
       one_more mode row x gives fits = record {
         given = so_far.given ++ row ∷ [];
-        read = zip_push Fits so_far.given found row x so_far.read fits;
+        read = all_zipped_more Fits so_far.given found row x so_far.read fits;
         still = λ clean sql params at_start.
             let still = so_far.still (was_clean clean) sql params at_start in
             (gives clean sql params so_far.given still.0, unchanged_then (state g start) (state g now) (state g new) still.1 (same clean));
