@@ -1,13 +1,18 @@
 -- One row more.
-use Rattle.std.proofs.Common.{◌≡◌, ℕ, ◌+◌, ◌<◌, ◌≤◌, ℤ, zero, suc, List, [], ◌∷◌, ◌++◌, length, map, take, drop, get_or, Option, Some, refl, sym, ap, ap₂, ◌∙◌, subst, arith, inl, inr, add-one}
+use Rattle.std.proofs.Common.{◌≡◌, ℕ, ◌+◌, ◌<◌, ◌≤◌, ℤ, zero, suc, List, [], ◌∷◌, ◌++◌, length, map, take, drop, get_or, Option, Some, None, Result, Ok, Err, IfOk, IfErr, Vec, Global, refl, sym, ap, ap₂, ◌∙◌, subst, arith, inl, inr, add-one}
 use Rattle.std.proofs.Math.Seq.{drop-cons}
-use Rattle.std.proofs.lemmas.List.{map-append}
 use Rattle.sqlite_value.specs.Order.{Row}
 use Rattle.cad_versions.specs.VersionedObject.{VersionedObject}
 use Rattle.cad_versions.specs.Entries.{Entry, seen_at}
-use Rattle.cad_register.specs.Kept.{IsRowOf, AreRowsOf}
+use Rattle.cad_register.specs.Kept.{IsRowOf, AreRowsOf, entry_of}
 use Rattle.cad_register.specs.declared.place.Place.{Place}
-use Rattle.cad_register.specs.Damage.{identifier_in, place_of, IsNext, AreSound, AreSeenAt, IsFirstDamaged}
+use Rattle.cad_versions.specs.declared.fault.RegisterFault.{RegisterFault}
+use Rattle.cad_versions.specs.declared.fault.RegisterFault.TheVariants as fault
+use Rattle.cad_register.specs.declared.found.FoundRow.{FoundRow}
+use Rattle.cad_register.specs.declared.found.FoundRow.TheVariants.{Version, Damaged}
+use Rattle.cad_register.specs.declared.kept.StoredVersion.{StoredVersion}
+use Rattle.cad_register.specs.Damage.{number_in, damage_of, KeepsRules, identifier_in, place_of, IsNext, AreInOrder, AreSound, AreSeenAt, IsFirstDamaged, IsCauseIn, ListsRows}
+use Rattle.cad_register.specs.Found.{IsReadOf, AreReadOf, IsJudged, damage_named}
 use Rattle.cad_register.proofs.KeptLemmas.{entry_same}
 
 drop_row : (rows : List Row) (at : ℕ) (row : Row) → at < length rows → row ≡ get_or rows at row → drop at rows ≡ row ∷ drop (at + 1) rows
@@ -34,39 +39,14 @@ take_all [] (suc n) h = refl
 take_all (r ∷ rows) zero h = absurd (omega arith)
 take_all (r ∷ rows) (suc n) h = ap (λ l. r ∷ l) (take_all rows n (omega arith))
 
--- the entry in a place, for which the row there stands
-pub record At (entries : List Entry) (at : ℕ) (row : Row) : Type 0 where
-  pub entry : Entry
-  pub taken : take (at + 1) entries ≡ take at entries ++ entry ∷ []
-  pub stands : IsRowOf row entry
-
-entry_at : (rows : List Row) (entries : List Entry) (at : ℕ) (row : Row) → AreRowsOf rows entries → at < length rows → row ≡ get_or rows at row → At entries at row
-entry_at [] entries at row are h is = absurd (omega arith)
-entry_at (r ∷ rows) [] at row are h is = absurd are
-entry_at (r ∷ rows) (e ∷ entries) zero row are h is = record { entry = e; taken = refl; stands = subst (λ x. IsRowOf x e) (sym is) are.0 }
-entry_at (r ∷ rows) (e ∷ entries) (suc at) row are h is =
-    let rest = entry_at rows entries at row are.1 (omega arith) is in
-    record {
-      entry = rest.entry;
-      taken = ap (λ n. take n (e ∷ entries)) (add-one (suc at)) ∙ ap (λ l. e ∷ l) (ap (λ n. take n entries) (sym (add-one at)) ∙ rest.taken);
-      stands = rest.stands;
-    }
-
-pub seen_step : (revision : ℕ) (rows : List Row) (entries : List Entry) (at : ℕ) (row : Row) (e : Entry) (items : List VersionedObject) → AreRowsOf rows entries → at < length rows → row ≡ get_or rows at row → IsRowOf row e
-    → items ≡ map (seen_at revision) (take at entries) → items ++ seen_at revision e ∷ [] ≡ map (seen_at revision) (take (at + 1) entries)
-seen_step revision rows entries at row e items are h here shown so_far =
-    let found = entry_at rows entries at row are h here in
-    let same = entry_same row e found.entry shown found.stands in
-    ap₂ (λ l x. l ++ seen_at revision x ∷ []) so_far same ∙ sym (ap (map (seen_at revision)) found.taken ∙ map-append (seen_at revision) (take at entries) (found.entry ∷ []))
-
-rows_long : (rows : List Row) (entries : List Entry) → AreRowsOf rows entries → length rows ≡ length entries
-rows_long [] [] are = refl
-rows_long [] (e ∷ entries) are = absurd are
-rows_long (r ∷ rows) [] are = absurd are
-rows_long (r ∷ rows) (e ∷ entries) are = omega (arith, rows_long rows entries are.1)
-
-pub seen_all : (revision : ℕ) (rows : List Row) (entries : List Entry) (n : ℕ) (items : List VersionedObject) → AreRowsOf rows entries → length rows ≤ n → items ≡ map (seen_at revision) (take n entries) → items ≡ map (seen_at revision) entries
-seen_all revision rows entries n items are h so_far = so_far ∙ ap (map (seen_at revision)) (take_all entries n (omega (arith, rows_long rows entries are)))
+-- what is seen is that of the entries for which the rows stand
+pub seen_of : (revision : ℕ) (rows : List Row) (entries : List Entry) (vs : List VersionedObject) → AreRowsOf rows entries → AreSeenAt revision rows vs → vs ≡ map (seen_at revision) entries
+seen_of revision [] [] [] are seen = refl
+seen_of revision [] [] (v ∷ vs) are seen = absurd seen
+seen_of revision [] (e ∷ entries) vs are seen = absurd are
+seen_of revision (r ∷ rows) [] vs are seen = absurd are
+seen_of revision (r ∷ rows) (e ∷ entries) [] are seen = absurd seen
+seen_of revision (r ∷ rows) (e ∷ entries) (v ∷ vs) are seen = ap₂ ◌∷◌ (seen.0.2 ∙ ap (seen_at revision) (entry_same r seen.0.0 e seen.0.1 are.0)) (seen_of revision rows entries vs are.1 seen.1)
 
 -- one version more is what its row shows
 seen_push : (revision : ℕ) (rows : List Row) (vs : List VersionedObject) (row : Row) (v : VersionedObject) → AreSeenAt revision rows vs → ((e : Entry) × IsRowOf row e × (v ≡ seen_at revision e)) → AreSeenAt revision (rows ++ row ∷ []) (vs ++ v ∷ [])
@@ -86,3 +66,37 @@ shown_step revision rows at row e v vs h here is seen so_far = subst (λ l. AreS
 
 pub shown_all : (revision : ℕ) (rows : List Row) (n : ℕ) (vs : List VersionedObject) → length rows ≤ n → AreSeenAt revision (take n rows) vs → AreSeenAt revision rows vs
 shown_all revision rows n vs h so_far = subst (λ l. AreSeenAt revision l vs) (take_all rows n h) so_far
+
+-- what is made of the rows in order
+pub lists_rows : (revision newest : ℕ) (shown rows : List Row) (r : Result (Vec VersionedObject Global) RegisterFault) → AreInOrder shown rows → IfOk r (λ _. AreSound newest None 0 rows) → IfOk r (λ vs. AreSeenAt revision rows vs.items) → IfErr r (IsCauseIn newest rows)
+    → ListsRows revision newest shown r
+lists_rows revision newest shown rows (Ok vs) order sound seen cause = (rows, order, sound, seen)
+lists_rows revision newest shown rows (Err (fault.Damaged object number)) order sound seen cause = (rows, order, cause)
+lists_rows revision newest shown rows (Err fault.Memory) order sound seen cause = tt
+lists_rows revision newest shown rows (Err other) order sound seen cause = absurd cause
+
+-- the row is named by what was read of it
+damage_read : (row : Row) (x : FoundRow) → IsReadOf row x → damage_named x ≡ damage_of row
+damage_read row (Version kept) h = ap₂ (λ a b. fault.Damaged (number_in a) (number_in b)) (sym h.object) (sym h.number)
+damage_read row (Damaged object number) h = ap (λ (p : ℤ × ℤ). fault.Damaged p.0 p.1) (sym h.0)
+
+pub none_next : (newest : ℕ) (before : Option Place) (count : ℕ) (row : Row) (object number : ℤ) → IsReadOf row (Damaged object number) → IsJudged newest before count row (Err (damage_named (Damaged object number)))
+none_next newest before count row object number h = (damage_read row (Damaged object number) h, λ e next. h.1 e next.shows)
+
+pub not_next : (newest : ℕ) (before : Option Place) (count : ℕ) (row : Row) (kept : StoredVersion) → ¬ KeepsRules newest before count (entry_of kept) → IsReadOf row (Version kept) → IsJudged newest before count row (Err (damage_named (Version kept)))
+not_next newest before count row kept breaks h = (damage_read row (Version kept) h, never_next newest before count row (entry_of kept) h (λ next. breaks next.keeps))
+
+-- the row that is read at a place
+pub record RowAt (rows : List Row) (at : ℕ) (x : FoundRow) : Type 0 where
+  pub row : Row
+  pub low : at < length rows
+  pub here : row ≡ get_or rows at row
+  pub read : IsReadOf row x
+
+pub row_at : (rows : List Row) (front : List FoundRow) (x : FoundRow) (back : List FoundRow) → AreReadOf rows (front ++ x ∷ back) → RowAt rows (length front) x
+row_at [] [] x back h = absurd h
+row_at [] (y ∷ front) x back h = absurd h
+row_at (r ∷ rows) [] x back h = record { row = r; low = omega arith; here = refl; read = h.0 }
+row_at (r ∷ rows) (y ∷ front) x back h =
+    let rest = row_at rows front x back h.1 in
+    record { row = rest.row; low = omega (arith, rest.low); here = rest.here; read = rest.read }

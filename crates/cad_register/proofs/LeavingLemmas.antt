@@ -1,5 +1,5 @@
 -- One question after another leaves what each leaves.
-use Rattle.std.proofs.Common.{◌≡◌, ℕ, Vec, IfOk, None, Result, Ok, Err, OnOk, IfErr, IsErrAnd, refl, sym, subst, ◌∙◌, List, arith}
+use Rattle.std.proofs.Common.{◌≡◌, ℕ, Vec, Result, Ok, Err, OnOk, IfErr, IsErrAnd, refl, sym, subst, ◌∙◌, List, arith}
 use Rattle.std.proofs.Math.Nat.{le_refl, le_trans}
 use Rattle.sqlite.specs.State.{State, IsUnchanged, HasCleanDisk, Survives}
 use Rattle.cad_tables.specs.Asking.{OnlyReads}
@@ -8,7 +8,7 @@ use Rattle.cad_versions.specs.declared.fault.RegisterFault.{RegisterFault}
 use Rattle.cad_versions.specs.declared.fault.RegisterFault.TheVariants as fault
 use Rattle.cad_register.specs.Leaving.{IsLater, IsAsBefore, IsOfTheRegister, IsAnswered, AsksOnly}
 use Rattle.cad_register.specs.Stands.{StandsFor, IsStoreFault, IsReadingFault}
-use Rattle.cad_register.specs.Damage.{IsCauseIn, AreShown, AreSound, AreSeenAt, ReadsRows}
+use Rattle.cad_register.specs.Damage.{AreShown, ListsRows, ReadsRows}
 use Rattle.cad_versions.specs.VersionedObject.{VersionedObject}
 use Rattle.std.specs.Global.{Global}
 use Rattle.sqlite_value.specs.Order.{Row}
@@ -103,17 +103,18 @@ store_reading fault.Store is = tt
 store_reading fault.Memory is = tt
 store_reading cause is = absurd is
 
-pub rows_reading : (newest : ℕ) (rows : List Row) (cause : RegisterFault) → IsCauseIn newest rows cause → IsReadingFault cause
-rows_reading newest rows (fault.Damaged object number) h = tt
-rows_reading newest rows fault.Memory h = tt
-rows_reading newest rows cause h = absurd h
+pub rows_reading : (revision newest : ℕ) (shown : List Row) (r : Result (Vec VersionedObject Global) RegisterFault) → ListsRows revision newest shown r → IfErr r IsReadingFault
+rows_reading revision newest shown (Ok vs) h = tt
+rows_reading revision newest shown (Err (fault.Damaged object number)) h = tt
+rows_reading revision newest shown (Err fault.Memory) h = tt
+rows_reading revision newest shown (Err cause) h = absurd h
 
 -- what is made of the rows that the database shows
-pub rows_read : (old new : State) (revision newest : ℕ) (rows : List Row) (r : Result (Vec VersionedObject Global) RegisterFault) → AreShown old new revision rows → IfOk r (λ _. AreSound newest None 0 rows) → IfOk r (λ vs. AreSeenAt revision rows vs.items) → IfErr r (IsCauseIn newest rows) → ReadsRows old new revision newest r
-rows_read old new revision newest rows (Ok vs) shown sound seen cause = (rows, shown, sound, seen)
-rows_read old new revision newest rows (Err (fault.Damaged object number)) shown sound seen cause = (rows, shown, cause)
-rows_read old new revision newest rows (Err fault.Memory) shown sound seen cause = tt
-rows_read old new revision newest rows (Err other) shown sound seen cause = absurd cause
+pub rows_read : (old new : State) (revision newest : ℕ) (shown : List Row) (r : Result (Vec VersionedObject Global) RegisterFault) → AreShown old new revision shown → ListsRows revision newest shown r → ReadsRows old new revision newest r
+rows_read old new revision newest shown (Ok vs) are h = (shown, h.0, are, h.1, h.2, h.3)
+rows_read old new revision newest shown (Err (fault.Damaged object number)) are h = (shown, h.0, are, h.1, h.2)
+rows_read old new revision newest shown (Err fault.Memory) are h = tt
+rows_read old new revision newest shown (Err other) are h = absurd h
 
 pub store_reads : (old new : State) (revision newest : ℕ) (cause : RegisterFault) → IsStoreFault cause → ReadsRows old new revision newest (Err cause)
 store_reads old new revision newest fault.Store is = tt

@@ -3,8 +3,10 @@ pub mod PartLemmas
 pub mod KeptLemmas
 pub mod DamageLemmas
 pub mod ListedLemmas
+pub mod JudgedLemmas
 pub mod RowLemmas
 pub mod OrderLemmas
+pub mod OrderedLemmas
 pub mod ClassLemmas
 pub mod FollowLemmas
 pub mod RevisionLemmas

@@ -40,7 +40,7 @@ module _ {S : Type 0} (g : Ghosts S) where
   -- so does one that a listing names
   pub lines_named : (old new : Held S) (revision : ℕ) (r : Result (Vec VersionedObject Global) RegisterFault) → ReadsRows (state g old) (state g new) revision revision r → IfErr r (NamesShown g old new (IsForLines revision))
   lines_named old new revision (Ok found) reads = tt
-  lines_named old new revision (Err (fault.Damaged named number)) reads = (asking listing_text revision, reads.0, refl, λ clean. (old, before_here (state g old), reads.1 clean), inr (revision, refl, reads.2))
+  lines_named old new revision (Err (fault.Damaged named number)) reads = (asking listing_text revision, reads.0, refl, λ clean. (old, before_here (state g old), reads.2 clean), inr (revision, reads.1, refl, reads.3, reads.4))
   lines_named old new revision (Err why) reads = tt
 
   -- what the database refuses names none

@@ -1,5 +1,5 @@
 -- The tables go on standing for the commands.
-use Rattle.std.proofs.Common.{◌≡◌, ◌≤◌, ℕ, Vec, Global, Result, Ok, Err, MatchResult, IfOk, IfErr, List, length, map, subst, sym, ◌∙◌, IsTrue, Option, Some, None, Bool, true, false, inl, inr}
+use Rattle.std.proofs.Common.{◌≡◌, ◌≤◌, ℕ, Vec, Global, Result, Ok, Err, MatchResult, List, length, subst, sym, ◌∙◌, IsTrue, Option, Some, None, Bool, true, false, inl, inr}
 use Rattle.sqlite_value.specs.Order.{Row}
 use Rattle.sqlite.specs.Effect.{IsDatabase}
 use Rattle.sqlite.specs.State.{State, IsUnchanged}
@@ -20,11 +20,12 @@ use Rattle.cad_versions.specs.VersionedObject.{VersionedObject}
 use Rattle.cad_versions.specs.AsOf.{as_of, entries_listed}
 use Rattle.cad_versions.specs.EntryLemmas.{listing_is}
 use Rattle.cad_versions.specs.declared.command.Command.{Command}
-use Rattle.cad_versions.specs.Entries.{Entry, entries_of, seen_at}
+use Rattle.cad_versions.specs.Entries.{entries_of}
 use Rattle.cad_register.specs.Kept.{AreRowsOf, HoldsEntries}
-use Rattle.cad_register.specs.Damage.{AreSound, IsCauseIn}
+use Rattle.cad_register.specs.Damage.{AreSound, AreInOrder, ListsRows}
 use Rattle.cad_register.specs.Stands.{StandsFor, IsStoreFault, IsRefusal}
 use Rattle.cad_register.specs.Registers.{IsRefused}
+use Rattle.cad_register.proofs.DamageLemmas.{seen_of}
 use Rattle.cad_register.proofs.SoundLemmas.{listed_sound, sound_cause}
 
 pub stands_kept : (old new : State) (cs : List Command) → KeepsAll old new → IsTrue new.is_open → StandsFor old cs → StandsFor new cs
@@ -45,11 +46,19 @@ told_while_open g old new revision (inl lacking) = absurd (cc lacking.1)
 told_while_open g old new revision (inr told) = told.2.same.0.was_open
 
 -- what the rows of a revision show is the register at the revision
-pub listing_told : (revision newest : ℕ) (cs : List Command) (rows : List Row) (new : State) (r : Result (Vec VersionedObject Global) RegisterFault) → AreRowsOf rows (entries_listed revision (entries_of cs)) → StandsFor new cs
-    → IfOk r (λ vs. (entries : List Entry) → AreRowsOf rows entries → vs.items ≡ map (seen_at revision) entries) → IfErr r (IsCauseIn newest rows)
+pub listing_told : (revision newest : ℕ) (cs : List Command) (shown : List Row) (new : State) (r : Result (Vec VersionedObject Global) RegisterFault) → ((rows : List Row) → AreInOrder shown rows → AreRowsOf rows (entries_listed revision (entries_of cs))) → StandsFor new cs
+    → ListsRows revision newest shown r
     → MatchResult r (λ vs. (revision ≤ length cs → vs.items ≡ as_of revision cs) × StandsFor new cs) (λ f. (newest ≡ length cs → IsStoreFault f) × (IsTrue new.is_open → StandsFor new cs))
-listing_told revision newest cs rows new (Ok vs) are stands seen cause = (λ h. seen (entries_listed revision (entries_of cs)) are ∙ listing_is revision cs h, stands)
-listing_told revision newest cs rows new (Err f) are stands seen cause = (λ e. sound_cause newest rows f (subst (λ n. AreSound n None 0 rows) (sym e) (listed_sound revision cs rows stands.accepted are)) cause, λ _. stands)
+listing_told revision newest cs shown new (Ok vs) are stands listed = (
+  λ h. seen_of revision listed.0 (entries_listed revision (entries_of cs)) vs.items (are listed.0 listed.1) listed.3 ∙ listing_is revision cs h,
+  stands,
+)
+listing_told revision newest cs shown new (Err (fault.Damaged object number)) are stands listed = (
+  λ e. sound_cause newest listed.0 (fault.Damaged object number) (subst (λ n. AreSound n None 0 listed.0) (sym e) (listed_sound revision cs listed.0 stands.accepted (are listed.0 listed.1))) listed.2,
+  λ _. stands,
+)
+listing_told revision newest cs shown new (Err fault.Memory) are stands listed = (λ e. tt, λ _. stands)
+listing_told revision newest cs shown new (Err other) are stands listed = absurd listed
 
 -- causes that the fold never has: its own are others
 module _ (k : RegisterFault) where

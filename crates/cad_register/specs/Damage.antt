@@ -1,5 +1,7 @@
 -- Which rows make a register (own profile).
 use Rattle.std.specs.Prelude.{◌≡◌, ℕ, ◌+◌, ◌<◌, ◌≤◌, ℤ, pos, List, [], ◌∷◌, Option, Some, None, ◌⊎◌, Vec, Result, Ok, Err}
+use Rattle.std.specs.List.Sorted.{IsPermutation, IsSorted}
+use Rattle.std.specs.declared.cmp.Ordering.{Ordering}
 use Rattle.sqlite_value.specs.declared.value.Value.{Value}
 use Rattle.sqlite_value.specs.declared.value.Value.TheVariants.{Int}
 use Rattle.sqlite_value.specs.Order.{Row, column}
@@ -8,6 +10,7 @@ use Rattle.cad_versions.specs.Objects.{object_number}
 use Rattle.cad_versions.specs.Class.{class_of}
 use Rattle.cad_versions.specs.declared.fault.RegisterFault.{RegisterFault}
 use Rattle.cad_versions.specs.declared.fault.RegisterFault.TheVariants as fault
+use Rattle.cad_versions.specs.Identifiers.{identifier_cmp}
 use Rattle.cad_versions.specs.VersionedObject.{VersionedObject}
 use Rattle.cad_versions.specs.Entries.{Entry, seen_at}
 use Rattle.sqlite.specs.State.{State, HasCleanDisk, Shown}
@@ -92,18 +95,36 @@ IsCauseIn newest rows other = ⊥
 abbrev pub damage_of : Row → RegisterFault
 damage_of row = fault.Damaged (number_in (column row 0)) (number_in (column row 1))
 
+-- by object, and then by number, as they are stored
+abbrev pub by_stored_identifier : Row → Row → Ordering
+by_stored_identifier a b = identifier_cmp (identifier_in a) (identifier_in b)
+
+-- these rows are those that were shown, in the order of their identifiers
+pub record AreInOrder (shown rows : List Row) : Type 0 where
+  pub same : IsPermutation shown rows
+  pub sorted : IsSorted by_stored_identifier rows
+
 -- each version is what its row shows at the revision
 abbrev pub AreSeenAt : ℕ → List Row → List VersionedObject → Type 0
 AreSeenAt revision [] [] = Unit {0}
 AreSeenAt revision (row ∷ rows) (v ∷ vs) = ((e : Entry) × IsRowOf row e × (v ≡ seen_at revision e)) × AreSeenAt revision rows vs
 AreSeenAt revision rows vs = ⊥
 
+-- of the rows that are shown, in whichever order, versions are listed by identifier of sound rows alone, or the first that breaks a rule is named, or there was no memory
+abbrev pub ListsRows : ℕ → ℕ → List Row → Result (Vec VersionedObject Global) RegisterFault → Type 0
+ListsRows revision newest shown (Ok found) = (rows : List Row) × AreInOrder shown rows × AreSound newest None 0 rows × AreSeenAt revision rows found.items
+ListsRows revision newest shown (Err (fault.Damaged object number)) = (rows : List Row) × AreInOrder shown rows × IsFirstDamaged newest (object, number) None 0 rows
+ListsRows revision newest shown (Err fault.Memory) = Unit {0}
+ListsRows revision newest shown (Err other) = ⊥
+
 -- the database shows these rows for the revision, by its own account
 abbrev pub AreShown : State → State → ℕ → List Row → Type 0
 AreShown old new revision rows = HasCleanDisk new → Shown listing_text (Int (pos revision) ∷ []) old new rows
 
--- whatever the disk returns, versions are listed of sound rows alone, and the damaged row is the first that breaks a rule, of the rows that the database shows for the revision, in a register of this newest one
+-- whatever the disk returns, versions are listed of sound rows alone, and the damaged row is the first that breaks a rule, of the rows that the database shows for the revision, by object and number, in a register of this newest one
 abbrev pub ReadsRows : State → State → ℕ → ℕ → Result (Vec VersionedObject Global) RegisterFault → Type 0
-ReadsRows old new revision newest (Ok found) = (rows : List Row) × AreShown old new revision rows × AreSound newest None 0 rows × AreSeenAt revision rows found.items
-ReadsRows old new revision newest (Err (fault.Damaged object number)) = (rows : List Row) × AreShown old new revision rows × IsFirstDamaged newest (object, number) None 0 rows
+ReadsRows old new revision newest (Ok found) =
+    (shown : List Row) × (rows : List Row) × AreShown old new revision shown × AreInOrder shown rows × AreSound newest None 0 rows × AreSeenAt revision rows found.items
+ReadsRows old new revision newest (Err (fault.Damaged object number)) =
+    (shown : List Row) × (rows : List Row) × AreShown old new revision shown × AreInOrder shown rows × IsFirstDamaged newest (object, number) None 0 rows
 ReadsRows old new revision newest (Err other) = Unit {0}

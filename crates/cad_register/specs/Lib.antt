@@ -3,6 +3,7 @@ pub mod Reading
 pub mod Parts
 pub mod Kept
 pub mod Damage
+pub mod Found
 pub mod Stands
 pub mod Outlines
 pub mod Changing

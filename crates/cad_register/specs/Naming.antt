@@ -13,7 +13,7 @@ use Rattle.cad_versions.specs.Objects.{object_number}
 use Rattle.cad_versions.specs.VersionedObject.{VersionedObject}
 use Rattle.cad_register.specs.declared.columns.ReadFault.{ReadFault}
 use Rattle.cad_register.specs.declared.columns.ReadFault.TheVariants.{Damaged, Memory}
-use Rattle.cad_register.specs.Damage.{number_in, IsFirstDamaged}
+use Rattle.cad_register.specs.Damage.{number_in, AreInOrder, IsFirstDamaged}
 use Rattle.cad_register.specs.Leaving.{IsAsBefore}
 use Rattle.cad_register.specs.Outlines.{outline}
 use Rattle.cad_register.specs.Refusing.{asking}
@@ -41,11 +41,11 @@ IsFaultIn object rows (fault.Damaged named number) = (named ≡ pos (object_numb
 IsFaultIn object rows fault.Memory = Unit {0}
 IsFaultIn object rows other = ⊥
 
--- of the rows shown for a question, the one of this object and number breaks a rule of its type: in the history of that object, or as the first of a listing of the newest revision
+-- of the rows shown for a question, the one of this object and number breaks a rule of its type: in the history of that object, or as the first by object and number of a listing of the newest revision
 abbrev pub BreaksRule : Statement → List Row → ℤ → ℤ → Type 0
 BreaksRule question rows named number =
     ((object : ObjectId) × (question ≡ asking history_text (object_number object)) × (named ≡ pos (object_number object)) × IsBrokenAt rows number)
-    ⊎ ((revision : ℕ) × (question ≡ asking listing_text revision) × IsFirstDamaged revision (named, number) None 0 rows)
+    ⊎ ((revision : ℕ) × (ordered : List Row) × (question ≡ asking listing_text revision) × AreInOrder rows ordered × IsFirstDamaged revision (named, number) None 0 ordered)
 
 module _ {S : Type 0} (g : Ghosts S) (old new : Held S) where
   -- with the database as it was, it shows these rows for the question, by its own account

@@ -18,7 +18,7 @@ ghost use Rattle.cad_register.specs.Leaving.{AsksOnly};
 ghost use Rattle.cad_register.specs.Naming.{NamesShown};
 ghost use Rattle.cad_register.specs.Refusing.{Asks, IsForObject, IsForLines, IsNotForMemory, register_fault_of};
 
-use crate::listing::versions_at;
+use crate::listing::listed;
 use crate::standing::ObjectState;
 use cad_tables::TableFault;
 use cad_versions::{ObjectId, RegisterFault, Version};
@@ -80,8 +80,8 @@ pub(crate) fn versions_of<S: Alter>(
     ensures cause { IfErr result IsReadingFault }
     ensures read { ReadsRows (state S.Store connection.old) (state S.Store connection.new) revision newest result }
 {
-    match cad_tables::listing(connection, revision) {
-        Ok(rows) => versions_at(alloc, &rows, revision, newest),
+    match cad_tables::listing(alloc, connection, revision) {
+        Ok(found) => listed(alloc, found, revision, newest),
         Err(fault) => Err(store_fault(fault)),
     }
 }

@@ -5,6 +5,7 @@ ghost use Rattle.cad_day.specs.Days.{number_of};
 ghost use Rattle.cad_versions.specs.Class.{class_of};
 ghost use Rattle.cad_versions.specs.VersionedObject.{IsVersion};
 ghost use Rattle.cad_versions.specs.Entries.{seen_at};
+ghost use Rattle.cad_versions.specs.Identifiers.{identifier_of};
 ghost use Rattle.cad_versions.specs.BodyParts.{parts_of};
 ghost use Rattle.cad_register.specs.Parts.{HasParts};
 ghost use Rattle.cad_register.specs.Reading.{Reads};
@@ -92,6 +93,16 @@ impl StoredVersion {
             entered,
             closed,
         })
+    }
+
+    /// The number of its object, and its own.
+    pub(crate) fn identifier(&self) -> (i64, i64)
+        ensures { result ≡ identifier_of self.now.version }
+    {
+        (
+            i64::from(self.version.object.number()),
+            i64::from(self.version.number),
+        )
     }
 
     /// Which version it is.

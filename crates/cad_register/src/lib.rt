@@ -17,6 +17,7 @@ mod cells;
 mod changing;
 mod columns;
 mod decision;
+mod found;
 mod kept;
 pub mod laws;
 mod ledger;

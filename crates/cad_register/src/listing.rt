@@ -1,76 +1,61 @@
 //! The rows of a revision as versions.
 
-ghost use Rattle.std.specs.Prelude.{◌≡◌, List, None, IfOk, IfErr, map};
-ghost use Rattle.cad_versions.specs.Entries.{Entry, seen_at};
-ghost use Rattle.cad_register.specs.Kept.{entry_of, AreRowsOf};
-ghost use Rattle.cad_register.specs.Reading.{Reads};
-ghost use Rattle.cad_register.specs.Damage.{identifier_in, damage_of, IsNext, AreSound, AreSeenAt, IsCauseIn};
+ghost use Rattle.std.specs.Prelude.{List, None, IfOk, IfErr, OnOk};
+ghost use Rattle.std.specs.List.Sorted.{IsPermutation, IsSorted};
+ghost use Rattle.sqlite_value.specs.Order.{Row};
+ghost use Rattle.cad_register.specs.Found.{AreReadOf, by_identifier};
+ghost use Rattle.cad_register.specs.Damage.{AreSound, AreSeenAt, IsCauseIn, ListsRows};
 ghost use Rattle.cad_versions.specs.Listing.{IsListing};
 
-use crate::columns::{ReadFault, number_or_zero};
-use crate::kept::StoredVersion;
-use crate::place::Place;
+use crate::found::FoundRow;
 use cad_versions::{RegisterFault, Version};
-use sqlite::Row;
-use std::alloc::Global;
+use std::alloc::{AllocError, Global};
 
-/// The object and the number of a row, as they are stored.
-fn identifier(row: &Row) -> (i64, i64)
-    ensures { result ≡ identifier_in row.now }
+/// Puts what was read of rows in the order of their identifiers, as these are stored.
+fn put_in_order(found: &mut Vec<FoundRow>) -> Result<(), AllocError>
+    ensures same { IsPermutation found.old.items found.new.items }
+    ensures sorted { OnOk result (IsSorted by_identifier found.new.items) }
 {
-    (number_or_zero(row, 0), number_or_zero(row, 1))
+    found.sort_by_key(|row| row.identifier())?;
+    Ok(())
 }
 
-/// The fault that names a row.
-fn damage(row: &Row) -> RegisterFault
-    ensures { result ≡ damage_of row.now }
-{
-    let (object, number) = identifier(row);
-    RegisterFault::Damaged { object, number }
-}
-
-/// The version of a row that may stand, in a register of this newest revision, behind so many others, the last of which has the place `before`.
-fn next_version(
+/// The versions of rows that stand in this order, at a revision of a register, of which another is the newest.
+fn versions_at(
     alloc: Global,
-    row: &Row,
-    before: Option<Place>,
-    count: usize,
-    newest: u32,
-) -> Result<StoredVersion, ReadFault>
-    ensures { Reads result (λ kept. IsNext newest before count row.now (entry_of kept)) }
-{
-    let kept = StoredVersion::read(alloc, row)?;
-    if kept.keeps_rules(before, count, newest) {
-        Ok(kept)
-    } else {
-        Err(ReadFault::Damaged)
-    }
-}
-
-/// The versions that the rows show at a revision of a register, of which another is the newest.
-pub(crate) fn versions_at(
-    alloc: Global,
-    rows: &[Row],
+    found: Vec<FoundRow>,
     revision: u32,
     newest: u32,
 ) -> Result<Vec<Version>, RegisterFault>
-    ensures sound { IfOk result (λ _. AreSound newest None 0 rows.now) }
-    ensures shown { IfOk result (λ versions. AreSeenAt revision rows.now versions.items) }
-    ensures listed { IfOk result (λ versions. IsListing versions.items) }
-    ensures seen { IfOk result (λ versions. (entries : List Entry) → AreRowsOf rows.now entries →
-        versions.items ≡ map (seen_at revision) entries) }
-    ensures cause { IfErr result (IsCauseIn newest rows.now) }
+    ensures sound { (rows : List Row) → AreReadOf rows found.items → IfOk result (λ _.
+        AreSound newest None 0 rows) }
+    ensures shown { (rows : List Row) → AreReadOf rows found.items → IfOk result (λ versions.
+        AreSeenAt revision rows versions.items) }
+    ensures listed { (rows : List Row) → AreReadOf rows found.items → IfOk result (λ versions.
+        IsListing versions.items) }
+    ensures cause { (rows : List Row) → AreReadOf rows found.items → IfErr result (IsCauseIn newest rows) }
 {
-    let mut versions = Vec::with_capacity(alloc, rows.len())?;
+    let mut versions = Vec::with_capacity(alloc, found.len())?;
     let mut before = None;
-    for row in rows {
-        let kept = match next_version(alloc, row, before, versions.len(), newest) {
-            Ok(kept) => kept,
-            Err(ReadFault::Memory) => return Err(RegisterFault::Memory),
-            Err(ReadFault::Damaged) => return Err(damage(row)),
-        };
+    for row in found {
+        let kept = row.next(before, versions.len(), newest)?;
         before = Some(kept.place());
         versions.push(kept.seen_at(revision))?;
     }
     Ok(versions)
+}
+
+/// The versions of the rows of a revision, in whichever order these were read. The damaged row that is named is the first by its identifier, as it is stored.
+pub(crate) fn listed(
+    alloc: Global,
+    found: Vec<FoundRow>,
+    revision: u32,
+    newest: u32,
+) -> Result<Vec<Version>, RegisterFault>
+    ensures judged { (shown : List Row) → AreReadOf shown found.items → ListsRows revision newest shown result }
+    ensures listed { (shown : List Row) → AreReadOf shown found.items → IfOk result (λ versions. IsListing versions.items) }
+{
+    let mut found = found;
+    put_in_order(&mut found)?;
+    versions_at(alloc, found, revision, newest)
 }

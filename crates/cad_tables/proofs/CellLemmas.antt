@@ -1,12 +1,9 @@
--- The cells of a line are of the columns' types, and +x of a whole number is that number.
-use Rattle.std.proofs.Common.{◌≡◌, ℕ, ℤ, pos, Bool, true, false, cond, List, Option, Some, None, ◌∷◌, refl, ap₂, int_cmp}
+-- The cells of a line are of the columns' types.
+use Rattle.std.proofs.Common.{◌≡◌, ℕ, ℤ, pos, Bool, true, false, cond, List, Option, Some, None, ◌∷◌, refl, ap₂}
 use Rattle.sqlite_value.specs.declared.value.Value.{Value}
 use Rattle.sqlite_value.specs.declared.value.Value.TheVariants.{Null, Int, Text, Blob}
 use Rattle.sqlite_schema.specs.declared.schema.Kind.TheVariants.{Integer, Text as Words, Blob as Bytes}
-use Rattle.sqlite_value.specs.Order.{value_cmp}
-use Rattle.sqlite_value.proofs.OrderLemmas.{value_cmp-Int}
-use Rattle.sqlite_sql.specs.Ops.{unary, binary}
-use Rattle.sqlite_sql.specs.declared.ops.BinaryOp.TheVariants.{Coalesce}
+use Rattle.sqlite_sql.specs.Ops.{unary}
 use Rattle.sqlite_rules.specs.Cast.{cast, cast_all}
 use Rattle.sqlite_typed.specs.Columns.{or_null}
 use Rattle.cad_tables.specs.VersionRow.{VersionRow, cells_of}
@@ -46,7 +43,3 @@ typed l =
     (ap₂ ◌∷◌ (cast_int (pos l.entered)) (ap₂ ◌∷◌ (cast_count l.closed) (ap₂ ◌∷◌ (cast_words l.name) (ap₂ ◌∷◌ (cast_words l.code) (ap₂ ◌∷◌ (cast_words l.label)
     (ap₂ ◌∷◌ (cast_count l.area) (ap₂ ◌∷◌ (cast_count l.unit) (ap₂ ◌∷◌ (cast_count l.party) (ap₂ ◌∷◌ (cast_count l.share_num) (ap₂ ◌∷◌ (cast_count l.share_den)
     (ap₂ ◌∷◌ (cast_count l.required) (ap₂ ◌∷◌ (cast_day l.spot_x) (ap₂ ◌∷◌ (cast_day l.spot_y) (ap₂ ◌∷◌ (cast_bytes l.shape) refl))))))))))))))))))
-
-pub cmp_itself : (n m : ℤ) → value_cmp (binary Coalesce (Int n) Null) (binary Coalesce (Int m) Null) ≡ int_cmp n m
-unfolding binary
-cmp_itself = value_cmp-Int

@@ -7,6 +7,7 @@ pub mod CellLemmas
 pub mod Writes
 pub mod Statements
 pub mod Quiet
+pub mod RowLemmas
 pub mod LineLemmas
 pub mod StepLemmas
 pub mod TransactionLemmas

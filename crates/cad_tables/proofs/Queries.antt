@@ -4,7 +4,7 @@ use Rattle.sqlite_value.specs.declared.keys.Collation.TheVariants.{Binary}
 use Rattle.sqlite_value.specs.Keys.{ascending}
 use Rattle.sqlite_value.specs.declared.value.Value.TheVariants.{Null, Int}
 use Rattle.sqlite_sql.specs.Term.{Term, lit, col, op2}
-use Rattle.sqlite_sql.specs.declared.ops.BinaryOp.TheVariants.{Compare, Is, Coalesce}
+use Rattle.sqlite_sql.specs.declared.ops.BinaryOp.TheVariants.{Compare, Is}
 use Rattle.sqlite_sql.specs.declared.ops.CompareOp.TheVariants.{Eq, Le}
 use Rattle.sqlite_sql.specs.Query.{Query, inner, end}
 
@@ -16,10 +16,6 @@ begin_terms = lit (Int (pos 1)) ∷ lit Null ∷ lit (Int (pos 1)) ∷ lit (Int 
 
 abbrev pub equals : Term → Term → Term
 equals a b = op2 (Compare Eq Binary) a b
-
--- +x, the value of x and no column
-abbrev pub itself : Term → Term
-itself x = op2 Coalesce x (lit Null)
 
 abbrev pub select_from : ℕ → List Term → List Term → Query
 select_from tree filter project =
@@ -39,6 +35,5 @@ abbrev pub history_query : Query
 history_query = record (select_from 1 (equals (col 1 1) (col 0 0) ∷ []) (col 1 2 ∷ col 1 3 ∷ col 1 4 ∷ col 1 5 ∷ [])) { order = (col 1 2, ascending Binary) ∷ [] }
 
 abbrev pub listing_query : Query
-listing_query = record (select_from 1 (op2 (Compare Le Binary) (col 1 6) (col 0 0) ∷ [])
-    (col 1 1 ∷ col 1 2 ∷ col 1 3 ∷ col 1 4 ∷ col 1 5 ∷ col 1 6 ∷ col 1 7 ∷ col 1 8 ∷ col 1 9 ∷ col 1 10 ∷ col 1 11 ∷ col 1 12 ∷ col 1 13 ∷ col 1 14 ∷ col 1 15 ∷ col 1 16 ∷ col 1 17 ∷ col 1 18 ∷ col 1 19 ∷ []))
-    { order = (itself (col 1 1), ascending Binary) ∷ (itself (col 1 2), ascending Binary) ∷ [] }
+listing_query = select_from 1 (op2 (Compare Le Binary) (col 1 6) (col 0 0) ∷ [])
+    (col 1 1 ∷ col 1 2 ∷ col 1 3 ∷ col 1 4 ∷ col 1 5 ∷ col 1 6 ∷ col 1 7 ∷ col 1 8 ∷ col 1 9 ∷ col 1 10 ∷ col 1 11 ∷ col 1 12 ∷ col 1 13 ∷ col 1 14 ∷ col 1 15 ∷ col 1 16 ∷ col 1 17 ∷ col 1 18 ∷ col 1 19 ∷ [])

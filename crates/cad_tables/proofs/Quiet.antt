@@ -10,6 +10,8 @@ use Rattle.sqlite_resolve.specs.declared.compiled.Compiled.{Compiled}
 use Rattle.sqlite_resolve.specs.Compile.{first}
 use Rattle.sqlite_trees.specs.Tree.{Trees}
 use Rattle.cad_tables.specs.Asking.{IsQuery, OnlyReads}
+use Rattle.cad_tables.specs.Reading.{RefusesRows}
+use Rattle.cad_tables.specs.declared.faults.TableFault.{TableFault}
 use Rattle.cad_tables.proofs.QueryTexts.{query_plain}
 
 on_ok : {X F : Type 0} (r : Result X F) (P : Type 0) → P → OnOk r P
@@ -64,6 +66,16 @@ module _ (sql : List ℕ) (params : Row) (old new : State) (query : IsQuery (fir
       same = λ clean. let it = told clean in on_ok r _ (shown_same it.0 it.1);
       kept = λ clean still settled. let it = told clean in keeps_shown it.0 it.1;
       was_open = λ clean still. let it = told clean in (shown_same it.0 it.1).0.was_open;
+      clean = λ clean. omega (arith, survives.clean);
+      mode = mode;
+      survives = survives_quiet survives;
+    }
+
+    pub reads_refused : IsErr r → (HasCleanDisk new → (fault : TableFault) × RefusesRows sql params old new fault) → OnlyReads old new r
+    reads_refused bad told = record {
+      same = λ clean. not_ok r _ bad;
+      kept = λ clean still settled. elim (told clean).1 [ inl h ↦ (h.1.0.now_is, h.1.0.committed_is) | inr h ↦ keeps_failed h.0 h.2 still settled ];
+      was_open = λ clean still. elim (told clean).1 [ inl h ↦ h.1.0.was_open | inr h ↦ failed_open h.0 h.2 still ];
       clean = λ clean. omega (arith, survives.clean);
       mode = mode;
       survives = survives_quiet survives;

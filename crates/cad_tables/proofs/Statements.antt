@@ -1,6 +1,7 @@
 -- What each of the other statements does.
 use Rattle.std.proofs.Common.{◌≡◌, ℕ, pos, List, [], ◌∷◌, map, false, None, Ok, refl, sym, ap, subst, ◌∙◌, arith, int_eq, int_le}
 use Rattle.std.specs.List.{AllByRecursion}
+use Rattle.std.specs.List.Sorted.{IsPermutation}
 use Rattle.sqlite_value.specs.declared.value.Value.TheVariants.{Null, Int}
 use Rattle.sqlite_value.specs.Order.{Row}
 use Rattle.sqlite_value.proofs.OrderLemmas.{value_cmp-Int}
@@ -10,7 +11,7 @@ use Rattle.sqlite_sql.specs.declared.ops.CompareOp.TheVariants.{Eq, Le}
 use Rattle.sqlite_rules.specs.Edit.{edit_of, edited}
 use Rattle.sqlite_rules.specs.Calls.{ids_of}
 use Rattle.sqlite_rules.specs.declared.error.Rowids.TheVariants.{Chosen, Given}
-use Rattle.sqlite_typed.proofs.TestLemmas.{at_ints, last_term, then_key, last_key}
+use Rattle.sqlite_typed.proofs.TestLemmas.{at_ints, last_term, last_key}
 use Rattle.sqlite_schema.specs.declared.command.Command.TheVariants.{Insert, Update, CreateTable}
 use Rattle.sqlite_schema.specs.declared.command.Source.TheVariants.{Values}
 use Rattle.sqlite_schema.specs.declared.schema.Schema.{Schema}
@@ -28,10 +29,10 @@ use Rattle.cad_tables.specs.Holding.{state_row, Holds}
 use Rattle.cad_tables.specs.VersionRow.{VersionRow, cells_of}
 use Rattle.cad_tables.proofs.Queries.{begin_terms, count_query, listing_query, history_query, revision_query}
 use Rattle.cad_tables.proofs.Parse.{register_schema_is, state_is, state_plain, version_is, version_plain, begin_is, begin_plain, count_is, count_plain, listing_is, listing_plain, history_is, history_plain, revision_is, revision_plain}
-use Rattle.cad_tables.proofs.Finding.{one_answer, in_order}
+use Rattle.cad_tables.proofs.Finding.{one_answer, in_order, in_any_order}
 use Rattle.cad_tables.proofs.Writes.{went, same_value}
-use Rattle.cad_tables.proofs.CellLemmas.{cast_null, cast_int, cmp_itself}
-use Rattle.cad_tables.specs.Listing.{HaveNoTies, identifier_order, number_order, lines_at, listing, lines_of_object, history, outline_of}
+use Rattle.cad_tables.proofs.CellLemmas.{cast_null, cast_int}
+use Rattle.cad_tables.specs.Listing.{HaveNoTies, number_order, lines_at, lines_of_object, history, outline_of}
 
 pub counts : (old new : State) (n m : ℕ) (xs : List VersionRow) (count : ℕ) → Holds n xs old.now → Executes count_text (Int (pos m) ∷ []) old new (Ok count) → Holds m xs new.now
 counts old new n m xs count has h =
@@ -77,15 +78,13 @@ shows_revision old new n xs rows has h =
     one_answer revision_query (overlay old.now.trees []) [] ([] ∷ state_row n ∷ []) rows refl refl one (read.answer Null)
 
 -- ---- the lines of one object, and all lines
-pub lists : (old new : State) (n r : ℕ) (xs : List VersionRow) (rows : List Row) → Holds n xs old.now → HaveNoTies identifier_order (lines_at r xs)
-    → Shown listing_text (Int (pos r) ∷ []) old new rows → rows ≡ map cells_of (listing r xs)
-lists old new n r xs rows has apart h =
+pub lists : (old new : State) (n r : ℕ) (xs : List VersionRow) (rows : List Row) → Holds n xs old.now → Shown listing_text (Int (pos r) ∷ []) old new rows → IsPermutation (map cells_of (lines_at r xs)) rows
+lists old new n r xs rows has h =
     let params = Int (pos r) ∷ [] in
     let read = reads_as listing_text params old new register_schema has.schema _ listing_is.0 listing_plain listing_is.1 rows h in
-    in_order (overlay old.now.trees []) 1 xs has.versions listing_query refl refl refl params (λ x. int_le (pos x.entered) (pos r))
-    (λ line. last_term (at_ints false Le (pos line.1.entered) (pos r)))
-    identifier_order (λ a b. then_key (cmp_itself _ _) (last_key (cmp_itself _ _)))
-    cells_of (λ a. refl) rows apart (read.answer Null)
+    let it = in_any_order (overlay old.now.trees []) 1 xs has.versions listing_query refl refl refl params (λ x. int_le (pos x.entered) (pos r))
+    (λ line. last_term (at_ints false Le (pos line.1.entered) (pos r))) cells_of (λ a. refl) rows (read.answer Null) in
+    subst (IsPermutation (map cells_of (lines_at r xs))) (sym it.2) it.1
 
 pub outlines : (old new : State) (n o : ℕ) (xs : List VersionRow) (rows : List Row) → Holds n xs old.now → HaveNoTies number_order (lines_of_object o xs)
     → Shown history_text (Int (pos o) ∷ []) old new rows → rows ≡ map outline_of (history o xs)

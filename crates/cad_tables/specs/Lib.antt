@@ -10,5 +10,6 @@ pub mod Laws
 pub mod Steps
 pub mod Asking
 pub mod Listing
+pub mod Reading
 pub mod Opening
 pub mod SchemaLemmas

@@ -33,6 +33,6 @@ revision_text = codes "SELECT format, revision FROM state WHERE one = 1"
 abbrev pub history_text : List ℕ
 history_text = codes "SELECT number, class, first, last FROM version WHERE object = ?1 ORDER BY number"
 
--- the lines that were entered up to a revision; +x is x, and no column of a key (SQLite, The SQLite Query Optimizer Overview, unary +), so the rows are sorted and not looked up one by one in the key's order
+-- the lines that were entered up to a revision, in no order that is asked for, so that none is held back to be sorted (SQLite, SELECT, section 4)
 abbrev pub listing_text : List ℕ
-listing_text = codes "SELECT object, number, class, first, last, entered, closed, name, code, label, area, unit, party, share_num, share_den, required, spot_x, spot_y, shape FROM version WHERE entered <= ?1 ORDER BY +object, +number"
+listing_text = codes "SELECT object, number, class, first, last, entered, closed, name, code, label, area, unit, party, share_num, share_den, required, spot_x, spot_y, shape FROM version WHERE entered <= ?1"

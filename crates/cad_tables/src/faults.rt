@@ -2,6 +2,7 @@
 
 use sqlite::{Error, ErrorCode};
 use sqlite_resolve::CompileError;
+use std::alloc::{AllocError, AllocFailed};
 
 /// Why a call fails.
 #[derive(Clone, Copy, Debug, PartialEq, Eq, thiserror::Error)]
@@ -26,5 +27,27 @@ impl From<Error> for TableFault {
             | Error::SqlInputError(CompileError::OutOfMemory) => TableFault::Memory,
             error => TableFault::Store(error),
         }
+    }
+}
+
+impl From<AllocError> for TableFault {
+    ghost use Rattle.std.specs.Prelude.{◌≡◌};
+    ghost use Rattle.cad_tables.specs.declared.faults.TableFault.TheVariants.{Memory};
+
+    ghost from_gives = { λ _ f. f ≡ Memory };
+
+    fn from(_: AllocError) -> TableFault {
+        TableFault::Memory
+    }
+}
+
+impl<T: Drop> From<AllocFailed<T>> for TableFault {
+    ghost use Rattle.std.specs.Prelude.{◌≡◌};
+    ghost use Rattle.cad_tables.specs.declared.faults.TableFault.TheVariants.{Memory};
+
+    ghost from_gives = { λ _ f. f ≡ Memory };
+
+    fn from(_: AllocFailed<T>) -> TableFault {
+        TableFault::Memory
     }
 }

@@ -2,14 +2,16 @@
 //!
 //! `state` has one row, with the format and the revision; `version` has a row for each version of an object,
 //! with the revision that entered it and the one that closed it. `create` makes both, `open` looks whether they
-//! are there, `write` makes the one change of a command, and `history` and `listing` read rows back.
-//! What a row means is left to the caller's type, by the trait `Stored`.
+//! are there, `write` makes the one change of a command, `history` reads the rows of an object back, and
+//! `listing` those of a revision, in the order in which the database comes to them. What a row means is left to
+//! the caller's types: the trait `Stored` makes it of one, and the trait `Reader` makes one of it, so that a
+//! listing holds what was read and no row.
 //!
 //! ```text
 //! create(&mut connection)?;                                 // Made
 //! write(&mut connection, &Change::Enter(row), 1)?;
 //! revision(&mut connection)?                                // Some(1)
-//! listing(&mut connection, 1)?                              // that row
+//! listing::<_, Version>(alloc, &mut connection, 1)?         // what `Version` reads of that row
 //! write(&mut connection, &Change::Retire(closing), 2)?;     // its row is closed by revision 2
 //! history(&mut connection, closing.object)?                 // the rows of that object
 //! ```
@@ -31,5 +33,5 @@ pub use faults::TableFault;
 pub use laws::a_change_keeps_lines;
 pub use making::{Creation, create};
 pub use opening::{MOST_REVISION, open, revision};
-pub use reading::{history, listing};
+pub use reading::{Reader, history, listing};
 pub use writing::write;

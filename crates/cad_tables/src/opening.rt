@@ -89,7 +89,7 @@ fn has_columns<S: Alter>(conn: &mut Connection<S>) -> Result<bool, TableFault>
     let Err(error) = conn.prepare(
         "SELECT object, number, class, first, last, entered, closed, name, code, label, area, unit, party, \
             share_num, share_den, required, spot_x, spot_y, shape \
-            FROM version WHERE entered <= ?1 ORDER BY +object, +number",
+            FROM version WHERE entered <= ?1",
     ) else {
         return Ok(true);
     };

@@ -1,22 +1,24 @@
 //! Reading lines back.
 
-ghost use Rattle.std.specs.Prelude.{◌≡◌, ℕ, pos, List, [], ◌∷◌, IfOk, IfErr, map};
+ghost use Rattle.std.specs.Prelude.{◌≡◌, false, ℕ, pos, List, [], ◌∷◌, IfOk, IfErr, map};
 ghost use Rattle.sqlite_value.specs.declared.value.Value.TheVariants.{Int};
-ghost use Rattle.sqlite.specs.State.{HasCleanDisk, Shown, FailsToQuery};
+ghost use Rattle.sqlite.specs.State.{HasCleanDisk, Survives, Shown, FailsToQuery};
 ghost use Rattle.sqlite.specs.Held.{state};
 ghost use Rattle.sqlite.specs.declared.error.Error.{Error};
 ghost use Rattle.cad_tables.specs.Faults.{fault_of};
-ghost use Rattle.cad_tables.specs.VersionRow.{VersionRow, cells_of};
+ghost use Rattle.cad_tables.specs.VersionRow.{VersionRow};
 ghost use Rattle.cad_tables.specs.Holding.{Holds};
 ghost use Rattle.cad_tables.specs.Texts.{history_text, listing_text};
 ghost use Rattle.sqlite_resolve.specs.Compile.{first};
 ghost use Rattle.cad_tables.specs.Asking.{IsQuery, OnlyReads};
-ghost use Rattle.cad_tables.specs.Listing.{HaveNoTies, identifier_order, lines_at, listing as listed};
-ghost use Rattle.cad_tables.specs.Listing.{number_order, lines_of_object, history as known, outline_of};
+ghost use Rattle.cad_tables.specs.Listing.{HaveNoTies, number_order, lines_of_object, history as known, outline_of};
+ghost use Rattle.cad_tables.specs.Reading.{AreRead, AreGiven, AreShown, AreListed, RefusesRest, RefusesRows};
+ghost use Rattle.sqlite_value.specs.Order.{Row as SqlRow};
 
 use crate::cells::one_cell;
 use crate::faults::TableFault;
-use sqlite::{Alter, Connection, Row};
+use sqlite::{Alter, Connection, Row, Rows};
+use std::alloc::{AllocError, Global};
 
 /// The rows of a query with one parameter.
 fn selected<S: Alter>(
@@ -55,24 +57,77 @@ pub fn history<S: Alter>(conn: &mut Connection<S>, object: u32) -> Result<Vec<Ro
     )
 }
 
-/// The rows that were entered up to a revision, by object and number, with all nineteen columns.
-///
-/// They are read in the order of the table and then sorted: by its key each would cost a search of the table.
-pub fn listing<S: Alter>(conn: &mut Connection<S>, revision: u32) -> Result<Vec<Row>, TableFault>
-    ensures rows { HasCleanDisk (state S.Store conn.new) → IfOk result (λ rows. (n : ℕ) (lines : List VersionRow)
-        → Holds n lines (state S.Store conn.old).now → HaveNoTies identifier_order (lines_at revision lines)
-        → rows.items ≡ map cells_of (listed revision lines)) }
-    ensures shown { HasCleanDisk (state S.Store conn.new) → IfOk result (λ rows.
-        Shown listing_text (Int (pos revision) ∷ []) (state S.Store conn.old) (state S.Store conn.new) rows.items) }
-    ensures refused { HasCleanDisk (state S.Store conn.new) → IfErr result (λ fault. (e : Error) × (fault ≡ fault_of e)
-        × FailsToQuery listing_text (Int (pos revision) ∷ []) (state S.Store conn.old) (state S.Store conn.new) e) }
+/// What is read of a row, as soon as the database comes to it.
+pub trait Reader: Sized {
+    ghost reads: { SqlRow → Self → Type 0 };
+
+    /// An error is want of memory.
+    fn read(alloc: Global, row: &Row) -> Result<Self, AllocError>
+        ensures { IfOk result (reads row.now) };
+}
+
+/// What is read of each row that the query under way still gives. No row is kept.
+fn read_rest<S: Alter, R: Reader + Drop>(
+    alloc: Global,
+    rows: &mut Rows<'_, S>,
+) -> Result<Vec<R>, TableFault>
+    ensures same_reference { rows.new.conn.ghost_name ≡ rows.old.conn.ghost_name }
+    ensures shown { IfOk result (λ found. AreRead R.reads (AreGiven S.Store rows.old.conn.now rows.new.conn.now) found.items) }
+    ensures refused { HasCleanDisk (state S.Store rows.new.conn.now) → IfErr result
+        (RefusesRest S.Store rows.old.conn.now rows.new.conn.now) }
+    ensures mode { rows.old.conn.now.in_transaction ≡ false → rows.new.conn.now.in_transaction ≡ false }
+    ensures survives { Survives (state S.Store rows.old.conn.now) (state S.Store rows.new.conn.now) (λ _. ⊥) }
+{
+    let mut found = Vec::new(alloc);
+    for _ in 0..u64::MAX {
+        rows.advance()?;
+        let Some(row) = rows.get() else {
+            return Ok(found);
+        };
+        found.push(R::read(alloc, row)?)?;
+    }
+    // a list has no room for more
+    Err(TableFault::Memory)
+}
+
+/// What is read of each row of a query with one parameter.
+fn read_each<S: Alter, R: Reader + Drop>(
+    alloc: Global,
+    conn: &mut Connection<S>,
+    sql: &str,
+    parameter: u32,
+) -> Result<Vec<R>, TableFault>
+    requires { IsQuery (first sql.now) }
+    ensures shown { IfOk result (λ found. AreRead R.reads (AreShown sql.now (Int (pos parameter) ∷ [])
+        (state S.Store conn.old) (state S.Store conn.new)) found.items) }
+    ensures refused { HasCleanDisk (state S.Store conn.new) → IfErr result (RefusesRows sql.now (Int (pos parameter) ∷ [])
+        (state S.Store conn.old) (state S.Store conn.new)) }
     ensures reads { OnlyReads (state S.Store conn.old) (state S.Store conn.new) result }
 {
-    selected(
+    let mut rows = conn.query(sql, &one_cell(parameter))?;
+    read_rest(alloc, &mut rows)
+}
+
+/// What is read of each row that was entered up to a revision, with all nineteen columns, in the order in which the database comes to them.
+///
+/// No order is asked for, so the database holds none of them back to sort them.
+pub fn listing<S: Alter, R: Reader + Drop>(
+    alloc: Global,
+    conn: &mut Connection<S>,
+    revision: u32,
+) -> Result<Vec<R>, TableFault>
+    ensures rows { IfOk result (λ found. AreRead R.reads
+        (AreListed (state S.Store conn.old) (state S.Store conn.new) revision) found.items) }
+    ensures refused { HasCleanDisk (state S.Store conn.new) → IfErr result (RefusesRows listing_text (Int (pos revision) ∷ [])
+        (state S.Store conn.old) (state S.Store conn.new)) }
+    ensures reads { OnlyReads (state S.Store conn.old) (state S.Store conn.new) result }
+{
+    read_each(
+        alloc,
         conn,
         "SELECT object, number, class, first, last, entered, closed, name, code, label, area, unit, party, \
             share_num, share_den, required, spot_x, spot_y, shape \
-            FROM version WHERE entered <= ?1 ORDER BY +object, +number",
+            FROM version WHERE entered <= ?1",
         revision,
     )
 }

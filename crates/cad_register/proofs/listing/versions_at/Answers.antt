@@ -1,59 +1,68 @@
-use Rattle.std.proofs.Common.{refl, take, ◌≡◌, ◌<◌, ◌+◌, drop, ◌∷◌, [], ◌++◌, subst, sym, ap, ◌∙◌, Some, length, length-append, arith}
-use Rattle.cad_versions.specs.Entries.{Entry, seen_at}
+use Rattle.std.proofs.Common.{◌≡◌, ◌+◌, ◌++◌, ◌∷◌, [], sym, ap, ◌∙◌, subst, Some, length, length-append, append_assoc, arith}
+use Rattle.std.proofs.lemmas.Result.{err_from_is_err_and}
+use Rattle.std.specs.Vec.Iter.{into_iter_items}
+use Rattle.cad_versions.specs.Entries.{Entry}
 use Rattle.cad_register.specs.Kept.{entry_of}
-use Rattle.cad_register.specs.Damage.{IsNext, AreSound, IsFirstDamaged, IsCauseIn, AreSeenAt, identifier_in}
-use Rattle.cad_register.proofs.DamageLemmas.{sound_step, damaged_step, damaged_here, seen_step, seen_all, shown_step, shown_all}
-use Rattle.cad_register.proofs.ListedLemmas.{AreListed, none_listed, one_listed}
+use Rattle.cad_register.specs.Damage.{IsNext, identifier_in, place_of}
+use Rattle.cad_register.specs.Found.{AreReadOf}
+use Rattle.cad_register.proofs.DamageLemmas.{damaged_here, row_at}
+use Rattle.cad_register.proofs.JudgedLemmas.{AreJudged, none_judged, one_judged, judged_sound, judged_shown, judged_listing}
 use Rattle.cad_register.proofs.listing.versions_at.Goals as goal
-
-pub returns-in-Err-Damaged-clause-cause : goal.returns-in-Err-Damaged-clause-cause
-returns-in-Err-Damaged-clause-cause c =
-    let row = c.row-item.result in
-    let at = c.loop-row.row-index in
-    let before = c.loop-row.before in
-    let newest = c.args.newest in
-    let none = rw c.in-Err-Damaged.field-0-is at c.in-Err-Damaged.ensures in
-    let count : c.len.result ≡ at = c.len.ensures ∙ c.loop-row.invariant.count in
-    let bad = λ (e : Entry) (next : IsNext newest before at row e). none (record { version = e.version; entered = e.entered; closed = e.closed }) (subst (λ n. IsNext newest before n row e) (sym count) next) in
-    subst (IsCauseIn newest c.args.rows.now) (sym c.damage.ensures)
-    (c.loop-row.invariant.damaged (identifier_in row) (damaged_here newest c.args.rows.now at row before c.loop-row-test.true c.row-item.is bad))
-
-pub loop-row-preserved : goal.loop-row-preserved
-loop-row-preserved c =
-    let rows = c.args.rows.now in
-    let row = c.row-item.result in
-    let at = c.loop-row.row-index in
-    let before = c.loop-row.before in
-    let newest = c.args.newest in
-    let e = entry_of c.in-Ok.kept in
-    let count : c.len.result ≡ at = c.len.ensures ∙ c.loop-row.invariant.count in
-    let next : IsNext newest before at row e = subst (λ n. IsNext newest before n row e) count c.in-Ok.ensures in
-    let room : length c.loop-row.versions.items < 2147483647 = omega (arith, c.in-Ok.ensures.keeps.room, c.len.ensures, c.loop-row.versions.ok.0) in
-    let listed = one_listed before c.args.revision e c.loop-row.versions.items next.shows.version next.keeps.follows c.loop-row.invariant.listed in
-    let items = c.in_ok-push.ensures.items ∙ ap (λ v. c.loop-row.versions.items ++ v ∷ []) c.seen_at.ensures in
-    record {
-      few = rw (items, length-append) (omega (arith, room));
-      listed = subst (AreListed (Some c.place.result)) (sym items) (subst (λ p. AreListed (Some p) (c.loop-row.versions.items ++ seen_at c.args.revision e ∷ [])) (sym c.place.ensures) listed);
-      count = c.in_ok-push.ensures.len ∙ ap (λ n. n + 1) c.loop-row.invariant.count;
-      sound = λ rest. c.loop-row.invariant.sound (sound_step newest rows at row before e c.loop-row-test.true c.row-item.is next (subst (λ p. AreSound newest (Some p) (at + 1) (drop (at + 1) rows)) c.place.ensures rest));
-      damaged = λ id rest. c.loop-row.invariant.damaged id (damaged_step newest id rows at row before e c.loop-row-test.true c.row-item.is next (subst (λ p. IsFirstDamaged newest id (Some p) (at + 1) (drop (at + 1) rows)) c.place.ensures rest));
-      shown = subst (AreSeenAt c.args.revision (take (at + 1) rows)) (sym items) (shown_step c.args.revision rows at row e _ c.loop-row.versions.items c.loop-row-test.true c.row-item.is next.shows refl c.loop-row.invariant.shown);
-      seen = λ entries is. items ∙ seen_step c.args.revision rows entries at row e c.loop-row.versions.items is c.loop-row-test.true c.row-item.is next.shows (c.loop-row.invariant.seen entries is);
-    }
 
 pub loop-row-init : goal.loop-row-init
 loop-row-init c = record {
+  rest = sym c.into_iter-row-iterator.ensures.into_iter_gives.0;
+  left = c.into_iter-row-iterator.ensures.into_iter_gives.1 ∙ c.args.found.ok.0 ∙ ap length (sym c.into_iter-row-iterator.ensures.into_iter_gives.0);
   count = c.in_ok-versions.ensures.len;
-  few = rw c.in_ok-versions.ensures.items (omega arith);
-  listed = rw c.in_ok-versions.ensures.items none_listed;
-  sound = λ rest. rest;
-  damaged = λ id rest. rest;
-  shown = rw c.in_ok-versions.ensures.items tt;
-  seen = λ entries is. c.in_ok-versions.ensures.items;
+  judged = λ rows read. rw c.in_ok-versions.ensures.items (none_judged c.args.revision c.args.newest rows);
 }
 
-pub returns-clause-shown : goal.returns-clause-shown
-returns-clause-shown c = shown_all c.args.revision c.args.rows.now c.loop-row.row-index c.loop-row.versions.items c.loop-row-test.false c.loop-row.invariant.shown
+pub loop-row-preserved : goal.loop-row-preserved
+loop-row-preserved c =
+    let so_far = c.loop-row.yielded in
+    let x = c.in-Some.row in
+    let later = into_iter_items c.next.new.self in
+    let at = length so_far in
+    let before = c.loop-row.before in
+    let newest = c.args.newest in
+    let vs = c.loop-row.versions.items in
+    let e = entry_of c.in_ok-kept.kept in
+    let steps : into_iter_items c.loop-row.row-iterator ≡ x ∷ later = c.in-Some.ensures.steps.0 in
+    let all : c.args.found.items ≡ so_far ++ x ∷ later = c.loop-row.invariant.rest ∙ ap (λ is. so_far ++ is) steps in
+    let more : length (so_far ++ x ∷ []) ≡ at + 1 = length-append so_far (x ∷ []) in
+    let count : c.len-in-loop-row.result ≡ at = c.len-in-loop-row.ensures ∙ c.loop-row.invariant.count in
+    let items = c.in_ok-push.ensures.items ∙ ap (λ v. vs ++ v ∷ []) c.seen_at.ensures in
+    record {
+      rest = all ∙ sym (append_assoc so_far (x ∷ []) later);
+      left = omega (arith, c.in-Some.ensures.steps.1, c.loop-row.invariant.left, ap length steps);
+      count = c.in_ok-push.ensures.len ∙ ap (λ n. n + 1) c.loop-row.invariant.count ∙ sym more;
+      judged = λ rows read.
+          let it = row_at rows so_far x later (subst (AreReadOf rows) all read) in
+          let next = subst (λ n. IsNext newest before n it.row e) count (c.in_ok-kept.ensures it.row it.read) in
+          let long : length vs ≡ at = omega (arith, c.loop-row.versions.ok.0, c.loop-row.invariant.count) in
+          let one = one_judged c.args.revision newest rows before at vs it.row e long it.low it.here next (c.loop-row.invariant.judged rows read) in
+          subst (λ n. AreJudged c.args.revision newest rows (Some c.place.result) n c.push.new.self.items) (sym more)
+          (subst (λ p. AreJudged c.args.revision newest rows (Some p) (at + 1) c.push.new.self.items) (sym c.place.ensures) (subst (AreJudged c.args.revision newest rows (Some (place_of e.version)) (at + 1)) (sym items) one));
+    }
 
-pub returns-clause-seen : goal.returns-clause-seen
-returns-clause-seen c entries are = seen_all c.args.revision c.args.rows.now entries c.loop-row.row-index c.loop-row.versions.items are c.loop-row-test.false (c.loop-row.invariant.seen entries are)
+pub returns-in_err-kept-clause-cause : goal.returns-in_err-kept-clause-cause
+returns-in_err-kept-clause-cause c rows read =
+    let so_far = c.loop-row.yielded in
+    let x = c.in-Some.row in
+    let later = into_iter_items c.next.new.self in
+    let steps : into_iter_items c.loop-row.row-iterator ≡ x ∷ later = c.in-Some.ensures.steps.0 in
+    let it = row_at rows so_far x later (subst (AreReadOf rows) (c.loop-row.invariant.rest ∙ ap (λ is. so_far ++ is) steps) read) in
+    let judged = c.in_err-kept.ensures it.row it.read in
+    let count : c.len-in-loop-row.result ≡ length so_far = c.len-in-loop-row.ensures ∙ c.loop-row.invariant.count in
+    let bad = λ (e : Entry) (next : IsNext c.args.newest c.loop-row.before (length so_far) it.row e). judged.1 e (subst (λ n. IsNext c.args.newest c.loop-row.before n it.row e) (sym count) next) in
+    let told = err_from_is_err_and c.from_residual-in_err-kept.result c.from_residual-in_err-kept.ensures.1 in
+    rw (told.1, told.2, judged.0) ((c.loop-row.invariant.judged rows read).damaged (identifier_in it.row) (damaged_here c.args.newest rows (length so_far) it.row c.loop-row.before it.low it.here bad))
+
+pub returns-clause-sound : goal.returns-clause-sound
+returns-clause-sound c rows read = judged_sound c.args.revision c.args.newest rows c.args.found.items c.loop-row.before c.loop-row.yielded _ c.loop-row.versions.items read c.loop-row.invariant.rest (sym c.loop-row.invariant.left ∙ c.in-None.ensures.steps.0) (c.loop-row.invariant.judged rows read)
+
+pub returns-clause-shown : goal.returns-clause-shown
+returns-clause-shown c rows read = judged_shown c.args.revision c.args.newest rows c.args.found.items c.loop-row.before c.loop-row.yielded _ c.loop-row.versions.items read c.loop-row.invariant.rest (sym c.loop-row.invariant.left ∙ c.in-None.ensures.steps.0) (c.loop-row.invariant.judged rows read)
+
+pub returns-clause-listed : goal.returns-clause-listed
+returns-clause-listed c rows read = judged_listing c.args.revision c.args.newest rows c.loop-row.before (length c.loop-row.yielded) c.loop-row.versions.items (c.loop-row.invariant.judged rows read)

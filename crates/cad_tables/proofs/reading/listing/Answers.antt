@@ -4,9 +4,9 @@ use Rattle.cad_tables.proofs.QueryTexts.{listing_asks}
 use Rattle.cad_tables.proofs.Statements.{lists}
 use Rattle.cad_tables.proofs.reading.listing.Goals as goal
 
-pub selected-requires : goal.selected-requires
-selected-requires g c = listing_asks
+pub read_each-requires : goal.read_each-requires
+read_each-requires g c = listing_asks
 
 pub returns-clause-rows : goal.returns-clause-rows
-returns-clause-rows g c clean =
-    IfOk-weaker c.selected.result _ _ (λ rows shown n lines has apart. lists (state g.S.Store c.args.conn.now) (state g.S.Store c.selected.new.conn) n c.args.revision lines rows.items has apart shown) (c.selected.ensures.shown clean)
+returns-clause-rows g c =
+    IfOk-weaker c.read_each.result _ _ (λ found read. (read.0, λ clean. let shown = read.1 clean in (shown, λ n lines has. lists (state g.S.Store c.args.conn.now) (state g.S.Store c.read_each.new.conn) n c.args.revision lines read.0 has shown), read.2)) c.read_each.ensures.shown
