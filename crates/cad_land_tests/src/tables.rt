@@ -1,12 +1,12 @@
 //! The two tables.
 
 use cad_tables::{
-    Change, Closing, Creation, MOST_REVISION, Stored, TableFault, create, history, listing, open,
-    revision, write,
+    Change, Closing, Creation, MOST_REVISION, Reader, Stored, TableFault, create, history, listing,
+    open, revision, write,
 };
 use sqlite::types::ValueRef;
 use sqlite::{Alter, Connection, Error, ErrorCode, Row};
-use std::alloc::Global;
+use std::alloc::{AllocError, Global};
 use std::test::Fail;
 
 /// A version of a unit without a name, as commands of the office enter it.
@@ -139,12 +139,34 @@ fn outline(row: &Row) -> Option<(u32, u32, Option<i32>)> {
     Some((row.get(0).ok()?, row.get(1).ok()?, row.get(4).ok()?))
 }
 
+/// These of a row that has them.
+#[derive(Clone, Copy, Debug, PartialEq, Eq, Drop)]
+struct Outline(Option<(u32, u32, Option<i32>)>);
+
+impl Outline {
+    fn of(object: u32, number: u32, last: Option<i32>) -> Outline {
+        Outline(Some((object, number, last)))
+    }
+}
+
+impl Reader for Outline {
+    ghost reads = { λ _ _. Unit {0} };
+
+    fn read(_alloc: Global, row: &Row) -> Result<Outline, AllocError> {
+        Ok(Outline(outline(row)))
+    }
+}
+
 fn known<S: Alter>(conn: &mut Connection<S>, object: u32) -> Option<Vec<Row>> {
     history(conn, object).ok()
 }
 
-fn listed<S: Alter>(conn: &mut Connection<S>, revision: u32) -> Option<Vec<Row>> {
-    listing(conn, revision).ok()
+fn listed<S: Alter>(
+    alloc: Global,
+    conn: &mut Connection<S>,
+    revision: u32,
+) -> Option<Vec<Outline>> {
+    listing(alloc, conn, revision).ok()
 }
 
 #[test]
@@ -180,16 +202,17 @@ fn changes_are_read_back(rt: HostRuntime) -> Result<(), Fail> {
 }
 
 #[test]
-fn rows_are_listed_by_identifier(rt: HostRuntime) -> Result<(), Fail> {
-    let mut conn = Connection::open_in_memory(rt.alloc())?;
+fn rows_of_a_revision_are_listed(rt: HostRuntime) -> Result<(), Fail> {
+    let alloc = rt.alloc();
+    let mut conn = Connection::open_in_memory(alloc)?;
     assert!(rt; filled(&mut conn));
-    let rows = listed(&mut conn, 2).ok_or("listing")?;
+    let rows = listed(alloc, &mut conn, 2).ok_or("listing")?;
     assert_eq!(rt; rows.len(), 2);
-    assert_eq!(rt; outline(&rows[0]), Some((11, 1, Some(LAST))));
-    assert_eq!(rt; outline(&rows[1]), Some((11, 2, None)));
-    let rows = listed(&mut conn, 4).ok_or("listing")?;
+    assert!(rt; rows.contains(&Outline::of(11, 1, Some(LAST))));
+    assert!(rt; rows.contains(&Outline::of(11, 2, None)));
+    let rows = listed(alloc, &mut conn, 4).ok_or("listing")?;
     assert_eq!(rt; rows.len(), 3);
-    assert_eq!(rt; outline(&rows[0]), Some((3, 1, Some(12053))));
+    assert!(rt; rows.contains(&Outline::of(3, 1, Some(12053))));
     Ok(())
 }
 

@@ -1,6 +1,6 @@
 //! The rows of a revision as versions.
 
-ghost use Rattle.std.specs.Prelude.{List, None, IfOk, IfErr, OnOk};
+ghost use Rattle.std.specs.Prelude.{List, None, IfOk, IfErr};
 ghost use Rattle.std.specs.List.Sorted.{IsPermutation, IsSorted};
 ghost use Rattle.sqlite_value.specs.Order.{Row};
 ghost use Rattle.cad_register.specs.Found.{AreReadOf, by_identifier};
@@ -9,15 +9,14 @@ ghost use Rattle.cad_versions.specs.Listing.{IsListing};
 
 use crate::found::FoundRow;
 use cad_versions::{RegisterFault, Version};
-use std::alloc::{AllocError, Global};
+use std::alloc::Global;
 
-/// Puts what was read of rows in the order of their identifiers, as these are stored.
-fn put_in_order(found: &mut Vec<FoundRow>) -> Result<(), AllocError>
+/// Puts what was read of rows in the order of their identifiers, as these are stored, in place.
+fn put_in_order(found: &mut Vec<FoundRow>)
     ensures same { IsPermutation found.old.items found.new.items }
-    ensures sorted { OnOk result (IsSorted by_identifier found.new.items) }
+    ensures sorted { IsSorted by_identifier found.new.items }
 {
-    found.sort_by_key(|row| row.identifier())?;
-    Ok(())
+    found.sort_unstable_by_key(|row| row.identifier());
 }
 
 /// The versions of rows that stand in this order, at a revision of a register, of which another is the newest.
@@ -56,6 +55,6 @@ pub(crate) fn listed(
     ensures listed { (shown : List Row) → AreReadOf shown found.items → IfOk result (λ versions. IsListing versions.items) }
 {
     let mut found = found;
-    put_in_order(&mut found)?;
+    put_in_order(&mut found);
     versions_at(alloc, found, revision, newest)
 }
