@@ -3,7 +3,7 @@
 ghost use Rattle.std.specs.Prelude.{◌≡◌, ◌≤◌, length, drop, option_map};
 ghost use Rattle.std.specs.List.Sorted.{IsStrictlySortedBy};
 ghost use Rattle.cad_feature.specs.Features.{by_identifier};
-ghost use Rattle.cad_run.specs.Slices as spec;
+ghost use Rattle.cad_merged.specs.Identifiers as spec;
 ghost use Rattle.cad_run.specs.Slices.{identifier, later};
 
 use cad_feature::Feature;
