@@ -2,8 +2,8 @@
 //! law; the functions do nothing.
 
 pub use cad_desk::laws::{connections_are_their_own, cuts_make_no_difference, steps_are_a_run};
-pub use cad_serve::laws::served_is_a_stream;
 pub use cad_responder::laws::requests_have_one_reply;
+pub use cad_serve::laws::served_is_a_stream;
 pub use cad_walks::laws::{
     connections_among_restarts_are_visits, connections_are_visits, restarts_keep_accepted,
     runs_keep_accepted, walks_among_restarts_show_the_answer, walks_have_that_many_pages,

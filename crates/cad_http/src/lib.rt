@@ -26,5 +26,5 @@ pub mod laws;
 
 pub use cad_desk::{Desk, DeskFault, Event, Reply};
 pub use cad_listen::listen;
-pub use cad_serve::{Ending, ServeFault, serve};
 pub use cad_responder::Server;
+pub use cad_serve::{Ending, ServeFault, serve};

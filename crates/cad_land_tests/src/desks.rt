@@ -3,8 +3,8 @@
 use crate::register::{created, in_memory};
 use cad_desk::Desk;
 use cad_register::Register;
-use cad_sample::fill;
 use cad_responder::Server;
+use cad_sample::fill;
 use cad_stream::Responder;
 use desk_script::{Memory as Want, answer, line_of};
 use sqlite::MemStore;

@@ -14,11 +14,11 @@
 
 mod explaining;
 mod features;
+mod finding;
 pub mod laws;
 mod links;
 mod pages;
 mod planning;
-mod finding;
 
 pub use cad_ask::{Ask, AskFault, fault_body};
 pub use cad_bodies::{

@@ -7,8 +7,8 @@ ghost use Rattle.serde_json.specs.View.{view};
 ghost use Rattle.serde_json.specs.Written.{compact_text, has_float};
 ghost use Rattle.cad_page.specs.Bodies.{next_in, page_data};
 
-use crate::links::{links_json, next_of};
 use crate::finding::page_asked;
+use crate::links::{links_json, next_of};
 use cad_ask::Ask;
 use cad_feature_json::features_json;
 use cad_snapshot::Snapshot;

@@ -5,9 +5,9 @@ ghost use Rattle.cad_program.specs.Serving.{AnswersOver, AnswersSample, EndsServ
 
 use crate::outcome::Outcome;
 use cad_desk::Desk;
+use cad_responder::Server;
 use cad_sample::fill;
 use cad_serve::serve;
-use cad_responder::Server;
 use cad_stream::Responder;
 use cad_versions::{Ledger, RegisterFault};
 use std::alloc::Global;

@@ -4,9 +4,9 @@ ghost use Rattle.std.specs.Prelude.{IfOk};
 ghost use Rattle.cad_query.specs.Pairs.{pairs_of};
 ghost use Rattle.cad_wanted.specs.Wants.{IsFeatureWanted, IsIdentified};
 
+use crate::feature_request::FeatureRequest;
 use crate::plain::{has_pairs, unknown};
 use crate::request::Wanted;
-use crate::feature_request::FeatureRequest;
 use crate::told::refusal;
 use cad_query::Identifier;
 use cad_reply::Status;

@@ -12,12 +12,12 @@
 #![tactic(auto)]
 
 mod feature;
+mod feature_request;
 mod page;
 mod plain;
 mod request;
-mod feature_request;
 mod told;
 
-pub use request::Wanted;
 pub use feature_request::FeatureRequest;
+pub use request::Wanted;
 pub use told::Told;

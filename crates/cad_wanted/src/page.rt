@@ -6,8 +6,8 @@ ghost use Rattle.cad_query.specs.Pairs.{pairs_of};
 ghost use Rattle.cad_reply.specs.declared.status.Status.TheVariants.{BadRequest};
 ghost use Rattle.cad_wanted.specs.Wants.{fault_text, IsTold, IsPageWanted};
 
-use crate::request::Wanted;
 use crate::feature_request::FeatureRequest;
+use crate::request::Wanted;
 use crate::told::Told;
 use cad_ask::{Ask, AskFault, fault_body};
 use cad_reply::Status;

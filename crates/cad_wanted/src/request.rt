@@ -6,9 +6,9 @@ ghost use Rattle.cad_resource.specs.Asking.{place_held};
 ghost use Rattle.cad_wanted.specs.Wants.{IsWantedAt};
 
 use crate::feature::wanted_feature;
+use crate::feature_request::FeatureRequest;
 use crate::page::wanted_page;
 use crate::plain::plain;
-use crate::feature_request::FeatureRequest;
 use crate::told::{Told, refusal};
 use cad_bodies::{collection_body, collections_body, landing_body, queryables_body};
 use cad_resource::{Check, Resource, ResourceQuery};
