@@ -16,14 +16,14 @@ use Rattle.cad_versions.specs.AsOf.{as_of}
 use Rattle.cad_versions.specs.Laws.{RevisionsStay}
 use Rattle.cad_versions.specs.Refusals.{AreAccepted}
 use Rattle.cad_feature.specs.Flatten.{features_in}
-use Rattle.cad_snapshot.specs.Snapshots.{RevisionFeatures, IsSnapshotOf}
+use Rattle.cad_snapshot.specs.Snapshots.{RevisionFeatures, IsSnapshotOf, is_told, told_at}
 use Rattle.cad_responder.specs.Contents.{snapshot_of, snapshot_at}
 use Rattle.cad_responder.specs.declared.records.Records.{Records}
 use Rattle.cad_responder.specs.Servers.{IsKept, AreKept, ledger_in, AreRecordsOf, Keeps}
 
 -- the snapshot of these versions is one value
 pub built : (revision : ℕ) (versions : List VersionedObject) (s : RevisionFeatures) → IsSnapshotOf revision versions s → s ≡ snapshot_of revision versions
-built revision versions s is = λ i. record { revision = is.of_revision i; features = λ collection. is.features collection i }
+built revision versions s is = is_told s revision (features_in versions) is.of_revision is.features
 
 -- one command more changes nothing of what is kept
 pub kept_later : RevisionsStay → (commands : List Command) (command : Command) (entries : List (ℕ × RevisionFeatures)) → AreKept commands entries → AreKept (commands ++ command ∷ []) entries
@@ -83,7 +83,7 @@ some_of_ok P Q (Ok x) o is f h = subst (λ o. IfSome o Q) (sym is) (f x h)
 some_of_ok P Q (Err e) o is f h = subst (λ o. IfSome o Q) (sym is) tt
 
 is_snapshot : (revision : ℕ) (versions : List VersionedObject) (s : RevisionFeatures) → s ≡ snapshot_of revision versions → IsSnapshotOf revision versions s
-is_snapshot revision versions s is = subst (IsSnapshotOf revision versions) (sym is) (record { of_revision = refl; features = λ _. refl })
+is_snapshot revision versions s is = subst (IsSnapshotOf revision versions) (sym is) (record { of_revision = refl; features = told_at revision (features_in versions) })
 
 -- the features after a command, by those kept of the revision before it
 pub next_kept : (commands : List Command) (command : Command) (newest revision : ℕ) (s next : RevisionFeatures) → newest ≡ length commands → revision ≡ newest + 1 → IsKept commands (newest, s)

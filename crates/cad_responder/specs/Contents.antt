@@ -10,7 +10,7 @@ use Rattle.cad_schema.specs.declared.collection.Collection.{Collection}
 use Rattle.cad_feature.specs.Features.{Item}
 use Rattle.cad_feature.specs.Flatten.{features_in}
 use Rattle.cad_query.specs.Identifiers.{Numbers, numbers_of}
-use Rattle.cad_snapshot.specs.Snapshots.{RevisionFeatures, features_at}
+use Rattle.cad_snapshot.specs.Snapshots.{RevisionFeatures, features_at, told_by}
 use Rattle.cad_bodies.specs.Faults.{word_data}
 use Rattle.cad_page.specs.Bodies.{page_data}
 use Rattle.cad_page.specs.Features.{linked_feature_data}
@@ -35,7 +35,7 @@ refusal status word = (status, compact_text (word_data word))
 
 -- the features of each collection among these versions, which are those of the revision
 abbrev pub snapshot_of : ℕ → List VersionedObject → RevisionFeatures
-snapshot_of revision versions = record { revision = revision; features = features_in versions }
+snapshot_of revision versions = told_by revision (features_in versions)
 
 -- the features of each collection after the first commands
 abbrev pub snapshot_at : ℕ → List Command → RevisionFeatures

@@ -1,5 +1,5 @@
 -- The features of a register at one revision (OGC 17-069r4, 7.15: items; revisions: own profile).
-use Rattle.std.specs.Prelude.{◌≡◌, ℕ, List}
+use Rattle.std.specs.Prelude.{◌≡◌, ℕ, List, refl}
 use Rattle.cad_versions.specs.VersionedObject.{VersionedObject}
 use Rattle.cad_schema.specs.declared.collection.Collection.{Collection}
 use Rattle.cad_schema.specs.declared.collection.Collection.TheVariants.{Parcels, Rights, Restrictions, Units, Parties, Responsibilities}
@@ -9,19 +9,52 @@ use Rattle.cad_feature.specs.Flatten.{features_in}
 -- the features of each collection after the first commands of a register
 pub record RevisionFeatures : Type 0 where
   pub revision : ℕ
-  pub features : Collection → List Item
+  pub parcels : List Item
+  pub rights : List Item
+  pub restrictions : List Item
+  pub units : List Item
+  pub parties : List Item
+  pub responsibilities : List Item
 
 abbrev pub features_at : RevisionFeatures → Collection → List Item
-features_at s collection = s.features collection
+features_at s Parcels = s.parcels
+features_at s Rights = s.rights
+features_at s Restrictions = s.restrictions
+features_at s Units = s.units
+features_at s Parties = s.parties
+features_at s Responsibilities = s.responsibilities
 
--- a list for each collection
-abbrev pub by_collection : (parcels rights restrictions units parties responsibilities : List Item) → Collection → List Item
-by_collection parcels rights restrictions units parties responsibilities Parcels = parcels
-by_collection parcels rights restrictions units parties responsibilities Rights = rights
-by_collection parcels rights restrictions units parties responsibilities Restrictions = restrictions
-by_collection parcels rights restrictions units parties responsibilities Units = units
-by_collection parcels rights restrictions units parties responsibilities Parties = parties
-by_collection parcels rights restrictions units parties responsibilities Responsibilities = responsibilities
+-- the same, of the features that are told for each collection
+abbrev pub told_by : ℕ → (Collection → List Item) → RevisionFeatures
+told_by revision told = record {
+  revision = revision;
+  parcels = told Parcels;
+  rights = told Rights;
+  restrictions = told Restrictions;
+  units = told Units;
+  parties = told Parties;
+  responsibilities = told Responsibilities;
+}
+
+pub told_at : (revision : ℕ) (told : Collection → List Item) (c : Collection) → features_at (told_by revision told) c ≡ told c
+told_at revision told Parcels = refl
+told_at revision told Rights = refl
+told_at revision told Restrictions = refl
+told_at revision told Units = refl
+told_at revision told Parties = refl
+told_at revision told Responsibilities = refl
+
+-- what has these features for each collection is one value
+pub is_told : (s : RevisionFeatures) (revision : ℕ) (told : Collection → List Item) → s.revision ≡ revision → ((c : Collection) → features_at s c ≡ told c) → s ≡ told_by revision told
+is_told s revision told e same = λ i. record {
+  revision = e i;
+  parcels = same Parcels i;
+  rights = same Rights i;
+  restrictions = same Restrictions i;
+  units = same Units i;
+  parties = same Parties i;
+  responsibilities = same Responsibilities i;
+}
 
 -- it holds the features of these versions, which are those at the revision
 pub record IsSnapshotOf (revision : ℕ) (versions : List VersionedObject) (s : RevisionFeatures) : Type 0 where

@@ -29,13 +29,18 @@ pub struct Snapshot {
 impl Model for Snapshot {
     ghost use Rattle.std.specs.Prelude.{◌≡◌};
     ghost use Rattle.cad_schema.specs.declared.collection.Collection.TheVariants.{Parcels, Rights, Restrictions, Units, Parties, Responsibilities};
-    ghost use Rattle.cad_snapshot.specs.Snapshots.{RevisionFeatures, by_collection};
+    ghost use Rattle.cad_snapshot.specs.Snapshots.{RevisionFeatures};
 
     ghost Value = { RevisionFeatures };
 
     ghost view = { λ s. record {
       revision = s.revision;
-      features = by_collection s.parcels.features s.rights.features s.restrictions.features s.units.features s.parties.features s.responsibilities.features;
+      parcels = s.parcels.features;
+      rights = s.rights.features;
+      restrictions = s.restrictions.features;
+      units = s.units.features;
+      parties = s.parties.features;
+      responsibilities = s.responsibilities.features;
     } };
 
     ghost invariant = { λ s.

@@ -11,7 +11,7 @@ use Rattle.cad_schema.specs.declared.collection.Collection.{Collection}
 use Rattle.cad_feature.specs.Features.{Item, by_identifier}
 use Rattle.cad_feature.specs.Flatten.{is_in, feature_in, features_in}
 use Rattle.cad_query.specs.Identifiers.{IsVersionNumber}
-use Rattle.cad_snapshot.specs.Snapshots.{features_at}
+use Rattle.cad_snapshot.specs.Snapshots.{features_at, told_at}
 use Rattle.cad_responder.specs.Contents.{snapshot_of}
 
 -- ---- from versions to features
@@ -40,7 +40,7 @@ in_numbered vs c is =
 -- ---- of a snapshot
 
 pub ascend : (revision : ℕ) (vs : List VersionedObject) (c : Collection) → IsListing vs → IsStrictlySortedBy by_identifier (features_at (snapshot_of revision vs) c)
-ascend revision vs c is = in_ascend vs c is
+ascend revision vs c is = subst (IsStrictlySortedBy by_identifier) (sym (told_at revision (features_in vs) c)) (in_ascend vs c is)
 
 pub have_numbers : (revision : ℕ) (vs : List VersionedObject) (c : Collection) → IsListing vs → All (λ (x : Item). IsVersionNumber x.number) (features_at (snapshot_of revision vs) c)
-have_numbers revision vs c is = in_numbered vs c is
+have_numbers revision vs c is = subst (All (λ (x : Item). IsVersionNumber x.number)) (sym (told_at revision (features_in vs) c)) (in_numbered vs c is)
