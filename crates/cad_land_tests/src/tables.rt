@@ -141,19 +141,19 @@ fn outline(row: &Row) -> Option<(u32, u32, Option<i32>)> {
 
 /// These of a row that has them.
 #[derive(Clone, Copy, Debug, PartialEq, Eq, Drop)]
-struct Outline(Option<(u32, u32, Option<i32>)>);
+struct RowOutline(Option<(u32, u32, Option<i32>)>);
 
-impl Outline {
-    fn of(object: u32, number: u32, last: Option<i32>) -> Outline {
-        Outline(Some((object, number, last)))
+impl RowOutline {
+    fn of(object: u32, number: u32, last: Option<i32>) -> RowOutline {
+        RowOutline(Some((object, number, last)))
     }
 }
 
-impl Reader for Outline {
+impl Reader for RowOutline {
     ghost reads = { λ _ _. Unit {0} };
 
-    fn read(_alloc: Global, row: &Row) -> Result<Outline, AllocError> {
-        Ok(Outline(outline(row)))
+    fn read(_alloc: Global, row: &Row) -> Result<RowOutline, AllocError> {
+        Ok(RowOutline(outline(row)))
     }
 }
 
@@ -165,7 +165,7 @@ fn listed<S: Alter>(
     alloc: Global,
     conn: &mut Connection<S>,
     revision: u32,
-) -> Option<Vec<Outline>> {
+) -> Option<Vec<RowOutline>> {
     listing(alloc, conn, revision).ok()
 }
 
@@ -208,11 +208,11 @@ fn rows_of_a_revision_are_listed(rt: HostRuntime) -> Result<(), Fail> {
     assert!(rt; filled(&mut conn));
     let rows = listed(alloc, &mut conn, 2).ok_or("listing")?;
     assert_eq!(rt; rows.len(), 2);
-    assert!(rt; rows.contains(&Outline::of(11, 1, Some(LAST))));
-    assert!(rt; rows.contains(&Outline::of(11, 2, None)));
+    assert!(rt; rows.contains(&RowOutline::of(11, 1, Some(LAST))));
+    assert!(rt; rows.contains(&RowOutline::of(11, 2, None)));
     let rows = listed(alloc, &mut conn, 4).ok_or("listing")?;
     assert_eq!(rt; rows.len(), 3);
-    assert!(rt; rows.contains(&Outline::of(3, 1, Some(12053))));
+    assert!(rt; rows.contains(&RowOutline::of(3, 1, Some(12053))));
     Ok(())
 }
 
