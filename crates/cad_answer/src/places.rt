@@ -33,7 +33,7 @@ impl Places {
         ensures { result ≡ lifespan_of self feature.now }
     {
         match value_at(feature, self.lifespan)? {
-            Value::Span(days) => Some(*days),
+            Value::Span(days) => Some(**days),
             _ => None,
         }
     }
@@ -43,7 +43,7 @@ impl Places {
         ensures { option_map lent_shape result ≡ geometry_of self feature.now }
     {
         match value_at(feature, self.geometry)? {
-            Value::Spot(point) => Some(ShapeRef::Spot(*point)),
+            Value::Spot(point) => Some(ShapeRef::Spot(**point)),
             Value::Area(region) => Some(ShapeRef::Area(region)),
             _ => None,
         }

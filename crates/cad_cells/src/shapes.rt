@@ -14,7 +14,7 @@ pub fn bounds_of(value: &Value) -> Option<Bounds>
     ensures { option_map block_of result ≡ block_in (datum_of value.now) }
 {
     match value {
-        Value::Spot(point) => Some(Bounds::at(*point)),
+        Value::Spot(point) => Some(Bounds::at(**point)),
         Value::Area(region) => Some(region.bounds()),
         _ => None,
     }

@@ -41,7 +41,7 @@ use Rattle.cad_changes.proofs.VersionLemmas.{left_keeps, left_identifier, left_o
 pub same_object_number : (n : ℕ) (a b : ObjectId) → int_eq (pos n) (pos (object_number a)) ≡ true → int_eq (pos n) (pos (object_number b)) ≡ true → int_eq (pos (object_number a)) (pos (object_number b)) ≡ true
 same_object_number n a b h k = grind (arith, ints)
 
-turned : (a b : ObjectId) → int_eq (pos (object_number a)) (pos (object_number b)) ≡ true → int_eq (pos (object_number b)) (pos (object_number a)) ≡ true
+pub turned : (a b : ObjectId) → int_eq (pos (object_number a)) (pos (object_number b)) ≡ true → int_eq (pos (object_number b)) (pos (object_number a)) ≡ true
 turned a b h = grind (arith, ints)
 
 not_later : (last day : Day) → int_lt (number_of last) (number_of day) ≡ false → int_le (number_of day) (number_of last) ≡ true

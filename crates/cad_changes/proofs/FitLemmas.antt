@@ -31,10 +31,11 @@ use Rattle.cad_feature.specs.Values.{Datum, null, a_day, a_span, datum_of, IsOfK
 use Rattle.cad_merged.specs.Identifiers.{is_item_of, of_object}
 use Rattle.cad_merged.specs.ItemLemmas.{items_total}
 use Rattle.cad_merged.specs.Merging.{put, put_if}
-use Rattle.cad_merged.specs.MergeLemmas.{all_filtered, all_put, put_ascends}
+use Rattle.cad_merged.specs.MergeLemmas.{all_put, put_ascends}
 use Rattle.cad_changes.specs.Fitting.{IsTextIfAny, Fit}
 use Rattle.cad_changes.specs.Touching.{first_of, Edits, or_kept, span_to, edited_datum, edited_data, edited, renames, names_unit, names_party, touches, edits_by, item_left, items_left, has_day, name_of, name_among, names_joined}
 use Rattle.cad_changes.proofs.TouchedLemmas.{images_ascend}
+use Rattle.cad_versions.specs.ListLemmas.{all_filtered}
 
 day_fits : (closing : Option Day) (d : Datum) → IsOfKind kind.Day d → IsOfKind kind.Day (or_kept (option_map a_day closing) d)
 day_fits None d h = h

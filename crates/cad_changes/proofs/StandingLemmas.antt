@@ -24,7 +24,7 @@ use Rattle.cad_feature.specs.Lifespans.{is_up_to, holds_on}
 use Rattle.cad_feature.specs.Values.{Datum}
 use Rattle.cad_changes.specs.Changes.{left_by, next, renames_on, is_object}
 use Rattle.cad_changes.specs.Touching.{name_after}
-use Rattle.cad_changes.proofs.FeatureLemmas.{holds}
+use Rattle.cad_changes.proofs.FeatureLemmas.{holds, turned}
 use Rattle.cad_changes.proofs.TestLemmas.{find_filter, none_found, found_put, none_kept}
 use Rattle.cad_changes.proofs.VersionLemmas.{left_keeps}
 
@@ -141,9 +141,6 @@ all_over (Retire object last) vs e all =
     vs (all_under object v vs all a.found)
 
 -- ---- what the object is called from then on
-
-turned : (a b : ObjectId) → int_eq (pos (object_number a)) (pos (object_number b)) ≡ true → int_eq (pos (object_number b)) (pos (object_number a)) ≡ true
-turned a b h = grind (arith, ints)
 
 own_too : (n : ℕ) (a b : ObjectId) → int_eq (pos (object_number a)) (pos (object_number b)) ≡ true → int_eq (pos n) (pos (object_number a)) ≡ true → int_eq (pos n) (pos (object_number b)) ≡ true
 own_too n a b same h = grind (arith, ints)

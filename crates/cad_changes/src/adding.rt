@@ -110,7 +110,6 @@ fn name_if_any(
 
 /// The object's next version, where it may have one more.
 fn begun(
-    alloc: Global,
     features: &Layer,
     object: ObjectId,
     first: Day,
@@ -122,7 +121,7 @@ fn begun(
     let Some(number) = next_number(features, object) else {
         return Ok(None);
     };
-    let body = body.copy(alloc)?;
+    let body = body.copy()?;
     Ok(Some(Version {
         object,
         number,
@@ -133,11 +132,7 @@ fn begun(
 }
 
 /// The version that the command adds, by the features of its object's collection.
-fn version_begun(
-    alloc: Global,
-    command: &Command,
-    features: &Layer,
-) -> Result<Option<Version>, AllocError>
+fn version_begun(command: &Command, features: &Layer) -> Result<Option<Version>, AllocError>
     ensures version { IfOk result (λ version. version ≡ spec.version_begun features.now.features command.now) }
     ensures sound { IfOk result (λ version. IfSome version IsVersion) }
 {
@@ -146,12 +141,12 @@ fn version_begun(
             object,
             first,
             body,
-        } => begun(alloc, features, *object, *first, body),
+        } => begun(features, *object, *first, body),
         Command::Amend {
             object,
             first,
             body,
-        } => begun(alloc, features, *object, *first, body),
+        } => begun(features, *object, *first, body),
         Command::Retire { .. } => Ok(None),
     }
 }
@@ -236,7 +231,7 @@ pub(crate) fn feature_added(
     ensures feature { IfOk result (λ x. x ≡ spec.item_added features.now.features units.now.features parties.now.features command.now features.now.collection) }
     ensures fits { IfOk result (λ x. IfSome x (IsFeatureOf features.now.collection)) }
 {
-    let Some(version) = version_begun(alloc, command, features)? else {
+    let Some(version) = version_begun(command, features)? else {
         return Ok(None);
     };
     let feature = feature_of(alloc, &version, units, parties, features.collection())?;

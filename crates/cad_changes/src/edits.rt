@@ -27,12 +27,15 @@ pub(crate) struct NewValues<'a> {
 }
 
 /// The days from the first one to the last.
-fn lifespan(first: Option<Day>, last: Day) -> Value
-    ensures { datum_of result ≡ span_to first last }
+fn lifespan(alloc: Global, first: Option<Day>, last: Day) -> Result<Value, AllocError>
+    ensures { IfOk result (λ value. datum_of value ≡ span_to first last) }
 {
     match Interval::new(first, Some(last)) {
-        None => Value::Null,
-        Some(days) => Value::Span(days),
+        None => Ok(Value::Null),
+        Some(days) => {
+            let days = Box::new(alloc, days)?;
+            Ok(Value::Span(days))
+        }
     }
 }
 
@@ -63,7 +66,7 @@ fn edited_value(
         },
         Attribute::Lifespan => match new.closing {
             None => copy_value(alloc, old),
-            Some(last) => Ok(lifespan(first, last)),
+            Some(last) => lifespan(alloc, first, last),
         },
         Attribute::UnitName => or_kept(alloc, new.unit_name, old),
         Attribute::PartyName => or_kept(alloc, new.party_name, old),

@@ -145,7 +145,7 @@ fn touches(command: &Command, collection: Collection, feature: &Feature) -> bool
 }
 
 /// What the command's object is called on the days on which the command may change it.
-fn name_after(alloc: Global, command: &Command) -> Result<Value, AllocError>
+fn name_after(command: &Command) -> Result<Value, AllocError>
     ensures { IfOk result (λ name. datum_of name ≡ spec.name_after command.now) }
 {
     let Some(body) = command.body() else {
@@ -154,7 +154,7 @@ fn name_after(alloc: Global, command: &Command) -> Result<Value, AllocError>
     let Some(words) = body.name() else {
         return Ok(Value::Null);
     };
-    let text = String::from_str(alloc, words.as_str())?;
+    let text = words.text()?;
     Ok(Value::Text(text))
 }
 
@@ -269,7 +269,7 @@ pub(crate) fn features_left(
     ensures { IfOk result (λ all. all.items ≡ spec.items_left command.now features.now.collection features.now.features) }
 {
     are_listed(features);
-    let name = name_after(alloc, command)?;
+    let name = name_after(command)?;
     let own = own_left(alloc, command, &name, features)?;
     let named = named_left(alloc, command, &name, features)?;
     let all = merge(alloc, &own, &named)?;

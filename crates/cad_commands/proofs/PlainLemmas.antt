@@ -1,16 +1,13 @@
 -- The JSON values that are made of values are written as JSON texts, and nest no deeper than three.
-use Rattle.std.proofs.Common.{ℕ, ◌^◌, ◌<◌, ◌≤◌, ℤ, pos, negsuc, Bool, List, [], ◌∷◌, Option, Some, None, IsUtf8, refl, arith}
+use Rattle.std.proofs.Common.{ℕ, ◌^◌, ◌<◌, ◌≤◌, ℤ, pos, negsuc, Bool, List, [], ◌∷◌, Option, Some, None, refl, arith}
 use Rattle.std.specs.Option.{ForSome}
-use Rattle.std.specs.Str.{IsAscii}
 use Rattle.std.proofs.lemmas.Str.{IsUtf8-from_ascii, IsUtf8-had}
-use Rattle.std.proofs.lemmas.Str.Ascii.{IsAscii-cons, IsAscii-nil}
 use Rattle.std.proofs.lemmas.Fmt.{IsAscii-decimal, IsAscii-signed}
 use Rattle.json.proofs.Printed.Decimals.{IsNumber-decimal, IsNumber-signed_decimal}
 use Rattle.serde_json.specs.Data.{Data, depth, items_depth}
 use Rattle.serde_json.specs.Data as json
 use Rattle.serde_json.proofs.Numbers.{number_of-decimal, number_of-negative}
 use Rattle.cad_day.specs.declared.day.Day.{Day}
-use Rattle.cad_day.specs.DayTexts.{digit, date_text}
 use Rattle.cad_shape.specs.declared.point.Point.{Point}
 use Rattle.cad_shape.specs.declared.ring.Ring.{Ring}
 use Rattle.cad_shape.specs.Coordinates.{IsCoordinate}
@@ -22,39 +19,12 @@ use Rattle.cad_versions.specs.declared.share.Share.{Share}
 use Rattle.cad_versions.specs.declared.words.Words.{Words}
 use Rattle.cad_commands.specs.Writing.{whole_json, integer_json, object_json, words_json, share_json, point_json, points_json, ring_json, rings_json, outline_in, holes_in, outline_json, holes_json, day_json, or_null}
 use Rattle.cad_commands.proofs.TextLemmas.{IsPlain, ArePlain}
+use Rattle.cad_day.specs.DayTextLemmas.{date_text_utf8}
 
 -- ---- values
 
-abbrev AreBelow128 : List ℕ → Type 0
-AreBelow128 [] = Unit {0}
-AreBelow128 (x ∷ xs) = (x < 128) × AreBelow128 xs
-
-below_128_ascii : (xs : List ℕ) → AreBelow128 xs → IsAscii xs
-below_128_ascii [] h = IsAscii-nil
-below_128_ascii (x ∷ xs) h = IsAscii-cons x xs h.0 (below_128_ascii xs h.1)
-
-digit_below : (weight n : ℕ) → digit weight n < 128
-digit_below weight n = omega arith
-
-date_plain : (year month date : ℕ) → IsUtf8 (date_text year month date)
-date_plain year month date =
-    let dash : 45 < 128 = omega arith in
-    IsUtf8-from_ascii (date_text year month date) (below_128_ascii (date_text year month date) (
-      digit_below 1000 year,
-      (
-        digit_below 100 year,
-        (
-          digit_below 10 year,
-          (
-            digit_below 1 year,
-            (dash, (digit_below 10 month, (digit_below 1 month, (dash, (digit_below 10 date, (digit_below 1 date, tt)))))),
-          ),
-        ),
-      ),
-    ))
-
 pub day_plain : (day : Day) → IsPlain (day_json day)
-day_plain day = date_plain _ _ _
+day_plain day = date_text_utf8 _ _ _
 
 pub words_plain : (words : Words) → IsPlain (words_json words)
 words_plain words = IsUtf8-had words.spelling words.utf8

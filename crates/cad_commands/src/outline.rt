@@ -95,7 +95,8 @@ fn region(alloc: Global, outline: Ring, holes: Option<Holes>) -> Result<Region, 
 {
     let mut rings = listed(alloc, holes);
     rings.insert(0, outline)?;
-    match Region::new(rings) {
+    let found = Region::new(alloc, rings)?;
+    match found {
         Ok(region) => Ok(region),
         Err(_) => Err(CommandError::NotACommand),
     }

@@ -12,6 +12,7 @@ use cad_shape::Point;
 use cad_versions::{ObjectId, Share, Words};
 use serde_json::Value;
 use std::alloc::Global;
+use std::rc::Rc;
 
 /// What is said by the value of a member.
 pub trait FromValue: Sized {
@@ -33,7 +34,8 @@ impl FromValue for Words {
 
     fn from_value(alloc: Global, value: &Value) -> Result<Words, CommandError> {
         let text = value.as_str().ok_or(CommandError::NotACommand)?;
-        match Words::new(String::from_str(alloc, text)?) {
+        let text = Rc::new(alloc, String::from_str(alloc, text)?)?;
+        match Words::new(text) {
             Ok(words) => Ok(words),
             Err(_) => Err(CommandError::NotACommand),
         }

@@ -4,6 +4,7 @@ pub mod SameLemmas
 pub mod DayBefore
 pub mod Intervals
 pub mod DayTexts
+pub mod DayTextLemmas
 pub mod Calendar
 pub mod Relations
 pub mod Faults

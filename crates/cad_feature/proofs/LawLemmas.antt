@@ -1,5 +1,5 @@
 -- Laws of features.
-use Rattle.std.proofs.Common.{◌≡◌, ℕ, zero, suc, ◌≤ℤ◌, Bool, true, false, ◌&&◌, List, [], ◌∷◌, find, cond, Option, Some, None, refl, sym, ap, ◌∙◌, subst, arith, true≢false, int_le, Contains}
+use Rattle.std.proofs.Common.{◌≡◌, ℕ, zero, suc, ◌≤ℤ◌, Bool, true, false, List, [], ◌∷◌, find, cond, Option, Some, None, refl, sym, ap, ◌∙◌, subst, arith, true≢false, int_le, Contains}
 use Rattle.std.specs.List.{All}
 use Rattle.std.specs.Option.{ForSome}
 use Rattle.std.specs.Str.{chars}
@@ -20,6 +20,7 @@ use Rattle.cad_feature.specs.Flatten.{or_null, as_text, version_on, name_on, joi
 use Rattle.cad_feature.specs.Laws.{HoldsDay, WasNamed}
 use Rattle.cad_feature.specs.Lifespans.{holds_on, is_up_to}
 use Rattle.cad_feature.specs.Values.{null, a_text, a_span}
+use Rattle.std.proofs.lemmas.Bool.{and_parts}
 
 -- ---- lifespans
 
@@ -40,13 +41,9 @@ lifespan_is v is = go (is_turned (Some v.first) v.last) refl
 
 -- ---- names
 
-both : (a b : Bool) → (a && b) ≡ true → (a ≡ true) × (b ≡ true)
-both true b e = (refl, e)
-both false b e = absurd (true≢false (sym e))
-
 holds_says : (day : Day) (v : VersionedObject) → holds_on day v ≡ true → HoldsDay day v
 holds_says day v e =
-    let parts = both (int_le (number_of v.first) (number_of day)) (is_up_to v.last day) e in
+    let parts = and_parts (int_le (number_of v.first) (number_of day)) (is_up_to v.last day) e in
     record { begun = grind (arith, ints, parts.0); lasts = go v.last parts.1 }
   where
     go : (last : Option Day) → is_up_to last day ≡ true → ForSome last (λ last. number_of day ≤ℤ number_of last)

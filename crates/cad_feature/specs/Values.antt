@@ -24,12 +24,12 @@ pub data Datum : Type 0 where
 
 abbrev pub datum_of : Value → Datum
 datum_of value.Null = null
-datum_of (value.Text text) = a_text (chars (string_bytes text))
+datum_of (value.Text text) = a_text (chars (string_bytes text.value))
 datum_of (value.Whole n) = a_whole n
 datum_of (value.Flag b) = a_flag b
 datum_of (value.Day day) = a_day day
-datum_of (value.Span days) = a_span days
-datum_of (value.Spot point) = a_spot point
+datum_of (value.Span days) = a_span days.value
+datum_of (value.Spot point) = a_spot point.value
 datum_of (value.Area region) = an_area region
 
 -- of the kind, or no value; texts hold characters alone (Unicode scalar values), and whole numbers have 64 bits

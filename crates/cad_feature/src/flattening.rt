@@ -70,6 +70,14 @@ fn from_first(versions: &[Version], collection: Collection) -> &[Version]
     }
 }
 
+/// How many of the versions are of the collection's class.
+fn count(versions: &[Version], collection: Collection) -> usize {
+    versions
+        .iter()
+        .filter(|version| is_in(version, collection))
+        .count()
+}
+
 /// Whether it says the name of another object.
 fn is_joined(attribute: Attribute) -> bool
     ensures { result ≡ is_joined_of attribute }
@@ -118,7 +126,7 @@ pub fn flatten(
 {
     let rest = from_first(versions, collection);
     let objects = objects(alloc, versions, rest, collection)?;
-    let mut features = Vec::new(alloc);
+    let mut features = Vec::with_capacity(alloc, count(rest, collection))?;
     for version in rest {
         if is_in(version, collection) {
             let feature = feature(alloc, &objects, version, collection)?;

@@ -17,13 +17,13 @@ use cad_shape::{Point, Region};
 use cad_versions::{Version, Words};
 use std::alloc::{AllocError, Global};
 
-fn text(alloc: Global, words: Option<&Words>) -> Result<Value, AllocError>
+fn text(words: Option<&Words>) -> Result<Value, AllocError>
     ensures { IfOk result (Shows kind.Text (or_null as_text (option_copied words.entry))) }
 {
     match words {
         None => Ok(Value::Null),
         Some(words) => {
-            let text = String::from_str(alloc, words.as_str())?;
+            let text = words.text()?;
             Ok(Value::Text(text))
         }
     }
@@ -56,31 +56,37 @@ fn day(day: Option<Day>) -> Value
     }
 }
 
-fn lifespan(first: Day, last: Option<Day>) -> Value
-    ensures { Shows kind.Span (or_null a_span (interval_of (Some first) last)) result }
+fn lifespan(alloc: Global, first: Day, last: Option<Day>) -> Result<Value, AllocError>
+    ensures { IfOk result (Shows kind.Span (or_null a_span (interval_of (Some first) last))) }
 {
     match Interval::new(Some(first), last) {
-        None => Value::Null,
-        Some(days) => Value::Span(days),
+        None => Ok(Value::Null),
+        Some(days) => {
+            let days = Box::new(alloc, days)?;
+            Ok(Value::Span(days))
+        }
     }
 }
 
-fn spot(point: Option<Point>) -> Value
-    ensures { Shows kind.Spot (or_null a_spot point) result }
+fn spot(alloc: Global, point: Option<Point>) -> Result<Value, AllocError>
+    ensures { IfOk result (Shows kind.Spot (or_null a_spot point)) }
 {
     match point {
-        None => Value::Null,
-        Some(point) => Value::Spot(point),
+        None => Ok(Value::Null),
+        Some(point) => {
+            let point = Box::new(alloc, point)?;
+            Ok(Value::Spot(point))
+        }
     }
 }
 
-fn region(alloc: Global, region: Option<&Region>) -> Result<Value, AllocError>
+fn region(region: Option<&Region>) -> Result<Value, AllocError>
     ensures { IfOk result (Shows kind.Area (or_null an_area (option_copied region.entry))) }
 {
     match region {
         None => Ok(Value::Null),
         Some(region) => {
-            let region = region.copy(alloc)?;
+            let region = region.copy()?;
             Ok(Value::Area(region))
         }
     }
@@ -101,22 +107,22 @@ pub(crate) fn value(
         Attribute::Number => Ok(whole(Some(version.number))),
         Attribute::Begin => Ok(day(Some(version.first))),
         Attribute::End => Ok(day(version.last)),
-        Attribute::Lifespan => Ok(lifespan(version.first, version.last)),
-        Attribute::Name => Ok(text(alloc, body.name())?),
-        Attribute::Type => Ok(text(alloc, body.code())?),
-        Attribute::Label => Ok(text(alloc, body.label())?),
+        Attribute::Lifespan => Ok(lifespan(alloc, version.first, version.last)?),
+        Attribute::Name => Ok(text(body.name())?),
+        Attribute::Type => Ok(text(body.code())?),
+        Attribute::Label => Ok(text(body.label())?),
         Attribute::Area => Ok(whole(body.area())),
-        Attribute::Geometry => Ok(region(alloc, body.shape())?),
-        Attribute::ReferencePoint => Ok(spot(body.spot())),
+        Attribute::Geometry => Ok(region(body.shape())?),
+        Attribute::ReferencePoint => Ok(spot(alloc, body.spot())?),
         Attribute::Unit => Ok(whole(body.unit().map(|unit| unit.number()))),
         Attribute::UnitName => {
             let name = joined_name(objects, version.first, body.unit());
-            Ok(text(alloc, name)?)
+            Ok(text(name)?)
         }
         Attribute::Party => Ok(whole(body.party().map(|party| party.number()))),
         Attribute::PartyName => {
             let name = joined_name(objects, version.first, body.party());
-            Ok(text(alloc, name)?)
+            Ok(text(name)?)
         }
         Attribute::ShareNum => Ok(whole(body.share().map(|share| share.num()))),
         Attribute::ShareDen => Ok(whole(body.share().map(|share| share.den()))),

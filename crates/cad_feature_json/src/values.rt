@@ -78,11 +78,11 @@ fn value_json(alloc: Global, value: &Value) -> Result<Json, AllocError>
 {
     match value {
         Value::Null | Value::Span(_) => Ok(Json::Null),
-        Value::Text(text) => Json::try_from_str(alloc, text),
+        Value::Text(text) => Json::try_from_str(alloc, text.as_ref()),
         Value::Whole(number) => Ok(Json::from(*number)),
         Value::Flag(flag) => Ok(Json::Bool(*flag)),
         Value::Day(day) => day_json(alloc, *day),
-        Value::Spot(spot) => spot_json(alloc, *spot),
+        Value::Spot(spot) => spot_json(alloc, **spot),
         Value::Area(region) => polygon_json(alloc, region.rings()),
     }
 }

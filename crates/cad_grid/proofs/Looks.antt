@@ -8,6 +8,7 @@ use Rattle.cad_cells.specs.Counted.{block_at}
 use Rattle.cad_cells.specs.Near.{is_candidate}
 use Rattle.cad_grid.specs.Grids.{near_positions}
 use Rattle.cad_grid.proofs.Near.{block_get}
+use Rattle.std.proofs.lemmas.List.Elements.{filter_agree}
 
 -- the shape at the position is near the asked cells
 abbrev pub is_near_at : Cells → List (Option Cells) → ℕ → Bool
@@ -17,16 +18,12 @@ is_near_at asked cells p = is_candidate (block_at asked) (option_map block_at (g
 pub near_from : Cells → List (Option Cells) → ℕ → List ℕ
 near_from asked cells from = filter (is_near_at asked cells) (range_with_len from (length cells - from))
 
-same_filter : (p q : ℕ → Bool) (xs : List ℕ) → ((x : ℕ) → p x ≡ q x) → filter p xs ≡ filter q xs
-same_filter p q [] e = refl
-same_filter p q (x ∷ xs) e = rw (e x, same_filter p q xs e) refl
-
 all_near : (asked : Cells) (cells : List (Option Cells)) → near_positions (map (option_map block_at) cells) (block_at asked) ≡ near_from asked cells 0
 unfolding near_positions near_from
 all_near asked cells =
     let n : length (map (option_map block_at) cells) ≡ length cells = length-map cells (option_map block_at) in
     let m : length cells - 0 ≡ length cells = omega arith in
-    rw (n, m) (same_filter (λ p. is_candidate (block_at asked) (get_or (map (option_map block_at) cells) p None)) (is_near_at asked cells) (range_with_len 0 (length cells)) (λ p. ap (is_candidate (block_at asked)) (block_get cells p)))
+    rw (n, m) (filter_agree (λ p. is_candidate (block_at asked) (get_or (map (option_map block_at) cells) p None)) (is_near_at asked cells) (λ p. ap (is_candidate (block_at asked)) (block_get cells p)) (range_with_len 0 (length cells)))
 
 none_left : (asked : Cells) (cells : List (Option Cells)) (from : ℕ) → length cells ≤ from → near_from asked cells from ≡ []
 unfolding near_from

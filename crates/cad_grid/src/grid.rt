@@ -43,7 +43,7 @@ impl Grid {
         requires { length features.now ≤ 4294967295 }
         ensures { IfOk result (λ grid. grid ≡ blocks_at place features.now) }
     {
-        let mut all = Vec::new(alloc);
+        let mut all = Vec::with_capacity(alloc, features.len())?;
         let mut wide = Vec::new(alloc);
         let mut entries = Vec::new(alloc);
         for (position, feature) in features.iter().enumerate() {

@@ -1,6 +1,6 @@
 -- What the index of a property says of the features' values, and what lies in no range and near no box.
 use Rattle.std.proofs.Common.{◌≡◌, ◌∙◌, ℕ, zero, suc, ◌+◌, Bool, true, false, List, [], ◌∷◌, length, map, get_or, ap, sym, refl, subst, arith, true≢false, Option, Some, None}
-use Rattle.std.specs.Prelude.{filter, ◌&&◌, ⊤}
+use Rattle.std.specs.Prelude.{◌&&◌, ⊤}
 use Rattle.std.specs.List.{All, range_with_len}
 use Rattle.std.proofs.lemmas.List.Elements.{All-tail}
 use Rattle.cad_schema.specs.declared.collection.Collection.{Collection}
@@ -25,6 +25,7 @@ use Rattle.cad_ordered.specs.Ranged.{column, range_positions, value_at}
 use Rattle.cad_index.specs.declared.index.Index.TheVariants.{Unindexed}
 use Rattle.cad_index.specs.declared.indexes.Indexes.{Indexes}
 use Rattle.cad_index.specs.Indexed.{index_of, indexes_from, indexes_of, index_at, ordered_in, grid_in, AreIndexesOf}
+use Rattle.cad_positions.specs.KeptLemmas.{none_kept}
 
 -- ---- the values of a property, by its index
 
@@ -203,10 +204,6 @@ unordered : (low high : Limit) (d : Datum) → has_order d ≡ false → lies_be
 unordered low high d e = rw e refl
 
 -- ---- positions that none have
-
-none_kept : (test : ℕ → Bool) (ks : List ℕ) → ((p : ℕ) → test p ≡ false) → filter test ks ≡ []
-none_kept test [] h = refl
-none_kept test (k ∷ ks) h = rw (h k) (none_kept test ks h)
 
 module _ {A : Type 0} (f : Item → A) (none : A) (P : A → Type 0) (here : P none) where
   each : (xs : List Item) → All (λ x. P (f x)) xs → (p : ℕ) → P (get_or (map f xs) p none)

@@ -1,28 +1,17 @@
 -- Versions that are listed one after the other, with rising numbers of objects.
-use Rattle.std.proofs.Common.{◌≡◌, ℕ, ◌+◌, ◌≤◌, ◌<◌, pos, List, [], ◌∷◌, ◌++◌, length, refl, arith, Ordering, Less, int_cmp, length-append}
-use Rattle.std.specs.List.{All, AllByRecursion}
+use Rattle.std.proofs.Common.{◌≡◌, ℕ, ◌+◌, ◌≤◌, ◌<◌, List, [], ◌∷◌, ◌++◌, length, refl, arith, Less, length-append}
+use Rattle.std.specs.List.{All}
 use Rattle.std.specs.List.Sorted.{IsStrictlySortedBy}
-use Rattle.std.proofs.lemmas.Int.{ints}
 use Rattle.std.proofs.lemmas.List.Elements.{All-push, All-weaker, recursion_from_All}
 use Rattle.cad_versions.specs.Identifiers.{by_identifier}
 use Rattle.cad_versions.specs.Listing.{IsListing}
 use Rattle.cad_versions.specs.Objects.{object_number}
 use Rattle.cad_versions.specs.VersionedObject.{VersionedObject, IsVersion}
-
-cmp_less : (m n : ℕ) → m < n → int_cmp (pos m) (pos n) ≡ Less
-cmp_less m n h = grind (arith, ints)
+use Rattle.cad_versions.specs.ListLemmas.{sorted_push}
+use Rattle.cad_versions.specs.OrderLemmas.{cmp_less}
 
 comes_before : (n : ℕ) (v x : VersionedObject) → object_number v.object ≡ n + 1 → object_number x.object ≤ n → by_identifier x v ≡ Less
 comes_before n v x e h = rw (cmp_less (object_number x.object) (object_number v.object) (omega arith)) refl
-
-all_push : {X : Type 0} (P : X → Type 0) (xs : List X) (y : X) → AllByRecursion P xs → P y → AllByRecursion P (xs ++ y ∷ [])
-all_push P [] y all one = (one, tt)
-all_push P (x ∷ xs) y all one = (all.0, all_push P xs y all.1 one)
-
-rises : {X : Type 0} (cmp : X → X → Ordering) (xs : List X) (y : X) → IsStrictlySortedBy cmp xs → AllByRecursion (λ x. cmp x y ≡ Less) xs → IsStrictlySortedBy cmp (xs ++ y ∷ [])
-unfolding IsStrictlySortedBy
-rises cmp [] y up below = (tt, tt)
-rises cmp (x ∷ xs) y up below = (all_push (λ z. cmp x z ≡ Less) xs y up.0 below.0, rises cmp xs y up.1 below.1)
 
 abbrev pub Below : ℕ → List VersionedObject → Type 0
 Below n vs = All (λ (v : VersionedObject). object_number v.object ≤ n) vs
@@ -34,7 +23,7 @@ below_more n vs v below e =
 
 pub listed_more : (n : ℕ) (vs : List VersionedObject) (v : VersionedObject) → IsListing vs → Below n vs → object_number v.object ≡ n + 1 → IsVersion v → length vs ≡ n → n < 2147483647 → IsListing (vs ++ v ∷ [])
 listed_more n vs v listed below e good many few = record {
-  ascending = rises by_identifier vs v listed.ascending (recursion_from_All (λ w. by_identifier w v ≡ Less) vs (All-weaker (λ (w : VersionedObject). object_number w.object ≤ n) (λ w. by_identifier w v ≡ Less) (λ w h. comes_before n v w e h) vs below));
+  ascending = sorted_push by_identifier vs v listed.ascending (recursion_from_All (λ w. by_identifier w v ≡ Less) vs (All-weaker (λ (w : VersionedObject). object_number w.object ≤ n) (λ w. by_identifier w v ≡ Less) (λ w h. comes_before n v w e h) vs below));
   few = rw length-append (omega arith);
   each = All-push IsVersion vs v listed.each good;
 }

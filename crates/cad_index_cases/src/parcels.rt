@@ -16,6 +16,7 @@ use cad_schema::Collection;
 use cad_shape::{Point, Region};
 use cad_versions::{Body, ObjectId, Version, Words};
 use std::alloc::Global;
+use std::rc::Rc;
 
 /// What differs from parcel to parcel.
 #[derive(Drop)]
@@ -61,7 +62,7 @@ fn closed(first: Day, last: Option<Day>) -> Option<Day>
 }
 
 // The version 1 of the parcel with that number.
-fn version(number: u32, parcel: Parcel) -> Result<Version>
+fn version(alloc: Global, number: u32, parcel: Parcel) -> Result<Version>
     ensures number { IfOk result (λ version. object_number version.object ≡ number) }
     ensures version { IfOk result IsVersion }
 {
@@ -75,7 +76,7 @@ fn version(number: u32, parcel: Parcel) -> Result<Version>
         shape,
         spot,
     } = parcel;
-    let Ok(label) = Words::new(label) else {
+    let Ok(label) = Words::new(Rc::new(alloc, label)?) else {
         bail!("no words");
     };
     let last = closed(first, last);
@@ -107,7 +108,7 @@ fn listed(alloc: Global, parcels: Vec<Parcel>) -> Result<Vec<Version>>
             bail!("too many parcels");
         }
         number += 1;
-        let version = version(number, parcel)?;
+        let version = version(alloc, number, parcel)?;
         versions.push(version)?;
     }
     Ok(versions)

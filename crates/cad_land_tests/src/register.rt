@@ -6,6 +6,7 @@ use cad_shape::{Point, Region, Ring};
 use cad_versions::{read_shape, write_shape};
 use sqlite::{Alter, Connection};
 use std::alloc::Global;
+use std::rc::Rc;
 use std::test::Fail;
 
 // Days by their numbers: 1970-01-01 is 0.
@@ -32,11 +33,8 @@ fn day(number: i32) -> Result<Day, Fail> {
 }
 
 fn words(alloc: Global, text: &str) -> Result<Words, Fail> {
-    Ok(
-        Words::new(String::from_str(alloc, text)?)
-            .ok()
-            .ok_or("words")?,
-    )
+    let text = Rc::new(alloc, String::from_str(alloc, text)?)?;
+    Ok(Words::new(text).ok().ok_or("words")?)
 }
 
 fn enter(number: u32, first: i32, body: Body) -> Result<Command, Fail> {
@@ -76,7 +74,7 @@ fn region(alloc: Global, outlines: &[&[(i64, i64)]]) -> Result<Region, Fail> {
     for corners in outlines {
         rings.push(ring(alloc, corners)?)?;
     }
-    Ok(Region::new(rings).ok().ok_or("region")?)
+    Ok(Region::new(alloc, rings)?.ok().ok_or("region")?)
 }
 
 fn parcel(

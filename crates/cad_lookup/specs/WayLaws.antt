@@ -1,7 +1,7 @@
 -- The way of each kind of plan, its candidates and its cost.
 use Rattle.std.specs.Prelude.{◌≡◌, ℕ, min, Bool, true, false, ◌&&◌, ◌||◌, List, [], ◌∷◌, map, Vec}
 use Rattle.std.specs.List.{list_all, list_any}
-use Rattle.std.proofs.Common.{◌∙◌, ap, ap₂, refl, sym, subst}
+use Rattle.std.proofs.Common.{◌∙◌, ap, ap₂, refl, sym, subst, suc, if◌then◌else◌}
 use Rattle.std.specs.declared.alloc.Global.{Global}
 use Rattle.cad_shape.specs.declared.boxes.Bounds.{Bounds}
 use Rattle.cad_cells.specs.Blocks.{Block, block_of}
@@ -15,7 +15,7 @@ use Rattle.cad_lookup.specs.declared.plan.Plan.TheVariants as plan
 use Rattle.cad_lookup.specs.declared.plan.Plan.TheOpen.{Plan-F}
 use Rattle.cad_lookup.specs.declared.plan.Plan.TheFolds.{fold-roll-Plan, ind-Plan, map-Plan}
 use Rattle.cad_lookup.specs.Candidates.{candidate_step, is_candidate}
-use Rattle.cad_lookup.specs.Ways.{Way, all_features, no_feature, in_range, near_block, meet_of, join_of, ways_in, range_way, way_step, way_of, is_found, found_by_all, found_by_some, least_or, total, Counts, most, cost, costs}
+use Rattle.cad_lookup.specs.Ways.{Way, all_features, no_feature, in_range, near_block, meet_of, join_of, ways_in, range_way, way_step, way_of, is_found, found_by_all, found_by_some, least_or, total, Counts, most, cost, costs, how_many}
 
 pub way_All : way_of plan.All ≡ all_features
 way_All = ap way_of (sym plan.rolls-All) ∙ fold-roll-Plan Way way_step Plan-F.All
@@ -129,3 +129,7 @@ cost_meet counts ws = ap (least_or counts.every) (costs_map counts ws)
 pub cost_join : (counts : Counts) (ws : List Way) → cost counts (join_of (ways_in ws)) ≡ min most (total (map (cost counts) ws))
 unfolding cost
 cost_join counts ws = ap (λ cs. min most (total cs)) (costs_map counts ws)
+
+pub how_many_map : {X Y : Type 0} (test : Y → Bool) (f : X → Y) (xs : List X) → how_many test (map f xs) ≡ how_many (λ x. test (f x)) xs
+how_many_map test f [] = refl
+how_many_map test f (x ∷ xs) = ap (λ n. if test (f x) then (suc n) else n) (how_many_map test f xs)

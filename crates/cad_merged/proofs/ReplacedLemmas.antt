@@ -1,5 +1,5 @@
 -- What changes stand in the place of, found by a search, and counted by positions.
-use Rattle.std.proofs.Common.{◌≡◌, ℕ, zero, suc, ◌<◌, Bool, false, cond, if◌then◌else◌, List, [], ◌∷◌, ◌++◌, length, map, get_or, append_assoc, refl, sym, ap, ◌∙◌, arith, Ordering, Less, Equal, Greater, is_eq, Some}
+use Rattle.std.proofs.Common.{◌≡◌, ℕ, zero, suc, ◌<◌, Bool, false, cond, List, [], ◌∷◌, ◌++◌, length, map, get_or, append_assoc, refl, sym, ap, ◌∙◌, arith, Ordering, Less, Equal, Greater, is_eq, Some}
 use Rattle.std.specs.Prelude.{slice_get}
 use Rattle.std.specs.List.{AllByRecursion}
 use Rattle.std.specs.List.Sorted.{IsStrictlySortedBy}
@@ -11,6 +11,7 @@ use Rattle.cad_versions.specs.ListLemmas.{all_weaker}
 use Rattle.cad_lookup.specs.Ways.{how_many}
 use Rattle.cad_merged.specs.CountLemmas.{no_twins, twins_at}
 use Rattle.cad_merged.specs.Replaced.{twins, replaced_in, standing_at, StandAt, passes_if_any, passes_at}
+use Rattle.cad_lookup.specs.WayLaws.{how_many_map}
 
 -- ---- a search
 
@@ -51,10 +52,6 @@ standing_push xs [] p x e = ap (λ o. o ∷ []) e
 standing_push xs (q ∷ ps) p x e = ap (λ os. slice_get xs q ∷ os) (standing_push xs ps p x e)
 
 -- ---- counts
-
-how_many_map : {X Y : Type 0} (test : Y → Bool) (f : X → Y) (xs : List X) → how_many test (map f xs) ≡ how_many (λ x. test (f x)) xs
-how_many_map test f [] = refl
-how_many_map test f (x ∷ xs) = ap (λ n. if test (f x) then (suc n) else n) (how_many_map test f xs)
 
 -- those at the positions are counted
 pub standing_counted : {X : Type 0} (test : X → Bool) (xs : List X) (ps : List ℕ) (ys : List X) → StandAt xs ps ys → how_many (passes_at test xs) ps ≡ how_many test ys

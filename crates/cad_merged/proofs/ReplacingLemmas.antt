@@ -1,5 +1,5 @@
 -- One change, searched for in the base.
-use Rattle.std.proofs.Common.{◌≡◌, ℕ, suc, ◌+◌, ◌≤◌, ◌<◌, false, List, [], ◌∷◌, ◌++◌, length, map, get_or, drop, add-one, drop-cons, refl, sym, ap, ◌∙◌, Ordering, Less, Equal, Greater, is_eq, Some}
+use Rattle.std.proofs.Common.{◌≡◌, ℕ, suc, ◌+◌, ◌≤◌, ◌<◌, false, List, [], ◌∷◌, ◌++◌, length, map, get_or, drop, add-one, drop-cons, refl, sym, ap, ◌∙◌, Ordering, Less, Equal, Greater, is_eq, Some, append-nil}
 use Rattle.std.specs.Ordering.{ordering_reverse}
 use Rattle.std.specs.List.{HoldsAt}
 use Rattle.std.specs.List.Sorted.{IsStrictlySortedBy, IsPartitionPoint}
@@ -14,10 +14,6 @@ use Rattle.cad_merged.specs.ItemLemmas.{items_total}
 use Rattle.cad_merged.specs.Replaced.{twins, replaced_in, standing_at, StandAt}
 use Rattle.cad_merged.proofs.ReplacedLemmas.{one_more, standing_push, twins_none, twins_one}
 use Rattle.cad_merged.specs.SearchLemmas.{absent, equal_is}
-
-append_none : {X : Type 0} (xs : List X) → xs ++ [] ≡ xs
-append_none [] = refl
-append_none (x ∷ xs) = ap (λ ys. x ∷ ys) (append_none xs)
 
 module _ (change : Item) (base : List Item) (i : ℕ) where
   -- where the search ends at a feature, its position is added
@@ -42,7 +38,7 @@ module _ (change : Item) (base : List Item) (i : ℕ) where
   found_none old split =
       let Other : Item → Type 0 = λ x. ¬ (identifier_of x ≡ identifier_of change) in
       let all = all_weaker Other (λ x. is_eq (by_identifier change x) ≡ false) other base (recursion_from_All Other base (absent (identifier_of change) base base i refl split)) in
-      sym (append_none (standing_at base old)) ∙ ap (λ ys. standing_at base old ++ map Some ys) (sym (twins_none by_identifier items_total change base all))
+      sym (append-nil (standing_at base old)) ∙ ap (λ ys. standing_at base old ++ map Some ys) (sym (twins_none by_identifier items_total change base all))
 
 -- ---- one change after the other
 
@@ -60,7 +56,7 @@ pub all_looked_for : (base changes : List Item) (i : ℕ) (positions : List ℕ)
     → standing_at base positions ++ map Some (replaced_in by_identifier base (drop i changes)) ≡ map Some (replaced_in by_identifier base changes)
     → StandAt base positions (replaced_in by_identifier base changes)
 all_looked_for base changes i positions h so_far =
-    sym (append_none (standing_at base positions)) ∙ ap (λ cs. standing_at base positions ++ map Some (replaced_in by_identifier base cs)) (sym (drop_all i changes h)) ∙ so_far
+    sym (append-nil (standing_at base positions)) ∙ ap (λ cs. standing_at base positions ++ map Some (replaced_in by_identifier base cs)) (sym (drop_all i changes h)) ∙ so_far
 
 -- the same of lists that are they
 pub stand_as : (base shared changes more : List Item) (positions : List ℕ) → shared ≡ base → more ≡ changes → StandAt shared positions (replaced_in by_identifier shared more) → StandAt base positions (replaced_in by_identifier base changes)

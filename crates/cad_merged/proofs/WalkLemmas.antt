@@ -8,10 +8,6 @@ use Rattle.cad_merged.specs.Merging.{merged}
 use Rattle.cad_merged.specs.MergeLemmas.{change_first, change_before, change_in_place, change_behind, merged_ascends, merged_merged}
 use Rattle.cad_merged.specs.Walks.{all_in, IsInOrder}
 
-pub rest_rises : (x : Item) (xs ys : List Item) → ys ≡ x ∷ xs → IsStrictlySortedBy by_identifier ys → IsStrictlySortedBy by_identifier xs
-unfolding IsStrictlySortedBy
-rest_rises x xs ys e up = (subst (IsStrictlySortedBy by_identifier) e up).1
-
 pub only_changes : (base changes : List Item) (c : Item) (cs : List Item) → length base ≡ 0 → changes ≡ c ∷ cs → IsInOrder base changes → all_in base changes ≡ c ∷ all_in base cs
 only_changes base changes c cs none is up = rw (nil_from_length base none, is) (change_first by_identifier items_total [] c cs tt (subst (IsStrictlySortedBy by_identifier) is up.1))
 

@@ -4,9 +4,9 @@ use Rattle.std.specs.List.{AllByRecursion}
 use Rattle.std.specs.List.Sorted.{IsStrictlySortedBy}
 use Rattle.std.specs.Cmp.{IsTotalOrder}
 use Rattle.std.proofs.lemmas.List.Kept.{IsStrictlySortedBy-filter}
-use Rattle.cad_versions.specs.ListLemmas.{all_weaker}
+use Rattle.cad_versions.specs.ListLemmas.{all_weaker, all_filtered}
 use Rattle.cad_merged.specs.Merging.{put_at, put, merged}
-use Rattle.cad_merged.specs.MergeLemmas.{all_filtered, change_first, change_in_place, change_behind, merged_ascends}
+use Rattle.cad_merged.specs.MergeLemmas.{change_first, change_in_place, change_behind, merged_ascends}
 
 module _ {X : Type 0} (p : X → Bool) where
   kept_again : (b : Bool) (x : X) (ys : List X) → p x ≡ b → filter p ys ≡ ys → filter p (cond b (x ∷ ys) ys) ≡ cond b (x ∷ ys) ys

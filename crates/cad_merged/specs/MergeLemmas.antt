@@ -4,13 +4,9 @@ use Rattle.std.specs.List.{AllByRecursion}
 use Rattle.std.specs.List.Sorted.{IsStrictlySortedBy}
 use Rattle.std.specs.Cmp.{IsTotalOrder}
 use Rattle.std.specs.Ordering.{ordering_reverse}
-use Rattle.cad_versions.specs.ListLemmas.{all_weaker}
+use Rattle.cad_versions.specs.ListLemmas.{all_weaker, all_filtered}
 use Rattle.cad_versions.specs.Sorting.{insert_sorted, sort_by}
 use Rattle.cad_merged.specs.Merging.{put_at, put, merged}
-
-pub all_filtered : {X : Type 0} (P : X → Type 0) (p : X → Bool) (xs : List X) → AllByRecursion P xs → AllByRecursion P (filter p xs)
-all_filtered P p [] all = tt
-all_filtered P p (x ∷ xs) all = elim (p x) as (λ b. AllByRecursion P (cond b (x ∷ filter p xs) (filter p xs))) [ true ↦ (all.0, all_filtered P p xs all.1) | false ↦ all_filtered P p xs all.1 ]
 
 module _ {X : Type 0} (cmp : X → X → Ordering) where
   put_less : (n y : X) (ys : List X) → cmp n y ≡ Less → put cmp n (y ∷ ys) ≡ n ∷ y ∷ ys

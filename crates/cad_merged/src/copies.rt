@@ -6,23 +6,29 @@ ghost use Rattle.cad_feature.specs.Values.{datum_of};
 use cad_feature::{Feature, Value};
 use std::alloc::{AllocError, Global};
 
-/// The same value once more.
+/// The same value once more; a text or a region is shared.
 pub fn copy_value(alloc: Global, value: &Value) -> Result<Value, AllocError>
     ensures { IfOk result (λ copy. datum_of copy ≡ datum_of value.now) }
 {
     match value {
         Value::Null => Ok(Value::Null),
         Value::Text(text) => {
-            let text = String::from_str(alloc, text.as_str())?;
+            let text = text.clone()?;
             Ok(Value::Text(text))
         }
         Value::Whole(number) => Ok(Value::Whole(*number)),
         Value::Flag(flag) => Ok(Value::Flag(*flag)),
         Value::Day(day) => Ok(Value::Day(*day)),
-        Value::Span(days) => Ok(Value::Span(*days)),
-        Value::Spot(point) => Ok(Value::Spot(*point)),
+        Value::Span(days) => {
+            let days = Box::new(alloc, **days)?;
+            Ok(Value::Span(days))
+        }
+        Value::Spot(point) => {
+            let point = Box::new(alloc, **point)?;
+            Ok(Value::Spot(point))
+        }
         Value::Area(region) => {
-            let region = region.copy(alloc)?;
+            let region = region.copy()?;
             Ok(Value::Area(region))
         }
     }

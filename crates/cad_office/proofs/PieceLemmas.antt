@@ -1,5 +1,5 @@
 -- What is read and written of one line, and of one piece after another.
-use Rattle.std.proofs.Common.{◌≡◌, ℕ, Bool, true, false, not, cond, ◌&&◌, IsTrue, List, [], ◌∷◌, ◌++◌, Option, Result, Ok, Err, length, filter, refl, sym, ap, ◌∙◌, append_assoc, append-nil, arith, eqb-true}
+use Rattle.std.proofs.Common.{◌≡◌, ℕ, Bool, true, false, not, cond, ◌&&◌, IsTrue, List, [], ◌∷◌, ◌++◌, Option, Result, Ok, Err, length, filter, refl, sym, ap, ◌∙◌, append_assoc, append-nil, eqb-true}
 use Rattle.std.specs.Prelude.{◌==◌}
 use Rattle.std.proofs.Math.Bool.{and-true}
 use Rattle.std.proofs.KnownBytes.{Appends-trans, Appends-nil}
@@ -19,15 +19,12 @@ use Rattle.cad_office.specs.Keeping.{all_printed, is_accepted, goes_on, AnswersL
 use Rattle.cad_io.specs.Known.{Writes}
 use Rattle.cad_office.proofs.LineLemmas.{lines_in-begun, lines_ended-lf, line_begun-lf, lines_ended-byte, line_begun-byte, lines_ended-append}
 use Rattle.cad_office.proofs.AnswerLemmas.{all_accepted-append, first-more, answered-append, refused-append, cut-append}
+use Rattle.std.proofs.lemmas.List.{nil_from_length}
 
 -- ---- one line
 
 one_printed : (answer : Answer) → printed answer ≡ all_printed (answer ∷ [])
 one_printed answer = sym (append-nil (printed answer))
-
-no_length : (xs : List ℕ) → (length xs == 0) ≡ true → xs ≡ []
-no_length [] e = refl
-no_length (x ∷ xs) e = let clash = eqb-true (length (x ∷ xs)) 0 e in absurd (omega arith)
 
 lf_ends : (read : List ℕ) → EndIn read (10 ∷ []) (filter is_filled (line_begun read ∷ []))
 lf_ends read = lines_ended-lf read ∙ lines_in-begun read
@@ -39,7 +36,7 @@ refused_goes_on _ other = refl
 -- an empty line
 pub line_empty : (Q : List (List ℕ) → List Answer → Type 0) (a : Option (List ℕ)) (read : List ℕ) (line : Line) → BuffersLine (line_begun read) line → (length (line_begun read) == 0) ≡ true → Q [] [] → Writes a a (IsPiece Q read (Ok true) line (10 ∷ []))
 line_empty Q a read line stands empty q =
-    let none = no_length (line_begun read) empty in
+    let none = nil_from_length (line_begun read) (eqb-true (length (line_begun read)) 0 empty) in
     let ends = lf_ends read ∙ ap (λ (text : List ℕ). lines_ended read ++ filter is_filled (text ∷ [])) none in
     ([], Appends-nil a, ([], ends, ([], (refl, refl, q), refl), rw (line_begun-lf read) (rw none at stands)))
 

@@ -1,7 +1,6 @@
 -- Values between two edges have the ranks between two.
-use Rattle.std.proofs.Common.{◌≡◌, ◌∙◌, ℕ, zero, suc, ◌+◌, ◌<◌, ◌≤◌, Bool, true, false, max, List, [], ◌∷◌, length, map, get_or, ap, sym, refl, arith, inl, inr, Option, Some, None, Global, String, chars}
-use Rattle.std.specs.Prelude.{◌&&◌, not, nat_le, nat_lt, filter, is_some, string_bytes}
-use Rattle.std.specs.List.{range_with_len}
+use Rattle.std.proofs.Common.{◌≡◌, ◌∙◌, ℕ, zero, suc, ◌<◌, ◌≤◌, Bool, true, false, max, List, [], ◌∷◌, length, map, get_or, ap, sym, refl, arith, inl, inr, Option, Some, None, chars}
+use Rattle.std.specs.Prelude.{◌&&◌, not, nat_le, nat_lt, is_some, string_bytes}
 use Rattle.std.specs.declared.cmp.Ordering.{Ordering}
 use Rattle.std.specs.declared.cmp.Ordering.TheVariants.{Less, Equal, Greater}
 use Rattle.std.specs.Ordering.{is_gt, is_lt}
@@ -22,6 +21,8 @@ use Rattle.cad_feature.specs.declared.range.Scalar.{Scalar}
 use Rattle.cad_feature.specs.declared.range.Scalar.TheVariants as scalar
 use Rattle.cad_ordered.specs.declared.keys.Keys.{Keys}
 use Rattle.cad_ordered.specs.declared.keys.Keys.TheVariants as keys
+use Rattle.cad_positions.specs.KeptLemmas.{same_from}
+use Rattle.cad_ordered.specs.declared.text_key.TextKey.{TextKey}
 
 at_place : {X : Type 0} (f : X → Datum) (P : Datum → Type 0) → ((x : X) → P (f x)) → (xs : List X) (i : ℕ) → i < length (map f xs) → P (get_or (map f xs) i null)
 at_place f P h [] i l = absurd (omega arith)
@@ -29,12 +30,12 @@ at_place f P h (x ∷ xs) zero l = h x
 at_place f P h (x ∷ xs) (suc i) l = at_place f P h xs i (omega arith)
 
 pub have_order : (ks : Keys) (i : ℕ) → i < length (data_of ks) → has_order (get_or (data_of ks) i null) ≡ true
-have_order (keys.Texts v) i h = at_place (λ (t : String Global). a_text (chars (string_bytes t))) (λ d. has_order d ≡ true) (λ x. refl) v.items i h
+have_order (keys.Texts v) i h = at_place (λ (t : TextKey). a_text (chars (string_bytes t.text.value))) (λ d. has_order d ≡ true) (λ x. refl) v.items i h
 have_order (keys.Wholes v) i h = at_place a_whole (λ d. has_order d ≡ true) (λ x. refl) v.items i h
 have_order (keys.Days v) i h = at_place a_day (λ d. has_order d ≡ true) (λ x. refl) v.items i h
 
 pub are_compared : (ks : Keys) (s : Scalar) (i : ℕ) → i < length (data_of ks) → scalar_kind s ≡ kind_of ks → is_some (compared (get_or (data_of ks) i null) (scalar_datum s)) ≡ true
-are_compared (keys.Texts v) (scalar.Text t) i h e = at_place (λ (t : String Global). a_text (chars (string_bytes t))) (λ d. is_some (compared d (scalar_datum (scalar.Text t))) ≡ true) (λ x. refl) v.items i h
+are_compared (keys.Texts v) (scalar.Text t) i h e = at_place (λ (t : TextKey). a_text (chars (string_bytes t.text.value))) (λ d. is_some (compared d (scalar_datum (scalar.Text t))) ≡ true) (λ x. refl) v.items i h
 are_compared (keys.Wholes v) (scalar.Whole n) i h e = at_place a_whole (λ d. is_some (compared d (a_whole n)) ≡ true) (λ x. refl) v.items i h
 are_compared (keys.Days v) (scalar.Day n) i h e = at_place a_day (λ d. is_some (compared d (a_day n)) ≡ true) (λ x. refl) v.items i h
 are_compared (keys.Texts v) (scalar.Whole n) i h e = cc
@@ -75,10 +76,6 @@ low_without ks s r e sp i h = from_without _ (nat_lt i r) (split_low (data_of ks
 pub high_split : (ds : List Datum) (s : Datum) (r : ℕ) (upto : Bool) → IsSplit upto ds s r → (i : ℕ) → i < length ds → is_before upto (compared (get_or ds i null) s) ≡ nat_lt i r
 high_split ds s r upto sp i h = split_low ds s r i upto sp h
 
-filter_same : (p q : ℕ → Bool) (a n : ℕ) → ((k : ℕ) → a ≤ k → k < a + n → p k ≡ q k) → filter p (range_with_len a n) ≡ filter q (range_with_len a n)
-filter_same p q a zero h = refl
-filter_same p q a (suc n) h = rw (h a (omega arith) (omega arith), filter_same p q (a + 1) n (λ k l m. h k (omega arith) (omega arith))) refl
-
 between_max : (lo hi r : ℕ) → is_between lo (max hi lo) r ≡ (nat_le lo r && nat_lt r hi)
 between_max lo hi r = elim (below hi lo) [
   | inl h ↦ let e : max hi lo ≡ lo = omega arith in rw e (grind (arith, nat_tests))
@@ -101,5 +98,5 @@ pub range_is : (ks : Keys) (ranks : List ℕ) (low high : Edge) (lo hi : ℕ) �
 unfolding positions_between range_positions
 range_is ks ranks low high lo hi l h =
     let n = length-map ranks (λ (r : ℕ). get_or (data_of ks) r null) in
-    rw n (filter_same (λ p. is_between lo (max hi lo) (get_or ranks p 0)) (λ p. lies_between (limit_of low) (limit_of high) (get_or (by_rank (data_of ks) ranks) p null)) 0 (length ranks)
+    rw n (same_from (λ p. is_between lo (max hi lo) (get_or ranks p 0)) (λ p. lies_between (limit_of low) (limit_of high) (get_or (by_rank (data_of ks) ranks) p null)) 0 (length ranks)
     (λ p a b. between_max lo hi (get_or ranks p 0) ∙ sym (at_rank ks low high lo hi (get_or ranks p 0) l h) ∙ ap (lies_between (limit_of low) (limit_of high)) (sym (get_or-map (λ (r : ℕ). get_or (data_of ks) r null) ranks p 0 null (omega arith)))))

@@ -2,4 +2,6 @@ pub mod Edges
 pub mod Ranged
 pub mod Columns
 pub mod Indexed
+pub mod Fronts
+pub mod FrontLemmas
 pub mod TextKeys

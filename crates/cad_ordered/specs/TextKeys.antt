@@ -1,12 +1,17 @@
--- Texts are ordered by their bytes as by their characters.
+-- Texts are ordered by their keys as by their characters.
 use Rattle.std.specs.Prelude.{◌≡◌, Some, chars, string_bytes}
-use Rattle.std.proofs.Common.{String, Global, sym, ap}
-use Rattle.std.specs.Ordering.{nat_cmp}
+use Rattle.std.proofs.Common.{sym, ap, ap₂, ◌∙◌}
+use Rattle.std.specs.Ordering.{nat_cmp, ordering_then}
 use Rattle.std.specs.Cmp.Lexicographic.{slice_cmp}
 use Rattle.std.proofs.lemmas.Str.{IsUtf8-string_bytes}
 use Rattle.cql_text.specs.CodePoints.{bytes_cmp}
 use Rattle.cad_feature.specs.Values.{a_text}
 use Rattle.cad_range.specs.Ranges.{compared}
+use Rattle.cad_ordered.specs.FrontLemmas.{front_first}
+use Rattle.cad_ordered.specs.declared.text_key.TextKey.{TextKey}
 
-pub text_keys : (x y : String Global) → compared (a_text (chars (string_bytes x))) (a_text (chars (string_bytes y))) ≡ Some (slice_cmp nat_cmp (string_bytes x) (string_bytes y))
-text_keys x y = ap Some (sym (bytes_cmp (string_bytes x) (string_bytes y) (IsUtf8-string_bytes x) (IsUtf8-string_bytes y)))
+pub text_keys : (x y : TextKey) → compared (a_text (chars (string_bytes x.text.value))) (a_text (chars (string_bytes y.text.value))) ≡ Some (ordering_then (nat_cmp x.front y.front) (slice_cmp nat_cmp (string_bytes x.text.value) (string_bytes y.text.value)))
+text_keys x y = ap Some (
+    sym (bytes_cmp (string_bytes x.text.value) (string_bytes y.text.value) (IsUtf8-string_bytes x.text.value) (IsUtf8-string_bytes y.text.value))
+    ∙ sym (front_first 8 (string_bytes x.text.value) (string_bytes y.text.value) x.bytes y.bytes)
+    ∙ sym (ap₂ (λ m n. ordering_then (nat_cmp m n) (slice_cmp nat_cmp (string_bytes x.text.value) (string_bytes y.text.value))) x.fronted y.fronted))

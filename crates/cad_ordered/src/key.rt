@@ -7,6 +7,7 @@ ghost use Rattle.cad_range.specs.Ranges.{compared, has_order};
 ghost use Rattle.cad_ordered.specs.Ranged.{column, value_at};
 ghost use Rattle.cad_ordered.specs.Columns.{IsOrderOf, keyed_from};
 
+use crate::text_key::TextKey;
 use cad_day::Day;
 use cad_feature::{Feature, Value};
 use std::alloc::{AllocError, Global};
@@ -23,7 +24,7 @@ pub(crate) trait Key: Ord + Drop {
     ghost datum: { Self → Datum };
 
     /// The key that the value is, if there is one.
-    fn read(alloc: Global, value: &Value) -> Result<Option<Self>, AllocError>
+    fn read(value: &Value) -> Result<Option<Self>, AllocError>
         requires { IsOfKind kind (datum_of value.now) }
         ensures { IfOk result (λ key. MatchOption key (has_order (datum_of value.now) ≡ false) (λ k. datum k ≡ datum_of value.now)) };
 
@@ -41,7 +42,7 @@ impl Key for i64 {
 
     ghost ordered = { λ x y. refl };
 
-    fn read(alloc: Global, value: &Value) -> Result<Option<i64>, AllocError> {
+    fn read(value: &Value) -> Result<Option<i64>, AllocError> {
         match value {
             Value::Whole(number) => Ok(Some(*number)),
             _ => Ok(None),
@@ -60,7 +61,7 @@ impl Key for Day {
 
     ghost ordered = { λ x y. refl };
 
-    fn read(alloc: Global, value: &Value) -> Result<Option<Day>, AllocError> {
+    fn read(value: &Value) -> Result<Option<Day>, AllocError> {
         match value {
             Value::Day(day) => Ok(Some(*day)),
             _ => Ok(None),
@@ -68,7 +69,7 @@ impl Key for Day {
     }
 }
 
-impl Key for String {
+impl Key for TextKey {
     ghost use Rattle.std.specs.Prelude.{chars, string_bytes};
     ghost use Rattle.cad_feature.specs.Values.{a_text};
     ghost use Rattle.cad_schema.specs.declared.property.PropertyKind.TheVariants as kinds;
@@ -76,14 +77,14 @@ impl Key for String {
 
     ghost kind = { kinds.Text };
 
-    ghost datum = { λ s. a_text (chars (string_bytes s)) };
+    ghost datum = { λ key. a_text (chars (string_bytes key.text.value)) };
 
     ghost ordered = { text_keys };
 
-    fn read(alloc: Global, value: &Value) -> Result<Option<String>, AllocError> {
+    fn read(value: &Value) -> Result<Option<TextKey>, AllocError> {
         match value {
             Value::Text(text) => {
-                let key = String::from_str(alloc, text.as_str())?;
+                let key = TextKey::of(text)?;
                 Ok(Some(key))
             }
             _ => Ok(None),
@@ -91,12 +92,12 @@ impl Key for String {
     }
 }
 
-fn read_at<K: Key>(alloc: Global, feature: &Feature, place: usize) -> Result<Option<K>, AllocError>
+fn read_at<K: Key>(feature: &Feature, place: usize) -> Result<Option<K>, AllocError>
     requires { IsOfKind K.kind (value_at place feature.now) }
     ensures { IfOk result (λ key. MatchOption key (has_order (value_at place feature.now) ≡ false) (λ k. K.datum k ≡ value_at place feature.now)) }
 {
     if place < feature.values.len() {
-        let key = K::read(alloc, &feature.values[place])?;
+        let key = K::read(&feature.values[place])?;
         Ok(key)
     } else {
         Ok(None)
@@ -113,9 +114,9 @@ fn read_all<K: Key>(
     requires alike { All (λ x. IsOfKind K.kind (value_at place x)) features.now }
     ensures { IfOk result (λ v. map (λ e. (K.datum e.0, e.1)) v.items ≡ keyed_from 0 (column place features.now)) }
 {
-    let mut pairs = Vec::new(alloc);
+    let mut pairs = Vec::with_capacity(alloc, features.len())?;
     for (position, feature) in features.iter().enumerate() {
-        let key = read_at::<K>(alloc, feature, place)?;
+        let key = read_at::<K>(feature, place)?;
         match key {
             None => {}
             Some(key) => pairs.push((key, position as u32))?,
@@ -128,8 +129,8 @@ fn parted<K: Drop>(alloc: Global, pairs: Vec<(K, u32)>) -> Result<(Vec<K>, Vec<u
     ensures same { IfOk result (λ r. zip r.0.items r.1.items ≡ pairs.items) }
     ensures beside { IfOk result (λ r. length r.0.items ≡ length r.1.items) }
 {
-    let mut keys = Vec::new(alloc);
-    let mut places = Vec::new(alloc);
+    let mut keys = Vec::with_capacity(alloc, pairs.len())?;
+    let mut places = Vec::with_capacity(alloc, pairs.len())?;
     for (key, place) in pairs {
         keys.push(key)?;
         places.push(place)?;

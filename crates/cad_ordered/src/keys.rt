@@ -7,6 +7,7 @@ ghost use Rattle.cad_feature.specs.Limits.{scalar_datum};
 ghost use Rattle.cad_ordered.specs.Edges.{IsEdgeOf, scalar_kind};
 ghost use Rattle.cad_ordered.specs.Columns.{data_of, kind_of, is_before, IsAscending, IsSplit, IsLowRank, IsHighRank};
 
+use crate::text_key::TextKey;
 use cad_day::Day;
 use cad_feature::{Edge, Scalar};
 use cad_schema::PropertyKind;
@@ -15,7 +16,7 @@ use std::cmp::Ordering;
 
 #[derive(Drop)]
 pub(crate) enum Keys {
-    Texts(Vec<String>),
+    Texts(Vec<TextKey>),
     Wholes(Vec<i64>),
     Days(Vec<Day>),
 }

@@ -9,5 +9,6 @@
 mod key;
 mod keys;
 mod ordered;
+mod text_key;
 
 pub use ordered::Ordered;

@@ -11,6 +11,7 @@ ghost use Rattle.cad_ordered.specs.Columns.{data_of, kind_of, ordered_column, Is
 
 use crate::key::ordered_keys;
 use crate::keys::Keys;
+use crate::text_key::TextKey;
 use cad_day::Day;
 use cad_feature::{Edge, Feature};
 use cad_positions::{Found, Ranking};
@@ -60,7 +61,7 @@ impl Ordered {
         requires alike { All (λ x. IsOfKind kinds.Text (value_at place x)) features.now }
         ensures { IfOk result (λ o. o ≡ record { kind = kinds.Text; values = column place features.now }) }
     {
-        let (keys, places) = ordered_keys::<String>(alloc, features, place)?;
+        let (keys, places) = ordered_keys::<TextKey>(alloc, features, place)?;
         let ordered = made(alloc, features, place, Keys::Texts(keys), places)?;
         Ok(ordered)
     }

@@ -11,6 +11,7 @@ use Rattle.cad_versions.specs.EntryLemmas.{after_same}
 use Rattle.cad_versions.specs.OrderLemmas.{identifiers_apart}
 use Rattle.cad_versions.specs.ClosingLemmas.{few_after}
 use Rattle.cad_plain.specs.Plain.{AreHistories, AreApart}
+use Rattle.cad_versions.specs.ListLemmas.{all_filtered}
 
 -- ---- what is kept
 
@@ -26,15 +27,11 @@ allowed ls now c d e f h = ap₂ (λ xs b. refusal (map version_in xs) b) e (sym
 
 -- ---- what is shown
 
-all-filter : {X : Type 0} (P : X → Type 0) (p : X → Bool) (xs : List X) → AllByRecursion P xs → AllByRecursion P (filter p xs)
-all-filter P p [] h = tt
-all-filter P p (x ∷ xs) h = elim (p x) as (λ b. AllByRecursion P (cond b (x ∷ filter p xs) (filter p xs))) [ true ↦ (h.0, all-filter P p xs h.1) | false ↦ all-filter P p xs h.1 ]
-
 distinct-filter : {X : Type 0} (e : X → X → Bool) (p : X → Bool) (xs : List X) → IsDistinct e xs → IsDistinct e (filter p xs)
 unfolding IsDistinct
 distinct-filter e p [] h = tt
 distinct-filter e p (x ∷ xs) h =
-    elim (p x) as (λ b. IsDistinct e (cond b (x ∷ filter p xs) (filter p xs))) [ true ↦ (all-filter (λ y. e x y ≡ false) p xs h.0, distinct-filter e p xs h.1) | false ↦ distinct-filter e p xs h.1 ]
+    elim (p x) as (λ b. IsDistinct e (cond b (x ∷ filter p xs) (filter p xs))) [ true ↦ (all_filtered (λ y. e x y ≡ false) p xs h.0, distinct-filter e p xs h.1) | false ↦ distinct-filter e p xs h.1 ]
 
 distinct_by : {A X : Type 0} (e : X → X → Bool) (f : A → X) (xs : List A) → IsDistinct e (map f xs) → IsDistinct (λ a b. e (f a) (f b)) xs
 unfolding IsDistinct

@@ -114,7 +114,7 @@ impl StoredVersion {
             number: version.number,
             first: version.first,
             last,
-            body: version.body.copy(alloc)?,
+            body: version.body.copy()?,
         })
     }
 }

@@ -1,5 +1,5 @@
 -- Lists of plans that are gathered one by one, and their costs.
-use Rattle.std.proofs.Common.{◌≡◌, ◌∙◌, ap, refl, sym, ℕ, suc, ◌+◌, ◌≤◌, min, Bool, true, false, nat_lt, if◌then◌else◌, List, [], ◌∷◌, ◌++◌, append_assoc, map, filter, length, get_or, drop, add-one, drop-cons, arith}
+use Rattle.std.proofs.Common.{◌≡◌, ◌∙◌, ap, refl, sym, ℕ, suc, ◌+◌, ◌≤◌, min, Bool, true, false, nat_lt, if◌then◌else◌, List, [], ◌∷◌, ◌++◌, append_assoc, map, filter, length, get_or, drop, add-one, drop-cons, arith, append-nil}
 use Rattle.std.proofs.lemmas.List.{drop_all}
 use Rattle.cad_lookup.specs.Ways.{Way, Counts, cost, least_or, min_of, most, total}
 use Rattle.cql_rewrite.specs.Choices.{Costs, after, filter_step, min_moved}
@@ -20,12 +20,8 @@ map_push f (y ∷ xs) x = ap (λ ys. f y ∷ ys) (map_push f xs x)
 pub moved : {Y : Type 0} (old new left rest all : List Y) (w : Y) → new ≡ old ++ w ∷ [] → left ≡ w ∷ rest → old ++ left ≡ all → new ++ rest ≡ all
 moved old new left rest all w e f h = ap (λ ys. ys ++ rest) e ∙ append_assoc old (w ∷ []) rest ∙ ap (λ ys. old ++ ys) (sym f) ∙ h
 
-none_left : {Y : Type 0} (ys : List Y) → ys ++ [] ≡ ys
-none_left [] = refl
-none_left (y ∷ ys) = ap (λ zs. y ∷ zs) (none_left ys)
-
 pub done : {Y : Type 0} (now left all : List Y) → left ≡ [] → now ++ left ≡ all → now ≡ all
-done now left all e h = sym (none_left now) ∙ ap (λ ys. now ++ ys) (sym e) ∙ h
+done now left all e h = sym (append-nil now) ∙ ap (λ ys. now ++ ys) (sym e) ∙ h
 
 -- ---- sums
 

@@ -32,7 +32,7 @@ pub fn snapshot_at(alloc: Global, asked: Option<u64>) -> Result<Option<Snapshot>
     let revision = asked.unwrap_or(last);
     match ledger.as_of(revision) {
         Ok(versions) => {
-            let snapshot = Snapshot::build(alloc, revision, &versions)?;
+            let snapshot = Snapshot::build(alloc, revision, versions)?;
             Ok(Some(snapshot))
         }
         Err(RegisterFault::UnknownRevision) => Ok(None),

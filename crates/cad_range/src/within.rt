@@ -51,7 +51,7 @@ fn lies_between(low: &Edge, high: &Edge, value: &Value) -> bool
     ensures { result ≡ lies_between_of (limit_of low.now) (limit_of high.now) (datum_of value.now) }
 {
     match value {
-        Value::Text(text) => is_between(low, high, text),
+        Value::Text(text) => is_between(low, high, text.as_ref()),
         Value::Whole(number) => is_between(low, high, number),
         Value::Day(day) => is_between(low, high, day),
         _ => false,

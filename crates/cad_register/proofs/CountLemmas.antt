@@ -1,5 +1,5 @@
 -- Each version came with a command.
-use Rattle.std.proofs.Common.{◌≡◌, ℕ, ◌+◌, ◌≤◌, ◌<◌, Bool, true, false, cond, List, [], ◌∷◌, length, map, filter, fold, take, refl, ap, ◌∙◌, arith, length-append}
+use Rattle.std.proofs.Common.{◌≡◌, ℕ, ◌+◌, ◌≤◌, ◌<◌, false, List, [], ◌∷◌, length, map, fold, take, refl, ap, ◌∙◌, arith, length-append}
 use Rattle.std.proofs.lemmas.List.{length-map}
 use Rattle.std.proofs.lemmas.Bool.Decides.{nat_tests}
 use Rattle.cad_versions.specs.declared.object_id.ObjectId.{ObjectId}
@@ -12,6 +12,7 @@ use Rattle.cad_versions.specs.Refusals.{is_full}
 use Rattle.cad_versions.specs.AsOf.{as_of}
 use Rattle.cad_versions.specs.Identifiers.{by_identifier}
 use Rattle.cad_versions.specs.SortLemmas.{length-sort_by}
+use Rattle.cad_versions.specs.ListLemmas.{filter_fewer}
 
 one_more : (vs : List VersionedObject) (c : Command) → length (after vs c) ≤ length vs + 1
 one_more vs (Enter object first body) = omega (arith, length-append vs (begun object 1 first body ∷ []))
@@ -37,9 +38,5 @@ take_all (x ∷ xs) = ap (λ l. x ∷ l) (take_all xs)
 pub counted : (cs : List Command) → length (as_of (length cs) cs) ≡ length (versions cs)
 counted cs = length-sort_by by_identifier (versions (take (length cs) cs)) ∙ ap (λ l. length (versions l)) (take_all cs)
 
-pub length-filter : {A : Type 0} (p : A → Bool) (xs : List A) → length (filter p xs) ≤ length xs
-length-filter p [] = omega arith
-length-filter p (x ∷ xs) = elim (p x) as (λ b. length (cond b (x ∷ filter p xs) (filter p xs)) ≤ length (x ∷ xs)) [ true ↦ omega (arith, length-filter p xs) | false ↦ omega (arith, length-filter p xs) ]
-
 pub history_few : (object : ObjectId) (vs : List VersionedObject) → length (history object vs) ≤ length vs
-history_few object vs = length-filter (is_of object) vs
+history_few object vs = filter_fewer (is_of object) vs

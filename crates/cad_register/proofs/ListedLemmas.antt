@@ -4,7 +4,6 @@ use Rattle.std.specs.List.{All, AllByRecursion}
 use Rattle.std.specs.List.Sorted.{IsStrictlySortedBy}
 use Rattle.std.specs.Option.{ForSome}
 use Rattle.std.specs.Ordering.{is_lt}
-use Rattle.std.specs.declared.cmp.Ordering.{Ordering}
 use Rattle.std.proofs.lemmas.Int.{ints}
 use Rattle.std.proofs.lemmas.List.Elements.{All-push}
 use Rattle.sqlite_keyed.proofs.ListLemmas.{all-append}
@@ -15,6 +14,7 @@ use Rattle.cad_versions.specs.Identifiers.{identifier_of, identifier_cmp, by_ide
 use Rattle.cad_versions.specs.Entries.{Entry, seen_at, is_closed_by}
 use Rattle.cad_register.specs.declared.place.Place.{Place}
 use Rattle.cad_register.specs.Damage.{place_of, Follows}
+use Rattle.cad_versions.specs.ListLemmas.{sorted_push}
 
 -- ---- identifiers
 
@@ -51,11 +51,6 @@ follows_after (Some before) v (inl next) = next_after before.object before.numbe
 follows_after (Some before) v (inr later) = first_after before.object before.number (object_number v.object) v.number later.object
 
 -- ---- lists
-
-sorted_push : {K : Type 0} (c : K → K → Ordering) (xs : List K) (y : K) → IsStrictlySortedBy c xs → AllByRecursion (λ x. c x y ≡ Less) xs → IsStrictlySortedBy c (xs ++ y ∷ [])
-unfolding IsStrictlySortedBy
-sorted_push c [] y h below = (tt, tt)
-sorted_push c (x ∷ xs) y h below = (all-append (λ z. c x z ≡ Less) xs (y ∷ []) h.0 (below.0, tt), sorted_push c xs y h.1 below.1)
 
 -- ---- a listing
 

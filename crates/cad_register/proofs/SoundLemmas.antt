@@ -24,11 +24,11 @@ use Rattle.cad_register.specs.declared.place.Place.{Place}
 use Rattle.cad_register.specs.Damage.{place_of, Follows, HasRevisions, AreSound, IsFirstDamaged, IsCauseIn}
 use Rattle.cad_register.specs.Kept.{AreRowsOf}
 use Rattle.cad_register.specs.Stands.{StandsFor, IsStoreFault}
-use Rattle.cad_register.proofs.CountLemmas.{length-filter}
 use Rattle.cad_register.proofs.FollowLemmas.{Follow, versions_follow}
 use Rattle.cad_register.proofs.KeptLemmas.{entry_same}
 use Rattle.cad_register.proofs.RevisionLemmas.{revisions}
 use Rattle.cad_register.proofs.RowLemmas.{rows_listed}
+use Rattle.cad_versions.specs.ListLemmas.{filter_fewer}
 
 -- ---- the entries that a revision lists
 
@@ -90,7 +90,7 @@ rows_sound newest before count (row ∷ rows) (e ∷ es) h follow dated few = (
 pub listed_sound : (revision : ℕ) (cs : List Command) (rows : List Row) → AreAccepted [] cs → AreRowsOf rows (entries_listed revision (entries_of cs)) → AreSound (length cs) None 0 rows
 listed_sound revision cs rows accepted h =
     let es = entries_at revision (entries_of cs) in
-    let few : length (entries_listed revision (entries_of cs)) ≤ 2147483647 = omega (arith, length-sort_by entry_order es, length-filter (λ (e : Entry). int_le (pos e.entered) (pos revision)) (entries_of cs), entries_few cs accepted) in
+    let few : length (entries_listed revision (entries_of cs)) ≤ 2147483647 = omega (arith, length-sort_by entry_order es, filter_fewer (λ (e : Entry). int_le (pos e.entered) (pos revision)) (entries_of cs), entries_few cs accepted) in
     rows_sound (length cs) None 0 rows (entries_listed revision (entries_of cs)) h (listed_follow revision cs accepted) (listed_revisions revision cs) (omega (arith, few))
 
 pub standing_sound : (s : State) (cs : List Command) (revision : ℕ) (stands : StandsFor s cs) → AreSound (length cs) None 0 (map cells_of (listing revision stands.holds.lines))

@@ -24,12 +24,11 @@ use Rattle.cad_versions.specs.Command.{object_named}
 use Rattle.cad_versions.specs.VersionedObject.{VersionedObject}
 use Rattle.cad_day.specs.DayBefore.{day_before, number_of-day_before}
 use Rattle.cad_versions.specs.Versions.{is_of, is_open_of, history, closed_on, begun, next_number, versions}
-use Rattle.cad_versions.specs.declared.fault.RegisterFault.{RegisterFault}
 use Rattle.cad_versions.specs.declared.fault.RegisterFault.TheVariants as fault
 use Rattle.cad_versions.specs.Refusals.{is_full, are_entered, refuse_if, refusal, AreAccepted}
 use Rattle.cad_versions.specs.Histories.{EndsBefore, IsHistory}
 use Rattle.cad_versions.specs.Entries.{Entry, version_in, entered_at, close_entry, entries_after, entries_of, ClosesInTime}
-use Rattle.cad_versions.specs.HistoryLemmas.{HasHistories, histories, amends, retires, find-filter, closed_is_not_open, le_fails, neither}
+use Rattle.cad_versions.specs.HistoryLemmas.{HasHistories, histories, amends, retires, find-filter, closed_is_not_open, le_fails, neither, unrefused}
 use Rattle.cad_versions.specs.EntryLemmas.{versions_of_entries}
 use Rattle.cad_versions.specs.AcceptedLemmas.{accepted_then, entries_then}
 use Rattle.cad_register.specs.declared.writing.NewEntry.{NewEntry}
@@ -40,6 +39,7 @@ use Rattle.cad_register.proofs.CountLemmas.{history_few}
 use Rattle.cad_register.proofs.RowLemmas.{IsLineOf, AreLinesOf, object_same, lines_joined, lines_filtered, lines_changed, lone_line}
 use Rattle.cad_versions.specs.ClosingLemmas.{amends_in_time, retires_in_time}
 use Rattle.std.proofs.lemmas.Bool.Decides.{nat_tests}
+use Rattle.std.proofs.lemmas.Bool.{and_parts}
 
 -- ---- the line that is closed
 
@@ -85,10 +85,6 @@ closings_same object day revision c is last small = lines_changed (closed_if c r
 
 -- ---- there is one
 
-both_true : (a b : Bool) → (a && b) ≡ true → a ≡ true
-both_true true b e = refl
-both_true false b e = e
-
 one_in_history : (object : ObjectId) (n : ℕ) (v : VersionedObject) (xs : List VersionedObject) → IsHistory n xs → find (is_open_of object) xs ≡ Some v → filter (is_open_of object) xs ≡ v ∷ []
 one_in_history object n v [] h f = absurd cc
 one_in_history object n v (x ∷ []) h f = go (is_open_of object x) f
@@ -107,7 +103,7 @@ one_in_history object n v (x ∷ (w ∷ xs)) h f = go x.last refl (one_in_histor
 
 one_open : (object : ObjectId) (v : VersionedObject) (vs : List VersionedObject) → IsHistory 1 (history object vs) → find (is_open_of object) vs ≡ Some v → filter (is_open_of object) vs ≡ v ∷ []
 one_open object v vs h f =
-    sym (filter-filter (is_open_of object) (is_of object) (λ x e. both_true (is_of object x) (is_none x.last) e) vs)
+    sym (filter-filter (is_open_of object) (is_of object) (λ x e. (and_parts (is_of object x) (is_none x.last) e).0) vs)
     ∙ one_in_history object 1 v (history object vs) h (sym (find-filter object vs) ∙ f)
 
 -- a list of one version is that of one entry
@@ -192,10 +188,6 @@ stands_then old new cs c number revision ch stands fine count next h small done 
     let held = holds_then old new.now cs c number revision ch stands fine count next h small done.written in
     record { accepted = accepted_then [] cs c stands.accepted fine; holds = held.0; sound = held.1; settled = done.committed; live = done.is_open }
 
-refused_when : (t : Bool) (f : RegisterFault) → refuse_if t f ≡ None → t ≡ false
-refused_when true f e = absurd cc
-refused_when false f e = refl
-
 not_at_most : (n : ℕ) → nat_le 2147483647 n ≡ false → n < 2147483647
 not_at_most n e = grind (arith, nat_tests)
 
@@ -205,6 +197,6 @@ numbered cs (Enter object first body) count number fine is next = tt
 numbered cs (Amend object first body) count number fine is next =
     let vs = versions cs in
     let added = (neither _ _ fine).1 in
-    let room = not_at_most (length vs) (refused_when (is_full vs) fault.Full (neither (refuse_if (not (are_entered vs body)) fault.UnknownReference) _ added).1) in
+    let room = not_at_most (length vs) (unrefused (is_full vs) fault.Full (neither (refuse_if (not (are_entered vs body)) fault.UnknownReference) _ added).1) in
     next (omega (arith, history_few object vs, is, room)) ∙ ap (λ n. n + 1) is
 numbered cs (Retire object last) count number fine is next = tt

@@ -2,25 +2,17 @@
 use Rattle.std.proofs.Common.{refl, ◌∙◌, sym, subst, IsTrue, inl, inr}
 use Rattle.std.proofs.Math.Nat.{le_refl, le_trans}
 use Rattle.sqlite_trees.specs.declared.store.Store.{Ghosts}
-use Rattle.sqlite.specs.State.{State, IsUnchanged, Survives}
+use Rattle.sqlite.specs.State.{IsUnchanged, Survives}
 use Rattle.sqlite.specs.Held.{Held, state}
 use Rattle.cad_tables.specs.Opening.{IsSettled}
 use Rattle.cad_register.specs.declared.register.Register.{Register}
 use Rattle.cad_register.specs.Registers.{connection_of, IsStillSettled, Remains}
-
-unchanged_then : (a b c : State) → IsUnchanged a b → IsUnchanged b c → IsUnchanged a c
-unchanged_then a b c p q = (
-  record { was_open = p.0.was_open; is_open = q.0.is_open; now_is = q.0.now_is ∙ p.0.now_is; committed_is = q.0.committed_is ∙ p.0.committed_is; mode = q.0.mode ∙ p.0.mode },
-  record { changes = q.1.changes ∙ p.1.changes; last_rowid = q.1.last_rowid ∙ p.1.last_rowid },
-  q.2 ∙ p.2,
-)
-
-unchanged_here : (a : State) → IsTrue a.is_open → IsUnchanged a a
-unchanged_here a live = (record { was_open = live; is_open = live; now_is = refl; committed_is = refl; mode = refl }, record { changes = refl; last_rowid = refl }, refl)
+use Rattle.sqlite.proofs.StateLemmas.{unchanged}
+use Rattle.sqlite.proofs.Callers.{unchanged_then}
 
 module _ {S : Type 0} (g : Ghosts S) where
   pub settled_here : (old : Held S) → IsTrue (state g old).is_open → IsSettled g old old
-  settled_here old live = record { same = unchanged_here (state g old) live; limit = refl; faults = le_refl (state g old).faults }
+  settled_here old live = record { same = unchanged (state g old) live; limit = refl; faults = le_refl (state g old).faults }
 
   pub settled_by : (old new : Held S) (P : _) → IsUnchanged (state g old) (state g new) → Survives (state g old) (state g new) P → IsSettled g old new
   settled_by old new P same survives = record { same = same; limit = survives.limit; faults = survives.counts }

@@ -22,6 +22,7 @@ use cad_versions::{Class, ObjectId, Share, Words, read_shape};
 use sqlite::Row;
 use sqlite::types::ValueRef;
 use std::alloc::{AllocError, AllocFailed, Global};
+use std::rc::Rc;
 
 /// Why a row is not read.
 #[derive(Clone, Copy, Debug, PartialEq, Eq)]
@@ -115,7 +116,7 @@ fn words(alloc: Global, bytes: &[u8]) -> Result<Words, ReadFault>
     let Ok(text) = std::str::from_utf8(bytes) else {
         return Err(ReadFault::Damaged);
     };
-    let text = String::from_str(alloc, text)?;
+    let text = Rc::new(alloc, String::from_str(alloc, text)?)?;
     Words::new(text).ok().ok_or(ReadFault::Damaged)
 }
 

@@ -1,5 +1,5 @@
 -- What the parameters of a route take of its path.
-use Rattle.std.proofs.Common.{◌≡◌, ℕ, ◌+◌, ◌-◌, ◌<◌, ◌≤◌, ◌&&◌, ltb, leb, List, [], ◌∷◌, ◌++◌, Bool, true, false, Option, Some, None, length, take, drop, codes, IsUtf8, refl, sym, ap, subst, ◌∙◌, arith, length-append, get_or}
+use Rattle.std.proofs.Common.{◌≡◌, ℕ, ◌+◌, ◌-◌, ◌<◌, ◌≤◌, ◌&&◌, ltb, leb, List, [], ◌∷◌, ◌++◌, Bool, true, false, Option, Some, None, length, take, drop, codes, IsUtf8, refl, sym, ap, subst, ◌∙◌, arith, length-append, get_or, append-nil}
 use Rattle.std.proofs.lemmas.Bool.{and_parts}
 use Rattle.std.proofs.lemmas.Bool.Decides.{nat_tests}
 use Rattle.std.proofs.lemmas.List.{append_assoc, take_at, drop_at, get_or_at}
@@ -56,17 +56,13 @@ part_between front c back =
     ap (λ n. take n (drop (length front) (front ++ (c ++ back)))) size ∙ ap (take (length c)) (drop_at front (c ++ back) (length front) refl) ∙ take_at c back (length c) refl
     )
 
-append_none : (l : List ℕ) → l ++ [] ≡ l
-append_none [] = refl
-append_none (x ∷ l) = ap (λ (l : List ℕ). x ∷ l) (append_none l)
-
 -- what stands behind a front, to the end
 part_behind : (path front c : List ℕ) (at : ℕ) → path ≡ front ++ c → at ≡ length front → part_of path at (length path) ≡ c
 part_behind path front c at is place =
     let whole : length path ≡ length front + length c = ap length is ∙ length-append front c in
     ap (λ n. part_of path at n) whole
     ∙ ap (λ n. part_of path n (length front + length c)) place
-    ∙ ap (λ (q : List ℕ). part_of q (length front) (length front + length c)) (is ∙ sym (ap (λ (c : List ℕ). front ++ c) (append_none c)))
+    ∙ ap (λ (q : List ℕ). part_of q (length front) (length front + length c)) (is ∙ sym (ap (λ (c : List ℕ). front ++ c) (append-nil c)))
     ∙ part_between front c []
 
 -- the collection's name ends before the third slash

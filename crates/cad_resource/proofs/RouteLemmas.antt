@@ -1,5 +1,5 @@
 -- What a router finds that has the routes of the server.
-use Rattle.std.proofs.Common.{◌≡◌, ℕ, zero, suc, ◌+◌, ◌-◌, ◌<◌, ◌==◌, ◌&&◌, nat_eq, nat_lt, ltb, cond, List, [], ◌∷◌, ◌++◌, Bool, true, false, Option, Some, None, option_map, length, drop, get_or, codes, refl, sym, ap, subst, ◌∙◌, arith, length-append}
+use Rattle.std.proofs.Common.{◌≡◌, ℕ, zero, suc, ◌+◌, ◌-◌, ◌<◌, ◌==◌, ◌&&◌, nat_eq, nat_lt, ltb, cond, List, [], ◌∷◌, ◌++◌, Bool, true, false, Option, Some, None, option_map, length, drop, get_or, codes, refl, sym, ap, subst, ◌∙◌, arith, length-append, append-nil}
 use Rattle.std.specs.Cmp.Lexicographic.{pointwise}
 use Rattle.std.specs.List.{onto_first}
 use Rattle.std.specs.Str.{bytes_eq}
@@ -66,12 +66,8 @@ step-append {K} b ((x ∷ t, k) ∷ rest) others =
       | false ↦ step-append b rest others
     ]
 
-append_none : {A : Type 0} (l : List A) → l ++ [] ≡ l
-append_none [] = refl
-append_none {A} (x ∷ l) = ap (λ (l : List A). x ∷ l) (append_none l)
-
 step-with_end : {K : Type 0} (b : ℕ) (rs : RowsOf K) (key : K) → step b (with_end rs key) ≡ step b rs
-step-with_end b rs key = step-append b rs (([], key) ∷ []) ∙ append_none (step b rs)
+step-with_end b rs key = step-append b rs (([], key) ∷ []) ∙ append-nil (step b rs)
 
 -- a route that ends here is not found by more bytes
 seek-with_end : {K : Type 0} (rs : RowsOf K) (key : K) (b : ℕ) (path : List ℕ) → seek 0 (with_end rs key) (b ∷ path) ≡ seek 0 rs (b ∷ path)
@@ -140,7 +136,7 @@ seek_either {K} a c (b ∷ path) = seek_stepped a c b path ∙ by_byte (105 == b
     by_byte : (s t : Bool) → (105 == b) ≡ s → (113 == b) ≡ t
         → seek 0 (step b (pre 105 a ++ pre 113 c)) path ≡ or_else (seek 0 (pre 105 a) (b ∷ path)) (seek 0 (pre 113 c) (b ∷ path))
     by_byte true t p q =
-        let stepped : step b (pre 105 a ++ pre 113 c) ≡ a = step-append b (pre 105 a) (pre 113 c) ∙ rw (step_same 105 b a p, step_other 113 b c (not_both b p)) (append_none a) in
+        let stepped : step b (pre 105 a ++ pre 113 c) ≡ a = step-append b (pre 105 a) (pre 113 c) ∙ rw (step_same 105 b a p, step_other 113 b c (not_both b p)) (append-nil a) in
         ap (λ (rs : RowsOf K). seek 0 rs path) stepped
         ∙ sym (rw (seek_byte 105 b a path refl refl p, seek_other 113 b c path refl refl (not_both b p)) (or_else_none (seek 0 a path)))
     by_byte false t p q = by_other t p q
@@ -459,7 +455,7 @@ module _ {K : Type 0} (key : Route → K) where
     where
       one : (s : List ℕ) → has_slash s ≡ false → AreBytes s → seek 0 below_rows s ≡ keyed (below_collection c (segments s))
       one s h bytes =
-          ap (seek 0 below_rows) (sym (append_none s)) ∙ grouped s [] h tt
+          ap (seek 0 below_rows) (sym (append-nil s)) ∙ grouped s [] h tt
           ∙ chosen (bytes_eq s (codes "items")) (bytes_eq s (codes "queryables")) (seek 0 items_rows []) (seek 0 queryables_rows []) (Some (items c)) (Some (queryables c)) (one_name s) items_here queryables_here
           ∙ ap (λ (l : List (List ℕ)). keyed (below_collection c l)) (sym (segments_one s h))
 
@@ -521,7 +517,7 @@ module _ {K : Type 0} (key : Route → K) where
       one : (s : List ℕ) → has_slash s ≡ false → AreBytes s → seek 0 root_rows s ≡ keyed (below_root (segments s))
       one [] h bytes = root_here
       one (b ∷ s) h bytes =
-          ap (seek 0 root_rows) (sym (append_none (b ∷ s))) ∙ named_collections b s [] (Some collections) h tt collections_here
+          ap (seek 0 root_rows) (sym (append-nil (b ∷ s))) ∙ named_collections b s [] (Some collections) h tt collections_here
           ∙ ap (λ (l : List (List ℕ)). keyed (below_root l)) (sym (segments_one (b ∷ s) h))
 
       empty : (rest : List ℕ) → None ≡ keyed (below_root ([] ∷ segments rest))

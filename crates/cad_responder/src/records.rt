@@ -232,7 +232,7 @@ impl<L: Ledger> Records<L> {
         ensures { Finds L.Ledger revision sought.now self.old result self.new }
     {
         let versions = self.ledger.as_of(revision)?;
-        let snapshot = Snapshot::build(self.alloc, revision, &versions)?;
+        let snapshot = Snapshot::build(self.alloc, revision, versions)?;
         let told = told_in(self.alloc, sought, &snapshot)?;
         self.keep(snapshot);
         Ok(told)

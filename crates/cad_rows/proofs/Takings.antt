@@ -5,14 +5,11 @@ use Rattle.std.specs.List.{range_with_len}
 use Rattle.std.proofs.lemmas.Bool.Decides.{nat_tests}
 use Rattle.cad_rows.specs.Left.{IsFront, Settles}
 use Rattle.cad_rows.specs.AllRows.{most, most_is, rows_of}
+use Rattle.cad_positions.specs.KeptLemmas.{none_kept, same_from}
 
 -- where nothing passes there is nothing
 none_step : (b : Bool) (x : ℕ) (ys : List ℕ) → b ≡ false → ys ≡ [] → cond b (x ∷ ys) ys ≡ []
 none_step b x ys h e = rw h e
-
-pub rows_none : (test : ℕ → Bool) (xs : List ℕ) → ((k : ℕ) → test k ≡ false) → filter test xs ≡ []
-rows_none test [] h = refl
-rows_none test (x ∷ xs) h = none_step (test x) x _ (h x) (rows_none test xs h)
 
 same_step : (a b t : Bool) (x : ℕ) (ys zs : List ℕ) (f : List ℕ → List ℕ) → a ≡ (b && t) → ys ≡ f zs → f (x ∷ zs) ≡ cond t (x ∷ f zs) (f zs) → cond a (x ∷ ys) ys ≡ f (cond b (x ∷ zs) zs)
 same_step a true true x ys zs f h e g = rw (h, e) (sym g)
@@ -25,12 +22,6 @@ rows_both test old t [] h = refl
 rows_both test old t (x ∷ xs) h = same_step (test x) (old x) (t x) x _ _ (filter t) (h x) (rows_both test old t xs h) refl
 
 -- ---- the first that passes
-
--- from some position on two tests agree
-same_from : (p q : ℕ → Bool) (from n : ℕ) → ((k : ℕ) → from ≤ k → k < from + n → p k ≡ q k) → filter p (range_with_len from n) ≡ filter q (range_with_len from n)
-same_from p q from zero h = refl
-same_from p q from (suc n) h =
-    rw (h from (omega arith) (omega arith), same_from p q (from + 1) n (λ k low high. h k (omega arith) (omega arith))) refl
 
 true_at : (a b : Bool) (x : ℕ) (ys zs : List ℕ) → a ≡ true → b ≡ false → ys ≡ zs → cond a (x ∷ ys) ys ≡ x ∷ cond b (x ∷ zs) zs
 true_at a b x ys zs h k e = rw (h, k, e) refl
@@ -80,7 +71,7 @@ sought_back has from to k h = cut (has k) (nat_le from k) (nat_le to k) (λ e. g
 
 pub next_none : (old new : ℕ → Bool) (from : ℕ) → Settles old new from None → (rows_of (from_on old from) ≡ []) × (rows_of (from_on new from) ≡ [])
 next_none old new from s =
-    (rows_none (from_on old from) (range_with_len 0 most) (λ k. sym (s.kept k) ∙ s.front k), rows_none (from_on new from) (range_with_len 0 most) (λ k. ap (λ b. b && nat_le from k) (s.front k)))
+    (none_kept (from_on old from) (range_with_len 0 most) (λ k. sym (s.kept k) ∙ s.front k), none_kept (from_on new from) (range_with_len 0 most) (λ k. ap (λ b. b && nat_le from k) (s.front k)))
 
 front_from : (old new : ℕ → Bool) (from m : ℕ) → Settles old new from (Some m) → IsFront (from_on old from) (Some m)
 front_from old new from m s = (sym (s.kept m) ∙ s.front.0, λ k low. sym (s.kept k) ∙ s.front.1 k low)

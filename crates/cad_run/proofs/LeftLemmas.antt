@@ -11,16 +11,12 @@ use Rattle.cad_feature.specs.Features.{Item, identifier_of, by_identifier}
 use Rattle.cad_lookup.specs.declared.plan.Plan.{Plan}
 use Rattle.cad_lookup.specs.Candidates.{is_candidate, candidates}
 use Rattle.cad_merged.specs.FilterLemmas.{merged_filtered}
-use Rattle.cad_merged.specs.ItemLemmas.{items_total}
+use Rattle.cad_merged.specs.ItemLemmas.{items_total, rest_rises}
 use Rattle.cad_merged.specs.MergeLemmas.{change_first, change_before, change_in_place, change_behind, filter_merged}
 use Rattle.cad_merged.specs.SearchLemmas.{equal_is}
 use Rattle.cad_merged.specs.Walks.{all_in, IsInOrder}
 use Rattle.cad_run.specs.Bases.{stands_first, without}
 use Rattle.cad_run.specs.Slices.{is_later, later}
-
-rest_rises : (x : Item) (xs ys : List Item) → ys ≡ x ∷ xs → IsStrictlySortedBy by_identifier ys → IsStrictlySortedBy by_identifier xs
-unfolding IsStrictlySortedBy
-rest_rises x xs ys e up = (subst (IsStrictlySortedBy by_identifier) e up).1
 
 nothing_rises : IsStrictlySortedBy by_identifier []
 unfolding IsStrictlySortedBy

@@ -7,6 +7,7 @@ use Rattle.std.proofs.lemmas.Option.{slice_get_cases}
 use Rattle.cad_feature.specs.Features.{Item}
 use Rattle.cad_rows.specs.AllRows.{most, most_is, rows_of}
 use Rattle.cad_run.specs.Positions.{told_of, holds_at, found_then, items_at}
+use Rattle.std.proofs.lemmas.List.Elements.{filter_agree}
 
 -- the positions, from i on, of the features that pass
 abbrev pub from_on : (Item → Bool) → ℕ → List Item → List ℕ
@@ -93,14 +94,10 @@ module _ (xs : List Item) where
 
 -- ---- the candidates of a base
 
-filter_same : (f g : ℕ → Bool) (ks : List ℕ) → ((k : ℕ) → f k ≡ g k) → filter f ks ≡ filter g ks
-filter_same f g [] h = refl
-filter_same f g (k ∷ ks) h = rw (h k, filter_same f g ks h) refl
-
 -- the features at the positions from a start on are those behind it that pass
 pub rows_from : (c : Item → Bool) (xs : List Item) (start : ℕ) (left : ℕ → Bool) → ((k : ℕ) → left k ≡ holds_at c xs k) → length xs ≤ 2 ^ 32 → items_at xs (filter (nat_le start) (rows_of left)) ≡ filter c (drop start xs)
 rows_from c xs start left stands few =
     ap (items_at xs)
-    (ap (filter (nat_le start)) (filter_same left (holds_at c xs) (range_with_len 0 most) stands)
+    (ap (filter (nat_le start)) (filter_agree left (holds_at c xs) stands (range_with_len 0 most))
     ∙ begins xs c start start 0 most (omega arith) (omega (arith, few, most_is)))
     ∙ items_found xs c start (drop start xs) refl

@@ -14,6 +14,7 @@ use cad_shape::laws::plain_rings_are_rings;
 use cad_shape::{Point, Region, Ring};
 use cad_versions::{ObjectId, Words};
 use std::alloc::{AllocError, Global};
+use std::rc::Rc;
 
 pub(crate) fn object_id(number: u32) -> ObjectId
     requires { IsObjectNumber number }
@@ -33,7 +34,8 @@ pub(crate) fn words(alloc: Global, text: &str) -> Result<Words, AllocError>
     requires { AreWords text.now }
     ensures { IfOk result (λ words. bytes_of words ≡ text.now) }
 {
-    match Words::new(String::from_str(alloc, text)?) {
+    let text = Rc::new(alloc, String::from_str(alloc, text)?)?;
+    match Words::new(text) {
         Ok(words) => Ok(words),
         Err(_) => unreachable!(),
     }

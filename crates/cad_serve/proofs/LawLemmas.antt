@@ -8,8 +8,8 @@ use Rattle.cad_versions.specs.declared.command.Command.{Command}
 use Rattle.cad_stream.specs.declared.responder.Responder.{Ghosts}
 use Rattle.cad_stream.specs.Streams.{Outcome, waits, closed, refused, rest_of, IsStream}
 use Rattle.cad_stream.specs.Replies.{AreReplies, last_reply}
-use Rattle.cad_stream.specs.Conversations.{Piece, bytes_of, heads_of, heads_at, IsConversation}
-use Rattle.cad_stream.specs.ReplyLemmas.{replies_go_on}
+use Rattle.cad_stream.specs.Conversations.{Piece, bytes_of, heads_at, IsConversation}
+use Rattle.cad_stream.specs.ReplyLemmas.{replies_go_on, heads_of-at}
 use Rattle.cad_stream.specs.Laws.{PiecesAreOneStream}
 use Rattle.cad_desk.specs.declared.desk.Desk.{Desk}
 use Rattle.cad_desk.specs.Connections.{rest_at}
@@ -24,10 +24,6 @@ pieces_at commands pieces = map (λ (piece : Vec ℕ). (commands, piece.items)) 
 pub bytes_of-at : (commands : List Command) (pieces : List (Vec ℕ)) → bytes_of (pieces_at commands pieces) ≡ bytes_read pieces
 bytes_of-at commands [] = refl
 bytes_of-at commands (piece ∷ pieces) = ap (λ (l : List ℕ). piece.items ++ l) (bytes_of-at commands pieces)
-
-pub heads_of-at : (commands : List Command) (heads : List RequestHead) → heads_of (heads_at commands heads) ≡ heads
-heads_of-at commands [] = refl
-heads_of-at commands (head ∷ heads) = ap (λ (l : List RequestHead). head ∷ l) (heads_of-at commands heads)
 
 -- a connection that goes on waits
 pub goes_on_waits : (last : Outcome) → false ≡ is_none (rest_of last) → (rest : List ℕ) × (last ≡ waits rest)

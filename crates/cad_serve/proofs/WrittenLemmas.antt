@@ -11,7 +11,7 @@ use Rattle.cad_stream.specs.declared.responder.Responder.{Ghosts}
 use Rattle.cad_stream.specs.Streams.{Outcome, waits, closed, refused, rest_of, IsStream}
 use Rattle.cad_stream.specs.Replies.{AreReplies, last_reply}
 use Rattle.cad_stream.specs.Conversations.{bytes_of, heads_at, IsConversation}
-use Rattle.cad_stream.specs.ReplyLemmas.{replies_go_on}
+use Rattle.cad_stream.specs.ReplyLemmas.{replies_go_on, heads_of-at}
 use Rattle.cad_stream.specs.Laws.{PiecesAreOneStream}
 use Rattle.cad_desk.specs.declared.desk.Desk.{Desk}
 use Rattle.cad_desk.specs.declared.event.Event.TheVariants.{Bytes}
@@ -26,7 +26,7 @@ use Rattle.cad_serve.specs.declared.serve_fault.ServeFault.{ServeFault}
 use Rattle.cad_serve.specs.declared.serve_fault.ServeFault.TheVariants.{Read, Write, TurnsSpent}
 use Rattle.cad_serve.specs.Serving.{bytes_read, GoesOn, IsUnderWay, IsNotOpened, IsNotTaken, IsOver, IsCutOff, IsWhole, EndsWith, EndsClosed, IsRefused, EndsSo}
 use Rattle.cad_serve.specs.Laws.{AreAnswered, IsRefusedAfter, IsWrittenFor, WrittenAreReplies}
-use Rattle.cad_serve.proofs.LawLemmas.{pieces_at, bytes_of-at, heads_of-at, goes_on_waits, counted, served_is_a_stream}
+use Rattle.cad_serve.proofs.LawLemmas.{pieces_at, bytes_of-at, goes_on_waits, counted, served_is_a_stream}
 
 bytes_more : (pieces : List (Vec ℕ)) (piece : Vec ℕ) → bytes_read (pieces ++ piece ∷ []) ≡ bytes_read pieces ++ piece.items
 bytes_more [] piece = append-nil piece.items

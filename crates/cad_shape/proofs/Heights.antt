@@ -6,7 +6,7 @@ use Rattle.cad_shape.specs.Segments.{IsOn, turn}
 use Rattle.cad_shape.specs.Regions.{CrossesRight, rises, passes}
 use Rattle.cad_shape.specs.declared.point.Point.{Point}
 use Rattle.cad_shape.proofs.Equations.{as_gap, gaps, gap_same}
-use Rattle.cad_shape.proofs.Signs.{sums, grows, times}
+use Rattle.cad_shape.proofs.Signs.{sums, grows, times, times_neg_right}
 use Rattle.cad_shape.proofs.SharedPoints.{on_mix, on_turned}
 
 -- ---- what `passes` is, by the heights of the two ends
@@ -84,16 +84,13 @@ turned t p q h = (
 weighed : (px py qx qy tx ty x w : ℤ) → w *ℤ ((qx -ℤ px) *ℤ (ty -ℤ py) -ℤ (qy -ℤ py) *ℤ (tx -ℤ px)) ≡ (qy -ℤ py) *ℤ (x -ℤ w *ℤ tx) +ℤ ((qx -ℤ px) *ℤ (w *ℤ ty -ℤ w *ℤ py) -ℤ (qy -ℤ py) *ℤ (x -ℤ w *ℤ px))
 weighed px py qx qy tx ty x w = rw (as_gap px, as_gap py, as_gap qx, as_gap qy, as_gap tx, as_gap ty, as_gap x, as_gap w) (simp gaps (gap_same _ _ _ _ (omega arith)))
 
-times_minus : (a b : ℤ) → a *ℤ neg_ℤ b ≡ neg_ℤ (a *ℤ b)
-times_minus a b = rw (as_gap a, as_gap b) (simp gaps (gap_same _ _ _ _ (omega arith)))
-
 right_turn : (t p q : Point) (x w : ℤ) → p.y ≤ℤ t.y → t.y <ℤ q.y → pos 0 <ℤ w → IsOn p q x (w *ℤ t.y) w → (w *ℤ t.x) <ℤ x → pos 0 <ℤ turn p q t
 right_turn t p q x w h k l on r = by_lt_z (pos 0) (turn p q t) (λ z. z) (λ z.
     let e = weighed p.x p.y q.x q.y t.x t.y x w in
     let line = on.line in
     let g = grows (q.y -ℤ p.y) (x -ℤ w *ℤ t.x) (omega (arith, sums)) (omega (arith, sums)) in
     let d = times w (neg_ℤ (turn p q t)) (omega (arith, sums)) (omega (arith, sums)) in
-    let f = times_minus w (turn p q t) in
+    let f = times_neg_right w (turn p q t) in
     absurd (omega (arith, sums)))
 
 pub above_zero : (z : ℤ) → int_lt (pos 0) z ≡ true → pos 0 <ℤ z

@@ -12,7 +12,7 @@ use Rattle.cad_shape.specs.declared.boxes.Bounds.{Bounds}
 use Rattle.cad_shape.proofs.Equations.{as_gap, gaps, gap_same}
 use Rattle.cad_shape.proofs.Signs.{sums, grows, times}
 use Rattle.cad_shape.proofs.Walks.{edge_x, edge_y, opened, region_pushed}
-use Rattle.cad_shape.proofs.Heights.{passes_up, passes_down, passes_over, passes_under}
+use Rattle.cad_shape.proofs.Heights.{passes_up, passes_down, passes_over, passes_under, zero_below}
 
 -- ---- on an edge
 edge_held : (b : Bounds) (t p q : Point) → IsHeld b p → IsHeld b q → IsOnEdge t p q → IsHeld b t
@@ -50,9 +50,6 @@ minus_times a b c = rw (as_gap a, as_gap b, as_gap c) (simp gaps (gap_same _ _ _
 
 not_below : (z : ℤ) → z ≤ℤ pos 0 → int_lt (pos 0) z ≡ false
 not_below z h = let e : false ≡ int_lt (pos 0) z = omega (arith, ints) in sym e
-
-is_below : (z : ℤ) → pos 0 <ℤ z → int_lt (pos 0) z ≡ true
-is_below z h = let e : true ≡ int_lt (pos 0) z = omega (arith, ints) in sym e
 
 -- a rising edge whose ends lie left of the point
 left_turn : (t p q : Point) → p.y ≤ℤ t.y → t.y <ℤ q.y → p.x <ℤ t.x → q.x <ℤ t.x → turn p q t ≤ℤ pos 0
@@ -95,9 +92,9 @@ step_even : (t p q : Point) → t.x <ℤ p.x → t.x <ℤ q.x → ((if passes t 
 step_even t p q h k = by_lt_z t.y p.y
     (λ l. by_lt_z t.y q.y
     (λ m. even (passes t p q) false _ _ (passes_over t p q l m) (omega (arith, above_one t p l, above_one t q m)))
-    (λ m. even (passes t p q) true _ _ (passes_down t p q m l ∙ is_below _ (right_turn t q p m l k h)) (omega (arith, above_one t p l, above_none t q m))))
+    (λ m. even (passes t p q) true _ _ (passes_down t p q m l ∙ zero_below _ (right_turn t q p m l k h)) (omega (arith, above_one t p l, above_none t q m))))
     (λ l. by_lt_z t.y q.y
-    (λ m. even (passes t p q) true _ _ (passes_up t p q l m ∙ is_below _ (right_turn t p q l m h k)) (omega (arith, above_none t p l, above_one t q m)))
+    (λ m. even (passes t p q) true _ _ (passes_up t p q l m ∙ zero_below _ (right_turn t p q l m h k)) (omega (arith, above_none t p l, above_one t q m)))
     (λ m. even (passes t p q) false _ _ (passes_under t p q l m) (omega (arith, above_none t p l, above_none t q m))))
 
 walk_even : (t p : Point) (qs : List Point) → t.x <ℤ p.x → AllByRecursion (λ (q : Point). t.x <ℤ q.x) qs → (crossings t (walk p qs) + above t p + above t (end_of p qs)) % 2 ≡ 0

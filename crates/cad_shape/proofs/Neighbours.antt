@@ -6,7 +6,7 @@ use Rattle.cad_shape.specs.Segments.{IsBetween, turn}
 use Rattle.cad_shape.specs.Crossings.{IsMore, ShareMore, along}
 use Rattle.cad_shape.specs.declared.point.Point.{Point}
 use Rattle.cad_shape.proofs.Equations.{as_gap, gaps, gap_same}
-use Rattle.cad_shape.proofs.Signs.{sums, grows, times, times-gap}
+use Rattle.cad_shape.proofs.Signs.{sums, grows, times-gap, keeps}
 use Rattle.cad_shape.proofs.SharedPoints.{on_mix, other_way}
 
 square : (z : ℤ) → pos 0 ≤ℤ (z *ℤ z)
@@ -89,12 +89,6 @@ more_from p c s e h =
     )
 
 -- ---- and the other way
-keeps : (w a b : ℤ) → pos 0 <ℤ w → a ≤ℤ b → (w *ℤ a) ≤ℤ (w *ℤ b)
-keeps w a b h k =
-    let e = times-gap w a b in
-    let g = times w (b -ℤ a) (omega (arith, sums)) (omega (arith, sums)) in
-    omega (arith, sums)
-
 far_up : (w p c x : ℤ) → pos 0 <ℤ w → IsBetween (w *ℤ p) (w *ℤ c) x → (w *ℤ c) <ℤ x → c <ℤ p
 far_up w p c x h i l = by_lt_z c p (λ z. z) (λ z. let k = keeps w p c h z in absurd (omega (arith, sums)))
 

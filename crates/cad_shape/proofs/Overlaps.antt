@@ -1,5 +1,5 @@
 -- Segments that meet lie in boxes that overlap.
-use Rattle.std.proofs.Common.{◌⊎◌, ℤ, pos, ◌-ℤ◌, ◌*ℤ◌, ◌≤ℤ◌, ◌<ℤ◌, inl, inr, ⊎_elim, List, [], ◌∷◌, ◌++◌, arith}
+use Rattle.std.proofs.Common.{◌⊎◌, ℤ, pos, ◌*ℤ◌, ◌≤ℤ◌, ◌<ℤ◌, inl, inr, ⊎_elim, List, [], ◌∷◌, ◌++◌, arith}
 use Rattle.std.specs.List.{All, AllByRecursion}
 use Rattle.std.proofs.lemmas.Int.{by_lt_z}
 use Rattle.std.proofs.lemmas.List.Elements.{recursion_from_All}
@@ -12,16 +12,10 @@ use Rattle.cad_shape.specs.declared.boxes.Bounds.{Bounds}
 use Rattle.cad_shape.specs.declared.ring.Ring.{Ring}
 use Rattle.cad_shape.specs.Polygons.{rings_corners, rings_edges}
 use Rattle.cad_shape.specs.Rings.{corners_of}
-use Rattle.cad_shape.proofs.Signs.{sums, times, times-gap, times_below}
+use Rattle.cad_shape.proofs.Signs.{sums, times_below, keeps}
 use Rattle.cad_shape.proofs.Walks.{any_unpushed, opened}
 use Rattle.cad_shape.proofs.SharedPoints.{meet_exchanged}
 use Rattle.cad_shape.proofs.Inside.{end_held}
-
-keeps : (w a b : ℤ) → pos 0 <ℤ w → a ≤ℤ b → (w *ℤ a) ≤ℤ (w *ℤ b)
-keeps w a b h k =
-    let e = times-gap w a b in
-    let g = times w (b -ℤ a) (omega (arith, sums)) (omega (arith, sums)) in
-    omega (arith, sums)
 
 -- what lies between two numbers of a range lies in the range
 above : (w low p q x : ℤ) → pos 0 <ℤ w → low ≤ℤ p → low ≤ℤ q → IsBetween (w *ℤ p) (w *ℤ q) x → (w *ℤ low) ≤ℤ x

@@ -4,7 +4,7 @@ use Rattle.std.proofs.lemmas.Int.{ints, by_lt_z}
 use Rattle.cad_shape.specs.Segments.{IsBetween, IsOn, IsShared, Meet, turn, Straddle, AllBelow, Apart}
 use Rattle.cad_shape.specs.declared.point.Point.{Point}
 use Rattle.cad_shape.proofs.Equations.{gap, gap_is, as_gap, gaps, gap_same}
-use Rattle.cad_shape.proofs.Signs.{sums, grows, times, times-neg, times-gap, cancels, times_below, mix_between, no_weight}
+use Rattle.cad_shape.proofs.Signs.{sums, grows, times, times-neg, times-gap, cancels, times_below, mix_between, no_weight, times_neg_right}
 use Rattle.cad_shape.proofs.Turns.{turn_moved, turn_shared, weights, shared_x, shared_y, shared_w}
 use lib.IntN.{*ℤ_comm, *ℤ-zero, ℤ_discrete}
 use borrow.Author.Differences.{Apart-out}
@@ -158,9 +158,6 @@ slope k l m n h i j o e =
     let f = *ℤ_comm k l in
     let high = cancels k (l -ℤ n) h (omega (arith, sums)) in
     (low, omega (arith, sums))
-
-times_neg_right : (a b : ℤ) → a *ℤ neg_ℤ b ≡ neg_ℤ (a *ℤ b)
-times_neg_right a b = rw (as_gap a, as_gap b) (simp gaps (gap_same _ _ _ _ (omega arith)))
 
 inside : (a b c : Point) → a.x <ℤ b.x → a.x ≤ℤ c.x → c.x ≤ℤ b.x → turn a b c ≡ pos 0 → IsBetween a.y b.y c.y
 inside a b c h i j e =

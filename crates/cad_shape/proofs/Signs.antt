@@ -37,6 +37,13 @@ times_below w a b h k =
     let g = grows w (b -ℤ a) (omega (arith, sums)) (omega (arith, sums)) in
     omega (arith, sums)
 
+-- and so it does where they may be equal
+pub keeps : (w a b : ℤ) → pos 0 <ℤ w → a ≤ℤ b → (w *ℤ a) ≤ℤ (w *ℤ b)
+keeps w a b h k =
+    let e = times-gap w a b in
+    let g = times w (b -ℤ a) (omega (arith, sums)) (omega (arith, sums)) in
+    omega (arith, sums)
+
 mix_low : (m n a b : ℤ) → m *ℤ a +ℤ n *ℤ b ≡ (m +ℤ n) *ℤ a +ℤ n *ℤ (b -ℤ a)
 mix_low m n a b = rw (as_gap m, as_gap n, as_gap a, as_gap b) (simp gaps (gap_same _ _ _ _ (omega arith)))
 
@@ -58,6 +65,9 @@ mix_between m n a b h k =
 
 pub times-neg : (a f : ℤ) → neg_ℤ a *ℤ f ≡ neg_ℤ (a *ℤ f)
 times-neg a f = rw (as_gap a, as_gap f) (simp gaps (gap_same _ _ _ _ (omega arith)))
+
+pub times_neg_right : (a b : ℤ) → a *ℤ neg_ℤ b ≡ neg_ℤ (a *ℤ b)
+times_neg_right a b = rw (as_gap a, as_gap b) (simp gaps (gap_same _ _ _ _ (omega arith)))
 
 -- weights of one sign under two numbers above 0 are both 0 where the sum is
 pub no_weight : (a b f g : ℤ) → ((pos 0 ≤ℤ a) × (pos 0 ≤ℤ b)) ⊎ ((a ≤ℤ pos 0) × (b ≤ℤ pos 0)) → pos 0 <ℤ f → pos 0 <ℤ g → a *ℤ f +ℤ b *ℤ g ≡ pos 0 → b ≡ pos 0

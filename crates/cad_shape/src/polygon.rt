@@ -8,12 +8,13 @@ use crate::location::in_ring;
 use crate::{Bounds, Ring};
 use std::alloc::{AllocError, Global};
 use std::marker::Model;
+use std::rc::Rc;
 use thiserror::Error;
 
-// The list of rings, so that two regions of one list of rings are one value.
+// The list of rings, which copies share. Two regions of one list of rings are one value.
 #[derive(Debug, Drop)]
 struct Rings {
-    list: Vec<Ring>,
+    list: Rc<Vec<Ring>>,
 }
 
 impl Model for Rings {
@@ -22,7 +23,7 @@ impl Model for Rings {
 
     ghost Value = { List Ring };
 
-    ghost view = { λ rings. rings.list.items };
+    ghost view = { λ rings. rings.list.value.items };
 }
 
 /// A part of the plane inside an exterior boundary, which is the first of its rings, and outside all others, which are
@@ -58,19 +59,23 @@ pub enum RegionFault {
 impl Rings {
     ghost use Rattle.std.specs.Prelude.{IfOk};
 
+    fn new(alloc: Global, list: Vec<Ring>) -> Result<Rings, AllocError>
+        ensures { IfOk result (λ rings. rings ≡ list.items) }
+    {
+        let list = Rc::new(alloc, list)?;
+        Ok(Rings { list })
+    }
+
     fn as_slice(&self) -> &[Ring]
         ensures { result.now ≡ self.now }
     {
-        self.list.as_slice()
+        self.list.as_ref().as_slice()
     }
 
-    fn copy(&self, alloc: Global) -> Result<Rings, AllocError>
+    fn copy(&self) -> Result<Rings, AllocError>
         ensures { IfOk result (λ copy. copy ≡ self.now) }
     {
-        let mut list = Vec::with_capacity(alloc, self.list.len())?;
-        for ring in &self.list {
-            list.push(ring.copy(alloc)?)?;
-        }
+        let list = self.list.clone()?;
         Ok(Rings { list })
     }
 }
@@ -80,17 +85,20 @@ impl Region {
     ghost use Rattle.cad_shape.specs.Frames.{IsLeastBounds};
     ghost use Rattle.cad_shape.specs.RegionRings.{rings_of, outer_corners, region_corners, IsRegionFault};
 
-    /// The region of these rings, the exterior boundary first, or its first fault and the rings again.
-    pub fn new(rings: Vec<Ring>) -> Result<Region, (RegionFault, Vec<Ring>)>
-        ensures { MatchResult result
+    /// The region of these rings, the exterior boundary first, or its first fault and the rings again. An error is want of memory.
+    pub fn new(
+        alloc: Global,
+        rings: Vec<Ring>,
+    ) -> Result<Result<Region, (RegionFault, Vec<Ring>)>, AllocError>
+        ensures { IfOk result (λ found. MatchResult found
             (λ region. rings_of region ≡ rings.items)
-            (λ refusal. IsRegionFault rings.items refusal.0 × (refusal.1 ≡ rings)) }
+            (λ refusal. IsRegionFault rings.items refusal.0 × (refusal.1 ≡ rings))) }
     {
         if let Some(fault) = RegionFault::first(rings.as_slice()) {
-            return Err((fault, rings));
+            return Ok(Err((fault, rings)));
         }
-        let rings = Rings { list: rings };
-        Ok(Region { rings })
+        let rings = Rings::new(alloc, rings)?;
+        Ok(Ok(Region { rings }))
     }
 
     /// The region of one ring, without holes.
@@ -99,7 +107,7 @@ impl Region {
     {
         let mut list = Vec::with_capacity(alloc, 1)?;
         list.push(ring)?;
-        let rings = Rings { list };
+        let rings = Rings::new(alloc, list)?;
         Ok(Region { rings })
     }
 
@@ -125,11 +133,11 @@ impl Region {
         self.outer().bounds()
     }
 
-    /// The same region once more.
-    pub fn copy(&self, alloc: Global) -> Result<Region, AllocError>
+    /// The same region once more, of the same rings: none is copied. An error says that too many share them.
+    pub fn copy(&self) -> Result<Region, AllocError>
         ensures { IfOk result (λ copy. copy ≡ self.now) }
     {
-        let rings = self.rings.copy(alloc)?;
+        let rings = self.rings.copy()?;
         Ok(Region { rings })
     }
 }

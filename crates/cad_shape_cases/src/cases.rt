@@ -49,7 +49,7 @@ fn region(alloc: Global, text: &str) -> Result<Option<Region>, AllocError> {
     let Some(rings) = rings(alloc, text)? else {
         return Ok(None);
     };
-    Ok(Region::new(rings).ok())
+    Ok(Region::new(alloc, rings)?.ok())
 }
 
 fn frame(text: &str) -> Option<Shape> {
@@ -116,9 +116,9 @@ fn region_answer(alloc: Global, text: &str) -> Result<Option<String>, AllocError
     let Some(rings) = rings(alloc, text)? else {
         return Ok(None);
     };
-    match Region::new(rings) {
+    match Region::new(alloc, rings)? {
         Ok(region) => {
-            let copy = region.copy(alloc)?;
+            let copy = region.copy()?;
             let same = same_rings(copy.rings(), region.rings());
             Ok(Some(String::from_str(alloc, if same { "ok" } else { "copied wrongly" })?))
         }

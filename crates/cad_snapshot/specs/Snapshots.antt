@@ -1,9 +1,9 @@
 -- The features of a register at one revision (OGC 17-069r4, 7.15: items; revisions: own profile).
-use Rattle.std.specs.Prelude.{◌≡◌, ℕ, List, refl}
+use Rattle.std.specs.Prelude.{◌≡◌, ℕ, ◌≤◌, List, length, refl}
 use Rattle.cad_versions.specs.VersionedObject.{VersionedObject}
 use Rattle.cad_schema.specs.declared.collection.Collection.{Collection}
 use Rattle.cad_schema.specs.declared.collection.Collection.TheVariants.{Parcels, Rights, Restrictions, Units, Parties, Responsibilities}
-use Rattle.cad_feature.specs.Features.{Item}
+use Rattle.cad_feature.specs.Features.{Item, AreFeaturesOf}
 use Rattle.cad_feature.specs.Flatten.{features_in}
 
 -- the features of each collection after the first commands of a register
@@ -55,6 +55,12 @@ is_told s revision told e same = λ i. record {
   parties = same Parties i;
   responsibilities = same Responsibilities i;
 }
+
+-- the features of the collection among these versions, whose positions have 32 bits
+pub record AreAllFeatures (versions : List VersionedObject) (collection : Collection) (xs : List Item) : Type 0 where
+  pub all : xs ≡ features_in versions collection
+  pub listed : AreFeaturesOf collection xs
+  pub few : length xs ≤ 4294967295
 
 -- it holds the features of these versions, which are those at the revision
 pub record IsSnapshotOf (revision : ℕ) (versions : List VersionedObject) (s : RevisionFeatures) : Type 0 where

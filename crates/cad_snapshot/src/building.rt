@@ -1,25 +1,23 @@
-//! The layers of a snapshot.
+//! The features that a snapshot is built of.
 
-ghost use Rattle.std.specs.Prelude.{◌≡◌, IfOk};
+ghost use Rattle.std.specs.Prelude.{IfOk};
 ghost use Rattle.cad_versions.specs.Listing.{IsListing};
-ghost use Rattle.cad_feature.specs.Flatten.{features_in};
+ghost use Rattle.cad_snapshot.specs.Snapshots.{AreAllFeatures};
 
-use cad_feature::flatten;
-use cad_merged::Layer;
+use cad_feature::{Feature, flatten};
 use cad_schema::Collection;
 use cad_versions::Version;
 use std::alloc::{AllocError, Global};
 
-/// The features of the collection among these versions, with their indexes and without changes.
-pub(crate) fn layer(
+/// The features of the collection among these versions. They are fewer than positions of 32 bits.
+pub(crate) fn features(
     alloc: Global,
     versions: &[Version],
     collection: Collection,
-) -> Result<Layer, AllocError>
+) -> Result<Vec<Feature>, AllocError>
     requires { IsListing versions.now }
-    ensures { IfOk result (λ layer. layer ≡ record { collection = collection; features = features_in versions.now collection }) }
+    ensures { IfOk result (λ features. AreAllFeatures versions.now collection features.items) }
 {
     let features = flatten(alloc, versions, collection)?;
-    let layer = Layer::build(alloc, features, collection)?;
-    Ok(layer)
+    Ok(features)
 }

@@ -2,7 +2,7 @@
 
 ghost use Rattle.std.specs.Prelude.{◌≡◌};
 
-use crate::building::layer;
+use crate::building::features;
 use crate::following::layer_after;
 use crate::rebasing::{has_few_changes, settled_layer};
 use cad_feature::Feature;
@@ -64,16 +64,28 @@ impl Snapshot {
     ghost use Rattle.cad_snapshot.specs.Snapshots.{features_at, IsSnapshotOf};
 
     /// The features of these versions, which are those of the revision. An error is want of memory.
-    pub fn build(alloc: Global, revision: u64, versions: &[Version]) -> Result<Snapshot, AllocError>
-        requires { IsListing versions.now }
-        ensures { IfOk result (IsSnapshotOf revision versions.now) }
+    pub fn build(
+        alloc: Global,
+        revision: u64,
+        versions: Vec<Version>,
+    ) -> Result<Snapshot, AllocError>
+        requires { IsListing versions.items }
+        ensures { IfOk result (IsSnapshotOf revision versions.items) }
     {
-        let parcels = layer(alloc, versions, Collection::Parcels)?;
-        let rights = layer(alloc, versions, Collection::Rights)?;
-        let restrictions = layer(alloc, versions, Collection::Restrictions)?;
-        let units = layer(alloc, versions, Collection::Units)?;
-        let parties = layer(alloc, versions, Collection::Parties)?;
-        let responsibilities = layer(alloc, versions, Collection::Responsibilities)?;
+        let parcels = features(alloc, &versions, Collection::Parcels)?;
+        let rights = features(alloc, &versions, Collection::Rights)?;
+        let restrictions = features(alloc, &versions, Collection::Restrictions)?;
+        let units = features(alloc, &versions, Collection::Units)?;
+        let parties = features(alloc, &versions, Collection::Parties)?;
+        let responsibilities = features(alloc, &versions, Collection::Responsibilities)?;
+        // Versions and indexes never stand side by side, so that a register takes the room of one of them.
+        drop(versions);
+        let parcels = Layer::build(alloc, parcels, Collection::Parcels)?;
+        let rights = Layer::build(alloc, rights, Collection::Rights)?;
+        let restrictions = Layer::build(alloc, restrictions, Collection::Restrictions)?;
+        let units = Layer::build(alloc, units, Collection::Units)?;
+        let parties = Layer::build(alloc, parties, Collection::Parties)?;
+        let responsibilities = Layer::build(alloc, responsibilities, Collection::Responsibilities)?;
         Ok(Snapshot {
             revision,
             parcels,

@@ -10,6 +10,7 @@ use Rattle.cad_stream.specs.Streams.{Outcome, waits, closed, refused, Reaches, I
 use Rattle.cad_stream.specs.Conversations.{Piece, HeadAt, bytes_of, heads_of, commands_of, heads_at, IsConversation}
 use Rattle.cad_stream.specs.Laws.{BytesAreOneStream, PiecesAreOneStream, CutsMakeNoDifference, PiecesHaveOneConversation}
 use Rattle.cad_stream.proofs.StreamLemmas.{nothing_waits, hopeless_none, hopeless_stays, stream_join, closed_stays, refused_stays, one_stream}
+use Rattle.cad_stream.specs.ReplyLemmas.{heads_of-at}
 
 -- once it ended, nothing comes
 pub closed_for_good : (closes : Request → Bool) (pieces : List Piece) (heads : List HeadAt) (last : Outcome)
@@ -21,10 +22,6 @@ pub refused_for_good : (closes : Request → Bool) (pieces : List Piece) (heads 
     → IsConversation closes refused pieces heads last → (heads ≡ []) × (last ≡ refused)
 refused_for_good closes [] heads last x = x
 refused_for_good closes (piece ∷ pieces) heads last x = refused_for_good closes pieces heads last x
-
-heads_of-at : (commands : List Command) (heads : List RequestHead) → heads_of (heads_at commands heads) ≡ heads
-heads_of-at commands [] = refl
-heads_of-at commands (head ∷ heads) = ap (λ (l : List RequestHead). head ∷ l) (heads_of-at commands heads)
 
 heads_joined : (commands : List Command) (now : List RequestHead) (heads later : List HeadAt) → heads ≡ heads_at commands now ++ later → now ++ heads_of later ≡ heads_of heads
 heads_joined commands now heads later e =

@@ -1,5 +1,5 @@
 -- Rows that are read one at a time.
-use Rattle.std.proofs.Common.{◌≡◌, ◌≤◌, ℕ, List, [], ◌∷◌, ◌++◌, Result, Ok, Err, Some, None, false, refl, sym, subst, inl, inr, arith, IsTrue, Vec, Global, IfOk, IfErr}
+use Rattle.std.proofs.Common.{◌≡◌, ◌≤◌, ℕ, List, [], ◌∷◌, ◌++◌, Result, Ok, Err, Some, None, false, refl, sym, subst, inl, inr, arith, Vec, Global, IfOk, IfErr}
 use Rattle.std.specs.List.{AllZip}
 use Rattle.std.proofs.Math.Nat.{le_refl}
 use Rattle.sqlite_value.specs.Order.{Row}
@@ -14,7 +14,7 @@ use Rattle.sqlite.specs.Held.{Held, state}
 use Rattle.sqlite.specs.Given.{Returns, HasGiven, HasBegun, Advances, FailsToAdvance}
 use Rattle.sqlite.specs.State.{State, HasCleanDisk, IsUnchanged, IsStatement, Survives, Shown, ShowsRows, FailsToQuery, FailsToShow, IsNotRun, CommitsShowing}
 use Rattle.sqlite.specs.declared.error.Error.{Error}
-use Rattle.sqlite.proofs.StateLemmas.{survives_then}
+use Rattle.sqlite.proofs.StateLemmas.{survives_then, unchanged}
 use Rattle.sqlite.proofs.StreamLemmas.{fails_since}
 use Rattle.sqlite.proofs.Callers.{unchanged_then}
 use Rattle.cad_tables.specs.Asking.{IsQuery, OnlyReads}
@@ -57,9 +57,6 @@ module _ (sql : List ℕ) (params : Row) (query : IsQuery (first sql)) (old mid 
         subst (FailsToShow old new sql h.0 full e) (sym none)
             (it.0, source_since it.0 it.1, subst (λ l. RefusesToRead l h.0.command it.0 full e) limit it.2, unchanged_then old mid new same it.3),
       )
-
-unchanged_here : (s : State) → IsTrue s.is_open → IsUnchanged s s
-unchanged_here s is_open = (record { was_open = is_open; is_open = is_open; now_is = refl; committed_is = refl; mode = refl }, record { changes = refl; last_rowid = refl }, refl)
 
 survives_here : (s : State) → Survives s s (λ _. ⊥)
 survives_here s = record { clean = le_refl _; shield = λ h. h; counts = le_refl s.faults; limit = refl; closes = λ clean still. inl still; crash = λ clean db left. inl left }
@@ -114,7 +111,7 @@ module _ {S : Type 0} (g : Ghosts S) {X : Type 0} (Fits : Row → X → Type 0) 
 
   start_same : (sql : List ℕ) (params : Row) (start : Held S) → HasGiven g sql params start [] → IsUnchanged (state g start) (state g start)
   unfolding HasGiven
-  start_same sql params start h = unchanged_here (state g start) h.0.is_open
+  start_same sql params start h = unchanged (state g start) h.0.is_open
 
   -- nothing was read
   pub none_read : (start : Held S) → HasReadOn start start []

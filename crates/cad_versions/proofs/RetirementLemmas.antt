@@ -1,5 +1,5 @@
 -- An object's last version ends where a command retires the object, and nowhere else.
-use Rattle.std.proofs.Common.{◌≡◌, ℕ, ◌+◌, pos, Bool, true, false, cond, ◌&&◌, List, [], ◌∷◌, ◌++◌, map, find, fold, Option, Some, None, refl, sym, ap, ap₂, ◌∙◌, subst, int_eq, is_none}
+use Rattle.std.proofs.Common.{◌≡◌, ℕ, ◌+◌, pos, Bool, true, false, cond, List, [], ◌∷◌, ◌++◌, map, find, fold, Option, Some, None, refl, sym, ap, ap₂, ◌∙◌, subst, int_eq}
 use Rattle.cad_day.specs.declared.day.Day.{Day}
 use Rattle.cad_versions.specs.declared.object_id.ObjectId.{ObjectId}
 use Rattle.cad_versions.specs.declared.command.Command.{Command}
@@ -12,6 +12,7 @@ use Rattle.cad_versions.specs.Versions.{is_of, is_open_of, history, closed_on, c
 use Rattle.cad_versions.specs.Refusals.{refusal, AreAccepted}
 use Rattle.cad_versions.specs.Histories.{EndsBefore, IsHistory, last_day, retired_on}
 use Rattle.cad_versions.specs.HistoryLemmas.{same_number, history_same, history-closed, history-push, find-filter, closed_is_not_open, amends, retires, enters, is_of_own, other_history, HasHistories, histories_then}
+use Rattle.cad_versions.specs.EntryLemmas.{open_is_none}
 
 -- ---- the last of some versions
 
@@ -24,15 +25,10 @@ none_last : (t : Bool) (v found : VersionedObject) → cond t (Some v) None ≡ 
 none_last true v found e = refl
 none_last false v found e = absurd cc
 
-is_none_last : (t : Bool) (o : Option Day) → (t && is_none o) ≡ true → o ≡ None
-is_none_last true None e = refl
-is_none_last true (Some day) e = absurd cc
-is_none_last false o e = absurd cc
-
 -- where a version is open, it is the last
 open_last : (object : ObjectId) (n : ℕ) (vs : List VersionedObject) (found : VersionedObject) → IsHistory n vs → find (is_open_of object) vs ≡ Some found → last_day vs ≡ None
 open_last object n [] found h f = absurd cc
-open_last object n (v ∷ []) found h f = is_none_last (is_of object v) v.last (none_last (is_open_of object v) v found f)
+open_last object n (v ∷ []) found h f = open_is_none (is_of object v) v.last (none_last (is_open_of object v) v found f)
 open_last object n (v ∷ (w ∷ vs)) found h f = go v.last refl (open_last object (n + 1) (w ∷ vs) found h.3)
   where
     go : (l : Option Day) → v.last ≡ l → (find (is_open_of object) (w ∷ vs) ≡ Some found → last_day (w ∷ vs) ≡ None) → last_day (w ∷ vs) ≡ None

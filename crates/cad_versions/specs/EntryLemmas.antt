@@ -50,7 +50,7 @@ late_le n r h = grind (arith, ints)
 late_nat : (n r : ℕ) → r < n → nat_le n r ≡ false
 late_nat n r h = grind (arith, nat_tests)
 
-open_is_none : (b : Bool) (o : Option Day) → (b && is_none o) ≡ true → o ≡ None
+pub open_is_none : (b : Bool) (o : Option Day) → (b && is_none o) ≡ true → o ≡ None
 open_is_none true None h = refl
 open_is_none true (Some d) h = absurd (true≢false (sym h))
 open_is_none false o h = absurd (true≢false (sym h))

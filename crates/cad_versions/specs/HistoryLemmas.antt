@@ -20,6 +20,7 @@ use Rattle.cad_day.specs.DayBefore.{day_before, number_of-day_before}
 use Rattle.cad_versions.specs.Versions.{is_of, is_open_of, history, closed_on, closed_if_open, begun, next_number, after, versions}
 use Rattle.cad_versions.specs.Refusals.{class_at, open_since, refuse_if, refuses_closing, refuses_object, or_else, refusal, AreAccepted}
 use Rattle.cad_versions.specs.Histories.{EndsBefore, IsHistory}
+use Rattle.std.proofs.lemmas.Bool.{and_parts}
 
 -- ---- objects
 
@@ -235,12 +236,8 @@ only_last_open object found n (v ∷ (w ∷ vs)) h f = go v.last refl (only_last
         let shut : is_open_of object v ≡ false = closed_is_not_open object v last e in
         (λ opened. absurd (true≢false (sym opened ∙ shut)), next (ap (λ t. cond t (Some v) (find (is_open_of object) (w ∷ vs))) (sym shut) ∙ f))
 
-left_true : (a b : Bool) → (a && b) ≡ true → a ≡ true
-left_true true b h = refl
-left_true false b h = absurd (true≢false (sym h))
-
 -- at most one version of an object is open
 pub only_open : (object : ObjectId) (found : VersionedObject) (vs : List VersionedObject) → IsHistory 1 (history object vs) → find (is_open_of object) vs ≡ Some found → AllByRecursion (λ v. is_open_of object v ≡ true → v ≡ found) vs
 only_open object found vs h f =
-    all_weaker (λ v. is_of object v ≡ true → is_open_of object v ≡ true → v ≡ found) (λ v. is_open_of object v ≡ true → v ≡ found) (λ v k opened. k (left_true (is_of object v) (is_none v.last) opened) opened) vs
+    all_weaker (λ v. is_of object v ≡ true → is_open_of object v ≡ true → v ≡ found) (λ v. is_open_of object v ≡ true → v ≡ found) (λ v k opened. k (and_parts (is_of object v) (is_none v.last) opened).0 opened) vs
     (all_kept (λ v. is_open_of object v ≡ true → v ≡ found) (is_of object) vs (only_last_open object found 1 (history object vs) h (sym (find-filter object vs) ∙ f)))

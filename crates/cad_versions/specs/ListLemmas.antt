@@ -1,8 +1,9 @@
 -- Lemmas on lists that std lacks: `map`, `filter` and `sort_by` together.
-use Rattle.std.proofs.Common.{◌≡◌, ◌≤◌, Bool, true, false, true≢false, cond, List, [], ◌∷◌, length, map, filter, refl, sym, ap, ◌∙◌, is_gt, Ordering, arith}
+use Rattle.std.proofs.Common.{◌≡◌, ◌≤◌, Bool, true, false, true≢false, cond, List, [], ◌∷◌, length, map, filter, refl, sym, ap, ◌∙◌, is_gt, Ordering, arith, ◌++◌, Less}
 use Rattle.std.proofs.lemmas.List.Sums.{count_by-le-length, length-filter}
 use Rattle.std.specs.List.{AllByRecursion}
 use Rattle.cad_versions.specs.Sorting.{insert_sorted, sort_by}
+use Rattle.std.specs.List.Sorted.{IsStrictlySortedBy}
 
 pub map-map : {A B C : Type 0} (g : B → C) (f : A → B) (xs : List A) → map g (map f xs) ≡ map (λ x. g (f x)) xs
 map-map g f [] = refl
@@ -22,6 +23,10 @@ filter_same p q same xs = λ i. filter (λ x. same x i) xs
 
 pub filter_fewer : {X : Type 0} (p : X → Bool) (xs : List X) → length (filter p xs) ≤ length xs
 filter_fewer p xs = omega (arith, length-filter p xs, count_by-le-length p xs)
+
+pub all_filtered : {X : Type 0} (P : X → Type 0) (p : X → Bool) (xs : List X) → AllByRecursion P xs → AllByRecursion P (filter p xs)
+all_filtered P p [] all = tt
+all_filtered P p (x ∷ xs) all = elim (p x) as (λ b. AllByRecursion P (cond b (x ∷ filter p xs) (filter p xs))) [ true ↦ (all.0, all_filtered P p xs all.1) | false ↦ all_filtered P p xs all.1 ]
 
 insert_sorted-map : {A B : Type 0} (cmp : B → B → Ordering) (f : A → B) (new : A) (xs : List A) → insert_sorted cmp (f new) (map f xs) ≡ map f (insert_sorted (λ a b. cmp (f a) (f b)) new xs)
 insert_sorted-map cmp f new [] = refl
@@ -54,3 +59,13 @@ module _ {X : Type 0} (P : X → Type 0) where
   pub all_unmapped : {A : Type 0} (f : A → X) (xs : List A) → AllByRecursion P (map f xs) → AllByRecursion (λ x. P (f x)) xs
   all_unmapped f [] h = tt
   all_unmapped f (x ∷ xs) h = (h.0, all_unmapped f xs h.1)
+
+pub all_push : {X : Type 0} (P : X → Type 0) (xs : List X) (y : X) → AllByRecursion P xs → P y → AllByRecursion P (xs ++ y ∷ [])
+all_push P [] y all one = (one, tt)
+all_push P (x ∷ xs) y all one = (all.0, all_push P xs y all.1 one)
+
+-- what comes last of all behind a list in order
+pub sorted_push : {K : Type 0} (c : K → K → Ordering) (xs : List K) (y : K) → IsStrictlySortedBy c xs → AllByRecursion (λ x. c x y ≡ Less) xs → IsStrictlySortedBy c (xs ++ y ∷ [])
+unfolding IsStrictlySortedBy
+sorted_push c [] y h below = (tt, tt)
+sorted_push c (x ∷ xs) y h below = (all_push (λ z. c x z ≡ Less) xs y h.0 below.0, sorted_push c xs y h.1 below.1)

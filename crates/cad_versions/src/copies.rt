@@ -8,39 +8,39 @@ use crate::body::Body;
 use crate::body_parts::{BodyParts, LentParts};
 use crate::words::Words;
 use cad_shape::Region;
-use std::alloc::{AllocError, Global};
+use std::alloc::AllocError;
 
-fn copy_words(alloc: Global, words: Option<&Words>) -> Result<Option<Words>, AllocError>
+fn copy_words(words: Option<&Words>) -> Result<Option<Words>, AllocError>
     ensures { IfOk result (λ copy. copy ≡ option_copied words.entry) }
 {
     match words {
         None => Ok(None),
         Some(words) => {
-            let copy = words.copy(alloc)?;
+            let copy = words.copy()?;
             Ok(Some(copy))
         }
     }
 }
 
-fn copy_shape(alloc: Global, shape: Option<&Region>) -> Result<Option<Region>, AllocError>
+fn copy_shape(shape: Option<&Region>) -> Result<Option<Region>, AllocError>
     ensures { IfOk result (λ copy. copy ≡ option_copied shape.entry) }
 {
     match shape {
         None => Ok(None),
         Some(region) => {
-            let copy = region.copy(alloc)?;
+            let copy = region.copy()?;
             Ok(Some(copy))
         }
     }
 }
 
-fn copy_parts(alloc: Global, parts: LentParts<'_>) -> Result<BodyParts, AllocError>
+fn copy_parts(parts: LentParts<'_>) -> Result<BodyParts, AllocError>
     ensures { IfOk result (λ copy. copy ≡ lent parts.entry) }
 {
-    let name = copy_words(alloc, parts.name)?;
-    let code = copy_words(alloc, parts.code)?;
-    let label = copy_words(alloc, parts.label)?;
-    let shape = copy_shape(alloc, parts.shape)?;
+    let name = copy_words(parts.name)?;
+    let code = copy_words(parts.code)?;
+    let label = copy_words(parts.label)?;
+    let shape = copy_shape(parts.shape)?;
     Ok(BodyParts {
         name,
         code,
@@ -57,10 +57,10 @@ fn copy_parts(alloc: Global, parts: LentParts<'_>) -> Result<BodyParts, AllocErr
 
 impl Body {
     /// The same body once more.
-    pub fn copy(&self, alloc: Global) -> Result<Body, AllocError>
+    pub fn copy(&self) -> Result<Body, AllocError>
         ensures { IfOk result (λ copy. copy ≡ self.now) }
     {
-        let parts = copy_parts(alloc, self.parts())?;
+        let parts = copy_parts(self.parts())?;
         match Body::from_parts(self.class(), parts) {
             Some(copy) => Ok(copy),
             None => unreachable!(),

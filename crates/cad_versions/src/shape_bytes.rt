@@ -45,7 +45,8 @@ fn all_rings(alloc: Global, bytes: &[u8]) -> Result<Option<Vec<Ring>>, AllocErro
     ensures { IfOk result (λ found. MatchOption found ((rings : List RingOfCorners) →
         bytes.now ≢ rings_bytes rings) (λ rings. bytes.now ≡ rings_bytes rings.items)) }
 {
-    let mut rings = Vec::new(alloc);
+    // Nearly all shapes have one ring.
+    let mut rings = Vec::with_capacity(alloc, 1)?;
     let mut rest = bytes;
     while !rest.is_empty() {
         let Some((ring, behind)) = first_ring(alloc, rest)? else {
@@ -58,12 +59,13 @@ fn all_rings(alloc: Global, bytes: &[u8]) -> Result<Option<Vec<Ring>>, AllocErro
 }
 
 /// The region of these rings, if they are those of one.
-fn region_of(rings: Vec<Ring>) -> Option<Region>
-    ensures { MatchOption result (¬ (IsRegion rings.items)) (λ region. rings_of region ≡ rings.items) }
+fn region_of(alloc: Global, rings: Vec<Ring>) -> Result<Option<Region>, AllocError>
+    ensures { IfOk result (λ found. MatchOption found (¬ (IsRegion rings.items)) (λ region. rings_of region ≡ rings.items)) }
 {
-    match Region::new(rings) {
-        Ok(region) => Some(region),
-        Err(_) => None,
+    let found = Region::new(alloc, rings)?;
+    match found {
+        Ok(region) => Ok(Some(region)),
+        Err(_) => Ok(None),
     }
 }
 
@@ -78,9 +80,8 @@ fn read_one_ring(alloc: Global, bytes: &[u8]) -> Result<Option<Region>, AllocErr
     if !behind.is_empty() {
         return Ok(None);
     }
-    let mut rings = Vec::new(alloc);
-    rings.push(ring)?;
-    Ok(region_of(rings))
+    let region = Region::of(alloc, ring)?;
+    Ok(Some(region))
 }
 
 /// The region of as many rings as are counted, with nothing behind them.
@@ -97,7 +98,7 @@ fn read_rings(alloc: Global, bytes: &[u8]) -> Result<Option<Region>, AllocError>
     if rings.as_slice().len() != count {
         return Ok(None);
     }
-    Ok(region_of(rings))
+    region_of(alloc, rings)
 }
 
 /// The shape that is stored under these bytes, in the form of today or in that of one ring; `Ok(None)` where none is.

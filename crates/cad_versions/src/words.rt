@@ -3,13 +3,14 @@
 ghost use Rattle.std.specs.Prelude.{◌≡◌, ◌≤◌, ◌==◌, false, length, IsUtf8};
 ghost use Rattle.std.specs.List.{list_any};
 
-use std::alloc::{AllocError, Global};
+use std::alloc::AllocError;
 use std::marker::Model;
+use std::rc::Rc;
 
-// The bytes alone, so that two words of one spelling are one value.
+// The bytes alone, so that two words of one spelling are one value. Copies share the text.
 #[derive(Debug, Drop)]
 struct Spelling {
-    text: String,
+    text: Rc<String>,
 }
 
 impl Model for Spelling {
@@ -17,7 +18,7 @@ impl Model for Spelling {
 
     ghost Value = { List ℕ };
 
-    ghost view = { λ spelling. string_bytes spelling.text };
+    ghost view = { λ spelling. string_bytes spelling.text.value };
 }
 
 /// A text of 1 to 200 bytes of UTF-8 without U+0000.
@@ -39,11 +40,12 @@ impl Words {
     ghost use Rattle.cad_versions.specs.Texts.{AreWords, bytes_of};
 
     /// The text as words, or the text back where it is none.
-    pub fn new(text: String) -> Result<Words, String>
-        ensures { MatchResult result (λ words. bytes_of words ≡ string_bytes text) (λ back.
-            (back ≡ text) × ¬ AreWords (string_bytes text)) }
+    pub fn new(text: Rc<String>) -> Result<Words, Rc<String>>
+        ensures { MatchResult result (λ words. bytes_of words ≡ string_bytes text.value) (λ back.
+            (back ≡ text) × ¬ AreWords (string_bytes text.value)) }
     {
-        if 1 <= text.len() && text.len() <= 200 && !text.as_bytes().contains(&0) {
+        let spelt = text.as_ref();
+        if 1 <= spelt.len() && spelt.len() <= 200 && !spelt.as_bytes().contains(&0) {
             Ok(Words {
                 spelling: Spelling { text },
             })
@@ -57,17 +59,24 @@ impl Words {
         ensures value { result.now ≡ bytes_of self.now }
         ensures words { AreWords result.now }
     {
-        self.spelling.text.as_str()
+        self.spelling.text.as_ref().as_str()
     }
 
-    /// The same words once more. They are not judged again.
-    pub fn copy(&self, alloc: Global) -> Result<Words, AllocError>
+    /// The text, which is shared and not copied. An error says that too many share it.
+    pub fn text(&self) -> Result<Rc<String>, AllocError>
+        ensures { IfOk result (λ text. string_bytes text.value ≡ bytes_of self.now) }
+    {
+        let text = self.spelling.text.clone()?;
+        Ok(text)
+    }
+
+    /// The same words once more, of the same text. They are not judged again.
+    pub fn copy(&self) -> Result<Words, AllocError>
         ensures { IfOk result (λ copy. copy ≡ self.now) }
     {
+        let text = self.text()?;
         Ok(Words {
-            spelling: Spelling {
-                text: String::from_str(alloc, self.as_str())?,
-            },
+            spelling: Spelling { text },
         })
     }
 }

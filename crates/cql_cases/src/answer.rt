@@ -51,7 +51,7 @@ fn question_of(name: &str) -> Result<Question, AllocError> {
 fn lives_on(feature: &Feature, days: Interval) -> bool {
     for value in &feature.values {
         if let Value::Span(lifespan) = value {
-            return holds(Relation::Intersects, *lifespan, days);
+            return holds(Relation::Intersects, **lifespan, days);
         }
     }
     false

@@ -14,9 +14,7 @@ use Rattle.cql_lexer.specs.declared.fault.SpellingFault.TheVariants.{Unterminate
 use Rattle.cql_lexer.specs.declared.token.Tokens.{Tokens}
 use Rattle.cql_lexer.proofs.Longest.{token_no_blank, token_shorter, kind_of, only_text, only_quoted}
 use Rattle.cql_lexer.proofs.Spellings.{HasBack, Meets, goes_on, went_on, meet, none_of, one_spelling}
-
-opposite : {b : Bool} → b ≡ true → b ≡ false → ⊥
-opposite passes fails = cc
+use Rattle.cql_lexer.proofs.Texts.{opposite}
 
 -- ---- where no more tokens come
 

@@ -17,16 +17,13 @@ use Rattle.cql_lexer.proofs.Roles.{Role, role, named, numbered, quoted, worded, 
 use Rattle.cql_lexer.proofs.Runs.{run_is, run_longest, run_shorter, run_splits, run_whole, past_run}
 use Rattle.cql_lexer.proofs.Symbols.{symbol_role, symbol_ascii, symbol_shorter, FindsSymbol, finds_symbol}
 use Rattle.cql_lexer.proofs.Numbers.{number_longest, number_is, number_begins, number_splits, number_ascii, number_filled}
-use Rattle.cql_lexer.proofs.Texts.{content_one, content_splits, content_shorter, content_utf8}
+use Rattle.cql_lexer.proofs.Texts.{content_one, content_splits, content_shorter, content_utf8, opposite}
 use Rattle.cql_lexer.proofs.Utf8.{cut, behind_ascii, name_ascii, one_more}
 
 -- the longest token at the front and what is left, or none begins there
 abbrev pub FindsToken : List ℕ → Option (Sort × List ℕ) → Type 0
 FindsToken xs None = IsNoToken xs
 FindsToken xs (Some found) = IsLongest xs found.0 found.1
-
-opposite : {b : Bool} → b ≡ true → b ≡ false → ⊥
-opposite passes fails = cc
 
 some_same : {s t : Sort} → Some s ≡ Some t → s ≡ t
 some_same same = cc

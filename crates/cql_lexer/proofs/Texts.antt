@@ -6,7 +6,7 @@ use Rattle.cql_lexer.specs.Texts.{IsNoQuote, IsCharacter, doubled_quote, escaped
 use Rattle.cql_lexer.specs.Scan.{character_front}
 use Rattle.cql_lexer.proofs.Utf8.{cut, without}
 
-opposite : {b : Bool} → b ≡ true → b ≡ false → ⊥
+pub opposite : {b : Bool} → b ≡ true → b ≡ false → ⊥
 opposite passes fails = cc
 
 -- a character is read in one way

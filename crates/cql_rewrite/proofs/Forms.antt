@@ -24,14 +24,11 @@ use Rattle.cql_types.specs.declared.filter.Filter.{Filter}
 use Rattle.cad_range.specs.Ranges.{lies_in_if_any}
 use Rattle.cql_truth.specs.Sides.{Sides, conjunction}
 use Rattle.cql_rewrite.specs.Meets.{folds, folds_step, in_side, is_liked, joined_test, meet_step, meets, side_of}
+use Rattle.cql_truth.specs.ListLemmas.{list_any-map}
 
 pub list_all-map : {A B : Type 0} (p : B → Bool) (f : A → B) (xs : List A) → list_all p (map f xs) ≡ list_all (λ x. p (f x)) xs
 list_all-map p f [] = refl
 list_all-map p f (x ∷ xs) = ap (λ b. p (f x) && b) (list_all-map p f xs)
-
-pub list_any-map : {A B : Type 0} (p : B → Bool) (f : A → B) (xs : List A) → list_any p (map f xs) ≡ list_any (λ x. p (f x)) xs
-list_any-map p f [] = refl
-list_any-map p f (x ∷ xs) = ap (λ b. p (f x) || b) (list_any-map p f xs)
 
 pub meets_Constant : (x : Item) (b : Bool) → meets x (Constant b) ≡ b
 meets_Constant x b = ap (meets x) (sym (rolls-Constant b)) ∙ fold-roll-Normal Bool (meet_step x) (Normal-F.Constant b)

@@ -1,5 +1,5 @@
 -- The choice of a menu costs no more than the least.
-use Rattle.std.proofs.Common.{◌≡◌, ◌∙◌, ap, refl, subst, ℕ, suc, ◌≤◌, min, Bool, true, false, List, [], ◌∷◌, ◌++◌, map, length, if◌then◌else◌, filter, arith}
+use Rattle.std.proofs.Common.{◌≡◌, ◌∙◌, ap, refl, subst, ℕ, suc, ◌≤◌, min, true, false, List, [], ◌∷◌, ◌++◌, map, length, filter, arith}
 use Rattle.cad_cells.specs.Blocks.{block_around}
 use Rattle.cad_cells.specs.Near.{is_near}
 use Rattle.cad_shape.specs.Shapes.{shape_corners}
@@ -8,7 +8,7 @@ use Rattle.cad_range.specs.Ranges.{lies_in}
 use Rattle.cad_feature.specs.declared.range.Range.{Range}
 use Rattle.cad_feature.specs.Limits.{limit_of}
 use Rattle.cad_lookup.specs.Ways.{Way, all_features, no_feature, near_block, join_of, ways_in, range_way, Counts, cost, counts_of, how_many, min_of, total}
-use Rattle.cad_lookup.specs.WayLaws.{cost_all, cost_none, cost_range, cost_near, cost_join}
+use Rattle.cad_lookup.specs.WayLaws.{cost_all, cost_none, cost_range, cost_near, cost_join, how_many_map}
 use Rattle.cql_rewrite.specs.declared.form.Normal.{Normal}
 use Rattle.cql_rewrite.specs.declared.form.Normal.TheOpen.{Normal-F}
 use Rattle.cql_rewrite.specs.declared.form.Normal.TheFolds.{fold-roll-Normal, ind-Normal, map-Normal}
@@ -24,10 +24,6 @@ items_of t = map (λ x. x.item) t
 abbrev counted : List Written → Counts
 counted t = counts_of (map (λ x. x.item) t)
 
-count_map : {X Y : Type 0} (test : Y → Bool) (f : X → Y) (xs : List X) → how_many test (map f xs) ≡ how_many (λ x. test (f x)) xs
-count_map test f [] = refl
-count_map test f (x ∷ xs) = ap (λ k. if test (f x) then (suc k) else k) (count_map test f xs)
-
 length_map : {X Y : Type 0} (f : X → Y) (xs : List X) → length (map f xs) ≡ length xs
 length_map f [] = refl
 length_map f (x ∷ xs) = ap suc (length_map f xs)
@@ -36,7 +32,7 @@ all_cost : (t : List Written) → cost (counted t) all_features ≡ every t
 all_cost t = cost_all (counted t) ∙ length_map (λ x. x.item) t
 
 range_cost : (t : List Written) (r : Range) → cost (counted t) (range_way r) ≡ how_many (λ x. lies_in x.item r) t
-range_cost t r = cost_range (counted t) r.property (limit_of r.low) (limit_of r.high) ∙ count_map (λ x. lies_in x r) (λ x. x.item) t
+range_cost t r = cost_range (counted t) r.property (limit_of r.low) (limit_of r.high) ∙ how_many_map (λ x. lies_in x r) (λ x. x.item) t
 
 -- of all and one other
 two_cost : (t : List Written) (w : Way) → cost (counted t) (chosen (counted t) (all_features ∷ w ∷ [])) ≡ min (cost (counted t) w) (every t)
@@ -85,7 +81,7 @@ step_priced t (Normal-F.Atom f side) = omega (arith, all_cost t)
 step_priced t (Normal-F.Folded f side) = omega (arith, all_cost t)
 step_priced t (Normal-F.Near f property shape) =
     let w : Way = near_block property (block_around (shape_corners shape.now)) in
-    let e : cost (counted t) w ≡ near_count t property shape.now = cost_near (counted t) property (block_around (shape_corners shape.now)) ∙ count_map (is_near property (block_around (shape_corners shape.now))) (λ x. x.item) t in
+    let e : cost (counted t) w ≡ near_count t property shape.now = cost_near (counted t) property (block_around (shape_corners shape.now)) ∙ how_many_map (is_near property (block_around (shape_corners shape.now))) (λ x. x.item) t in
     omega (arith, two_cost t w, e)
 step_priced t (Normal-F.And parts) = omega (arith, and_cost t (choices_of t parts.items), all_parts t parts.items)
 step_priced t (Normal-F.Or parts) = omega (arith, two_cost t (join_of (ways_in (choices_of t parts.items))), cost_join (counted t) (choices_of t parts.items), some_parts t parts.items)

@@ -15,7 +15,7 @@ use Rattle.cql_types.specs.declared.filter.Filter.TheFolds.{fold-roll-Filter}
 use Rattle.cql_truth.specs.Nodes.{sides_Not, sides_And, sides_Or}
 use Rattle.cql_truth.specs.Sides.{Sides, sides, stands, told}
 use Rattle.cql_truth.specs.Values.{both}
-use Rattle.cql_rewrite.proofs.Forms.{and_last, list_all-map, list_any-map}
+use Rattle.cql_rewrite.proofs.Forms.{and_last, list_all-map}
 use Rattle.cad_feature.specs.Values.{Datum, null, a_text, a_whole, a_flag, a_day, a_span, a_spot, an_area}
 use Rattle.cql_lexer.specs.declared.token.SpatialRelation.{SpatialRelation}
 use Rattle.cql_types.specs.declared.filter.ShapeTerm.{ShapeTerm}
@@ -40,6 +40,7 @@ use Rattle.cql_rewrite.specs.Meets.{Written, in_side, joined_by, meets, side_of}
 use Rattle.cql_rewrite.specs.Terms.{day_sides, is_plain_days, is_plain_texts, is_plain_wholes, side_of_test, text_sides, turned_of, whole_sides}
 use Rattle.cql_rewrite.proofs.MemberLemmas.{member_costs}
 use Rattle.cql_rewrite.specs.Costs.{any_equal, count_in, is_plain_in_days, is_plain_in_texts, is_plain_in_wholes, like_bound, bound, bound_on, bound_step, bounds_joined, count_if, every, how_many, is_plain_between, IsCounted, least, near_bound}
+use Rattle.cql_truth.specs.ListLemmas.{list_any-map}
 
 pub turns_Not : (side : Bool) (x : Item) (f : Box Filter Global) → in_side (not side) x f.value ≡ in_side side x (Not f)
 turns_Not true x f = sym (ap (side_of true) (sides_Not x f))

@@ -45,7 +45,7 @@ fn is_liked(value: &Value, pattern: &str) -> bool
     ensures { result ≡ is_liked_of (text_in (datum_of value.now)) (chars pattern.now) }
 {
     match value {
-        Value::Text(text) => like(text.as_str(), pattern),
+        Value::Text(text) => like(text.as_ref().as_str(), pattern),
         _ => false,
     }
 }

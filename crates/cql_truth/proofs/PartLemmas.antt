@@ -11,10 +11,6 @@ use Rattle.cql_truth.specs.Laws.{IsUndecidedByNull}
 use Rattle.cql_truth.specs.Sides.{Sides, told, conjunction, disjunction, sides}
 use Rattle.cql_truth.specs.Values.{both}
 
-pub list_any-map : {A B : Type 0} (p : B → Bool) (f : A → B) (xs : List A) → list_any p (map f xs) ≡ list_any (λ x. p (f x)) xs
-list_any-map p f [] = refl
-list_any-map p f (x ∷ xs) = ap (λ b. p (f x) || b) (list_any-map p f xs)
-
 -- nothing is said of two operands one of which has no value
 nothing_said : {A : Type 0} (test : A → A → Option Bool) (a b : Option A) → (a ≡ None) ⊎ (b ≡ None) → ((told (both test a b)).yes ≡ false) × ((told (both test a b)).no ≡ false)
 nothing_said test None b h = (refl, refl)

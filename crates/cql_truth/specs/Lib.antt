@@ -8,3 +8,4 @@ pub mod Nodes
 pub mod Laws
 pub mod Folding
 pub mod Constants
+pub mod ListLemmas

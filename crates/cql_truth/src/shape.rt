@@ -17,7 +17,7 @@ fn shape_in(value: &Value) -> Option<ShapeRef<'_>>
     ensures { option_map lent_shape result ≡ shape_in_of (datum_of value.now) }
 {
     match value {
-        Value::Spot(point) => Some(ShapeRef::Spot(*point)),
+        Value::Spot(point) => Some(ShapeRef::Spot(**point)),
         Value::Area(region) => Some(ShapeRef::Area(region)),
         _ => None,
     }

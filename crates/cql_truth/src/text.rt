@@ -24,7 +24,7 @@ fn text_in(value: &Value) -> Option<CowStr<'_>>
     ensures { content result ≡ text_in_of (datum_of value.now) }
 {
     match value {
-        Value::Text(text) => Some(CowStr::Borrowed(text.as_str())),
+        Value::Text(text) => Some(CowStr::Borrowed(text.as_ref().as_str())),
         _ => None,
     }
 }

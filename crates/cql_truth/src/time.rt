@@ -61,7 +61,7 @@ fn span_in(value: &Value) -> Option<Interval>
     ensures { result ≡ span_in_of (datum_of value.now) }
 {
     match value {
-        Value::Span(days) => Some(*days),
+        Value::Span(days) => Some(**days),
         _ => None,
     }
 }

@@ -106,7 +106,7 @@ pub of_corner : (c : Corner) (cs : List Corner) (e : TypeFault) → ForFault (Is
 of_corner c cs Memory h = tt
 of_corner c cs (At f) h = fault_of_corner c cs f h
 
-two_equal : {x y z w : ℤ} → x ∷ y ∷ [] ≡ z ∷ w ∷ [] → (x ≡ z) × (y ≡ w)
+pub two_equal : {x y z w : ℤ} → x ∷ y ∷ [] ≡ z ∷ w ∷ [] → (x ≡ z) × (y ≡ w)
 two_equal e = (cc, cc)
 
 four_equal : {a b c d a' b' c' d' : ℤ} → a ∷ b ∷ c ∷ d ∷ [] ≡ a' ∷ b' ∷ c' ∷ d' ∷ [] → ((a ≡ a') × (b ≡ b')) × ((c ≡ c') × (d ≡ d'))

@@ -50,7 +50,7 @@ use Rattle.cql_types.specs.Laws.{HasOneFilter}
 use Rattle.cql_types.specs.Literals.{AreRings, one_ring, no_ring}
 use Rattle.cql_types.specs.Means as m
 use Rattle.cql_types.specs.Means.{kind_of, whole_of, text_of, pattern_of, day_of, flag_of, span_of, shape_of, any_of, condition_of, Are, no_term, one_term, AreSteps, property_node, IsLeaf, IsNegatedIf, as_it_is, negated, Makes, IsEnd, open_text, day_text, day_name, Draws, Means, Mean, leaf_means, node_means, literal_means, no_more, one_more}
-use Rattle.cql_types.proofs.LiteralLemmas.{numbers_once, outline_once}
+use Rattle.cql_types.proofs.LiteralLemmas.{numbers_once, outline_once, two_equal}
 use Rattle.cad_shape.specs.SameLemmas.{same_point}
 use Rattle.cad_shape.specs.SameLemmas.{same_bounds}
 use Rattle.cad_day.specs.SameLemmas.{same_day}
@@ -403,9 +403,6 @@ same_end (open_text e) (day_text d f g) = absurd cc
 same_end (day_text d f g) (open_text e) = absurd cc
 same_end (day_text a e f) (day_text b g h) = ap (λ (d : Day). end.Day (day.Constant d)) (same_day a b (same_some (sym f ∙ h)))
 same_end (day_name e) (day_name f) = ap (λ (p : ℕ × PropertyKind). end.Day (day.Property p.0)) (same_some (sym e ∙ f))
-
-two_equal : {a b z w : ℤ} → a ∷ b ∷ [] ≡ z ∷ w ∷ [] → (a ≡ z) × (b ≡ w)
-two_equal e = (cc, cc)
 
 four_same : {a b d e z w u v : ℤ} → a ∷ b ∷ d ∷ e ∷ [] ≡ z ∷ w ∷ u ∷ v ∷ [] → (a ≡ z) × (b ≡ w) × (d ≡ u) × (e ≡ v)
 four_same e = (cc, cc, cc, cc)

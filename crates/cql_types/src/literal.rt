@@ -246,17 +246,19 @@ fn region_along(alloc: Global, lines: &[Vec<Position>]) -> Result<Option<Region>
     let Some(rings) = rings else {
         return Ok(None);
     };
-    Ok(region_inside(rings))
+    let found = region_inside(alloc, rings)?;
+    Ok(found)
 }
 
 // The region inside these rings, the exterior boundary first, if they bound one.
 #[tactic(auto, using(cad_shape::specs::RegionRings::no_region))]
-fn region_inside(rings: Vec<Ring>) -> Option<Region>
-    ensures { MatchOption result (¬ IsRegion rings.items) (λ region. region_rings region ≡ rings.items) }
+fn region_inside(alloc: Global, rings: Vec<Ring>) -> Result<Option<Region>, AllocError>
+    ensures { IfOk result (λ found. MatchOption found (¬ IsRegion rings.items) (λ region. region_rings region ≡ rings.items)) }
 {
-    match Region::new(rings) {
-        Ok(region) => Some(region),
-        Err(_) => None,
+    let found = Region::new(alloc, rings)?;
+    match found {
+        Ok(region) => Ok(Some(region)),
+        Err(_) => Ok(None),
     }
 }
 

@@ -3,4 +3,4 @@ use Rattle.cad_cells.specs.Corners.{same_block}
 use Rattle.cad_cells.proofs.shapes.bounds_of.Goals as goal
 
 pub returns-in-Spot : goal.returns-in-Spot
-returns-in-Spot c = rw c.in-Spot.is (ap Some (sym (same_block c.at.result (c.in-Spot.point ∷ []) c.at.ensures)))
+returns-in-Spot c = rw (c.in-Spot.is, ← c.deref.ensures) (ap Some (sym (same_block c.at.result (c.deref.result.now ∷ []) c.at.ensures)))

@@ -1,10 +1,7 @@
-use Rattle.std.proofs.Common.{◌≡◌, ◌==◌, ◌++◌, ◌∷◌, ℕ, List, [], length, Option, Some, None, refl, sym, ap, subst, ◌∙◌, true, arith, append-nil}
-use Rattle.std.specs.Option.{MatchOption}
+use Rattle.std.proofs.Common.{◌≡◌, ◌==◌, ◌++◌, ◌∷◌, ℕ, List, [], length, refl, sym, ap, ◌∙◌, true, arith, append-nil}
 use Rattle.std.proofs.lemmas.Bool.Decides.{nat_tests}
 use Rattle.cad_shape.specs.declared.ring.Ring.{Ring}
 use Rattle.cad_shape.specs.declared.polygon.Region.{Region}
-use Rattle.cad_shape.specs.Polygons.{IsRegion}
-use Rattle.cad_shape.specs.RegionRings.{rings_of, region_is}
 use Rattle.cad_versions.specs.ShapeBytes.{ring_bytes, IsOneRingOf}
 use Rattle.cad_versions.specs.RingLemmas.{same_front_ring}
 use Rattle.cad_versions.proofs.shape_bytes.read_one_ring.Goals as goal
@@ -29,17 +26,9 @@ returns-then-not-is_empty c region is =
     let empty = empty_is c.in-Some.behind.now (behind_none c.args.bytes.now c.in-Some.behind.now c.in-Some.ring region held is).1 in
     absurd cc
 
--- one ring is a region, or no shape is stored
-read : (found : Option Region) (bytes : List ℕ) (ring : Ring) → bytes ≡ ring_bytes ring → MatchOption found (¬ (IsRegion (ring ∷ []))) (λ region. rings_of region ≡ ring ∷ []) → MatchOption found ((region : Region) → ¬ IsOneRingOf bytes region) (IsOneRingOf bytes)
-read (Some region) bytes ring held h = (ring, h, held)
-read None bytes ring held h = λ region is.
-    let same = (same_front_ring ring is.0 [] [] (ap (λ l. l ++ []) (sym held ∙ is.2))).0 in
-    h (subst IsRegion (is.1 ∙ ap (λ r. r ∷ []) (sym same)) (region_is region))
-
 pub returns : goal.returns
 returns c =
     let held : c.args.bytes.now ≡ ring_bytes c.in-Some.ring ++ c.in-Some.behind.now = rw c.in-Some.is at c.in_ok-ring.ensures in
     let none : c.in-Some.behind.now ≡ [] = nil_is c.in-Some.behind.now cc in
     let whole : c.args.bytes.now ≡ ring_bytes c.in-Some.ring = held ∙ ap (λ l. ring_bytes c.in-Some.ring ++ l) none ∙ append-nil _ in
-    let pushed : c.push.new.self.items ≡ c.in-Some.ring ∷ [] = c.in_ok-push.ensures.items ∙ ap (λ l. l ++ c.in-Some.ring ∷ []) c.new-rings.ensures.items in
-    read c.region_of.result c.args.bytes.now c.in-Some.ring whole (rw pushed at c.region_of.ensures)
+    (c.in-Some.ring, c.in_ok-region.ensures, whole)

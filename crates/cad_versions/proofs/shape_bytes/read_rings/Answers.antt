@@ -1,4 +1,4 @@
-use Rattle.std.proofs.Common.{◌≡◌, ◌++◌, ◌<◌, ◌^◌, ℕ, List, Option, Some, None, length, sym, ap, ap₂, subst, ◌∙◌}
+use Rattle.std.proofs.Common.{◌≡◌, ◌++◌, ◌<◌, ◌^◌, ℕ, List, Option, Some, None, Result, Ok, Err, IfOk, length, sym, ap, ap₂, subst, ◌∙◌}
 use Rattle.std.specs.Int.{to_be_bytes, w16}
 use Rattle.std.specs.Option.{MatchOption}
 use Rattle.cad_shape.specs.declared.polygon.Region.{Region}
@@ -17,10 +17,11 @@ returns-then-as_slice-count c region is =
     c.if-as_slice-count.true (ap length c.as_slice.ensures.value ∙ ap length (rings_same found (rings_of region) (sym held ∙ parts.1)) ∙ sym parts.0)
 
 -- as many rings as are counted are a region, or no shape is stored
-read : (found : Option Region) (rings : List Ring) (bytes rest : List ℕ) (count : ℕ) → bytes ≡ to_be_bytes w16 count ++ rest → count < 2 ^ 16 → rest ≡ rings_bytes rings → length rings ≡ count
-    → MatchOption found (¬ (IsRegion rings)) (λ region. rings_of region ≡ rings) → MatchOption found ((region : Region) → ¬ AreRingsOf bytes region) (AreRingsOf bytes)
-read (Some region) rings bytes rest count e small held counted h = e ∙ ap₂ (λ n l. to_be_bytes w16 n ++ l) (sym counted ∙ ap length (sym h)) (held ∙ ap rings_bytes (sym h))
-read None rings bytes rest count e small held counted h = λ region are.
+read : {E : Type 0} (found : Result (Option Region) E) (rings : List Ring) (bytes rest : List ℕ) (count : ℕ) → bytes ≡ to_be_bytes w16 count ++ rest → count < 2 ^ 16 → rest ≡ rings_bytes rings → length rings ≡ count
+    → IfOk found (λ o. MatchOption o (¬ (IsRegion rings)) (λ region. rings_of region ≡ rings)) → IfOk found (λ o. MatchOption o ((region : Region) → ¬ AreRingsOf bytes region) (AreRingsOf bytes))
+read (Err fault) rings bytes rest count e small held counted h = h
+read (Ok (Some region)) rings bytes rest count e small held counted h = e ∙ ap₂ (λ n l. to_be_bytes w16 n ++ l) (sym counted ∙ ap length (sym h)) (held ∙ ap rings_bytes (sym h))
+read (Ok None) rings bytes rest count e small held counted h = λ region are.
     let parts = rings_counted count rest (rings_of region) small (region_is region).few.0 (sym e ∙ are) in
     h (subst IsRegion (sym (rings_same rings (rings_of region) (sym held ∙ parts.1))) (region_is region))
 

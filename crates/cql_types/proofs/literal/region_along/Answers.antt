@@ -7,4 +7,4 @@ returns-in_default c = rings_denied (lines_of c.args.lines.now) (rw c.in_default
 
 pub returns : goal.returns
 returns c =
-    region_found c.region_inside.result c.in-Some.rings (lines_of c.args.lines.now) (rw c.in-Some.is at c.in_ok-rings.ensures) c.region_inside.ensures
+    region_found c.in_ok-found.found c.in-Some.rings (lines_of c.args.lines.now) (rw c.in-Some.is at c.in_ok-rings.ensures) c.in_ok-found.ensures

@@ -1,6 +1,7 @@
 use Rattle.std.proofs.Common.{sym, ◌∙◌}
-use Rattle.cad_merged.proofs.WalkLemmas.{rest_rises, only_changes, comes_before, comes_in_place, comes_behind}
+use Rattle.cad_merged.proofs.WalkLemmas.{only_changes, comes_before, comes_in_place, comes_behind}
 use Rattle.cad_merged.proofs.walk.Walk.next.Goals as goal
+use Rattle.cad_merged.specs.ItemLemmas.{rest_rises}
 
 pub returns-in_default-clause-order : goal.returns-in_default-clause-order
 returns-in_default-clause-order c = (rest_rises _ _ _ c.in_ok-b.ensures.cases.0 c.requires.0, c.requires.1)

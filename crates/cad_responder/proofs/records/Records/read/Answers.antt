@@ -10,7 +10,7 @@ pub returns : goal.returns
 returns g c =
     let listed = c.in_ok-versions.ensures in
     let s = c.in_ok-snapshot.snapshot in
-    let is = built c.args.revision c.deref.result.now s c.in_ok-snapshot.ensures ∙ ap (snapshot_of c.args.revision) c.deref.ensures.value in
+    let is = built c.args.revision c.in_ok-versions.versions.items s c.in_ok-snapshot.ensures in
     let counted : g.L.Ledger.counts c.keep.new.self.ledger → g.L.Ledger.counts c.as_of.new.self = subst g.L.Ledger.counts c.keep.ensures.same in
     record {
       told = λ counts commands records within.
