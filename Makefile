@@ -25,11 +25,13 @@ explain:
 	@cd crates/cad_plan_cases && printf 'explain %s?%s\n' "$$COLLECTION" "$$QUERY" | $(RT) run
 
 # Holds the stored answers of the cases of filters, of the server, of clients, of days and of parameters, and the examples of docs/FILTERS.md,
-# against second readings of the rules, the examples of docs/API.md against the server's cases, and docs/PROMISES.md against the crates.
+# against second readings of the rules, the examples of docs/API.md against the server's cases, and docs/PROMISES.md against the crates;
+# and counts what the cases of commands under joined names have.
 cases:
 	scripts/check_filter_cases
 	scripts/check_further_cases
 	scripts/check_server_cases
+	scripts/check_changes_cases
 	scripts/check_clients_cases
 	scripts/check_api_examples
 	scripts/count_promises

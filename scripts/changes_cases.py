@@ -1,101 +1,67 @@
 #!/usr/bin/env python3
-"""Registers whose units and parties are renamed and end under what is joined to their names, as cases of crates/cad_cases.
+"""Registers whose units and parties are amended and retired under what is joined to their names, as cases of crates/cad_cases.
 
     scripts/changes_cases.py [SEED]     prints the cases; those that are stored are of seed 1
 
-Each of sixty registers begins with a few units and parties, parcels, rights, restrictions and responsibilities of several days. It
-is asked once, so that the features of its revision are kept, and then after each of some commands: at the revision since,
-and at an earlier one. In half of them it is also asked before anything is entered.
+Each of sixty registers has two parts. In the first, units, parties, and parcels, rights, restrictions and responsibilities that name
+them are entered. In the second a unit and a party are amended, and a unit and a party retired: others, or the same ones. For each of
+these changes the first part has objects of each class that can name what is changed and that begin on the day before it, on it, and
+on the day after it. Some registers have one more amendment, a dependent that is amended or retired itself, or dependents that are
+entered once what they name is retired. After each command of the second part each collection that it can touch is asked whole, at the
+newest revision and at each one from the first command of this part on; then there are questions that are drawn, at revisions that
+are drawn, and single features. The first page of a third of the registers is asked of nothing, of a third behind the first part, and
+of a third behind the first command of the second.
+
+Then a register has a hundred and fifty revisions and more, and in the last one commands touch more features than a base may get
+changes. Both are asked at old revisions, some from before the first page.
+
+scripts/check_changes_cases counts in the stored cases what they have of this.
 """
 import json
 import random
 import sys
+from collections import Counter
 from datetime import date, timedelta
+from itertools import zip_longest
+from typing import NamedTuple
 
 COUNT = 60
-COLLECTIONS = ("parcels", "rights", "restrictions", "units", "parties", "responsibilities")
+COLLECTIONS = {
+    "parcel": "parcels",
+    "right": "rights",
+    "restriction": "restrictions",
+    "responsibility": "responsibilities",
+    "unit": "units",
+    "party": "parties",
+}
+DEPENDENTS = ("parcel", "right", "restriction", "responsibility")
+NAMING = {"unit": DEPENDENTS, "party": DEPENDENTS[1:]}
+OBJECTS = {"unit": (1, 2), "party": (3, 4)}
 ORIGIN = date(2000, 1, 1)
 
-# What is asked of any collection, and of parcels: by all features, by a range, by a box, by some of these met or joined.
-QUERIES = [
-    "",
-    "?datetime={day}",
-    "?limit=2",
-    "?filter=object+%3C+{low}",
-    "?filter=number+%3E+1",
-    "?limit=1&filter=object+%3E+{low}+OR+number+=+1",
-    "?filter=object+BETWEEN+2+AND+{low}+AND+number+=+1",
+FILTERS = ["object<{low}", "number=1 AND object>{low}", "begin>=DATE('{day}')", "end IS NULL", "begin=DATE('{day}') OR number>1"]
+NAMED = ["name='{name}'", "name IS NULL", "NOT name='{name}'", "name>'{name}'"]
+OF_UNITS = [
+    "unit_name='{name}'",
+    "unit_name IS NULL",
+    "unit=1 AND begin>DATE('{day}')",
+    "unit IN (1,3) AND NOT unit_name='{name}'",
+    "unit_name LIKE '{name}%' OR begin=DATE('{day}')",
 ]
-PARCELS = [
-    "?bbox={low}00000,0,{low}40000,9",
-    "?filter=label+LIKE+'A-1%25'+OR+area+%3E+{low}00",
-    "?filter=unit+IN+(1,2)+AND+S_INTERSECTS(geometry,BBOX(0,0,{low}00000,60000))",
-    "?limit=1&bbox=0,0,900000,1&filter=area+%3C+{low}00",
-]
+OF_PARTIES = ["party_name='{name}'", "party_name IS NULL AND unit=2", "party=3 OR unit_name='{name}'", "NOT party_name>'{name}'"]
 
 
-def day(number):
-    return (ORIGIN + timedelta(days=number)).isoformat()
+class Change(NamedTuple):
+    """An amendment from a day on, or a retirement at its end, of a unit or a party."""
+
+    kind: str
+    object: int
+    do: str
+    day: int
 
 
-class Register:
-    """The objects that a script has entered, and the lines that enter them."""
-
-    def __init__(self, chance):
-        self.chance = chance
-        self.opened, self.ended = {}, {}
-        self.units, self.parties, self.others = [], [], []
-        self.number, self.revision = 0, 0
-
-    def name(self, kind):
-        return self.chance.choice([None, f"{kind} {self.chance.randrange(100)}", kind])
-
-    def body(self, kind):
-        chance = self.chance
-        if kind == "unit":
-            return {"name": self.name("Mill")}
-        if kind == "party":
-            return {"name": self.name("Ana"), "code": chance.choice(["naturalPerson", "group"])}
-        if kind == "parcel":
-            x = self.number * 100_000
-            return {
-                "unit": chance.choice(self.units),
-                "label": f"A-{chance.randrange(9)}",
-                "area": chance.randrange(100, 900),
-                "shape": [[x, 0], [x + 50_000, 0], [x + 50_000, 50_000]],
-            }
-        body = {"unit": chance.choice(self.units), "code": "use"}
-        if self.parties and chance.random() < 0.8:
-            body["party"] = chance.choice(self.parties)
-        return body
-
-    def line(self, command):
-        self.revision += 1
-        return f"office {json.dumps(command, separators=(',', ':'))}"
-
-    def enter(self, kind):
-        self.number += 1
-        number, first = self.number, self.chance.randrange(60)
-        command = {"do": "enter", "object": number, "first": day(first), kind: self.body(kind)}
-        self.opened[number] = (kind, first)
-        {"unit": self.units, "party": self.parties}.get(kind, self.others).append(number)
-        return self.line(command)
-
-    def change(self):
-        """An amendment or an end of an object that is open, mostly of a unit or a party."""
-        chance = self.chance
-        named = [it for it in self.units + self.parties if it in self.opened]
-        if named and chance.random() < 0.8:
-            number = chance.choice(named)
-        else:
-            number = chance.choice(list(self.opened))
-        kind, begun = self.opened[number]
-        if chance.random() < 0.3:
-            del self.opened[number]
-            return self.line({"do": "retire", "object": number, "last": day(begun + chance.randrange(40))})
-        first = begun + 1 + chance.randrange(40)
-        self.opened[number] = (kind, first)
-        return self.line({"do": "amend", "object": number, "first": day(first), kind: self.body(kind)})
+def text_of(day):
+    return (ORIGIN + timedelta(days=day)).isoformat()
 
 
 def asked(target):
@@ -103,37 +69,291 @@ def asked(target):
     return f"bytes 1 {json.dumps(head)}"
 
 
-def questions(chance, register):
-    """Two collections at the newest revision, and one at an earlier revision."""
-    for collection in chance.sample(COLLECTIONS, 2):
-        query = chance.choice(QUERIES + PARCELS * 4 if collection == "parcels" else QUERIES).format(day=day(chance.randrange(90)), low=chance.randrange(2, 9))
-        yield asked(f"/collections/{collection}/items{query}")
-    yield asked(f"/collections/{chance.choice(COLLECTIONS)}/items?revision={chance.randrange(register.revision)}")
+class Register:
+    """The objects that a script has entered, and the lines that change them and ask for them."""
+
+    def __init__(self, chance):
+        self.chance = chance
+        self.number, self.revision = 0, 0
+        # of each object its class, the first day of each of its versions, and its body
+        self.kinds, self.days, self.bodies = {}, {}, {}
+        self.counts = [Counter()]
+
+    def name(self, kind):
+        letters = self.chance.choice("ABCDE")
+        return letters if kind == "unit" else letters + self.chance.choice("ab")
+
+    def line(self, kind, command):
+        self.revision += 1
+        self.counts.append(self.counts[-1] + Counter({kind: command["do"] != "retire"}))
+        return f"office {json.dumps(command, separators=(',', ':'))}"
+
+    def enter(self, kind, first, body):
+        self.number += 1
+        self.kinds[self.number], self.days[self.number], self.bodies[self.number] = kind, [first], body
+        return self.line(kind, {"do": "enter", "object": self.number, "first": text_of(first), kind: body})
+
+    def amend(self, number, first, body):
+        self.days[number].append(first)
+        self.bodies[number] = body
+        kind = self.kinds[number]
+        return self.line(kind, {"do": "amend", "object": number, "first": text_of(first), kind: body})
+
+    def retire(self, number, last):
+        return self.line(self.kinds[number], {"do": "retire", "object": number, "last": text_of(last)})
+
+    def body(self, kind, unit=None, party=None):
+        """A short body. A parcel has a shape or not, and its area or not."""
+        chance = self.chance
+        if kind in OBJECTS:
+            name = {"name": self.name(kind) if chance.random() < 0.9 else None}
+            return name if kind == "unit" else {**name, "code": "n"}
+        if kind == "parcel":
+            x = self.number % 10 * 70_000
+            body = {"unit": unit, "label": chance.choice("ab"), "area": chance.choice([None, 1, 2])}
+            return {**body, "shape": [[x, 0], [x + 9, 0], [x, 9]]} if chance.random() < 0.4 else body
+        body = {"unit": unit, "code": "u"}
+        return {**body, "party": party} if party else body
+
+    def renamed(self, number):
+        """The body of a unit or a party with another name, with none, or with the one that it has."""
+        old, manner = self.bodies[number], self.chance.choice(["other", "other", "other", "dropped", "equal"])
+        name = old["name"] if manner == "equal" else None
+        while manner == "other" and name in (None, old["name"]):
+            name = self.name(self.kinds[number])
+        return {**old, "name": name}
+
+    def version(self, number, back=0):
+        """The identifier's target of an object's last version, or of one before it."""
+        last = len(self.days[number])
+        return f"/collections/{COLLECTIONS[self.kinds[number]]}/items/{number}.{max(last - back, 1)}"
+
+    # ---- questions
+
+    def whole(self, kind, revision):
+        """All of a collection at a revision."""
+        given = [f"revision={revision}"] if revision < self.revision else []
+        given += ["limit=1000"] if self.counts[revision][kind] > 10 else []
+        query = "&".join(given)
+        return asked(f"/collections/{COLLECTIONS[kind]}/items{'?' * (query > '')}{query}")
+
+    def filter(self, kind):
+        choice = FILTERS + (NAMED if kind in NAMING else 2 * OF_UNITS)
+        choice += 2 * OF_PARTIES if kind in NAMING["party"] else []
+        near = self.chance.choice([day for days in self.days.values() for day in days])
+        name = self.name(self.chance.choice(["unit", "party"]))
+        text = self.chance.choice(choice).format(name=name, day=text_of(near), low=self.chance.randrange(3, self.number))
+        return "filter=" + text.replace("%", "%25").replace(" ", "+").replace(">", "%3E").replace("<", "%3C")
+
+    def datetime(self):
+        near = text_of(self.chance.choice([day for days in self.days.values() for day in days]))
+        return "datetime=" + self.chance.choice([near, f"../{near}", f"{near}/.."])
+
+    def drawn(self, kind, revision):
+        """A part of a collection, by a filter, days, a box, a limit, or two of these."""
+        chance = self.chance
+        left = chance.randrange(5) * 70_000
+        parts = [self.filter(kind), self.datetime(), f"limit={chance.randrange(1, 4)}"]
+        parts += [f"bbox={left},0,{left + 210_000},5"] * 2 if kind == "parcel" else []
+        given = [f"revision={revision}"] if revision < self.revision else []
+        given += {it.partition("=")[0]: it for it in chance.sample(parts, chance.choice([1, 1, 2]))}.values()
+        return asked(f"/collections/{COLLECTIONS[kind]}/items?{'&'.join(given)}")
+
+    def touched(self, number):
+        """The classes whose features a command on the object can touch."""
+        kind = self.kinds[number]
+        return [kind, *NAMING.get(kind, [])]
+
+    def naming(self, number):
+        """The objects that name an object, or the object itself where none can."""
+        field = self.kinds[number]
+        return [it for it, body in self.bodies.items() if body.get(field) == number] or [number]
+
+    def questions(self, number, begun):
+        """What is asked behind a command on the object, where the second part begins with the revision `begun`."""
+        chance, kinds = self.chance, self.touched(number)
+        for kind in kinds:
+            yield self.whole(kind, self.revision)
+        for revision in chance.sample(range(begun, self.revision), self.revision - begun):
+            for kind in chance.sample(kinds, len(kinds)):
+                yield self.whole(kind, revision)
+        yield self.drawn(chance.choice(kinds), self.revision)
+        yield self.drawn(chance.choice(kinds), chance.randrange(begun - 1, self.revision + 1))
+        yield self.drawn(chance.choice(list(COLLECTIONS)), chance.choice([begun - 1, chance.randrange(self.revision)]))
+        singles = [self.version(number), self.version(number, back=1), *(self.version(it) for it in chance.sample(self.naming(number), 1))]
+        yield from map(asked, dict.fromkeys(singles))
 
 
-def script(chance):
+# ---- the sixty registers
+
+def merged(chance, runs):
+    """All elements of some lists, each list in its order."""
+    runs = [list(run) for run in runs]
+    while any(runs):
+        yield chance.choice([run for run in runs if run]).pop(0)
+
+
+def changes(chance, are_same, is_amended_again):
+    """The amendments and retirements of the units and the parties; of which kinds the same object is amended and retired."""
+    day, runs = chance.randrange(20, 50), []
+    for kind, (one, other) in OBJECTS.items():
+        at = day + chance.choice([0, 0, 0, 0, 1])
+        amended = [Change(kind, one, "amend", at)]
+        if is_amended_again == kind:
+            amended.append(Change(kind, one, "amend", at + 1))
+        if kind in are_same:
+            runs.append([*amended, Change(kind, one, "retire", amended[-1].day + chance.choice([0, 0, 1]))])
+        else:
+            runs += [amended, [Change(kind, other, "retire", day + chance.choice([-1, 0, 0, 0, 0]))]]
+    return list(merged(chance, runs))
+
+
+def first_part(register, planned):
+    """Units and parties, and objects that name each on the days round its changes."""
+    chance = register.chance
+    needed = {number: {it.day + aside for it in planned if it.object == number for aside in (-1, 0, 1)} for numbers in OBJECTS.values() for number in numbers}
+    for kind, numbers in OBJECTS.items():
+        for number in numbers:
+            yield register.enter(kind, min(needed[number], default=20) - chance.randrange(4), register.body(kind))
+    rows = []
+    for kind in DEPENDENTS:
+        for day in sorted(set().union(*needed.values())):
+            units, parties = ([it for it in OBJECTS[named] if day in needed[it] and kind in NAMING[named]] for named in OBJECTS)
+            chance.shuffle(parties)
+            rows += [(kind, day, unit or chance.choice(OBJECTS["unit"]), party) for unit, party in zip_longest(units, parties)]
+    for kind, day, unit, party in chance.sample(rows, len(rows)):
+        yield register.enter(kind, day, register.body(kind, unit, party))
+
+
+def change(register, it):
+    if it.do == "amend":
+        return register.amend(it.object, it.day, register.renamed(it.object))
+    return register.retire(it.object, it.day)
+
+
+def dependent_changed(register, is_amended):
+    """A dependent is amended on the day after it begins, and names others then, or it is retired."""
+    chance = register.chance
+    number = chance.choice([it for it, kind in register.kinds.items() if kind in DEPENDENTS])
+    first = register.days[number][-1]
+    if not is_amended:
+        return number, register.retire(number, first + chance.randrange(2))
+    kind = register.kinds[number]
+    return number, register.amend(number, first + 1, register.body(kind, chance.choice(OBJECTS["unit"]), chance.choice(OBJECTS["party"])))
+
+
+def entered_late(register, retired, aside):
+    """A dependent of what is retired, which begins on its last day, or on the day after."""
+    kind = register.chance.choice(NAMING[retired.kind])
+    named = {"unit": register.chance.choice(OBJECTS["unit"]), retired.kind: retired.object}
+    line = register.enter(kind, retired.day + aside, register.body(kind, **named))
+    return register.number, line
+
+
+def second_part(register, planned, more):
+    """Each command, with the object that it is on. What comes beside the planned changes comes anywhere, or at the end."""
+    chance = register.chance
+    acts = [lambda it=it: (it.object, change(register, it)) for it in planned]
+    if more in ("amended", "retired"):
+        acts.insert(chance.randrange(2, len(acts) + 1), lambda: dependent_changed(register, more == "amended"))
+    if more == "late":
+        retired = chance.choice([it for it in planned if it.do == "retire"])
+        acts += [lambda aside=aside: entered_late(register, retired, aside) for aside in chance.sample([0, 1], 2)]
+    for act in acts:
+        yield act()
+
+
+def script(chance, at):
+    """One of the registers: what is the same and what comes beside goes by turns."""
+    are_same = {0: [], 3: [], 6: [], 9: chance.sample(list(OBJECTS), 1)}.get(at % 10, list(OBJECTS))
+    more = ["amended", "late", "retired", None, "again", None][(at // 10 + at) % 6]
+    planned = changes(chance, are_same, chance.choice(list(OBJECTS)) if more == "again" else None)
     register = Register(chance)
     yield from ("empty", "open 1")
-    if chance.random() < 0.5:
-        yield asked("/collections/units/items")
-    for kind in ["unit", "unit", "party", "party"] + [chance.choice(["parcel", "right", "restriction", "responsibility"]) for _ in range(5)]:
-        yield register.enter(kind)
-    yield asked(f"/collections/{chance.choice(COLLECTIONS)}/items")
-    for _ in range(5):
-        if chance.random() < 0.3:
-            yield register.enter(chance.choice(["unit", "party", "parcel", "right", "restriction", "responsibility"]))
-        else:
-            yield register.change()
-        yield from questions(chance, register)
+    if at // 20 == 0:
+        yield register.whole("unit", 0)
+    yield from first_part(register, planned)
+    if at // 20 == 1:
+        yield register.whole(chance.choice(DEPENDENTS), register.revision)
+    begun = register.revision + 1
+    for number, line in second_part(register, planned, more):
+        yield line
+        yield from register.questions(number, begun)
+
+
+# ---- further registers
+
+def many_revisions(chance):
+    """A unit and a party are renamed by turns from days on before their dependents begin, so each revision has names of its own."""
+    register = Register(chance)
+    yield from ("empty", "open 1")
+    yield register.enter("unit", 0, {"name": "A"})
+    yield register.enter("party", 0, {"name": "B", "code": "n"})
+    for kind, day in [("parcel", 300), ("right", 300), ("restriction", 80), ("responsibility", 301)]:
+        yield register.enter(kind, day, register.body(kind, 1, 2))
+    for turn in range(150):
+        number, name = 1 + turn % 2, chr(65 + turn // 26) + chr(97 + turn % 26)
+        yield register.amend(number, 1 + turn, {**register.bodies[number], "name": name})
+        if turn % 5 == 2:
+            yield register.whole("right", register.revision)
+            yield register.whole(chance.choice(DEPENDENTS), chance.randrange(6, register.revision))
+            yield register.drawn(chance.choice(DEPENDENTS), chance.randrange(register.revision))
+            yield asked(register.version(number, back=chance.randrange(9)))
+    for revision in chance.sample(range(register.revision + 1), register.revision + 1):
+        yield register.whole(chance.choice(DEPENDENTS), revision)
+    yield "restart"
+    yield "open 1"
+    for revision in [register.revision, *chance.sample(range(register.revision), 20)]:
+        yield register.whole(chance.choice(DEPENDENTS), revision)
+        yield asked(f"/collections/units/items?limit=2&after=1.{chance.randrange(75)}&revision={revision}")
+
+
+def many_named(chance, most):
+    """A party that many name, where a base gets at most so many changes."""
+    register = Register(chance)
+    yield from (f"changes {most}", "empty", "open 1")
+    yield register.enter("unit", 0, {"name": "A"})
+    yield register.enter("party", 0, {"name": "B", "code": "n"})
+    for turn in range(most + 4):
+        kind = "restriction" if turn % 4 == 3 else "right"
+        yield register.enter(kind, 10 + turn % 4, register.body(kind, 1, 2))
+    acts = [
+        lambda: (2, register.amend(2, 10, {"name": "C", "code": "n"})),
+        lambda: (5, register.amend(5, 20, register.body("right", 1))),
+        lambda: (1, register.amend(1, 11, {"name": None})),
+        lambda: (2, register.amend(2, 12, {"name": "D", "code": "n"})),
+        lambda: (7, register.retire(7, 30)),
+        lambda: (2, register.retire(2, 12)),
+        lambda: (register.number + 1, register.enter("right", 12, register.body("right", 1, 2))),
+        lambda: (register.number + 1, register.enter("right", 13, register.body("right", 1, 2))),
+    ]
+    begun = register.revision + 1
+    for turn, act in enumerate(acts):
+        number, line = act()
+        yield line
+        if turn:
+            yield from register.questions(number, begun)
+            yield register.whole("right", chance.randrange(begun))
+    yield from ("restart", "open 1")
+    for revision in [register.revision, *chance.sample(range(register.revision), 12)]:
+        yield register.whole("right", revision)
+
+
+def cases(seed):
+    """The lines of the sixty registers and of the further ones."""
+    chance = random.Random(seed)
+    yield f"# Sixty registers whose units and parties are amended and retired under what names them, by scripts/changes_cases.py {seed}"
+    for at in range(COUNT):
+        yield from script(chance, at)
+    yield "# A register of a hundred and fifty revisions and more, asked at old ones, some from before the first page"
+    yield from many_revisions(chance)
+    yield "# A command touches more features than a base may get changes, and is asked for at old revisions, some from before the first page"
+    yield from (*many_named(chance, 5), "changes 512")
 
 
 def main():
-    seed = int(sys.argv[1]) if len(sys.argv) > 1 else 1
-    chance = random.Random(seed)
-    print(f"# Sixty registers whose units and parties are renamed and end, by scripts/changes_cases.py {seed}")
-    for _ in range(COUNT):
-        for line in script(chance):
-            print(line)
+    print("\n".join(cases(int(sys.argv[1]) if len(sys.argv) > 1 else 1)))
 
 
-main()
+if __name__ == "__main__":
+    main()
