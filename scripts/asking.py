@@ -1,5 +1,6 @@
 """A client of the server for the scripts that measure it, and the registers that they measure it on."""
 import os
+import random
 import socket
 from pathlib import Path
 
@@ -38,6 +39,66 @@ def land(parcels):
         yield {"do": "enter", "object": at + 1, "first": "2001-01-01", "parcel": parcel}
         right = {"unit": FIRST_UNIT + at // 10, "party": FIRST_PARTY + at // 10, "code": "ownership", "share": [1, 10]}
         yield {"do": "enter", "object": FIRST_RIGHT + at, "first": "2001-01-01", "right": right}
+
+
+FIRST_NAMES = "Ana Bea Ciro Dana Emil Femke Goran Hanna Ivo Jun Kim Léa Mira Nils Olga Paul Quirin Rosa Sara Tomás Uma Vera Wim Xenia Yusuf Zoë".split()
+LAST_NAMES = "Straße Okafor Lind Wójcik Sørensen Vries Petrović Ito Marek Park Nguyen Martin Haddad Berg Ruiz Weber Ahmed Costa Dunn Ek".split()
+STREETS = "Mill Church Station Garden River Market School Forest Bridge Castle".split()
+TEN_PARCELS, TEN_PARTIES = 9, 2.8
+
+
+def unit_of(parcel):
+    """The unit of a parcel of a county: ten parcels have nine."""
+    return FIRST_UNIT + (parcel - 1) * TEN_PARCELS // 10
+
+
+class County:
+    """A made-up land of so many parcels, with nine units and two or three parties for each ten of them: each unit has an owner, two of
+    fifteen were sold once, and some have a mortgage. Every run has the same lines."""
+
+    def __init__(self, parcels):
+        self.random = random.Random(21)
+        self.parcels, self.parties, self.others = parcels, int(parcels * TEN_PARTIES / 10), FIRST_RIGHT - 1
+        self.units = unit_of(parcels) - FIRST_UNIT + 1
+
+    def day(self, first, last):
+        return f"{self.random.randint(first, last)}-{self.random.randint(1, 12):02}-{self.random.randint(2, 28):02}"
+
+    def party(self):
+        return FIRST_PARTY + self.random.randrange(self.parties)
+
+    def held(self, first, what, **body):
+        self.others += 1
+        return {"do": "enter", "object": self.others, "first": first, what: {**body, "party": self.party()}}
+
+    def holders(self, at):
+        unit, sold = FIRST_UNIT + at, self.day(2016, 2022)
+        yield self.held(self.day(1991, 2014), "right", unit=unit, code="ownership", share=[1, 1])
+        if at % 15 in (3, 11):
+            yield {"do": "retire", "object": self.others, "last": f"{sold[:8]}{int(sold[8:]) - 1:02}"}
+            yield self.held(sold, "right", unit=unit, code="ownership", share=[1, 1])
+        if at % 45 in (0, 10, 20, 30):
+            yield self.held(self.day(2004, 2015), "restriction", unit=unit, code="mortgage", required=True)
+
+    def lines(self):
+        """Units begin before 1991, and parcels from 1995 on."""
+        chance = self.random
+        for at in range(self.parties):
+            name = f"{chance.choice(FIRST_NAMES)} {chr(65 + chance.randrange(26))}. {chance.choice(LAST_NAMES)}"
+            yield {"do": "enter", "object": FIRST_PARTY + at, "first": "1950-01-01", "party": {"name": name, "code": "naturalPerson"}}
+        for at in range(self.units):
+            yield {"do": "enter", "object": FIRST_UNIT + at, "first": self.day(1980, 1990), "unit": {"name": f"{STREETS[at // 900 % 10]} Road {at % 900 + 1}"}}
+        for at in range(self.parcels):
+            parcel = {"unit": unit_of(at + 1), "label": f"{at // 1000 + 1}/{at % 1000 + 1}", "area": chance.randint(150, 2500), "shape": shape_at(at)}
+            yield {"do": "enter", "object": at + 1, "first": self.day(1995, 2015), "parcel": parcel}
+        for at in range(self.units):
+            yield from self.holders(at)
+
+
+def spent_by(process):
+    """The processor time of a process of one thread so far, in seconds."""
+    with open(f"/proc/{process}/schedstat", encoding="ascii") as status:
+        return int(status.read().split()[0]) / 1e9
 
 
 class Client:
