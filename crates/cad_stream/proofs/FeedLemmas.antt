@@ -62,7 +62,7 @@ module _ {R : Type 0} (g : Ghosts R) where
     stays = record {
       kept = λ _. tt;
       unchanged = a.unchanged;
-      store = λ counts e. (old, here old, ([], head, rest, (bytes, refl, fits), subst (g.refuses_answer old new) same (a.store counts e)));
+      store = λ counts e. (old, (λ commands stands. stands), here old, ([], head, rest, (bytes, refl, fits), subst (g.refuses_answer old new) same (a.store counts e)));
       still = λ counts. tt;
       clean = a.clean;
     };
@@ -119,7 +119,14 @@ module _ {R : Type 0} (g : Ghosts R) where
     stays = record {
       kept = λ counts. tt;
       unchanged = λ counts lives commands stands. n.stays.unchanged counts lives commands (h.stands (n.stays.clean counts) commands stands);
-      store = λ counts e. let refused = n.stays.store counts e in (refused.0, then old now refused.0 (h.still (n.stays.clean counts)) refused.1, comes_later (g.refuses_answer refused.0 new) bytes old now used out h refused.2);
+      store = λ counts e.
+          let clean = n.stays.clean counts in
+          let refused = n.stays.store counts e in (
+            refused.0,
+            (λ commands stands. refused.1 commands (h.stands clean commands stands)),
+            then old now refused.0 (h.still clean) refused.2,
+            comes_later (g.refuses_answer refused.0 new) bytes old now used out h refused.3,
+          );
       still = λ counts. tt;
       clean = λ counts. h.clean (n.stays.clean counts);
     };

@@ -30,9 +30,11 @@ module _ {R : Type 0} (g : Ghosts R) where
   abbrev pub Under : R → R → (List Command → Type 0) → Type 0
   Under old new Holds = g.counts new → (commands : List Command) → g.stands_for old commands → Holds commands
 
-  -- what keeps the commands refuses to tell what a request asks for to which the bytes come, once those before it were answered
+  -- what keeps the commands refuses to tell what a request asks for to which the bytes come, once those before it were answered: asked of what stands for the same commands, and remains what it was
   abbrev pub RefusesLater : List ℕ → R → R → Type 0
-  RefusesLater bytes old new = (before : R) × g.remains old before × ComeTo g.closes (g.refuses_answer before new) bytes
+  RefusesLater bytes old new =
+      (before : R) × ((commands : List Command) → g.stands_for old commands → g.stands_for before commands) × g.remains old before
+      × ComeTo g.closes (g.refuses_answer before new) bytes
 
   -- a call for the requests of these bytes stays with the commands, and what is answered counts if what is answered later does
   pub record Stays {T : Type 0} (bytes : List ℕ) (old : R) (result : Result T RegisterFault) (new : R) : Type 0 where
