@@ -43,6 +43,6 @@ is_last channel piece part rest e f front =
 module _ {R : Type 0} (g : Ghosts R) (c : ℕ) where
   -- the desk refused, and that was told
   pub refused : (a b : Option (List ℕ)) (old new : Desk R) (channel next : Channel) (fault : DeskFault) (result : Turned) (read : List ℕ) → result ≡ Over (Refused fault) → IsReady channel
-      → Writes a b (IsRefusedSo fault) → IsNotTaken g c old fault new → Writes a b (IsTurn g c old channel result new next read)
+      → Writes a b (IsRefusedSo fault) → IsNotTaken g c old channel fault new read → Writes a b (IsTurn g c old channel result new next read)
   refused a b old new channel next fault result read e ready head not_taken =
       subst (λ (t : Turned). Writes a b (IsTurn g c old channel t new next read)) (sym e) (head.0, head.1, (ready, head.2, not_taken))

@@ -85,10 +85,19 @@ module _ {R : Type 0} (g : Ghosts R) (c : ℕ) where
   abbrev pub IsQuiet : List ℕ → List ℕ → Type 0
   IsQuiet read written = (read ≡ []) × (written ≡ [])
 
-  -- the desk refused the next piece, or there was no memory to hand it one
-  abbrev pub IsNotTaken : Desk R → DeskFault → Desk R → Type 0
-  IsNotTaken old fault new =
-      ((piece : Vec ℕ) × Steps g old (Bytes c piece) (Err fault) new) ⊎ ((fault ≡ Memory) × Closes old new)
+  -- the desk refused the piece that comes next of what it has not taken
+  abbrev pub IsRefusedPiece : Desk R → Channel → DeskFault → Desk R → Type 0
+  IsRefusedPiece old channel fault new =
+      (piece : Vec ℕ) × (rest : List ℕ) × IsPiece piece.items × (unfed channel ≡ piece.items ++ rest) × Steps g old (Bytes c piece) (Err fault) new
+
+  -- there was no memory: to hand the desk a piece of what it has not taken, or to keep what a read gave
+  abbrev pub HasNoRoom : Desk R → Channel → Desk R → List ℕ → Type 0
+  HasNoRoom old channel new read = (((read ≡ []) × (0 < length (unfed channel))) ⊎ (IsIdle channel × IsPiece read)) × Closes old new
+
+  -- the desk refused the next piece, or there was no memory
+  abbrev pub IsNotTaken : Desk R → Channel → DeskFault → Desk R → List ℕ → Type 0
+  IsNotTaken old channel fault new read =
+      ((read ≡ []) × IsRefusedPiece old channel fault new) ⊎ ((fault ≡ Memory) × HasNoRoom old channel new read)
 
   -- how the connection is over
   abbrev pub EndsSo : Desk R → Channel → Ending → Desk R → List ℕ → List ℕ → Type 0
@@ -97,7 +106,7 @@ module _ {R : Type 0} (g : Ghosts R) (c : ℕ) where
   -- all replies were written, and the last of them ended the connection
   EndsSo old channel WeEnded new read written = IsQuiet read written × (unsent channel ≡ []) × (has_ended channel ≡ true) × (new ≡ old)
   -- all replies before the refusal were written
-  EndsSo old channel (Refused fault) new read written = IsReady channel × IsRefusedSo fault written × IsNotTaken old fault new
+  EndsSo old channel (Refused fault) new read written = IsReady channel × IsRefusedSo fault written × IsNotTaken old channel fault new read
   -- all replies were written
   EndsSo old channel ReadFailed new read written = IsQuiet read written × IsIdle channel × Closes old new
   -- a reply was to be written

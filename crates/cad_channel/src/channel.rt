@@ -31,6 +31,7 @@ pub struct Channel {
 
 impl Channel {
     ghost use Rattle.std.specs.Prelude.{◌≡◌, ◌<◌, ◌&&◌, nat_eq, false, []};
+    ghost use Rattle.std.specs.Io.KnownBytes.{IsAtEnd};
     ghost use Rattle.cad_io.specs.Known.{ReadsAndWrites, Writes};
     ghost use Rattle.cad_serve.specs.Serving.{IsPiece};
     ghost use Rattle.cad_channel.specs.Channels.{unfed, unsent, last_fed as last_fed_of, has_ended, IsReady, IsIdle, IsSending, IsTurn};
@@ -169,9 +170,10 @@ impl Channel {
         desk: &mut Desk<R>,
     ) -> Turned
         requires { IsIdle self.old }
-        ensures { ReadsAndWrites (I.remaining reader.old) (I.remaining reader.new)
+        ensures turn { ReadsAndWrites (I.remaining reader.old) (I.remaining reader.new)
             (W.contents writer.old) (W.contents writer.new)
             (IsTurn R.Responder c desk.old self.old result desk.new self.new) }
+        ensures all { result ≡ Turned.Over Ending.PeerEnded → IsAtEnd (I.remaining reader.new) }
     {
         let mut buffer = [0; PIECE_LEN];
         match reader.read(&mut buffer) {
@@ -191,7 +193,7 @@ impl Channel {
     }
 
     /// Does one thing: where something is to be written, a write; else, where bytes were read that the desk has not taken, the
-    /// desk takes those up to the first empty line; else a read.
+    /// desk takes those up to the first empty line; else a read. Where the peer ended, nothing is left unread.
     pub fn turn<I: Read, W: Write, R: Responder>(
         &mut self,
         alloc: Global,
@@ -200,9 +202,10 @@ impl Channel {
         writer: &mut W,
         desk: &mut Desk<R>,
     ) -> Turned
-        ensures { ReadsAndWrites (I.remaining reader.old) (I.remaining reader.new)
+        ensures turn { ReadsAndWrites (I.remaining reader.old) (I.remaining reader.new)
             (W.contents writer.old) (W.contents writer.new)
             (IsTurn R.Responder c desk.old self.old result desk.new self.new) }
+        ensures all { result ≡ Turned.Over Ending.PeerEnded → IsAtEnd (I.remaining reader.new) }
     {
         if self.output_at < self.output.len() {
             return self.write_some(c, writer, desk);

@@ -21,6 +21,8 @@ pub(crate) struct Client {
 
 impl Client {
     ghost use Rattle.std.specs.Prelude.{◌≡◌, ◌↔◌, false, IsTrue};
+    ghost use Rattle.std.specs.Io.KnownBytes.{IsAtEnd};
+    ghost use Rattle.cad_channel.specs.declared.turned.Ending.TheVariants.{PeerEnded};
     ghost use Rattle.cad_io.specs.Known.{ReadsAndWrites};
     ghost use Rattle.cad_channel.specs.Channels.{has_ended, unsent, IsTurn};
     ghost use Rattle.cad_channel.specs.Laws.{IsNew};
@@ -75,6 +77,7 @@ impl Client {
         ensures turn { ReadsAndWrites (I.remaining reader.old) (I.remaining reader.new)
             (W.contents writer.old) (W.contents writer.new)
             (IsTurn R.Responder c desk.old self.old.channel result desk.new self.new.channel) }
+        ensures all { result ≡ Turned.Over PeerEnded → IsAtEnd (I.remaining reader.new) }
         ensures notes { notes_of self.new ≡ noted now result (unsent self.new.channel) (notes_of self.old) }
     {
         let turned = self.channel.turn(alloc, c, reader, writer, desk);

@@ -27,7 +27,9 @@ pub struct Clients {
 
 impl Clients {
     ghost use Rattle.std.specs.Prelude.{ℕ, ◌<◌, ◌↔◌, None, Some, IsTrue, IsSome, IsSomeAnd, IfOk, IfSome, option_copied, option_map};
+    ghost use Rattle.std.specs.Io.KnownBytes.{IsAtEnd};
     ghost use Rattle.cad_io.specs.Known.{ReadsAndWrites};
+    ghost use Rattle.cad_channel.specs.declared.turned.Ending.TheVariants.{PeerEnded};
     ghost use Rattle.cad_clients.specs.Notes.{marked, IsOverdue, IsSending, MayGoOn};
     ghost use Rattle.cad_clients.specs.Slots.{client_at, Changes};
     ghost use Rattle.cad_clients.specs.Steps.{Opens, HasTurn, Closes, IsServed};
@@ -109,9 +111,10 @@ impl Clients {
         writer: &mut W,
         desk: &mut Desk<R>,
     ) -> Option<Turned>
-        ensures { ReadsAndWrites (I.remaining reader.old) (I.remaining reader.new)
+        ensures turn { ReadsAndWrites (I.remaining reader.old) (I.remaining reader.new)
             (W.contents writer.old) (W.contents writer.new)
             (HasTurn R.Responder c now desk.old self.old result desk.new self.new) }
+        ensures all { result ≡ Some (Turned.Over PeerEnded) → IsAtEnd (I.remaining reader.new) }
     {
         let mut client = self.take(c)?;
         let turned = client.turn(alloc, c, now, reader, writer, desk);
@@ -192,9 +195,10 @@ impl Clients {
         desk: &mut Desk<R>,
         log: &mut L,
     ) -> Served
-        ensures { ReadsAndWrites (I.remaining reader.old) (I.remaining reader.new)
+        ensures served { ReadsAndWrites (I.remaining reader.old) (I.remaining reader.new)
             (W.contents writer.old) (W.contents writer.new)
             (IsServed R.Responder c now desk.old self.old result desk.new self.new) }
+        ensures all { result ≡ Served.Over PeerEnded → IsAtEnd (I.remaining reader.new) }
     {
         let mut has_fed = false;
         for _ in 0..TURNS {

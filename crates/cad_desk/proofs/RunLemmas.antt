@@ -37,7 +37,7 @@ module _ (rules : Rules) (InForce : (List Command → Type 0) → Type 0) (comma
   taken_at : (old new : Connections) (c : ℕ) (piece : List ℕ) (result : Result Reply DeskFault) → IsTaken rules InForce old c piece result new → IsTaken rules (λ Holds. Holds commands) old c piece result new
   taken_at old new c piece (Ok Opened) s = s
   taken_at old new c piece (Ok Closed) s = s
-  taken_at old new c piece (Ok (Sent out ends)) s = (s.0, s.1, s.2, s.3, s.4, s.5, s.6, settles _ s.7)
+  taken_at old new c piece (Ok (Sent out ends)) s = (s.0, s.1, s.2, s.3, s.4, s.5, s.6, settles _ s.7, s.8, s.9)
   taken_at old new c piece (Ok (Entered revision)) s = s
   taken_at old new c piece (Err UnknownConnection) s = s
   taken_at old new c piece (Err KnownConnection) s = s

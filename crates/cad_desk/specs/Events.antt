@@ -1,14 +1,15 @@
 -- What each event does to a desk, and what is answered (own profile).
-use Rattle.std.specs.Prelude.{◌≡◌, ◌≢◌, ◌⊎◌, ℕ, ◌+◌, ◌<◌, ◌≤◌, Bool, List, [], ◌∷◌, ◌++◌, length, Some, None, IsSome, is_none, Result, Ok, Err}
+use Rattle.std.specs.Prelude.{◌≡◌, ◌≢◌, ◌⊎◌, ℕ, ◌+◌, ◌<◌, ◌≤◌, Bool, false, List, [], ◌∷◌, ◌++◌, length, Some, None, IsSome, is_none, Result, Ok, Err}
 use Rattle.httparse.specs.Grammar.{RequestHead}
 use Rattle.cad_versions.specs.declared.command.Command.{Command}
 use Rattle.cad_versions.specs.declared.fault.RegisterFault.{RegisterFault}
 use Rattle.cad_versions.specs.declared.fault.RegisterFault.TheVariants as register
 use Rattle.cad_versions.specs.Versions.{versions}
 use Rattle.cad_versions.specs.Refusals.{refusal}
+use Rattle.cad_head.specs.Pieces.{may_settle}
 use Rattle.cad_head.specs.Request.{Request}
 use Rattle.cad_stream.specs.Streams.{Outcome, rest_of, IsStream}
-use Rattle.cad_stream.specs.Replies.{AreReplies, last_reply, ComeTo, Fails}
+use Rattle.cad_stream.specs.Replies.{AreReplies, ArePlainReplies, last_reply, ComeTo, Fails}
 use Rattle.cad_stream.specs.Conversations.{heads_at}
 use Rattle.cad_desk.specs.declared.event.Event.{Event}
 use Rattle.cad_desk.specs.declared.event.Event.TheVariants.{Open, Bytes, Close, Office}
@@ -38,13 +39,15 @@ module _ (rules : Rules) (InForce : (List Command → Type 0) → Type 0) where
   IsOpened old c (Err Memory) new = (rest_at old c ≡ None) × (count_of old < connection_room) × Keeps old new
   IsOpened old c (Err other) new = ⊥
 
-  -- bytes of an open connection get the replies to the requests that they make whole, and what waits is kept; where they are refused the connection is closed
+  -- bytes of an open connection get the replies to the requests that they make whole, those that do not ask for what the commands say whatever these are, and what waits is kept; where they can't settle a head nothing goes out, and all of them are kept; where they are refused the connection is closed
   abbrev pub IsTaken : Connections → ℕ → List ℕ → Result Reply DeskFault → Connections → Type 0
   IsTaken old c piece (Ok (Sent out ends)) new =
       (held : List ℕ) × (heads : List RequestHead) × (last : Outcome)
       × (rest_at old c ≡ Some held) × IsStream rules.closes heads (held ++ piece) last
       × (ends ≡ is_none (rest_of last)) × Changes old new c (rest_of last)
       × InForce (λ commands. AreReplies rules.replies (heads_at commands heads) (last_reply rules.bad_head last) out.items)
+      × ArePlainReplies rules.Asks rules.replies heads (last_reply rules.bad_head last) out.items
+      × (may_settle held piece ≡ false → (out.items ≡ []) × (rest_of last ≡ Some (held ++ piece)))
   IsTaken old c piece (Ok other) new = ⊥
   IsTaken old c piece (Err UnknownConnection) new = (rest_at old c ≡ None) × Keeps old new
   IsTaken old c piece (Err Memory) new = IsSome (rest_at old c) × Changes old new c None

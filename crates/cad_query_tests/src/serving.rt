@@ -45,7 +45,7 @@ fn stops_where_reading_does(rt: HostRuntime) -> Result<(), Fail> {
         for (piece, stop) in READINGS {
             let mut reader = Peer::new(REQUEST.as_bytes(), piece, bytes, stop);
             let mut writer = Taker::new(512, 512, Stop::Fails);
-            let served = serve(alloc, &mut reader, &mut writer, &mut desk, 1);
+            let served = serve(alloc, &mut reader, &mut writer, &mut desk.connections, 1);
             let wanted = match stop {
                 Stop::Fails => Err(ServeFault::Read),
                 Stop::Ends => Ok(Ending::PeerEnded),
@@ -71,7 +71,7 @@ fn reads_nothing_behind_the_end(rt: HostRuntime) -> Result<(), Fail> {
     for (piece, stop) in READINGS {
         let mut reader = Peer::new(LAST.as_bytes(), piece, LAST.len(), stop);
         let mut writer = Taker::new(1, 512, Stop::Fails);
-        let served = serve(alloc, &mut reader, &mut writer, &mut desk, 1);
+        let served = serve(alloc, &mut reader, &mut writer, &mut desk.connections, 1);
         assert_eq!(rt; served, Ok(Ending::WeEnded), "{piece} a read");
         assert_eq!(rt;
             reader.reads(),
@@ -92,7 +92,7 @@ fn stops_where_writing_does(rt: HostRuntime) -> Result<(), Fail> {
         for (piece, stop) in [(1, Stop::Ends), (1, Stop::Fails), (100, Stop::Fails)] {
             let mut reader = Peer::new(REQUEST.as_bytes(), 4096, REQUEST.len(), Stop::Ends);
             let mut writer = Taker::new(piece, most, stop);
-            let served = serve(alloc, &mut reader, &mut writer, &mut desk, 1);
+            let served = serve(alloc, &mut reader, &mut writer, &mut desk.connections, 1);
             let wanted = if most == REPLY.len() {
                 Ok(Ending::PeerEnded)
             } else {
@@ -115,7 +115,7 @@ fn replies_twice_on_one_desk(rt: HostRuntime) -> Result<(), Fail> {
     for _ in 0..2 {
         let mut reader = Peer::new(REQUEST.as_bytes(), 4096, REQUEST.len(), Stop::Ends);
         let mut writer = Taker::new(512, 512, Stop::Fails);
-        let served = serve(alloc, &mut reader, &mut writer, &mut desk, 1);
+        let served = serve(alloc, &mut reader, &mut writer, &mut desk.connections, 1);
         assert_eq!(rt; served, Ok(Ending::PeerEnded));
         assert!(rt; writer.has_taken(REPLY.as_bytes()));
     }
@@ -137,7 +137,7 @@ fn ends_where_the_turns_are_spent(rt: HostRuntime) -> Result<(), Fail> {
     let mut desk = sample_desk(alloc)?;
     let mut reader = Endless::new(SHORT.as_bytes());
     let mut writer = Copies::new(SHORT_REPLY.as_bytes());
-    let served = serve(alloc, &mut reader, &mut writer, &mut desk, 1);
+    let served = serve(alloc, &mut reader, &mut writer, &mut desk.connections, 1);
     assert_eq!(rt; served, Err(ServeFault::TurnsSpent));
     assert_eq!(rt; reader.reads(), 100_000);
     assert_eq!(rt; writer.count(), Some(3703));

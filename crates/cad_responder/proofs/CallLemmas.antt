@@ -19,7 +19,7 @@ use Rattle.cad_wanted.specs.Wants.{IsWanted}
 use Rattle.cad_responder.specs.declared.records.Records.{Records}
 use Rattle.cad_responder.specs.declared.server.Server.{Server}
 use Rattle.cad_wanted.specs.declared.feature_request.FeatureRequest.{FeatureRequest}
-use Rattle.cad_responder.specs.Contents.{content_told, content_in}
+use Rattle.cad_responder.specs.Contents.{content_told, content_in, content_wanted}
 use Rattle.cad_responder.specs.Replies.{reply_of, IsReply, Asks, FailsToAnswer}
 use Rattle.cad_responder.specs.Servers.{AreKept, ledger_in, ledger_of, AreRecordsOf, IsServerOf, RefusesToAnswer, Recalls, Finds, Tells}
 use Rattle.cad_responder.proofs.KeptLemmas.{kept_promoted, kept_found}
@@ -159,6 +159,7 @@ module _ {L : Type 0} (g : Ghosts L) where
       → Tells g wanted old.records (Err fault) new.records → IsAnswered old request given new
   answered_err old new request wanted fault given e is t = subst (λ (given : Result Answer RegisterFault). IsAnswered old request given new) (sym e) (record {
     replied = λ counts. tt;
+    plain = tt;
     ends = tt;
     cause = λ counts commands stands. elim (t.cause counts commands stands) [
       | inl m ↦ inl m
@@ -179,8 +180,11 @@ module _ {L : Type 0} (g : Ghosts L) where
       → Tells g wanted old.records (Ok told) new.records → answer.bytes.items ≡ reply_text told.status answer.ends (string_bytes told.body) → answer.ends ≡ ends_after request
       → IsAnswered old request (Ok answer) new
   answered_ok old new request wanted told answer is t bytes ends = record {
-    replied = λ counts commands stands.
-        (wanted, is, bytes ∙ ap (λ (b : Bool). reply_text told.status b (string_bytes told.body)) ends ∙ ap (reply_of request) (t.told counts commands stands));
+    replied = λ counts commands stands. replied commands (t.told counts commands stands);
+    plain = elim t.plain [
+      | inl sought ↦ inl (wanted, is, sought)
+      | inr same ↦ inr (λ commands. replied commands (same commands))
+    ];
     ends = ends;
     cause = λ counts. tt;
     asking = tt;
@@ -190,3 +194,6 @@ module _ {L : Type 0} (g : Ghosts L) where
     unchanged = λ counts lives. tt;
     clean = t.reads.clean;
   }
+    where
+      replied : (commands : List Command) → content_told told ≡ content_wanted wanted commands → IsReply commands request answer.bytes.items
+      replied commands same = (wanted, is, bytes ∙ ap (λ (b : Bool). reply_text told.status b (string_bytes told.body)) ends ∙ ap (reply_of request) same)

@@ -94,9 +94,10 @@ module _ {L : Type 0} (g : Ghosts L) where
     pub cause : g.counts (ledger_in new) → IfErr result (λ fault. (commands : List Command) → AreRecordsOf old commands → (fault ≡ Memory) ⊎ FailsToFind g.fails_to_list commands sought fault)
     pub reads : Reads (RefusesToFind sought old new) old result new
 
-  -- what is wanted is told
+  -- what is wanted is told, and where no features are wanted, whatever tables stand there
   pub record Tells (wanted : Wanted) (old : Records L) (result : Result Told RegisterFault) (new : Records L) : Type 0 where
     pub told : g.counts (ledger_in new) → IfOk result (λ told. (commands : List Command) → AreRecordsOf old commands → content_told told ≡ content_wanted wanted commands)
     pub cause : g.counts (ledger_in new) → IfErr result (λ fault. (commands : List Command) → AreRecordsOf old commands → (fault ≡ Memory) ⊎ FailsToTell g.fails_to_list commands wanted fault)
+    pub plain : IfOk result (λ told. AsksForFeatures wanted ⊎ ((commands : List Command) → content_told told ≡ content_wanted wanted commands))
     pub asking : IfErr result (λ fault. (fault ≡ Memory) ⊎ AsksForFeatures wanted)
     pub reads : Reads (RefusesToTell wanted old new) old result new

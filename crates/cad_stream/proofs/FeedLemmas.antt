@@ -2,7 +2,7 @@
 use Rattle.std.proofs.Common.{◌≡◌, ◌⊎◌, ℕ, ◌+◌, ◌<◌, ◌≤◌, List, [], ◌∷◌, ◌++◌, true, false, Some, None, Ok, Err, length, drop, refl, sym, ap, subst, ◌∙◌, append-nil, arith, length-drop, inl, inr}
 use Rattle.std.specs.Global.{Vec}
 use Rattle.std.proofs.lemmas.List.{drop-drop}
-use Rattle.httparse.specs.Grammar.{RequestHead}
+use Rattle.httparse.specs.Grammar.{RequestHead, print_request}
 use Rattle.httparse.specs.declared.spans.HeaderSpan.{HeaderSpan}
 use Rattle.httparse.specs.declared.spans.RequestSpans.{RequestSpans}
 use Rattle.cad_head.specs.Heads.{Fits, IsIncomplete}
@@ -17,7 +17,7 @@ use Rattle.cad_stream.specs.declared.replies.Next.{Next}
 use Rattle.cad_stream.specs.declared.replies.Next.TheVariants as next
 use Rattle.cad_stream.specs.declared.responder.Responder.{Ghosts}
 use Rattle.cad_stream.specs.Streams.{waits, closed, refused, Passes}
-use Rattle.cad_stream.specs.Replies.{AreReplies, ComeTo, Fails}
+use Rattle.cad_stream.specs.Replies.{IsPlainReply, AreReplies, ArePlainReplies, ComeTo, Fails}
 use Rattle.cad_stream.specs.Conversations.{HeadAt, heads_at}
 use Rattle.cad_stream.specs.ReplyLemmas.{replies_join, replies_go_on}
 use Rattle.cad_stream.specs.Answering.{Answered}
@@ -40,11 +40,29 @@ module _ {R : Type 0} (g : Ghosts R) where
   RemainsThen = (old mid new : R) → g.remains old mid → g.remains mid new → g.remains old new
 
   -- the answer to the request that spans show is that to the head
-  pub answered_head : (bytes : List ℕ) (old new : R) (request : Request) (head : RequestHead) (rest : List ℕ) (answer : Answer) → request ≡ request_of head → Fits bytes head rest
+  pub answered_head : (bytes : List ℕ) (old new : R) (request : Request) (head : RequestHead) (used : ℕ) (answer : Answer) → request ≡ request_of head → Fits bytes head (drop used bytes)
+      → used ≡ length (print_request head)
       → Answered g.stands_for g.counts g.lives g.replies g.closes g.asks g.fails_to_answer g.refuses_answer g.remains old request (Ok answer) new
-      → (answer.ends ≡ g.closes (request_of head)) × Under g old new (λ commands. g.replies commands (request_of head) answer.bytes.items)
-  answered_head bytes old new request head rest answer same fits a =
-      (a.ends ∙ ap g.closes same, λ counts commands stands. subst (λ (r : Request). g.replies commands r answer.bytes.items) same (a.replied counts commands stands))
+      → IsNext g bytes old (Ok (next.Answered answer used)) new
+  answered_head bytes old new request head used answer same fits size a = record {
+    next = (
+      head,
+      fits,
+      size,
+      a.ends ∙ ap g.closes same,
+      (λ counts commands stands. subst (λ (r : Request). g.replies commands r answer.bytes.items) same (a.replied counts commands stands)),
+      subst (λ (r : Request). IsPlainReply g.asks g.replies r answer.bytes.items) same a.plain,
+    );
+    cause = tt;
+    asking = tt;
+    stays = record {
+      kept = a.kept;
+      unchanged = λ counts lives. tt;
+      store = λ counts. tt;
+      still = a.still;
+      clean = a.clean;
+    };
+  }
 
   pub failed_head : RemainsHere → (bytes : List ℕ) (old new : R) (request : Request) (head : RequestHead) (rest : List ℕ) (fault : RegisterFault) → request ≡ request_of head → Fits bytes head rest
       → Answered g.stands_for g.counts g.lives g.replies g.closes g.asks g.fails_to_answer g.refuses_answer g.remains old request (Err fault) new
@@ -62,7 +80,7 @@ module _ {R : Type 0} (g : Ghosts R) where
     stays = record {
       kept = λ _. tt;
       unchanged = a.unchanged;
-      store = λ counts e. (old, here old, ([], head, rest, (bytes, refl, fits), subst (g.refuses_answer old new) same (a.store counts e)));
+      store = λ counts e. (old, (λ commands stands. stands), here old, ([], head, rest, (bytes, refl, fits), subst (g.refuses_answer old new) same (a.store counts e)));
       still = λ counts. tt;
       clean = a.clean;
     };
@@ -75,6 +93,7 @@ module _ {R : Type 0} (g : Ghosts R) where
     pub heads : List RequestHead
     pub passed : Passes g.closes heads bytes (drop used bytes)
     pub told : Under g old now (λ commands. AreReplies g.replies (heads_at commands heads) [] out)
+    pub plain : ArePlainReplies g.asks g.replies heads [] out
     pub stands : g.counts now → (commands : List Command) → g.stands_for old commands → g.stands_for now commands
     pub still : g.counts now → g.remains old now
     pub clean : g.counts now → g.counts old
@@ -84,6 +103,7 @@ module _ {R : Type 0} (g : Ghosts R) where
     heads = [];
     passed = refl;
     told = λ counts commands stands. e;
+    plain = e;
     stands = λ counts commands stands. stands;
     still = λ counts. here old;
     clean = λ counts. counts;
@@ -119,7 +139,14 @@ module _ {R : Type 0} (g : Ghosts R) where
     stays = record {
       kept = λ counts. tt;
       unchanged = λ counts lives commands stands. n.stays.unchanged counts lives commands (h.stands (n.stays.clean counts) commands stands);
-      store = λ counts e. let refused = n.stays.store counts e in (refused.0, then old now refused.0 (h.still (n.stays.clean counts)) refused.1, comes_later (g.refuses_answer refused.0 new) bytes old now used out h refused.2);
+      store = λ counts e.
+          let clean = n.stays.clean counts in
+          let refused = n.stays.store counts e in (
+            refused.0,
+            (λ commands stands. refused.1 commands (h.stands clean commands stands)),
+            then old now refused.0 (h.still clean) refused.2,
+            comes_later (g.refuses_answer refused.0 new) bytes old now used out h refused.3,
+          );
       still = λ counts. tt;
       clean = λ counts. h.clean (n.stays.clean counts);
     };
@@ -141,7 +168,7 @@ module _ {R : Type 0} (g : Ghosts R) where
   waits_here then bytes old now new used out within h n = record {
     replied = (
       waits (drop used bytes),
-      (h.heads, (h.passed, n.next), λ counts commands stands. h.told (n.stays.clean counts) commands stands),
+      (h.heads, (h.passed, n.next), (λ counts commands stands. h.told (n.stays.clean counts) commands stands), h.plain),
       refl,
     );
     within = λ count e. let same : used ≡ count = cc in subst (λ (m : ℕ). m ≤ length bytes) same within;
@@ -151,16 +178,27 @@ module _ {R : Type 0} (g : Ghosts R) where
   }
 
   -- one reply more
-  replies_push : (commands : List Command) (heads : List RequestHead) (head : RequestHead) (out more : List ℕ) → AreReplies g.replies (heads_at commands heads) [] out
-      → g.replies commands (request_of head) more → AreReplies g.replies (heads_at commands (heads ++ head ∷ [])) [] (out ++ more)
-  replies_push commands heads head out more e f = replies_go_on g.replies commands heads (head ∷ []) [] out more e (more, [], f, sym (append-nil more), refl)
+  replies_push : (IsReply : List Command → Request → List ℕ → Type 0) (commands : List Command) (heads : List RequestHead) (head : RequestHead) (out more : List ℕ) → AreReplies IsReply (heads_at commands heads) [] out
+      → IsReply commands (request_of head) more → AreReplies IsReply (heads_at commands (heads ++ head ∷ [])) [] (out ++ more)
+  replies_push IsReply commands heads head out more e f = replies_go_on IsReply commands heads (head ∷ []) [] out more e (more, [], f, sym (append-nil more), refl)
 
   told_more : (bytes : List ℕ) (old now new : R) (used len : ℕ) (out : List ℕ) (answer : Answer) (h : HasReplied bytes old used out now)
       (n : IsNext g (drop used bytes) now (Ok (next.Answered answer len)) new)
       → Under g old new (λ commands. AreReplies g.replies (heads_at commands (h.heads ++ n.next.0 ∷ [])) [] (out ++ answer.bytes.items))
   told_more bytes old now new used len out answer h n counts commands stands =
       let clean = n.stays.clean counts in
-      replies_push commands h.heads n.next.0 out answer.bytes.items (h.told clean commands stands) (n.next.4 counts commands (h.stands clean commands stands))
+      replies_push g.replies commands h.heads n.next.0 out answer.bytes.items (h.told clean commands stands) (n.next.4 counts commands (h.stands clean commands stands))
+
+  -- what goes out where no request asks for what the commands say
+  abbrev Plain : List Command → Request → List ℕ → Type 0
+  Plain commands = IsPlainReply g.asks g.replies
+
+  plain_more : (bytes : List ℕ) (old now new : R) (used len : ℕ) (out : List ℕ) (answer : Answer) (whole : List ℕ) (h : HasReplied bytes old used out now)
+      (n : IsNext g (drop used bytes) now (Ok (next.Answered answer len)) new) → whole ≡ out ++ answer.bytes.items
+      → ArePlainReplies g.asks g.replies (h.heads ++ n.next.0 ∷ []) [] whole
+  plain_more bytes old now new used len out answer whole h n all =
+      subst (λ (b : List ℕ). ArePlainReplies g.asks g.replies (h.heads ++ n.next.0 ∷ []) [] b) (sym all)
+      (replies_push Plain [] h.heads n.next.0 out answer.bytes.items h.plain n.next.5)
 
   pub closes_here : RemainsThen → (bytes : List ℕ) (old now new : R) (used len : ℕ) (out : List ℕ) (answer : Answer) (whole : Vec ℕ) → HasReplied bytes old used out now
       → IsNext g (drop used bytes) now (Ok (next.Answered answer len)) new → answer.ends ≡ true → whole.items ≡ out ++ answer.bytes.items
@@ -171,7 +209,8 @@ module _ {R : Type 0} (g : Ghosts R) where
       (
         h.heads ++ n.next.0 ∷ [],
         (h.heads, n.next.0, drop len (drop used bytes), refl, (drop used bytes, h.passed, n.next.1), sym n.next.3 ∙ ends),
-        λ counts commands stands. subst (λ (b : List ℕ). AreReplies g.replies (heads_at commands (h.heads ++ n.next.0 ∷ [])) [] b) (sym all) (told_more bytes old now new used len out answer h n counts commands stands),
+        (λ counts commands stands. subst (λ (b : List ℕ). AreReplies g.replies (heads_at commands (h.heads ++ n.next.0 ∷ [])) [] b) (sym all) (told_more bytes old now new used len out answer h n counts commands stands)),
+        plain_more bytes old now new used len out answer whole.items h n all,
       ),
       refl,
     );
@@ -180,6 +219,14 @@ module _ {R : Type 0} (g : Ghosts R) where
     asking = tt;
     stays = stays_well then bytes old now new used out (next.Answered answer len) (record { bytes = whole; used = None }) h n.stays;
   }
+
+  -- the last reply is behind the others
+  told_last : (IsReply : List Command → Request → List ℕ → Type 0) (commands : List Command) (heads : List RequestHead) (out last whole : List ℕ) → whole ≡ out ++ last → last ≡ g.bad_head
+      → AreReplies IsReply (heads_at commands heads) [] out → AreReplies IsReply (heads_at commands heads) g.bad_head whole
+  told_last IsReply commands heads out last whole all bad told =
+      subst (λ (b : List ℕ). AreReplies IsReply (heads_at commands heads) g.bad_head b) (sym all)
+      (subst (λ (l : List HeadAt). AreReplies IsReply l g.bad_head (out ++ last)) (append-nil (heads_at commands heads))
+      (replies_join IsReply (heads_at commands heads) [] g.bad_head out last told bad))
 
   pub refused_here : RemainsThen → (bytes : List ℕ) (old now new : R) (used : ℕ) (out : List ℕ) (reply whole : Vec ℕ) → HasReplied bytes old used out now
       → IsNext g (drop used bytes) now (Ok (next.Hopeless reply)) new → whole.items ≡ out ++ reply.items
@@ -190,9 +237,8 @@ module _ {R : Type 0} (g : Ghosts R) where
       (
         h.heads,
         (drop used bytes, h.passed, n.next.0),
-        λ counts commands stands. subst (λ (b : List ℕ). AreReplies g.replies (heads_at commands h.heads) g.bad_head b) (sym all)
-            (subst (λ (l : List HeadAt). AreReplies g.replies l g.bad_head (out ++ reply.items)) (append-nil (heads_at commands h.heads))
-            (replies_join g.replies (heads_at commands h.heads) [] g.bad_head out reply.items (h.told (n.stays.clean counts) commands stands) n.next.1)),
+        (λ counts commands stands. told_last g.replies commands h.heads out reply.items whole.items all n.next.1 (h.told (n.stays.clean counts) commands stands)),
+        told_last Plain [] h.heads out reply.items whole.items all n.next.1 h.plain,
       ),
       refl,
     );
@@ -211,6 +257,7 @@ module _ {R : Type 0} (g : Ghosts R) where
         heads = h.heads ++ n.next.0 ∷ [];
         passed = passes_push g.closes h.heads n.next.0 bytes (drop used bytes) (drop (used + len) bytes) h.passed (subst (λ (b : List ℕ). Fits (drop used bytes) n.next.0 b) rest n.next.1) (sym n.next.3 ∙ ends);
         told = λ counts commands stands. subst (λ (b : List ℕ). AreReplies g.replies (heads_at commands (h.heads ++ n.next.0 ∷ [])) [] b) (sym all) (told_more bytes old now new used len out answer h n counts commands stands);
+        plain = plain_more bytes old now new used len out answer whole h n all;
         stands = λ counts commands stands. n.stays.kept counts commands (h.stands (n.stays.clean counts) commands stands);
         still = λ counts. then old now new (h.still (n.stays.clean counts)) (n.stays.still counts);
         clean = λ counts. h.clean (n.stays.clean counts);
@@ -230,8 +277,9 @@ module _ {R : Type 0} (g : Ghosts R) where
   pub holds_more : RemainsHere → (held piece : List ℕ) (old : R) (fed : Fed) → fed.bytes.items ≡ [] → bytes_left fed.connection ≡ Some (held ++ piece) → IsIncomplete (held ++ piece)
       → Feeds g held piece old (Ok fed) old
   holds_more here held piece old fed none left waiting = record {
-    replied = (waits (held ++ piece), ([], (refl, waiting), λ counts commands stands. none), left);
+    replied = (waits (held ++ piece), ([], (refl, waiting), (λ counts commands stands. none), none), left);
     cause = tt;
+    held_back = λ unsettled. (none, left);
     asking = tt;
     stays = record {
       kept = λ counts commands stands. stands;
@@ -250,6 +298,7 @@ module _ {R : Type 0} (g : Ghosts R) where
       record {
         replied = tt;
         cause = s.cause;
+        held_back = λ unsettled. tt;
         asking = s.asking;
         stays = record {
           kept = λ counts. tt;

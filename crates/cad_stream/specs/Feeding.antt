@@ -1,7 +1,8 @@
 -- What a piece of a connection's bytes brings (RFC 9112, section 9.3.2: pipelining; own profile: refusals).
-use Rattle.std.specs.Prelude.{◌≡◌, ◌⊎◌, ℕ, ◌≤◌, List, ◌++◌, length, drop, Option, Some, option_map, Result, IfOk, IfErr, OnOk, OnErr}
+use Rattle.std.specs.Prelude.{◌≡◌, ◌⊎◌, ℕ, ◌≤◌, false, List, [], ◌++◌, length, drop, Option, Some, option_map, Result, IfOk, IfErr, OnOk, OnErr}
 use Rattle.httparse.specs.Grammar.{RequestHead, print_request}
 use Rattle.cad_head.specs.Heads.{Fits, IsHopeless, IsIncomplete}
+use Rattle.cad_head.specs.Pieces.{may_settle}
 use Rattle.cad_versions.specs.declared.command.Command.{Command}
 use Rattle.cad_versions.specs.declared.fault.RegisterFault.{RegisterFault}
 use Rattle.cad_versions.specs.declared.fault.RegisterFault.TheVariants.{Store, Memory}
@@ -14,7 +15,7 @@ use Rattle.cad_stream.specs.declared.replies.Next.TheVariants.{Waiting, Hopeless
 use Rattle.cad_stream.specs.declared.replies.Replies.{Replies}
 use Rattle.cad_stream.specs.declared.responder.Responder.{Ghosts}
 use Rattle.cad_stream.specs.Streams.{Outcome, rest_of, IsStream}
-use Rattle.cad_stream.specs.Replies.{AreReplies, last_reply, ComeTo, Fails}
+use Rattle.cad_stream.specs.Replies.{IsPlainReply, AreReplies, ArePlainReplies, last_reply, ComeTo, Fails}
 use Rattle.cad_stream.specs.Conversations.{heads_at}
 
 -- the bytes that no request took yet
@@ -30,9 +31,11 @@ module _ {R : Type 0} (g : Ghosts R) where
   abbrev pub Under : R → R → (List Command → Type 0) → Type 0
   Under old new Holds = g.counts new → (commands : List Command) → g.stands_for old commands → Holds commands
 
-  -- what keeps the commands refuses to tell what a request asks for to which the bytes come, once those before it were answered
+  -- what keeps the commands refuses to tell what a request asks for to which the bytes come, once those before it were answered: asked of what stands for the same commands, and remains what it was
   abbrev pub RefusesLater : List ℕ → R → R → Type 0
-  RefusesLater bytes old new = (before : R) × g.remains old before × ComeTo g.closes (g.refuses_answer before new) bytes
+  RefusesLater bytes old new =
+      (before : R) × ((commands : List Command) → g.stands_for old commands → g.stands_for before commands) × g.remains old before
+      × ComeTo g.closes (g.refuses_answer before new) bytes
 
   -- a call for the requests of these bytes stays with the commands, and what is answered counts if what is answered later does
   pub record Stays {T : Type 0} (bytes : List ℕ) (old : R) (result : Result T RegisterFault) (new : R) : Type 0 where
@@ -42,16 +45,18 @@ module _ {R : Type 0} (g : Ghosts R) where
     pub still : g.counts new → OnOk result (g.remains old new)
     pub clean : g.counts new → g.counts old
 
-  -- these are the replies, and that comes of the connection
+  -- these are the replies, and that comes of the connection; those to requests that do not ask for what the commands say are so whatever the responder stands for
   abbrev pub IsReplied : R → R → List ℕ → List ℕ → Outcome → Type 0
   IsReplied old new bytes out last =
       (heads : List RequestHead) × IsStream g.closes heads bytes last
       × Under old new (λ commands. AreReplies g.replies (heads_at commands heads) (last_reply g.bad_head last) out)
+      × ArePlainReplies g.asks g.replies heads (last_reply g.bad_head last) out
 
-  -- a piece that follows the bytes held
+  -- a piece that follows the bytes held; where it cannot settle a head nothing goes out, and all bytes are held
   pub record Feeds (held piece : List ℕ) (old : R) (result : Result Fed RegisterFault) (new : R) : Type 0 where
     pub replied : IfOk result (λ fed. (last : Outcome) × IsReplied old new (held ++ piece) fed.bytes.items last × (bytes_left fed.connection ≡ rest_of last))
     pub cause : IfErr result (λ fault. Under old new (λ commands. (fault ≡ Memory) ⊎ Fails g.closes g.fails_to_answer (held ++ piece) fault commands))
+    pub held_back : may_settle held piece ≡ false → IfOk result (λ fed. (fed.bytes.items ≡ []) × (bytes_left fed.connection ≡ Some (held ++ piece)))
     pub asking : IfErr result (λ fault. (fault ≡ Memory) ⊎ ComeTo g.closes g.asks (held ++ piece))
     pub stays : Stays (held ++ piece) old result new
 
@@ -71,6 +76,7 @@ module _ {R : Type 0} (g : Ghosts R) where
       (head : RequestHead) × Fits bytes head (drop used bytes) × (used ≡ length (print_request head))
       × (answer.ends ≡ g.closes (request_of head))
       × Under old new (λ commands. g.replies commands (request_of head) answer.bytes.items)
+      × IsPlainReply g.asks g.replies (request_of head) answer.bytes.items
 
   -- the first request that the bytes come to
   pub record IsNext (bytes : List ℕ) (old : R) (result : Result Next RegisterFault) (new : R) : Type 0 where

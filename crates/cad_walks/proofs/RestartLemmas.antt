@@ -96,7 +96,7 @@ module _ (rules : Rules) where
   visits_front first runs (visit ∷ visits) starts all = (visit_front first runs visit starts all.0, visits_front first runs visits starts all.1)
 
   pub walks_among : WalksShowTheAnswer → RestartsKeepAccepted rules → WalksAmongRestartsShowTheAnswer rules
-  walks_among show keep first runs visit visits ask all starts are order asks made links =
+  walks_among show keep first runs all starts visit visits ask are order asks made links =
       let last = in_force_after rules first runs in
       let before = visits_front first runs (visit ∷ visits) starts (recursion_from_All (IsVisitInOne rules runs) (visit ∷ visits) are) in
       let accepted : AreAccepted [] visit.commands = accepted_front [] visit.commands before.0.0 (subst (λ (l : List Command). AreAccepted [] l) before.0.1 (keep first runs starts all)) in

@@ -273,7 +273,7 @@ connections_are_visits rules of their_own c own opens =
     )
 
 pub walks_in_runs : (rules : Rules) → WalksShowTheAnswer → RunsKeepAccepted rules → WalksInRunsShowTheAnswer rules
-walks_in_runs rules show keep run visit visits ask all are order asks made links =
+walks_in_runs rules show keep run all visit visits ask are order asks made links =
     let last = in_force run.commands run.events run.answers in
     let before = all_before rules run (visit ∷ visits) (recursion_from_All (IsVisitIn rules run) (visit ∷ visits) are) in
     let accepted : AreAccepted [] visit.commands = accepted_front [] visit.commands before.0.0 (subst (λ (l : List Command). AreAccepted [] l) before.0.1 (keep run all)) in

@@ -9,13 +9,15 @@ ghost use Rattle.cad_walks.specs.Laws.{
   WalksAmongRestartsShowTheAnswer,
   WalksHaveThatManyPages,
   WalksInRunsShowTheAnswer,
+  WalksOfDesksAmongRestartsShowTheAnswer,
+  WalksOfDesksShowTheAnswer,
   WalksShowTheAnswer,
 };
 
 use crate::registers::{accepted_are_few, accepted_are_listed};
 use cad_answer::laws::walks_are_whole;
 use cad_ask::laws::{fault_or_asks, next_asks_the_same, pairs_ask_one_thing};
-use cad_desk::laws::connections_are_their_own;
+use cad_desk::laws::{connections_are_their_own, steps_are_a_run};
 use cad_page::laws::the_same_has_one_answer;
 use cad_query::laws::{next_is_read_back, pairs_are_texts};
 use cad_resource::laws::{paths_are_read_back, resources_are_asked};
@@ -74,6 +76,15 @@ pub fn walks_in_runs_show_the_answer<L: Ledger>()
     runs_keep_accepted::<Server<L>>();
 }
 
+/// What a desk over the server answers to events, one after the other, is a run, and the pages of a walk in it, joined, are
+/// the whole answer. No premise says that the commands were accepted: a ledger stands for no others.
+pub fn walks_of_desks_show_the_answer<L: Ledger>()
+    ensures { WalksOfDesksShowTheAnswer ⟦<Server<L> as Responder>⟧ }
+{
+    steps_are_a_run::<Server<L>>();
+    walks_in_runs_show_the_answer::<L>();
+}
+
 /// Where the commands that the first start of a server finds were accepted one after the other, so were those in force
 /// after any number of starts, also where a command was being entered at a stop.
 pub fn restarts_keep_accepted<R: Responder>()
@@ -95,4 +106,11 @@ pub fn walks_among_restarts_show_the_answer<L: Ledger>()
 {
     walks_show_the_answer();
     restarts_keep_accepted::<Server<L>>();
+}
+
+/// So they are from a start on at which a ledger stands for the commands that it finds.
+pub fn walks_of_desks_among_restarts_show_the_answer<L: Ledger>()
+    ensures { WalksOfDesksAmongRestartsShowTheAnswer ⟦<Server<L> as Responder>⟧ }
+{
+    walks_among_restarts_show_the_answer::<L>();
 }

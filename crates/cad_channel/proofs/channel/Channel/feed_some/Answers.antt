@@ -33,5 +33,19 @@ returns-in-Ok-Sent g c =
 
 pub returns-in-Err : goal.returns-in-Err
 returns-in-Err g c =
-    refused g.R.Responder c.args.c _ _ c.args.desk.now c.step.new.self c.args.self.now c.args.self.now c.in-Err.fault c.refuse-in-Err.result [] c.refuse-in-Err.ensures.refused c.requires.ready
-    c.refuse-in-Err.ensures.head (inl (c.in-Ok.piece, c.in-Err.ensures))
+    let channel = c.args.self.now in
+    let part = c.first_part-part.result.now in
+    let rest : c.after.result.now ≡ unfed channel = rw c.deref.ensures.value at c.after.ensures in
+    refused g.R.Responder c.args.c _ _ c.args.desk.now c.step.new.self channel channel c.in-Err.fault c.refuse-in-Err.result [] c.refuse-in-Err.ensures.refused c.requires.ready c.refuse-in-Err.ensures.head
+    (
+    inl (
+      refl,
+      (
+        c.in-Ok.piece,
+        _,
+        is_piece channel c.in-Ok.piece.items part c.after.result.now c.in-Ok.ensures.items rest c.requires.some c.first_part-part.ensures.some c.first_part-part.ensures.within,
+        is_left channel c.in-Ok.piece.items part c.after.result.now c.in-Ok.ensures.items rest c.first_part-part.ensures.front,
+        c.in-Err.ensures,
+      ),
+    )
+    )
