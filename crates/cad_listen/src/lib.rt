@@ -1,6 +1,7 @@
 //! Listening for the connections of a desk: each is taken, served and told of, one after the other.
 //!
 //! - `listen`: takes so many connections, and answers the status of the process
+//! - `read_words`: the words of a command line
 //! - `read_count`, `read_address`: how many connections and which address the arguments of a program ask for
 //! - `tell_address`: tells the address at which a program listens
 //! - `status`: the statuses of a run
@@ -18,6 +19,6 @@ mod listening;
 pub mod status;
 mod telling;
 
-pub use arguments::{read_address, read_count};
+pub use arguments::{read_address, read_count, read_words};
 pub use listening::listen;
 pub use telling::tell_address;

@@ -1,5 +1,5 @@
 -- How runs end (exit statuses: own profile).
-use Rattle.std.specs.Prelude.{◌≡◌, ℕ, Bool, true, false, List, Option, Some, None, Result, Ok, Err}
+use Rattle.std.specs.Prelude.{ℕ, Bool, true, false, List, Option, Some, None, Result, Ok, Err}
 use Rattle.std.specs.declared.io.ErrorKind.{ErrorKind}
 use Rattle.std.specs.declared.io.ErrorKind.TheVariants.{OutOfMemory}
 use Rattle.cad_desk.specs.declared.fault.DeskFault.TheVariants as desk
@@ -45,10 +45,6 @@ fault_of (outcome.Register fault) = Some (of_register, register_fault_number fau
 abbrev pub outcome_without_arguments : ErrorKind → Outcome
 outcome_without_arguments OutOfMemory = outcome.Register register.Memory
 outcome_without_arguments cause = outcome.Usage
-
--- it ends so for some cause
-abbrev pub IsWithoutArguments : Outcome → Type 0
-IsWithoutArguments ended = (cause : ErrorKind) × (ended ≡ outcome_without_arguments cause)
 
 -- how serving one connection ends a run; what the database refuses is the register's fault
 abbrev pub outcome_of : Result Ending ServeFault → Outcome

@@ -1,6 +1,6 @@
 //! A run of the program over any ledger: what a command line asks for, the work, and how it ended.
 //!
-//! - [`Command`], [`Service`], `read_words`: what the words of a command line ask for
+//! - [`Command`], [`Service`]: what the words of a command line ask for
 //! - `answer_over`, `answer_sample`: one connection, over a reader and a writer, served over a ledger
 //! - `listen_over`: connections taken at an address and served over a ledger
 //! - `enter_commands`: the lines of the land office entered into a ledger
@@ -22,7 +22,7 @@ mod listening;
 mod outcome;
 mod serving;
 
-pub use command::{Command, Service, read_words};
+pub use command::{Command, Service};
 pub use entering::enter_commands;
 pub use listening::listen_over;
 pub use outcome::{Fault, Outcome, tell};

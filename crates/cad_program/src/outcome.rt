@@ -5,6 +5,7 @@ use cad_listen::status;
 use cad_office::OfficeFault;
 use cad_serve::{Ending, ServeFault};
 use cad_versions::RegisterFault;
+use std::io::ErrorKind;
 
 /// How a run ended.
 #[derive(Clone, Copy, Debug, PartialEq, Eq)]
@@ -31,7 +32,17 @@ pub enum Outcome {
 
 impl Outcome {
     ghost use Rattle.std.specs.Prelude.{◌≡◌, option_map};
-    ghost use Rattle.cad_program.specs.Outcomes.{fault_of, office_outcome_of, outcome_of, status_of};
+    ghost use Rattle.cad_program.specs.Outcomes.{fault_of, office_outcome_of, outcome_of, outcome_without_arguments, status_of};
+
+    /// How a run ends whose command line cannot be had for this cause.
+    pub fn without_arguments(cause: ErrorKind) -> Outcome
+        ensures { result ≡ outcome_without_arguments cause }
+    {
+        match cause {
+            ErrorKind::OutOfMemory => Outcome::Register(RegisterFault::Memory),
+            _ => Outcome::Usage,
+        }
+    }
 
     /// How serving one connection ends a run. What the database refuses is told as the register's fault.
     pub fn of_serving(served: Result<Ending, ServeFault>) -> Outcome

@@ -1,5 +1,7 @@
 -- How runs end (exit statuses: own profile).
 use Rattle.std.specs.Prelude.{ℕ}
+use Rattle.std.specs.declared.io.ErrorKind.{ErrorKind}
+use Rattle.std.specs.declared.io.ErrorKind.TheVariants.{OutOfMemory}
 use Rattle.cad_listen.specs.Statuses.{good, failed, wrong_arguments, no_register, no_address}
 use Rattle.cad_service.specs.declared.outcome.Outcome.{Outcome}
 use Rattle.cad_service.specs.declared.outcome.Outcome.TheVariants.{Good, Failed, Register, Usage, Address, Office}
@@ -12,3 +14,8 @@ status_of Usage = wrong_arguments
 status_of (Register fault) = no_register
 status_of Address = no_address
 status_of Office = no_address
+
+-- how a run ends whose command line cannot be had, by the cause
+abbrev pub outcome_without_arguments : ErrorKind → Outcome
+outcome_without_arguments OutOfMemory = Failed
+outcome_without_arguments cause = Usage

@@ -3,7 +3,7 @@
 use cad_host::Stopped;
 use cad_listen::status;
 use cad_versions::RegisterFault;
-use std::io::Result;
+use std::io::{ErrorKind, Result};
 
 /// How the program is called.
 pub const HELP: &str = "usage: cadastred [--log] FILE ADDRESS OFFICE | --help | --version";
@@ -28,7 +28,17 @@ pub enum Outcome {
 impl Outcome {
     ghost use Rattle.std.specs.Prelude.{◌≡◌};
     ghost use Rattle.cad_service.specs.Hosting.{outcome_of_hosting};
-    ghost use Rattle.cad_service.specs.Outcomes.{status_of};
+    ghost use Rattle.cad_service.specs.Outcomes.{outcome_without_arguments, status_of};
+
+    /// How a run ends whose command line cannot be had for this cause.
+    pub fn without_arguments(cause: ErrorKind) -> Outcome
+        ensures { result ≡ outcome_without_arguments cause }
+    {
+        match cause {
+            ErrorKind::OutOfMemory => Outcome::Failed,
+            _ => Outcome::Usage,
+        }
+    }
 
     /// How hosting ends a run.
     pub(crate) fn of_hosting(hosted: Result<Stopped>) -> Outcome
