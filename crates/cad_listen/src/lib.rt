@@ -3,6 +3,7 @@
 //! - `listen`: takes so many connections, and answers the status of the process
 //! - `read_words`: the words of a command line
 //! - `read_count`, `read_address`: how many connections and which address the arguments of a program ask for
+//! - `bound_for`: whether the address that is bound is the one that was asked for
 //! - `tell_address`: tells the address at which a program listens
 //! - `status`: the statuses of a run
 //!
@@ -21,4 +22,4 @@ mod telling;
 
 pub use arguments::{read_address, read_count, read_words};
 pub use listening::listen;
-pub use telling::tell_address;
+pub use telling::{bound_for, tell_address};

@@ -13,7 +13,7 @@ use Rattle.cad_serve.specs.declared.serve_fault.ServeFault.TheVariants.{Write}
 use Rattle.cad_io.specs.Known.{Writes}
 use Rattle.cad_responder.specs.declared.server.Server.{Server}
 use Rattle.cad_responder.specs.Servers.{ledger_of}
-use Rattle.cad_listen.specs.Arguments.{listening_line}
+use Rattle.cad_listen.specs.Arguments.{listening_line, IsBoundFor}
 use Rattle.cad_listen.specs.Listening.{Listens}
 use Rattle.cad_program.specs.declared.command.Service.{Service}
 use Rattle.cad_program.specs.declared.outcome.Outcome.{Outcome}
@@ -31,7 +31,7 @@ module _ (service : Service) (before after quiet told : Option (List ℕ)) where
   EndsListening g old outcome.Address new = (new ≡ old) × IsSilent
   EndsListening g old (outcome.Serve fault) new = (fault ≡ Write) × (new ≡ old) × (told ≡ quiet)
   EndsListening g old (outcome.Listened status) new =
-      (asked : SocketAddr) × (bound : SocketAddr) × IsSocketText service.address.now asked × Appends before after (listening_line bound)
+      (asked : SocketAddr) × (bound : SocketAddr) × IsSocketText service.address.now asked × IsBoundFor asked bound × Appends before after (listening_line bound)
       × Writes quiet told (Listens g service.count old status new)
   EndsListening g old other new = ⊥
 
