@@ -1,9 +1,11 @@
-//! Telling where a program listens.
+//! Telling where a program listens, and what goes wrong.
 
 ghost use Rattle.std.specs.Prelude.{◌≡◌, Ok, None, IfOk, IfSome, OnOk, IsOkUnless};
 ghost use Rattle.std.specs.Io.KnownBytes.{Appends};
 ghost use Rattle.cad_listen.specs.Arguments.{listening_line, IsBoundFor};
+ghost use Rattle.cad_listen.specs.Statuses.{told_line};
 
+use crate::told::{Fault, Told};
 use cad_serve::ServeFault;
 use std::io::{Result as IoResult, Write};
 use std::net::SocketAddr;
@@ -27,6 +29,22 @@ pub fn tell_address<W: Write>(writer: &mut W, address: SocketAddr) -> Result<(),
     ensures fault { IsOkUnless result ServeFault.Write }
 {
     match writeln!(writer, "listening {address}") {
+        Ok(()) => Ok(()),
+        Err(_) => Err(ServeFault::Write),
+    }
+}
+
+/// Writes the line that tells what went wrong, if anything did.
+pub fn tell<W: Write>(writer: &mut W, told: Told) -> Result<(), ServeFault>
+    ensures told { OnOk result (Appends (W.contents writer.old) (W.contents writer.new) (told_line told)) }
+    ensures fault { IsOkUnless result ServeFault.Write }
+{
+    let tried = match told {
+        Told::Nothing => return Ok(()),
+        Told::Line(text) => writeln!(writer, "{text}"),
+        Told::Fault(Fault { kind, number, name }) => writeln!(writer, "{kind}: {number} {name}"),
+    };
+    match tried {
         Ok(()) => Ok(()),
         Err(_) => Err(ServeFault::Write),
     }

@@ -17,8 +17,8 @@ mod land;
 mod listening;
 mod sampling;
 
-use cad_listen::read_words;
-use cad_program::{Command, Outcome, tell};
+use cad_listen::{read_words, tell};
+use cad_program::{Command, Outcome};
 use land::{run_ask, run_office};
 use listening::run_serve;
 use sampling::run_sample;
@@ -40,6 +40,7 @@ fn run(rt: &HostRuntime) -> Outcome {
 
 fn main(rt: HostRuntime) -> ExitCode {
     let outcome = run(&rt);
-    tell(&rt, outcome);
+    // Where that cannot be written, the status alone tells it.
+    let _ = tell(&mut rt.stderr(), outcome.told());
     ExitCode::from(outcome.status())
 }

@@ -6,9 +6,7 @@ use Rattle.cad_service.specs.declared.invocation.Invocation.{Invocation}
 use Rattle.cad_service.specs.declared.invocation.Invocation.TheVariants.{Help, Version, Serve}
 use Rattle.cad_service.specs.declared.outcome.Outcome.{Outcome}
 use Rattle.cad_service.specs.declared.outcome.Outcome.TheVariants as outcome
-
-abbrev pub usage : List ℕ
-usage = codes "usage: cadastred [--log] FILE ADDRESS OFFICE | --help | --version"
+use Rattle.cad_service.specs.Outcomes.{usage}
 
 abbrev pub version : List ℕ
 version = codes "cadastred 0.1.0"

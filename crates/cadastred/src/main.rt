@@ -15,8 +15,8 @@
 mod land;
 mod words;
 
-use cad_listen::read_words;
-use cad_service::{Invocation, Outcome, tell};
+use cad_listen::{read_words, tell};
+use cad_service::{Invocation, Outcome};
 use land::run_service;
 use std::process::ExitCode;
 use words::begin;
@@ -34,6 +34,7 @@ fn run(rt: &HostRuntime) -> Outcome {
 
 fn main(rt: HostRuntime) -> ExitCode {
     let outcome = run(&rt);
-    tell(&rt, outcome);
+    // Where that cannot be written, the status alone tells it.
+    let _ = tell(&mut rt.stderr(), outcome.told());
     ExitCode::from(outcome.status())
 }
