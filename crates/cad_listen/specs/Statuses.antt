@@ -1,5 +1,5 @@
 -- How a run ends: its status, and the line on standard error that tells a fault (own profile).
-use Rattle.std.specs.Prelude.{ℕ, List, [], ◌++◌, codes, decimal}
+use Rattle.std.specs.Prelude.{◌≡◌, ℕ, List, [], ◌++◌, codes, decimal}
 use Rattle.cad_listen.specs.declared.told.Told.{Told}
 use Rattle.cad_listen.specs.declared.told.Told.TheVariants as told
 
@@ -49,3 +49,9 @@ abbrev pub told_line : Told → List ℕ
 told_line told.Nothing = []
 told_line (told.Line text) = line text.now
 told_line (told.Fault fault) = fault_line fault.kind.now (fault.number, fault.name.now)
+
+-- a run ends so without its work: nothing came of it, and what was lent is given back
+pub record EndsWithout {O L : Type 0} (NothingDone : Type 0) (cause : O) (lent : L) (ended : O × L) : Type 0 where
+  pub ends : ended.0 ≡ cause
+  pub back : ended.1 ≡ lent
+  pub nothing : NothingDone

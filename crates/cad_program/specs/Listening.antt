@@ -3,7 +3,6 @@ use Rattle.std.specs.Prelude.{◌≡◌, ◌⊎◌, ℕ, List, Option}
 use Rattle.std.specs.Io.KnownBytes.{Appends}
 use Rattle.std.specs.declared.net.socket_addr.SocketAddr.{SocketAddr}
 use Rattle.std.specs.Net.Grammar.{IsSocketText}
-use Rattle.cad_versions.specs.declared.fault.RegisterFault.{RegisterFault}
 use Rattle.cad_versions.specs.declared.fault.RegisterFault.TheVariants as register
 use Rattle.cad_versions.specs.declared.ledger.Ledger as ledger
 use Rattle.cad_stream.specs.declared.responder.Responder as responder
@@ -15,6 +14,7 @@ use Rattle.cad_responder.specs.declared.server.Server.{Server}
 use Rattle.cad_responder.specs.Servers.{ledger_of}
 use Rattle.cad_listen.specs.Arguments.{listening_line, IsBoundFor}
 use Rattle.cad_listen.specs.Listening.{Listens}
+use Rattle.cad_listen.specs.Statuses.{EndsWithout}
 use Rattle.cad_program.specs.declared.command.Service.{Service}
 use Rattle.cad_program.specs.declared.outcome.Outcome.{Outcome}
 use Rattle.cad_program.specs.declared.outcome.Outcome.TheVariants as outcome
@@ -35,12 +35,6 @@ module _ (service : Service) (before after quiet told : Option (List ℕ)) where
       × Writes quiet told (Listens g service.count old status new)
   EndsListening g old other new = ⊥
 
-  -- the run ends for this fault, nothing is written, and the ledger is given back
-  pub record EndsUnheard {L : Type 0} (lent : L) (fault : RegisterFault) (ended : Outcome × L) : Type 0 where
-    pub cause : ended.0 ≡ outcome.Register fault
-    pub back : ended.1 ≡ lent
-    pub silent : IsSilent
-
   -- connections are served over the ledger, which is given back
   pub record EndsHeard {L : Type 0} (g : ledger.Ghosts L) (lent : L) (ended : Outcome × L) : Type 0 where
     pub old : Desk (Server L)
@@ -49,6 +43,6 @@ module _ (service : Service) (before after quiet told : Option (List ℕ)) where
     pub listening : EndsListening (answers_of g) old ended.0 new
     pub back : ended.1 ≡ ledger_of (responder_of new)
 
-  -- there is no memory for a desk; or its connections are served
+  -- there is no memory for a desk, and nothing is written; or its connections are served
   abbrev pub ListensOver : {L : Type 0} → ledger.Ghosts L → L → Outcome × L → Type 0
-  ListensOver g lent ended = EndsUnheard lent register.Memory ended ⊎ EndsHeard g lent ended
+  ListensOver g lent ended = EndsWithout IsSilent (outcome.Register register.Memory) lent ended ⊎ EndsHeard g lent ended

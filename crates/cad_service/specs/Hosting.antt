@@ -3,6 +3,7 @@ use Rattle.std.specs.Prelude.{◌≡◌, ◌⊎◌, ℕ, ⊤, List, Option, Resu
 use Rattle.std.specs.Io.KnownBytes.{Appends}
 use Rattle.std.specs.declared.net.socket_addr.SocketAddr.{SocketAddr}
 use Rattle.cad_listen.specs.Arguments.{listening_line, IsBoundFor}
+use Rattle.cad_listen.specs.Statuses.{EndsWithout}
 use Rattle.cad_versions.specs.declared.fault.RegisterFault.TheVariants as register
 use Rattle.cad_host.specs.declared.hosting.Stopped.{Stopped}
 use Rattle.cad_host.specs.declared.hosting.Stopped.TheVariants.{Asked, StoreRefused, RoundsSpent}
@@ -30,12 +31,6 @@ module _ (asked : SocketAddr) (before after : Option (List ℕ)) where
   EndsHosting outcome.Failed = ⊤
   EndsHosting other = ⊥
 
-  -- there is no memory for a desk: nothing is told, and the ledger is given back
-  pub record EndsUnserved {L : Type 0} (lent : L) (ended : Outcome × L) : Type 0 where
-    pub cause : ended.0 ≡ outcome.Register register.Memory
-    pub back : ended.1 ≡ lent
-    pub silent : after ≡ before
-
-  -- there is no memory for a desk; or one is hosted
+  -- there is no memory for a desk, and nothing is told; or one is hosted
   abbrev pub HostsOver : {L : Type 0} → L → Outcome × L → Type 0
-  HostsOver lent ended = EndsUnserved lent ended ⊎ EndsHosting ended.0
+  HostsOver lent ended = EndsWithout (after ≡ before) (outcome.Register register.Memory) lent ended ⊎ EndsHosting ended.0
