@@ -1,9 +1,13 @@
 -- What the connection of the land office holds between its socket and the desk, and what a turn does (own profile).
-use Rattle.std.specs.Prelude.{◌≡◌, ◌⊎◌, ◌<◌, ℕ, ⊤, Bool, true, List, [], ◌∷◌, ◌++◌, length, drop, codes, Option}
+use Rattle.std.specs.Prelude.{◌≡◌, ◌≢◌, ◌⊎◌, ◌<◌, ℕ, ⊤, Bool, true, List, [], ◌∷◌, ◌++◌, length, drop, codes, Option}
 use Rattle.std.specs.Io.KnownBytes.{Consumes}
 use Rattle.cad_stream.specs.declared.responder.Responder.{Ghosts}
 use Rattle.cad_desk.specs.declared.desk.Desk.{Desk}
+use Rattle.cad_versions.specs.declared.fault.RegisterFault.TheVariants.{Memory}
+use Rattle.cad_office.specs.declared.line.LineState.{LineState}
+use Rattle.cad_office.specs.declared.line.LineState.TheVariants.{Buffered, TooLong, OutOfMemory}
 use Rattle.cad_office.specs.declared.print.Answer.{Answer}
+use Rattle.cad_office.specs.declared.print.Answer.TheVariants.{Refused}
 use Rattle.cad_office.specs.Answers.{printed}
 use Rattle.cad_office.specs.Keeping.{AnswersLine}
 use Rattle.cad_office.specs.Lines.{BuffersLine}
@@ -51,6 +55,20 @@ pub record IsNewEntry (entry : Entry) : Type 0 where
 abbrev pub Reads : Option (List ℕ) → Option (List ℕ) → (List ℕ → Type 0) → Type 0
 Reads old new P = (read : List ℕ) × Consumes old new read × P read
 
+-- there was no memory to hold the line
+abbrev pub IsUnheld : LineState → Type 0
+IsUnheld Buffered = ⊥
+IsUnheld TooLong = ⊥
+IsUnheld (OutOfMemory count) = ⊤
+
+-- a line that has an answer: no empty one, and `stop` only where there was no memory to hold it
+abbrev pub IsAsking : List ℕ → Answer → Type 0
+IsAsking text answer = (text ≢ []) × (text ≡ codes "stop" → answer ≡ Refused Memory)
+
+-- nothing was read or written
+abbrev pub IsQuiet : List ℕ → List ℕ → Type 0
+IsQuiet read written = (read ≡ []) × (written ≡ [])
+
 -- what the end of a line may come to
 abbrev pub MayEnd : EntryTurned → Type 0
 MayEnd Wrote = ⊥
@@ -62,10 +80,10 @@ module _ {R : Type 0} (g : Ghosts R) where
   -- what comes of the end of a line with this text: its command is entered, and then answered
   abbrev pub EndsLine : List ℕ → Desk R → EntryTurned → Desk R → Entry → Type 0
   EndsLine text old Added new next = (text ≡ []) × (new ≡ old) × (unwritten next ≡ []) × HasBegun [] next
-  EndsLine text old (Answered answer) new next = AnswersLine (EntersAtDesk g) text old answer new × (unwritten next ≡ printed answer) × HasBegun [] next
+  EndsLine text old (Answered answer) new next = IsAsking text answer × AnswersLine (EntersAtDesk g) text old answer new × (unwritten next ≡ printed answer) × HasBegun [] next
   EndsLine text old Stops new next = (text ≡ codes "stop") × (new ≡ old)
   -- no memory for the answer
-  EndsLine text old Over new next = (answer : Answer) × AnswersLine (EntersAtDesk g) text old answer new
+  EndsLine text old Over new next = (answer : Answer) × IsAsking text answer × AnswersLine (EntersAtDesk g) text old answer new
   EndsLine text old Wrote new next = ⊥
   EndsLine text old Took new next = ⊥
   EndsLine text old Waits new next = ⊥
@@ -80,18 +98,16 @@ module _ {R : Type 0} (g : Ghosts R) where
       × (((turned ≡ Added) × (new ≡ old) × (unwritten next ≡ []) × (unread entry ≡ part) × (unread next ≡ []) × HasBegun (begun ++ part) next)
       ⊎ ((unread entry ≡ part ++ 10 ∷ unread next) × EndsLine (begun ++ part) old turned new next))
 
-  -- nothing was read or written
-  abbrev pub IsQuiet : List ℕ → List ℕ → Type 0
-  IsQuiet read written = (read ≡ []) × (written ≡ [])
-
+-- and where the reader has nothing left
+module _ {R : Type 0} (g : Ghosts R) (AtEnd : Type 0) where
   -- the input is at its end, and so is the line that has begun
   abbrev pub IsAtLastLine : Desk R → Entry → EntryTurned → Desk R → Entry → Type 0
-  IsAtLastLine old entry turned new next = (unread entry ≡ []) × IsLineEnd old entry turned new next
+  IsAtLastLine old entry turned new next = AtEnd × (unread entry ≡ []) × IsLineEnd g old entry turned new next
 
   -- bytes that were read are taken, those of a line and no less; or the input is at its end
   abbrev pub IsTaken : Desk R → Entry → EntryTurned → Desk R → Entry → Type 0
   IsTaken old entry turned new next = (unwritten entry ≡ [])
-      × (((0 < length (unread entry)) × IsFed old entry turned new next) ⊎ IsAtLastLine old entry turned new next)
+      × (((0 < length (unread entry)) × IsFed g old entry turned new next) ⊎ IsAtLastLine old entry turned new next)
 
   -- what came of a turn: an answer is written before more is taken, and more is read only when all is taken
   abbrev pub IsEntryTurn : Desk R → Entry → EntryTurned → Desk R → Entry → List ℕ → List ℕ → Type 0

@@ -3,19 +3,14 @@
 ghost use Rattle.std.specs.Prelude.{◌≤◌, length};
 
 use crate::answering::answer_line;
-use crate::buffering::{add_all, after, first_end};
+use crate::buffering::{add_all, asks_to_stop, first_end};
 use crate::turned::EntryTurned;
 use cad_desk::Desk;
-use cad_office::{Line, LineState, print_answer};
+use cad_io::{PIECE_LEN, after};
+use cad_office::{Line, print_answer};
 use cad_stream::Responder;
 use std::alloc::Global;
 use std::io::{Error, ErrorKind, Read, Write};
-
-/// The most bytes of a read.
-const PIECE_LEN: usize = 4096;
-
-/// The line that asks to stop.
-const STOP: &[u8] = b"stop";
 
 /// What the office's connection holds between its socket and the desk: bytes that were read and not taken, the line that has
 /// begun, and the answer to the line before it, as far as that was not written.
@@ -37,6 +32,7 @@ fn is_blocked(error: &Error) -> bool {
 
 impl Entry {
     ghost use Rattle.std.specs.Prelude.{◌≡◌, ◌<◌, ◌↔◌, [], IsTrue};
+    ghost use Rattle.std.specs.Io.KnownBytes.{IsAtEnd};
     ghost use Rattle.cad_io.specs.Known.{ReadsAndWrites, Writes};
     ghost use Rattle.cad_entry.specs.Turns.{IsNewEntry, IsFed, IsEntryTurn, IsLineEnd, MayEnd, Reads, unread, unwritten};
 
@@ -69,7 +65,7 @@ impl Entry {
     ) -> EntryTurned
         requires { 0 < length (unwritten self.old) }
         ensures { Writes (W.contents writer.old) (W.contents writer.new)
-            (IsEntryTurn R.Responder desk.old self.old result desk.new self.new []) }
+            (IsEntryTurn R.Responder ⊥ desk.old self.old result desk.new self.new []) }
     {
         match writer.write(after(&self.output, self.output_at)) {
             Ok(0) => EntryTurned::Over,
@@ -94,7 +90,7 @@ impl Entry {
         if self.line.is_empty() {
             return EntryTurned::Added;
         }
-        if self.line.state() == LineState::Buffered && self.line.bytes() == STOP {
+        if asks_to_stop(&self.line) {
             return EntryTurned::Stops;
         }
         let answer = answer_line(alloc, &self.line, desk);
@@ -145,7 +141,7 @@ impl Entry {
         requires nothing_unread { unread self.old ≡ [] }
         requires nothing_unwritten { unwritten self.old ≡ [] }
         ensures { Reads (I.remaining reader.old) (I.remaining reader.new)
-            (λ read. IsEntryTurn R.Responder desk.old self.old result desk.new self.new read []) }
+            (λ read. IsEntryTurn R.Responder (IsAtEnd (I.remaining reader.new)) desk.old self.old result desk.new self.new read []) }
     {
         let mut buffer = [0; PIECE_LEN];
         match reader.read(&mut buffer) {
@@ -177,7 +173,7 @@ impl Entry {
     ) -> EntryTurned
         ensures { ReadsAndWrites (I.remaining reader.old) (I.remaining reader.new)
             (W.contents writer.old) (W.contents writer.new)
-            (IsEntryTurn R.Responder desk.old self.old result desk.new self.new) }
+            (IsEntryTurn R.Responder (IsAtEnd (I.remaining reader.new)) desk.old self.old result desk.new self.new) }
     {
         if self.output_at < self.output.len() {
             return self.write_some(writer, desk);

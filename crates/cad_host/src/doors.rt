@@ -1,5 +1,7 @@
 //! The sockets at which clients and the land office come.
 
+ghost use Rattle.std.specs.Prelude.{◌≡◌, IfOk};
+
 use mio::net::{TcpListener, UnixListener, UnixStream};
 use std::fs::{Files, Permissions, remove_file, set_permissions, symlink_metadata};
 use std::io::{Error, ErrorKind, Result};
@@ -14,6 +16,7 @@ const OFFICE_MODE: u32 = 0o660;
 pub struct Doors {
     pub(crate) clients: TcpListener,
     pub(crate) office: UnixListener,
+    asked: SocketAddr,
 }
 
 /// Removes the socket of a host that is no more, which nobody answers. One that is answered is `AddrInUse`.
@@ -52,19 +55,34 @@ pub enum DoorFault {
 }
 
 impl Doors {
+    ghost use Rattle.cad_host.specs.Doors.{asked_at};
+
     /// Binds both. The office's path may be that of a socket which a host left behind.
     pub fn open<N: Net + Files>(
         rt: &N,
         address: SocketAddr,
         office: &str,
-    ) -> std::result::Result<Doors, DoorFault> {
+    ) -> std::result::Result<Doors, DoorFault>
+        ensures { IfOk result (λ doors. asked_at doors ≡ address) }
+    {
         let Ok(clients) = TcpListener::bind(rt, address) else {
             return Err(DoorFault::Address);
         };
         match open_office(rt, office) {
-            Ok(office) => Ok(Doors { clients, office }),
+            Ok(office) => Ok(Doors {
+                clients,
+                office,
+                asked: address,
+            }),
             Err(_) => Err(DoorFault::Office),
         }
+    }
+
+    /// Where clients were to come.
+    pub fn asked(&self) -> SocketAddr
+        ensures { result ≡ asked_at self.now }
+    {
+        self.asked
     }
 
     /// Where clients come.

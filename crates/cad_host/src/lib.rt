@@ -7,8 +7,8 @@
 //!
 //! What is proved of this crate is that it is safe and total: whatever readiness the system tells, whatever sockets give and
 //! take, however many clients come and go, no index is out of range, no sum wraps, and each call ends, `host` after 2 ^ 64 - 1
-//! rounds at the latest. None of its calls has a clause, since no contract can say what a socket gives or takes, or what `mio`
-//! tells of one.
+//! rounds at the latest. But for the address that was asked for of `Doors` none of its calls has a clause, since no contract can
+//! say what a socket gives or takes, or what `mio` tells of one.
 //!
 //! What it calls for a client or for the office is proved below: each step of a connection goes through `Clients` and
 //! `Channel::turn`, each line of the office through `Entry::turn`, and both through `Desk::step` alone. `cad_channel` has the

@@ -1,20 +1,13 @@
 //! Writing over short writes.
 
-ghost use Rattle.std.specs.Prelude.{◌≡◌, ◌≤◌, drop, length};
 ghost use Rattle.cad_io.specs.Writing.{IsWritten};
 
+use crate::pieces::after;
 use std::io::Write;
 
 /// A write failed, or took nothing.
 #[derive(Clone, Copy, Debug, PartialEq, Eq)]
 pub struct WriteFailed;
-
-fn after(bytes: &[u8], count: usize) -> &[u8]
-    requires { count ≤ length bytes.now }
-    ensures { result.now ≡ drop count bytes.now }
-{
-    &bytes[count..]
-}
 
 /// Writes all the bytes. At a write that fails or takes nothing it stops: then a front of them was written.
 pub fn write_whole<W: Write>(writer: &mut W, bytes: &[u8]) -> Result<(), WriteFailed>

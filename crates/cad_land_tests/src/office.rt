@@ -1,5 +1,6 @@
 //! The office over a register.
 
+use cad_io::Counted;
 use cad_office::office;
 use cad_register::{Register, RegisterFault, Version};
 use cad_sample::fill;
@@ -45,7 +46,7 @@ fn printed(
     let mut out = Vec::new(alloc);
     let ended = office(
         alloc,
-        &mut Cursor::new(lines.as_bytes()),
+        &mut Counted::new(Cursor::new(lines.as_bytes())),
         &mut out,
         register,
     );

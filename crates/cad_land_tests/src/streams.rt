@@ -1,5 +1,6 @@
 //! The office over readers and writers that fail.
 
+use cad_io::Counted;
 use cad_office::{OfficeFault, office};
 use cad_plain::PlainLedger;
 use cad_versions::Ledger;
@@ -38,13 +39,17 @@ fn progress(bytes: usize) -> (&'static str, u64) {
 fn stops_where_reading_does(rt: HostRuntime) -> Result<(), Fail> {
     for bytes in 0..=LINES.len() {
         for piece in [1, 7, 4096] {
-            let mut reader = Peer::new(LINES.as_bytes(), piece, bytes, Stop::Fails);
+            let mut reader = Counted::new(Peer::new(LINES.as_bytes(), piece, bytes, Stop::Fails));
             let mut writer = Taker::new(512, 512, Stop::Fails);
             let mut ledger = PlainLedger::new(rt.alloc());
             let ended = office(rt.alloc(), &mut reader, &mut writer, &mut ledger);
             let (answers, revision) = progress(bytes);
             assert_eq!(rt; ended, Err(OfficeFault::Read), "after {bytes}");
-            assert_eq!(rt; reader.reads(), bytes.div_ceil(piece) + 1, "after {bytes}");
+            assert_eq!(rt;
+                reader.reader().reads(),
+                bytes.div_ceil(piece) + 1,
+                "after {bytes}"
+            );
             assert!(rt; writer.has_taken(answers.as_bytes()), "after {bytes}");
             assert_eq!(rt; ledger.revision(), revision, "after {bytes}");
         }
@@ -57,7 +62,12 @@ fn stops_where_reading_does(rt: HostRuntime) -> Result<(), Fail> {
 fn stops_where_writing_does(rt: HostRuntime) -> Result<(), Fail> {
     for most in 0..=ANSWERS.len() {
         for (piece, stop) in [(1, Stop::Ends), (100, Stop::Fails)] {
-            let mut reader = Peer::new(LINES.as_bytes(), 4096, LINES.len(), Stop::Ends);
+            let mut reader = Counted::new(Peer::new(
+                LINES.as_bytes(),
+                4096,
+                LINES.len(),
+                Stop::Ends,
+            ));
             let mut writer = Taker::new(piece, most, stop);
             let mut ledger = PlainLedger::new(rt.alloc());
             let ended = office(rt.alloc(), &mut reader, &mut writer, &mut ledger);
@@ -79,12 +89,12 @@ fn stops_where_writing_does(rt: HostRuntime) -> Result<(), Fail> {
 /// A reader that gives line feeds without end is read 1,000,000 times, and nothing is answered.
 #[test]
 fn ends_where_the_turns_are_spent(rt: HostRuntime) -> Result<(), Fail> {
-    let mut reader = Endless::new(b"\n");
+    let mut reader = Counted::new(Endless::new(b"\n"));
     let mut writer = Taker::new(512, 512, Stop::Fails);
     let mut ledger = PlainLedger::new(rt.alloc());
     let ended = office(rt.alloc(), &mut reader, &mut writer, &mut ledger);
     assert_eq!(rt; ended, Err(OfficeFault::TurnsSpent));
-    assert_eq!(rt; reader.reads(), 1_000_000);
+    assert_eq!(rt; reader.reader().reads(), 1_000_000);
     assert!(rt; writer.has_taken(b""));
     Ok(())
 }

@@ -1,5 +1,7 @@
 -- How a run ends: its status, and the line on standard error that tells a fault (own profile).
-use Rattle.std.specs.Prelude.{ℕ, List, ◌++◌, codes, decimal}
+use Rattle.std.specs.Prelude.{◌≡◌, ℕ, List, [], ◌++◌, codes, decimal}
+use Rattle.cad_listen.specs.declared.told.Told.{Told}
+use Rattle.cad_listen.specs.declared.told.Told.TheVariants as told
 
 -- all went well
 abbrev pub good : ℕ
@@ -33,3 +35,23 @@ of_register = codes "register"
 -- a fault by its number and name, as a line
 abbrev pub fault_line : List ℕ → ℕ × List ℕ → List ℕ
 fault_line of fault = of ++ codes ": " ++ decimal fault.0 ++ codes " " ++ fault.1 ++ codes "\n"
+
+-- the line where an address cannot be had
+abbrev pub of_address : List ℕ
+of_address = codes "address"
+
+-- a line of its own
+abbrev pub line : List ℕ → List ℕ
+line text = text ++ codes "\n"
+
+-- what is told, as a line, or none
+abbrev pub told_line : Told → List ℕ
+told_line told.Nothing = []
+told_line (told.Line text) = line text.now
+told_line (told.Fault fault) = fault_line fault.kind.now (fault.number, fault.name.now)
+
+-- a run ends so without its work: nothing came of it, and what was lent is given back
+pub record EndsWithout {O L : Type 0} (NothingDone : Type 0) (cause : O) (lent : L) (ended : O × L) : Type 0 where
+  pub ends : ended.0 ≡ cause
+  pub back : ended.1 ≡ lent
+  pub nothing : NothingDone

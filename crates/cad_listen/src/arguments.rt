@@ -6,7 +6,10 @@ ghost use Rattle.std.specs.Net.Grammar.{IsSocketText};
 ghost use Rattle.cad_listen.specs.Arguments.{count_of};
 
 use cad_decimal::short_number;
+use std::env::args;
+use std::io::ErrorKind;
 use std::net::SocketAddr;
+use std::rt::Env;
 
 /// The most digits of a count.
 const MOST_DIGITS: usize = 7;
@@ -34,4 +37,19 @@ pub fn read_address(text: &str) -> Option<SocketAddr>
     ensures { MatchOption result ((address : Address) → ¬ (IsSocketText text.now address)) (IsSocketText text.now) }
 {
     text.parse::<SocketAddr>().ok()
+}
+
+/// The words of the command line, the program's name first, or why they cannot be had.
+pub fn read_words<R: Env + AllocGlobal>(rt: &R) -> Result<Vec<String>, ErrorKind> {
+    let mut words = Vec::new(rt.alloc());
+    let found = match args(rt) {
+        Ok(found) => found,
+        Err(error) => return Err(error.kind()),
+    };
+    for word in found {
+        if words.push(word).is_err() {
+            return Err(ErrorKind::OutOfMemory);
+        }
+    }
+    Ok(words)
 }

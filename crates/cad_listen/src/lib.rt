@@ -1,8 +1,11 @@
 //! Listening for the connections of a desk: each is taken, served and told of, one after the other.
 //!
 //! - `listen`: takes so many connections, and answers the status of the process
+//! - `read_words`: the words of a command line
 //! - `read_count`, `read_address`: how many connections and which address the arguments of a program ask for
+//! - `bound_for`: whether the address that is bound is the one that was asked for
 //! - `tell_address`: tells the address at which a program listens
+//! - `Told`, `Fault`, `tell`: the line that tells what went wrong
 //! - `status`: the statuses of a run
 //!
 //! ```text
@@ -17,7 +20,9 @@ mod failure;
 mod listening;
 pub mod status;
 mod telling;
+mod told;
 
-pub use arguments::{read_address, read_count};
+pub use arguments::{read_address, read_count, read_words};
 pub use listening::listen;
-pub use telling::tell_address;
+pub use telling::{bound_for, tell, tell_address};
+pub use told::{ADDRESS, DESK, Fault, REGISTER, SERVING, Told};

@@ -6,7 +6,7 @@ ghost use Rattle.cad_listen.specs.Listening.{IsServedNext, IsTold, Listens};
 use crate::failure::{Failure, failure_in, line};
 use crate::status::{FAILED, GOOD, NO_REGISTER};
 use cad_desk::Desk;
-use cad_io::write_whole;
+use cad_io::{Counted, write_whole};
 use cad_serve::{Ending, ServeFault, serve};
 use cad_stream::Responder;
 use std::alloc::Global;
@@ -25,7 +25,8 @@ fn serve_next<R: Responder>(
     let Ok((stream, _)) = listener.accept() else {
         return Err(ServeFault::Read);
     };
-    serve(alloc, &mut &stream, &mut &stream, desk, number)
+    let mut reader = Counted::new(&stream);
+    serve(alloc, &mut reader, &mut &stream, desk, number)
 }
 
 /// Serves the next connection, and tells what went wrong with it. Where that write fails, the failure stands all the same.

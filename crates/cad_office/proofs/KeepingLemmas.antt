@@ -9,8 +9,9 @@ use Rattle.cad_office.specs.declared.fault.OfficeFault.TheVariants.{Read, Write,
 use Rattle.cad_office.specs.declared.line.Line.{Line}
 use Rattle.cad_office.specs.declared.print.Answer.{Answer}
 use Rattle.cad_office.specs.Lines.{lines_in, lines_ended, line_begun, BuffersLine}
-use Rattle.cad_office.specs.Keeping.{AnswersLines, AreAnswered, AreWhole, IsKept, IsOfReads, IsPaced, most_reads, read_bytes, EndIn, IsPiece}
+use Rattle.cad_office.specs.Keeping.{AnswersLines, AreAnswered, AreWhole, IsKept, IsOfReads, IsPaced, most_reads, EndIn, IsPiece}
 use Rattle.cad_io.specs.Known.{Writes, ReadsAndWrites}
+use Rattle.cad_io.specs.Pieces.{piece_len}
 use Rattle.cad_office.proofs.LineLemmas.{lines_ended-lf}
 use Rattle.cad_office.proofs.PieceLemmas.{piece_nothing, pieces_more, pieces_failed}
 
@@ -27,7 +28,7 @@ none_begun = refl
 none_read : IsOfReads 0 []
 none_read = record { each_gave = search rules; each_short = search rules }
 
-reads_more : (n : ℕ) (read piece : List ℕ) → 0 < length piece → length piece ≤ read_bytes → IsOfReads n read → IsOfReads (n + 1) (read ++ piece)
+reads_more : (n : ℕ) (read piece : List ℕ) → 0 < length piece → length piece ≤ piece_len → IsOfReads n read → IsOfReads (n + 1) (read ++ piece)
 reads_more n read piece some few h =
     record { each_gave = omega (arith, h.each_gave, length-append read piece); each_short = omega (arith, h.each_short, length-append read piece) }
 
@@ -39,6 +40,12 @@ spends_none Q last Read earlier piece written t e = t
 spends_none Q last TurnsSpent earlier piece written t e = t
 spends_none Q last Register earlier piece written t e = cc
 spends_none Q last Write earlier piece written t e = cc
+
+-- a line or a piece behind what was read never spends the reads
+pub never_spends : (P Q : List (List ℕ) → List Answer → Type 0) (n : ℕ) (i j u v w : Option (List ℕ)) (mid last : Line) (x : Bool) (f : OfficeFault) (piece : List ℕ) → ReadsAndWrites i j u v (λ read written. IsPiece P [] (Ok x) mid read written × IsOfReads n read)
+    → ((earlier : List ℕ) → BuffersLine (line_begun earlier) mid → Writes v w (IsPiece Q earlier (Err f) last piece)) → ◌≡◌ {A = Result Bool OfficeFault} (Err f) (Err TurnsSpent) → ⊥
+never_spends P Q n i j u v w mid last x f piece s next =
+    let t = next s.0 s.4.0.3 in spends_none Q last f s.0 piece t.0 t.2
 
 -- ---- what is kept
 
@@ -85,7 +92,7 @@ kept_turns_spent Q AtEnd n i j u v line x all s =
     (s.0, s.1, s.2, s.3, (all_answered Q line x s.0 s.1 s.4.0, record { bounded = omega (arith, all, s.4.1.each_short); spent = λ e. omega (arith, all, s.4.1.each_gave) }))
 
 module _ {B : Type 0} (applies : B → Command → Result ℕ RegisterFault → B → Type 0) where
-  pub kept_more : (a b c : B) (n : ℕ) (i j k u v w : Option (List ℕ)) (mid last : Line) (x y : Bool) (piece : List ℕ) → 0 < length piece → length piece ≤ read_bytes → ReadsAndWrites i j u v (λ read written. IsPiece (AnswersLines applies a b) [] (Ok x) mid read written × IsOfReads n read) → Consumes j k piece
+  pub kept_more : (a b c : B) (n : ℕ) (i j k u v w : Option (List ℕ)) (mid last : Line) (x y : Bool) (piece : List ℕ) → 0 < length piece → length piece ≤ piece_len → ReadsAndWrites i j u v (λ read written. IsPiece (AnswersLines applies a b) [] (Ok x) mid read written × IsOfReads n read) → Consumes j k piece
       → ((earlier : List ℕ) → BuffersLine (line_begun earlier) mid → Writes v w (IsPiece (AnswersLines applies b c) earlier (Ok y) last piece)) → ReadsAndWrites i k u w (λ read written. IsPiece (AnswersLines applies a c) [] (Ok (x && y)) last read written × IsOfReads (n + 1) read)
   kept_more a b c n i j k u v w mid last x y piece some few s r next =
       let t = next s.0 s.4.0.3 in
@@ -112,7 +119,7 @@ module _ {B : Type 0} (applies : B → Command → Result ℕ RegisterFault → 
         (stopped (AnswersLines applies a c) AtEnd last f (s.0 ++ 10 ∷ []) s.0 (s.1 ++ t.0) done (λ lines e. inr (end, last_ended s.0 lines e)), paced (Err f) n s.0 within (spends_none (AnswersLines applies a c) last f [] _ _ done) s.4.1),
       )
 
-  pub kept_failed : (a b c : B) (AtEnd : Type 0) (n : ℕ) (i j k u v w : Option (List ℕ)) (mid last : Line) (x : Bool) (piece : List ℕ) (f : OfficeFault) → n + 1 ≤ most_reads → 0 < length piece → length piece ≤ read_bytes → ReadsAndWrites i j u v (λ read written. IsPiece (AnswersLines applies a b) [] (Ok x) mid read written × IsOfReads n read) → Consumes j k piece
+  pub kept_failed : (a b c : B) (AtEnd : Type 0) (n : ℕ) (i j k u v w : Option (List ℕ)) (mid last : Line) (x : Bool) (piece : List ℕ) (f : OfficeFault) → n + 1 ≤ most_reads → 0 < length piece → length piece ≤ piece_len → ReadsAndWrites i j u v (λ read written. IsPiece (AnswersLines applies a b) [] (Ok x) mid read written × IsOfReads n read) → Consumes j k piece
       → ((earlier : List ℕ) → BuffersLine (line_begun earlier) mid → Writes v w (IsPiece (AnswersLines applies b c) earlier (Err f) last piece)) → ReadsAndWrites i k u w (λ read written. IsKept (AnswersLines applies a c) AtEnd (Err f) read written × IsPaced (Err f) read)
   kept_failed a b c AtEnd n i j k u v w mid last x piece f within some few s r next =
       let t = next s.0 s.4.0.3 in

@@ -11,6 +11,7 @@ use Rattle.cad_office.specs.declared.print.Answer.{Answer}
 use Rattle.cad_office.specs.declared.print.Answer.TheVariants.{Entered, Refused, NotACommand}
 use Rattle.cad_office.specs.Answers.{joined, printed}
 use Rattle.cad_commands.specs.Commands.{Says}
+use Rattle.cad_io.specs.Pieces.{piece_len}
 use Rattle.cad_io.specs.Writing.{IsCutShort}
 use Rattle.cad_office.specs.Lines.{longest_line, lines_in, lines_ended, line_begun, BuffersLine}
 
@@ -90,21 +91,18 @@ IsKept InLedger AtEnd (Err Register) read written =
 IsKept InLedger AtEnd (Err Write) read written =
     (lines : List (List ℕ)) × AreWhole AtEnd read lines × EndsCut InLedger lines written
 
--- the most reads, and the most bytes of one
+-- the most reads
 abbrev pub most_reads : ℕ
 most_reads = 1000000
-
-abbrev pub read_bytes : ℕ
-read_bytes = 4096
 
 -- so many reads that each gave a byte read so many bytes
 pub record IsOfReads (count : ℕ) (read : List ℕ) : Type 0 where
   pub each_gave : count ≤ length read
-  pub each_short : length read ≤ read_bytes * count
+  pub each_short : length read ≤ piece_len * count
 
 -- no more is read than the reads may give, and they are spent only where each gave a byte
 pub record IsPaced (result : Result Bool OfficeFault) (read : List ℕ) : Type 0 where
-  pub bounded : length read ≤ read_bytes * most_reads
+  pub bounded : length read ≤ piece_len * most_reads
   pub spent : result ≡ Err TurnsSpent → most_reads ≤ length read
 
 -- these lines end in the piece

@@ -1,9 +1,10 @@
 //! The office: reads lines, applies commands, prints answers.
 
-ghost use Rattle.std.specs.Prelude.{◌≡◌, ◌↔◌, ℕ, List, ◌∷◌, [], IsOk, IsTrue};
+ghost use Rattle.std.specs.Prelude.{◌≡◌, ◌↔◌, ℕ, List, ◌∷◌, [], Err, IsOk, IsTrue};
 ghost use Rattle.std.specs.Io.KnownBytes.{IsAtEnd};
 ghost use Rattle.cad_versions.specs.LedgerCalls.{Applies};
-ghost use Rattle.cad_office.specs.Keeping.{AnswersLine, AnswersLines, Asks, IsKept, IsPaced, IsPiece};
+ghost use Rattle.cad_office.specs.Keeping.{most_reads, AnswersLine, AnswersLines, Asks, IsKept, IsPaced, IsPiece};
+ghost use Rattle.cad_io.specs.Counting.{CountsReads};
 ghost use Rattle.cad_io.specs.Known.{ReadsAndWrites, Writes};
 ghost use Rattle.cad_office.specs.Lines.{line_begun, BuffersLine};
 
@@ -11,16 +12,18 @@ use crate::fault::OfficeFault;
 use crate::line::{Line, LineState};
 use crate::print::{Answer, print_answer};
 use cad_commands::{CommandError, read_command};
+use cad_io::{CountedRead, PIECE_LEN};
 use cad_versions::{Command, Ledger, RegisterFault};
 use std::alloc::Global;
-use std::io::{Read, Write};
+use std::io::Write;
 
+/// The most reads.
 const TURNS: u32 = 1_000_000;
 
 /// Reads lines to their end, applies each command and prints an answer for each line, and says whether no line was refused.
 ///
 /// Each read is of at most 4,096 bytes. It stops where a read or a write fails, after 1,000,000 reads, and where the database refuses a command for another cause than memory. The commands accepted so far stay.
-pub fn office<R: Read, W: Write, L: Ledger>(
+pub fn office<R: CountedRead, W: Write, L: Ledger>(
     alloc: Global,
     reader: &mut R,
     writer: &mut W,
@@ -31,12 +34,13 @@ pub fn office<R: Read, W: Write, L: Ledger>(
         (λ read written. IsKept (AnswersLines (Applies L.Ledger) ledger.old ledger.new) (IsAtEnd (R.remaining reader.new)) result read written
         × IsPaced result read) }
     ensures all { IsOk result → IsAtEnd (R.remaining reader.new) }
+    ensures counted { CountsReads most_reads (result ≡ Err OfficeFault.TurnsSpent) (R.reads reader.old) (R.reads reader.new) }
 {
     let mut line = Line::new(alloc);
     let mut accepted = true;
     for turn in 0..TURNS {
-        let mut buffer = [0; 4096];
-        let count = match reader.read(&mut buffer) {
+        let mut buffer = [0; PIECE_LEN];
+        let count = match reader.read_once(&mut buffer) {
             Ok(count) => count,
             Err(_) => return Err(OfficeFault::Read),
         };

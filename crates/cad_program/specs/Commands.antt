@@ -5,21 +5,21 @@ use Rattle.cad_listen.specs.Arguments.{count_of}
 use Rattle.cad_program.specs.declared.command.Command.{Command}
 use Rattle.cad_program.specs.declared.command.Command.TheVariants.{Sample, Ask, Serve, Office}
 
--- what a command line asks for
-pub data Asked : Type 0 where
-  nothing : Asked
-  a_sample : Asked
-  an_ask : List ℕ → Asked
-  a_service : List ℕ → List ℕ → ℕ → Asked
-  an_office : List ℕ → Asked
+-- a command line, as what it asks for
+pub data CommandLine : Type 0 where
+  nothing : CommandLine
+  a_sample : CommandLine
+  an_ask : List ℕ → CommandLine
+  a_service : List ℕ → List ℕ → ℕ → CommandLine
+  an_office : List ℕ → CommandLine
 
 -- serving a file at an address, for so many connections
-abbrev pub service_of : List ℕ → List ℕ → Option ℕ → Asked
+abbrev pub service_of : List ℕ → List ℕ → Option ℕ → CommandLine
 service_of file address None = nothing
 service_of file address (Some count) = a_service file address count
 
 -- what the words behind the program's name ask for
-abbrev pub asked_by : List (List ℕ) → Asked
+abbrev pub asked_by : List (List ℕ) → CommandLine
 asked_by [] = nothing
 asked_by (program ∷ []) = nothing
 asked_by (program ∷ name ∷ []) = if bytes_eq name (codes "sample") then a_sample else nothing
@@ -28,7 +28,7 @@ asked_by (program ∷ name ∷ file ∷ address ∷ []) = nothing
 asked_by (program ∷ name ∷ file ∷ address ∷ count ∷ []) = if bytes_eq name (codes "serve") then service_of file address (count_of count) else nothing
 asked_by (program ∷ name ∷ file ∷ address ∷ count ∷ other ∷ words) = nothing
 
-abbrev pub asked : Option Command → Asked
+abbrev pub asked : Option Command → CommandLine
 asked None = nothing
 asked (Some Sample) = a_sample
 asked (Some (Ask file)) = an_ask file.now

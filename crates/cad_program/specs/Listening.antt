@@ -3,7 +3,6 @@ use Rattle.std.specs.Prelude.{◌≡◌, ◌⊎◌, ℕ, List, Option}
 use Rattle.std.specs.Io.KnownBytes.{Appends}
 use Rattle.std.specs.declared.net.socket_addr.SocketAddr.{SocketAddr}
 use Rattle.std.specs.Net.Grammar.{IsSocketText}
-use Rattle.cad_versions.specs.declared.fault.RegisterFault.{RegisterFault}
 use Rattle.cad_versions.specs.declared.fault.RegisterFault.TheVariants as register
 use Rattle.cad_versions.specs.declared.ledger.Ledger as ledger
 use Rattle.cad_stream.specs.declared.responder.Responder as responder
@@ -13,8 +12,9 @@ use Rattle.cad_serve.specs.declared.serve_fault.ServeFault.TheVariants.{Write}
 use Rattle.cad_io.specs.Known.{Writes}
 use Rattle.cad_responder.specs.declared.server.Server.{Server}
 use Rattle.cad_responder.specs.Servers.{ledger_of}
-use Rattle.cad_listen.specs.Arguments.{listening_line}
+use Rattle.cad_listen.specs.Arguments.{listening_line, IsBoundFor}
 use Rattle.cad_listen.specs.Listening.{Listens}
+use Rattle.cad_listen.specs.Statuses.{EndsWithout}
 use Rattle.cad_program.specs.declared.command.Service.{Service}
 use Rattle.cad_program.specs.declared.outcome.Outcome.{Outcome}
 use Rattle.cad_program.specs.declared.outcome.Outcome.TheVariants as outcome
@@ -31,15 +31,9 @@ module _ (service : Service) (before after quiet told : Option (List ℕ)) where
   EndsListening g old outcome.Address new = (new ≡ old) × IsSilent
   EndsListening g old (outcome.Serve fault) new = (fault ≡ Write) × (new ≡ old) × (told ≡ quiet)
   EndsListening g old (outcome.Listened status) new =
-      (asked : SocketAddr) × (bound : SocketAddr) × IsSocketText service.address.now asked × Appends before after (listening_line bound)
+      (asked : SocketAddr) × (bound : SocketAddr) × IsSocketText service.address.now asked × IsBoundFor asked bound × Appends before after (listening_line bound)
       × Writes quiet told (Listens g service.count old status new)
   EndsListening g old other new = ⊥
-
-  -- the run ends for this fault, nothing is written, and the ledger is given back
-  pub record EndsUnheard {L : Type 0} (lent : L) (fault : RegisterFault) (ended : Outcome × L) : Type 0 where
-    pub cause : ended.0 ≡ outcome.Register fault
-    pub back : ended.1 ≡ lent
-    pub silent : IsSilent
 
   -- connections are served over the ledger, which is given back
   pub record EndsHeard {L : Type 0} (g : ledger.Ghosts L) (lent : L) (ended : Outcome × L) : Type 0 where
@@ -49,6 +43,6 @@ module _ (service : Service) (before after quiet told : Option (List ℕ)) where
     pub listening : EndsListening (answers_of g) old ended.0 new
     pub back : ended.1 ≡ ledger_of (responder_of new)
 
-  -- there is no memory for a desk; or its connections are served
+  -- there is no memory for a desk, and nothing is written; or its connections are served
   abbrev pub ListensOver : {L : Type 0} → ledger.Ghosts L → L → Outcome × L → Type 0
-  ListensOver g lent ended = EndsUnheard lent register.Memory ended ⊎ EndsHeard g lent ended
+  ListensOver g lent ended = EndsWithout IsSilent (outcome.Register register.Memory) lent ended ⊎ EndsHeard g lent ended

@@ -1,5 +1,5 @@
 -- How runs end (exit statuses: own profile).
-use Rattle.std.specs.Prelude.{◌≡◌, ℕ, Bool, true, false, List, Option, Some, None, Result, Ok, Err}
+use Rattle.std.specs.Prelude.{ℕ, Bool, true, false, List, [], codes, Result, Ok, Err}
 use Rattle.std.specs.declared.io.ErrorKind.{ErrorKind}
 use Rattle.std.specs.declared.io.ErrorKind.TheVariants.{OutOfMemory}
 use Rattle.cad_desk.specs.declared.fault.DeskFault.TheVariants as desk
@@ -13,7 +13,7 @@ use Rattle.cad_office.specs.declared.fault.OfficeFault.TheVariants as office
 use Rattle.cad_office.specs.OfficeFaults.{fault_number as office_fault_number, fault_name as office_fault_name}
 use Rattle.cad_versions.specs.declared.fault.RegisterFault.TheVariants as register
 use Rattle.cad_versions.specs.Fault.{fault_number as register_fault_number, fault_name as register_fault_name}
-use Rattle.cad_listen.specs.Statuses.{good, failed, wrong_arguments, no_register, no_address, of_serving, of_desk, of_register}
+use Rattle.cad_listen.specs.Statuses.{good, failed, wrong_arguments, no_register, no_address, of_serving, of_desk, of_register, of_address, fault_line, line}
 use Rattle.cad_program.specs.declared.outcome.Outcome.{Outcome}
 use Rattle.cad_program.specs.declared.outcome.Outcome.TheVariants as outcome
 
@@ -29,26 +29,26 @@ status_of outcome.Usage = wrong_arguments
 status_of (outcome.Register fault) = no_register
 status_of outcome.Address = no_address
 
--- what failed, and its fault's number and name, as the line on standard error tells them
-abbrev pub fault_of : Outcome → Option (List ℕ × ℕ × List ℕ)
-fault_of outcome.Good = None
-fault_of outcome.Refused = None
-fault_of (outcome.Listened status) = None
-fault_of outcome.Usage = None
-fault_of outcome.Address = None
-fault_of (outcome.Serve fault) = Some (of_serving, serve_fault_number fault, serve_fault_name fault)
-fault_of (outcome.Office fault) = Some (of_serving, office_fault_number fault, office_fault_name fault)
-fault_of (outcome.Desk fault) = Some (of_desk, desk_fault_number fault, desk_fault_name fault)
-fault_of (outcome.Register fault) = Some (of_register, register_fault_number fault, register_fault_name fault)
+-- how the program is called
+abbrev pub usage : List ℕ
+usage = codes "usage: cadastre sample | office FILE | ask FILE | serve FILE ADDRESS COUNT"
+
+-- what is told of a run on standard error: what failed, by its fault's number and name, or a line of its own
+abbrev pub line_of : Outcome → List ℕ
+line_of outcome.Good = []
+line_of outcome.Refused = []
+line_of (outcome.Listened status) = []
+line_of outcome.Usage = line usage
+line_of outcome.Address = line of_address
+line_of (outcome.Serve fault) = fault_line of_serving (serve_fault_number fault, serve_fault_name fault)
+line_of (outcome.Office fault) = fault_line of_serving (office_fault_number fault, office_fault_name fault)
+line_of (outcome.Desk fault) = fault_line of_desk (desk_fault_number fault, desk_fault_name fault)
+line_of (outcome.Register fault) = fault_line of_register (register_fault_number fault, register_fault_name fault)
 
 -- how a run ends whose command line cannot be had, by the cause
 abbrev pub outcome_without_arguments : ErrorKind → Outcome
 outcome_without_arguments OutOfMemory = outcome.Register register.Memory
 outcome_without_arguments cause = outcome.Usage
-
--- it ends so for some cause
-abbrev pub IsWithoutArguments : Outcome → Type 0
-IsWithoutArguments ended = (cause : ErrorKind) × (ended ≡ outcome_without_arguments cause)
 
 -- how serving one connection ends a run; what the database refuses is the register's fault
 abbrev pub outcome_of : Result Ending ServeFault → Outcome

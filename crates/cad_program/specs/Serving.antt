@@ -15,6 +15,7 @@ use Rattle.cad_serve.specs.declared.ending.Ending.TheVariants.{PeerEnded}
 use Rattle.cad_serve.specs.declared.serve_fault.ServeFault.{ServeFault}
 use Rattle.cad_serve.specs.Serving.{IsServed}
 use Rattle.cad_io.specs.Known.{ReadsAndWrites}
+use Rattle.cad_listen.specs.Statuses.{EndsWithout}
 use Rattle.cad_sample.specs.Filling.{Enters, IsFilled}
 use Rattle.cad_sample.specs.Sample.{sample_commands}
 use Rattle.cad_responder.specs.declared.server.Server.{Server}
@@ -60,12 +61,6 @@ module _ {L : Type 0} (g : ledger.Ghosts L) (from to before after : Option (List
   abbrev pub IsUntouched : Type 0
   IsUntouched = (to ≡ from) × (after ≡ before)
 
-  -- the run ends for this fault, nothing is read or written, and the ledger is given back
-  pub record EndsUnasked (lent : L) (fault : RegisterFault) (ended : Outcome × L) : Type 0 where
-    pub cause : ended.0 ≡ outcome.Register fault
-    pub back : ended.1 ≡ lent
-    pub untouched : IsUntouched
-
   -- a connection is served over the ledger, which is given back
   pub record EndsAsked (lent : L) (ended : Outcome × L) : Type 0 where
     pub old : Desk (Server L)
@@ -74,14 +69,14 @@ module _ {L : Type 0} (g : ledger.Ghosts L) (from to before after : Option (List
     pub serving : EndsServing (answers_of g) from to before after AtEnd old ended.0 new
     pub back : ended.1 ≡ ledger_of (responder_of new)
 
-  -- there is no memory for a desk; or a connection is served
+  -- there is no memory for a desk, and nothing is read or written; or a connection is served
   abbrev pub AnswersOver : L → Outcome × L → Type 0
-  AnswersOver lent ended = EndsUnasked lent register.Memory ended ⊎ EndsAsked lent ended
+  AnswersOver lent ended = EndsWithout IsUntouched (outcome.Register register.Memory) lent ended ⊎ EndsAsked lent ended
 
   -- the sample is entered into the ledger; where that is refused nothing is read or written, else a connection is served over it
   abbrev pub AnswersSampleIn : L → L → Result ℕ RegisterFault → Outcome × L → Type 0
   AnswersSampleIn lent filled (Ok revision) ended = IsFilled g lent (Ok revision) filled × AnswersOver filled ended
-  AnswersSampleIn lent filled (Err fault) ended = EndsUnasked filled fault ended
+  AnswersSampleIn lent filled (Err fault) ended = EndsWithout IsUntouched (outcome.Register fault) filled ended
 
   pub record AnswersSample (lent : L) (ended : Outcome × L) : Type 0 where
     pub filled : L

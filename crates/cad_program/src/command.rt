@@ -1,14 +1,6 @@
 //! What the arguments ask for.
 
-ghost use Rattle.std.specs.Prelude.{◌≡◌, IfErr};
-ghost use Rattle.cad_program.specs.Outcomes.{outcome_without_arguments, IsWithoutArguments};
-
-use crate::outcome::Outcome;
 use cad_listen::read_count;
-use cad_versions::RegisterFault;
-use std::env::args;
-use std::io::ErrorKind;
-use std::rt::Env;
 
 /// Where a program listens, and for how many connections.
 #[derive(Clone, Copy, Debug, PartialEq, Eq)]
@@ -69,31 +61,4 @@ impl<'a> Command<'a> {
             service: Service { address, count },
         })
     }
-}
-
-/// How a run ends whose command line cannot be had for this cause.
-fn without_arguments(cause: ErrorKind) -> Outcome
-    ensures { result ≡ outcome_without_arguments cause }
-{
-    match cause {
-        ErrorKind::OutOfMemory => Outcome::Register(RegisterFault::Memory),
-        _ => Outcome::Usage,
-    }
-}
-
-/// The words of the command line, the program's name first, or how the run ends without them.
-pub fn read_words<R: Env + AllocGlobal>(rt: &R) -> Result<Vec<String>, Outcome>
-    ensures { IfErr result IsWithoutArguments }
-{
-    let mut words = Vec::new(rt.alloc());
-    let found = match args(rt) {
-        Ok(found) => found,
-        Err(error) => return Err(without_arguments(error.kind())),
-    };
-    for word in found {
-        if words.push(word).is_err() {
-            return Err(without_arguments(ErrorKind::OutOfMemory));
-        }
-    }
-    Ok(words)
 }

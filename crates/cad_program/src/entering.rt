@@ -5,13 +5,14 @@ ghost use Rattle.cad_versions.specs.LedgerCalls.{Applies};
 ghost use Rattle.cad_program.specs.Entering.{EndsOffice};
 
 use crate::outcome::Outcome;
+use cad_io::CountedRead;
 use cad_office::office;
 use cad_versions::Ledger;
 use std::alloc::Global;
-use std::io::{Read, Write};
+use std::io::Write;
 
 /// Enters the commands of the lines into the ledger, prints the answers, and says how that ends a run.
-pub fn enter_commands<R: Read, W: Write, L: Ledger>(
+pub fn enter_commands<R: CountedRead, W: Write, L: Ledger>(
     alloc: Global,
     reader: &mut R,
     writer: &mut W,

@@ -1,10 +1,10 @@
 //! A run of the program over any ledger: what a command line asks for, the work, and how it ended.
 //!
-//! - [`Command`], [`Service`], `read_words`: what the words of a command line ask for
+//! - [`Command`], [`Service`]: what the words of a command line ask for
 //! - `answer_over`, `answer_sample`: one connection, over a reader and a writer, served over a ledger
 //! - `listen_over`: connections taken at an address and served over a ledger
 //! - `enter_commands`: the lines of the land office entered into a ledger
-//! - [`Outcome`], [`Fault`], `tell`: how a run ended, its status, and the line that tells it
+//! - [`Outcome`]: how a run ended, its status, and what is told of it
 //!
 //! No database is known here: `cadastre`, the program, finds the register of a file and lends it to these calls.
 //!
@@ -22,8 +22,8 @@ mod listening;
 mod outcome;
 mod serving;
 
-pub use command::{Command, Service, read_words};
+pub use command::{Command, Service};
 pub use entering::enter_commands;
 pub use listening::listen_over;
-pub use outcome::{Fault, Outcome, tell};
+pub use outcome::Outcome;
 pub use serving::{answer_over, answer_sample};

@@ -5,7 +5,7 @@ ghost use Rattle.cad_program.specs.Listening.{EndsListening, ListensOver};
 use crate::command::Service;
 use crate::outcome::Outcome;
 use cad_desk::Desk;
-use cad_listen::{listen, read_address, tell_address};
+use cad_listen::{bound_for, listen, read_address, tell_address};
 use cad_responder::Server;
 use cad_stream::Responder;
 use cad_versions::{Ledger, RegisterFault};
@@ -30,13 +30,13 @@ pub fn listen_at<
     ensures { EndsListening service.entry (W.contents writer.old) (W.contents writer.new)
         (E.contents errors.old) (E.contents errors.new) P.Responder desk.old result desk.new }
 {
-    let Some(address) = read_address(service.address) else {
+    let Some(asked) = read_address(service.address) else {
         return Outcome::Address;
     };
-    let Ok(listener) = TcpListener::bind(net, address) else {
+    let Ok(listener) = TcpListener::bind(net, asked) else {
         return Outcome::Address;
     };
-    let Ok(bound) = listener.local_addr() else {
+    let Some(bound) = bound_for(asked, listener.local_addr()) else {
         return Outcome::Address;
     };
     match tell_address(writer, bound) {

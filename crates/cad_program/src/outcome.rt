@@ -1,10 +1,14 @@
 //! How a run ended: its status, and the line that tells it.
 
 use cad_desk::DeskFault;
-use cad_listen::status;
+use cad_listen::{ADDRESS, DESK, Fault, REGISTER, SERVING, Told, status};
 use cad_office::OfficeFault;
 use cad_serve::{Ending, ServeFault};
 use cad_versions::RegisterFault;
+use std::io::ErrorKind;
+
+/// How the program is called.
+const USAGE: &str = "usage: cadastre sample | office FILE | ask FILE | serve FILE ADDRESS COUNT";
 
 /// How a run ended.
 #[derive(Clone, Copy, Debug, PartialEq, Eq)]
@@ -30,8 +34,19 @@ pub enum Outcome {
 }
 
 impl Outcome {
-    ghost use Rattle.std.specs.Prelude.{◌≡◌, option_map};
-    ghost use Rattle.cad_program.specs.Outcomes.{fault_of, office_outcome_of, outcome_of, status_of};
+    ghost use Rattle.std.specs.Prelude.{◌≡◌};
+    ghost use Rattle.cad_listen.specs.Statuses.{told_line};
+    ghost use Rattle.cad_program.specs.Outcomes.{line_of, office_outcome_of, outcome_of, outcome_without_arguments, status_of};
+
+    /// How a run ends whose command line cannot be had for this cause.
+    pub fn without_arguments(cause: ErrorKind) -> Outcome
+        ensures { result ≡ outcome_without_arguments cause }
+    {
+        match cause {
+            ErrorKind::OutOfMemory => Outcome::Register(RegisterFault::Memory),
+            _ => Outcome::Usage,
+        }
+    }
 
     /// How serving one connection ends a run. What the database refuses is told as the register's fault.
     pub fn of_serving(served: Result<Ending, ServeFault>) -> Outcome
@@ -74,50 +89,21 @@ impl Outcome {
         }
     }
 
-    /// The fault of a bad outcome, which is told on standard error.
+    /// What is told of it on standard error.
     ///
-    /// Refused lines were told on standard output, and what went wrong while the program listened on standard error. Wrong
-    /// arguments and a wrong address have a line of their own.
-    pub fn fault(self) -> Option<Fault>
-        ensures { option_map (λ f. (f.kind.now, f.number, f.name.now)) result ≡ fault_of self }
+    /// Refused lines were told on standard output, and what went wrong while the program listened on standard error.
+    pub fn told(self) -> Told
+        ensures { told_line result ≡ line_of self }
     {
         let (kind, number, name) = match self {
-            Outcome::Good
-            | Outcome::Refused
-            | Outcome::Listened(_)
-            | Outcome::Usage
-            | Outcome::Address => return None,
-            Outcome::Serve(fault) => ("serve", fault.number(), fault.name()),
-            Outcome::Office(fault) => ("serve", fault.number(), fault.name()),
-            Outcome::Desk(fault) => ("desk", fault.number(), fault.name()),
-            Outcome::Register(fault) => ("register", fault.number(), fault.name()),
+            Outcome::Good | Outcome::Refused | Outcome::Listened(_) => return Told::Nothing,
+            Outcome::Usage => return Told::Line(USAGE),
+            Outcome::Address => return Told::Line(ADDRESS),
+            Outcome::Serve(fault) => (SERVING, fault.number(), fault.name()),
+            Outcome::Office(fault) => (SERVING, fault.number(), fault.name()),
+            Outcome::Desk(fault) => (DESK, fault.number(), fault.name()),
+            Outcome::Register(fault) => (REGISTER, fault.number(), fault.name()),
         };
-        Some(Fault { kind, number, name })
-    }
-}
-
-/// A fault as it is told: `KIND: NUMBER NAME`.
-#[derive(Clone, Copy, Debug, PartialEq, Eq)]
-pub struct Fault {
-    /// What failed: `serve`, `desk` or `register`.
-    pub kind: &'static str,
-    /// The fault's number among those of its own crate.
-    pub number: u8,
-    /// The fault's name among those of its own crate.
-    pub name: &'static str,
-}
-
-/// Tells a bad outcome on standard error. Where that cannot be written, the status alone tells it.
-pub fn tell(rt: &impl Eprint, outcome: Outcome) {
-    if outcome == Outcome::Usage {
-        let _ = eprintln!(rt;
-            "usage: cadastre sample | office FILE | ask FILE | serve FILE ADDRESS COUNT"
-        );
-    }
-    if outcome == Outcome::Address {
-        let _ = eprintln!(rt; "address");
-    }
-    if let Some(fault) = outcome.fault() {
-        let _ = eprintln!(rt; "{}: {} {}", fault.kind, fault.number, fault.name);
+        Told::Fault(Fault { kind, number, name })
     }
 }

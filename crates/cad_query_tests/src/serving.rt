@@ -1,6 +1,7 @@
 //! Connections served over readers and writers that fail, and one after another.
 
 use cad_desk::Event;
+use cad_io::Counted;
 use cad_plain_desk::sample_desk;
 use cad_serve::{Ending, ServeFault, serve};
 use std::test::Fail;
@@ -43,7 +44,7 @@ fn stops_where_reading_does(rt: HostRuntime) -> Result<(), Fail> {
     let mut desk = sample_desk(alloc)?;
     for bytes in 0..=REQUEST.len() {
         for (piece, stop) in READINGS {
-            let mut reader = Peer::new(REQUEST.as_bytes(), piece, bytes, stop);
+            let mut reader = Counted::new(Peer::new(REQUEST.as_bytes(), piece, bytes, stop));
             let mut writer = Taker::new(512, 512, Stop::Fails);
             let served = serve(alloc, &mut reader, &mut writer, &mut desk.connections, 1);
             let wanted = match stop {
@@ -53,7 +54,7 @@ fn stops_where_reading_does(rt: HostRuntime) -> Result<(), Fail> {
             let reply = if bytes == REQUEST.len() { REPLY } else { "" };
             assert_eq!(rt; served, wanted, "after {bytes}");
             assert_eq!(rt;
-                reader.reads(),
+                reader.reader().reads(),
                 reads_of(bytes, piece).saturating_add(1),
                 "after {bytes}"
             );
@@ -69,12 +70,12 @@ fn reads_nothing_behind_the_end(rt: HostRuntime) -> Result<(), Fail> {
     let alloc = rt.alloc();
     let mut desk = sample_desk(alloc)?;
     for (piece, stop) in READINGS {
-        let mut reader = Peer::new(LAST.as_bytes(), piece, LAST.len(), stop);
+        let mut reader = Counted::new(Peer::new(LAST.as_bytes(), piece, LAST.len(), stop));
         let mut writer = Taker::new(1, 512, Stop::Fails);
         let served = serve(alloc, &mut reader, &mut writer, &mut desk.connections, 1);
         assert_eq!(rt; served, Ok(Ending::WeEnded), "{piece} a read");
         assert_eq!(rt;
-            reader.reads(),
+            reader.reader().reads(),
             reads_of(LAST.len(), piece),
             "{piece} a read"
         );
@@ -90,7 +91,12 @@ fn stops_where_writing_does(rt: HostRuntime) -> Result<(), Fail> {
     let mut desk = sample_desk(alloc)?;
     for most in 0..=REPLY.len() {
         for (piece, stop) in [(1, Stop::Ends), (1, Stop::Fails), (100, Stop::Fails)] {
-            let mut reader = Peer::new(REQUEST.as_bytes(), 4096, REQUEST.len(), Stop::Ends);
+            let mut reader = Counted::new(Peer::new(
+                REQUEST.as_bytes(),
+                4096,
+                REQUEST.len(),
+                Stop::Ends,
+            ));
             let mut writer = Taker::new(piece, most, stop);
             let served = serve(alloc, &mut reader, &mut writer, &mut desk.connections, 1);
             let wanted = if most == REPLY.len() {
@@ -113,7 +119,12 @@ fn replies_twice_on_one_desk(rt: HostRuntime) -> Result<(), Fail> {
     let mut desk = sample_desk(alloc)?;
     assert!(rt; desk.step(Event::Open(2)).is_ok());
     for _ in 0..2 {
-        let mut reader = Peer::new(REQUEST.as_bytes(), 4096, REQUEST.len(), Stop::Ends);
+        let mut reader = Counted::new(Peer::new(
+            REQUEST.as_bytes(),
+            4096,
+            REQUEST.len(),
+            Stop::Ends,
+        ));
         let mut writer = Taker::new(512, 512, Stop::Fails);
         let served = serve(alloc, &mut reader, &mut writer, &mut desk.connections, 1);
         assert_eq!(rt; served, Ok(Ending::PeerEnded));
@@ -135,11 +146,11 @@ const SHORT_REPLY: &str =
 fn ends_where_the_turns_are_spent(rt: HostRuntime) -> Result<(), Fail> {
     let alloc = rt.alloc();
     let mut desk = sample_desk(alloc)?;
-    let mut reader = Endless::new(SHORT.as_bytes());
+    let mut reader = Counted::new(Endless::new(SHORT.as_bytes()));
     let mut writer = Copies::new(SHORT_REPLY.as_bytes());
     let served = serve(alloc, &mut reader, &mut writer, &mut desk.connections, 1);
     assert_eq!(rt; served, Err(ServeFault::TurnsSpent));
-    assert_eq!(rt; reader.reads(), 100_000);
+    assert_eq!(rt; reader.reader().reads(), 100_000);
     assert_eq!(rt; writer.count(), Some(3703));
     assert!(rt; desk.step(Event::Open(1)).is_ok());
     Ok(())

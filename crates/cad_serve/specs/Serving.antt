@@ -14,13 +14,11 @@ use Rattle.cad_serve.specs.declared.ending.Ending.{Ending}
 use Rattle.cad_serve.specs.declared.ending.Ending.TheVariants.{PeerEnded, WeEnded, Refused}
 use Rattle.cad_serve.specs.declared.serve_fault.ServeFault.{ServeFault}
 use Rattle.cad_serve.specs.declared.serve_fault.ServeFault.TheVariants.{Read, Write, TurnsSpent}
+use Rattle.cad_io.specs.Pieces.{piece_len}
 use Rattle.cad_io.specs.Writing.{IsFront, IsCutShort}
 use Rattle.cad_serve.specs.Writing.{fixed_head}
 
--- the most bytes of a read, and the most reads (own profile)
-abbrev pub piece_len : ℕ
-piece_len = 4096
-
+-- the most reads (own profile)
 abbrev pub most_turns : ℕ
 most_turns = 100000
 

@@ -7,7 +7,7 @@
 //! - `laws`: what was written are the replies to the requests that were read, and no other connection is touched
 //!
 //! ```text
-//! let mut reader = Cursor::new(b"GET / HTTP/1.1\r\nHost: x\r\n\r\n".as_slice());
+//! let mut reader = Counted::new(Cursor::new(b"GET / HTTP/1.1\r\nHost: x\r\n\r\n".as_slice()));
 //! let mut written = Vec::new(alloc);
 //! serve(alloc, &mut reader, &mut written, &mut desk, 1)    // Ok(Ending::PeerEnded), and the reply is written
 //! ```

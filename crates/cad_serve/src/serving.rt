@@ -1,24 +1,22 @@
 //! Serving a connection.
 
-ghost use Rattle.std.specs.Prelude.{◌≡◌, Some, Ok, false};
+ghost use Rattle.std.specs.Prelude.{◌≡◌, None, Some, Ok, Err, false};
 ghost use Rattle.std.specs.Io.KnownBytes.{IsAtEnd};
-ghost use Rattle.cad_serve.specs.Serving.{Closes, IsOpen, IsPiece, IsRefusedSo, IsSent, IsServed, IsTaken, IsTurn};
+ghost use Rattle.cad_serve.specs.Serving.{most_turns, Closes, IsOpen, IsPiece, IsRefusedSo, IsSent, IsServed, IsTaken, IsTurn};
+ghost use Rattle.cad_io.specs.Counting.{CountsReads};
 ghost use Rattle.cad_io.specs.Known.{ReadsAndWrites, Writes};
 
 use crate::ending::Ending;
 use crate::serve_fault::ServeFault;
 use crate::writing::write_fixed_head;
 use cad_desk::{Desk, DeskFault, Event, Reply};
-use cad_io::write_whole;
+use cad_io::{CountedRead, PIECE_LEN, write_whole};
 use cad_stream::Responder;
 use std::alloc::Global;
-use std::io::{Read, Write};
+use std::io::Write;
 
 /// The most reads of a connection.
 const TURNS: u32 = 100_000;
-
-/// The most bytes of a read.
-const PIECE_LEN: usize = 4096;
 
 fn close<R: Responder>(desk: &mut Desk<R>, c: u32)
     requires { IsOpen c desk.old }
@@ -85,7 +83,7 @@ fn take_piece<W: Write, R: Responder>(
 }
 
 /// One read, and what the desk sends for it. `None`: the connection goes on.
-fn turn<I: Read, W: Write, R: Responder>(
+fn turn<I: CountedRead, W: Write, R: Responder>(
     alloc: Global,
     reader: &mut I,
     writer: &mut W,
@@ -96,9 +94,10 @@ fn turn<I: Read, W: Write, R: Responder>(
     ensures turn { ReadsAndWrites (I.remaining reader.old) (I.remaining reader.new)
         (W.contents writer.old) (W.contents writer.new) (IsTurn R.Responder c desk.old result desk.new) }
     ensures all { result ≡ Ok (Some Ending.PeerEnded) → IsAtEnd (I.remaining reader.new) }
+    ensures counted { CountsReads 1 (result ≡ Ok None) (I.reads reader.old) (I.reads reader.new) }
 {
     let mut buffer = [0; PIECE_LEN];
-    match reader.read(&mut buffer) {
+    match reader.read_once(&mut buffer) {
         Ok(0) => {
             close(desk, c);
             Ok(Some(Ending::PeerEnded))
@@ -115,7 +114,7 @@ fn turn<I: Read, W: Write, R: Responder>(
 /// and writes what it sends, until the peer sends no more, a reply ends the connection, the desk refuses, a read or a
 /// write fails, or 100,000 reads were made. The connection is closed then, if the desk opened it and it is still open.
 /// Where memory is refused or the register refuses, a fixed head tells it.
-pub fn serve<I: Read, W: Write, R: Responder>(
+pub fn serve<I: CountedRead, W: Write, R: Responder>(
     alloc: Global,
     reader: &mut I,
     writer: &mut W,
@@ -125,6 +124,7 @@ pub fn serve<I: Read, W: Write, R: Responder>(
     ensures served { ReadsAndWrites (I.remaining reader.old) (I.remaining reader.new)
         (W.contents writer.old) (W.contents writer.new) (IsServed R.Responder c desk.old result desk.new) }
     ensures all { result ≡ Ok Ending.PeerEnded → IsAtEnd (I.remaining reader.new) }
+    ensures counted { CountsReads most_turns (result ≡ Err ServeFault.TurnsSpent) (I.reads reader.old) (I.reads reader.new) }
 {
     if let Err(fault) = desk.step(Event::Open(c)) {
         return Ok(refuse(writer, fault));

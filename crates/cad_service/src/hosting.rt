@@ -1,12 +1,15 @@
 //! Clients and the land office, served over a ledger.
 
+ghost use Rattle.std.specs.Prelude.{IfOk};
+ghost use Rattle.std.specs.Net.Grammar.{IsSocketText};
+ghost use Rattle.cad_host.specs.Doors.{asked_at};
 ghost use Rattle.cad_service.specs.Hosting.{EndsHosting, HostsOver};
 
 use crate::invocation::Service;
 use crate::outcome::Outcome;
 use cad_desk::Desk;
 use cad_host::{DoorFault, Doors, Log, host};
-use cad_listen::{read_address, tell_address};
+use cad_listen::{bound_for, read_address, tell_address};
 use cad_responder::Server;
 use cad_stream::Responder;
 use cad_versions::{Ledger, RegisterFault};
@@ -17,7 +20,9 @@ use std::net::Net;
 use std::time::Clock;
 
 /// The sockets of a service, or how a run ends without them.
-pub fn open_doors<N: Net + Files>(rt: &N, service: Service<'_>) -> Result<Doors, Outcome> {
+pub fn open_doors<N: Net + Files>(rt: &N, service: Service<'_>) -> Result<Doors, Outcome>
+    ensures { IfOk result (λ doors. IsSocketText service.entry.address.now (asked_at doors)) }
+{
     let Some(address) = read_address(service.address) else {
         return Err(Outcome::Address);
     };
@@ -37,9 +42,9 @@ fn host_desk<N: Net + Clock, R: Responder, W: Write, E: Write>(
     log: &mut Log<E>,
     desk: &mut Desk<R>,
 ) -> Outcome
-    ensures { EndsHosting (W.contents writer.old) (W.contents writer.new) result }
+    ensures { EndsHosting (asked_at doors) (W.contents writer.old) (W.contents writer.new) result }
 {
-    let Ok(bound) = doors.address() else {
+    let Some(bound) = bound_for(doors.asked(), doors.address()) else {
         return Outcome::Address;
     };
     match tell_address(writer, bound) {
@@ -58,7 +63,7 @@ pub fn host_over<N: Net + Clock, L: Ledger, W: Write, E: Write>(
     writer: &mut W,
     log: &mut Log<E>,
 ) -> (Outcome, L)
-    ensures { HostsOver (W.contents writer.old) (W.contents writer.new) ledger result }
+    ensures { HostsOver (asked_at doors) (W.contents writer.old) (W.contents writer.new) ledger result }
 {
     match Server::new(alloc, ledger) {
         Ok(server) => {

@@ -3,7 +3,7 @@
 //! - `Invocation`, `Service`: what the words of a command line ask for
 //! - `open_doors`: the sockets of a service
 //! - `host_over`: clients and the land office taken at those sockets and served over a ledger
-//! - `Outcome`, `tell`: how a run ended, its status, and the line that tells it
+//! - `Outcome`: how a run ended, its status, and what is told of it
 //!
 //! No database is known here: the program finds the register of a file and lends it to these calls.
 //!
@@ -19,4 +19,4 @@ mod outcome;
 
 pub use hosting::{host_over, open_doors};
 pub use invocation::{Invocation, Service};
-pub use outcome::{HELP, Outcome, tell};
+pub use outcome::{HELP, Outcome};

@@ -1,9 +1,9 @@
 //! How a run ended: its status, and the line that tells it.
 
 use cad_host::Stopped;
-use cad_listen::status;
+use cad_listen::{ADDRESS, Fault, REGISTER, Told, status};
 use cad_versions::RegisterFault;
-use std::io::Result;
+use std::io::{ErrorKind, Result};
 
 /// How the program is called.
 pub const HELP: &str = "usage: cadastred [--log] FILE ADDRESS OFFICE | --help | --version";
@@ -28,7 +28,18 @@ pub enum Outcome {
 impl Outcome {
     ghost use Rattle.std.specs.Prelude.{◌≡◌};
     ghost use Rattle.cad_service.specs.Hosting.{outcome_of_hosting};
-    ghost use Rattle.cad_service.specs.Outcomes.{status_of};
+    ghost use Rattle.cad_service.specs.Outcomes.{line_of, outcome_without_arguments, status_of};
+    ghost use Rattle.cad_listen.specs.Statuses.{told_line};
+
+    /// How a run ends whose command line cannot be had for this cause.
+    pub fn without_arguments(cause: ErrorKind) -> Outcome
+        ensures { result ≡ outcome_without_arguments cause }
+    {
+        match cause {
+            ErrorKind::OutOfMemory => Outcome::Failed,
+            _ => Outcome::Usage,
+        }
+    }
 
     /// How hosting ends a run.
     pub(crate) fn of_hosting(hosted: Result<Stopped>) -> Outcome
@@ -53,26 +64,22 @@ impl Outcome {
             Outcome::Address | Outcome::Office => status::NO_ADDRESS,
         }
     }
-}
 
-/// Tells a bad outcome on standard error. Where that cannot be written, the status alone tells it.
-pub fn tell(rt: &impl Eprint, outcome: Outcome) {
-    match outcome {
-        Outcome::Good => {}
-        Outcome::Failed => {
-            let _ = eprintln!(rt; "host: failed");
-        }
-        Outcome::Usage => {
-            let _ = eprintln!(rt; "{HELP}");
-        }
-        Outcome::Address => {
-            let _ = eprintln!(rt; "address");
-        }
-        Outcome::Office => {
-            let _ = eprintln!(rt; "office");
-        }
-        Outcome::Register(fault) => {
-            let _ = eprintln!(rt; "register: {} {}", fault.number(), fault.name());
+    /// What is told of it on standard error.
+    pub fn told(self) -> Told
+        ensures { told_line result ≡ line_of self }
+    {
+        match self {
+            Outcome::Good => Told::Nothing,
+            Outcome::Failed => Told::Line("host: failed"),
+            Outcome::Usage => Told::Line(HELP),
+            Outcome::Address => Told::Line(ADDRESS),
+            Outcome::Office => Told::Line("office"),
+            Outcome::Register(fault) => Told::Fault(Fault {
+                kind: REGISTER,
+                number: fault.number(),
+                name: fault.name(),
+            }),
         }
     }
 }

@@ -7,16 +7,15 @@ use Rattle.cad_register.specs.declared.register.Register.{Register}
 use Rattle.cad_register.specs.Registers.{connection_of}
 use Rattle.cad_register.specs.Ledgers.{register_as_ledger}
 use Rattle.cad_register.specs.Opening.{Opened}
+use Rattle.cad_listen.specs.Statuses.{EndsWithout}
 use Rattle.cad_program.specs.declared.outcome.Outcome.{Outcome}
 use Rattle.cad_program.specs.declared.outcome.Outcome.TheVariants as outcome
 use Rattle.cad_program.specs.Serving.{AnswersOver, IsUntouched}
 
 module _ {S : Type 0} (g : Ghosts S) (from to before after : Option (List ℕ)) (AtEnd : Type 0) where
   -- no register is had: the run ends for this cause, nothing is read or written, and the database's connection is given back
-  pub record EndsUnfound (refused : RegisterFault × Held S) (ended : Outcome × Held S) : Type 0 where
-    pub cause : ended.0 ≡ outcome.Register refused.0
-    pub back : ended.1 ≡ refused.1
-    pub untouched : IsUntouched (register_as_ledger g) from to before after AtEnd
+  abbrev pub EndsUnfound : RegisterFault × Held S → Outcome × Held S → Type 0
+  EndsUnfound refused ended = EndsWithout (IsUntouched (register_as_ledger g) from to before after AtEnd) (outcome.Register refused.0) refused.1 ended
 
   -- a connection is served over the register, and the database's connection is given back
   pub record AnswersRegister (register : Register S) (ended : Outcome × Held S) : Type 0 where

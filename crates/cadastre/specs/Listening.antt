@@ -6,6 +6,7 @@ use Rattle.cad_versions.specs.declared.fault.RegisterFault.{RegisterFault}
 use Rattle.cad_register.specs.declared.register.Register.{Register}
 use Rattle.cad_register.specs.Registers.{connection_of}
 use Rattle.cad_register.specs.Opening.{Opened}
+use Rattle.cad_listen.specs.Statuses.{EndsWithout}
 use Rattle.cad_program.specs.declared.command.Service.{Service}
 use Rattle.cad_program.specs.declared.outcome.Outcome.{Outcome}
 use Rattle.cad_program.specs.declared.outcome.Outcome.TheVariants as outcome
@@ -14,20 +15,15 @@ use Rattle.cad_register.specs.Ledgers.{register_as_ledger}
 
 -- what standard output and standard error hold before and after
 module _ (service : Service) (before after quiet told : Option (List ℕ)) where
-  -- no register is had: the run ends for this cause, nothing is written, and the database's connection is given back
-  pub record EndsSilent {S : Type 0} (refused : RegisterFault × Held S) (ended : Outcome × Held S) : Type 0 where
-    pub cause : ended.0 ≡ outcome.Register refused.0
-    pub back : ended.1 ≡ refused.1
-    pub silent : IsSilent service before after quiet told
-
   -- connections are served over the register, and the database's connection is given back
   pub record ListensOverRegister {S : Type 0} (g : store.Ghosts S) (register : Register S) (ended : Outcome × Held S) : Type 0 where
     pub left : Register S
     pub listens : ListensOver service before after quiet told (register_as_ledger g) register (ended.0, left)
     pub back : ended.1 ≡ connection_of left
 
+  -- no register is had: the run ends for this cause and nothing is written
   abbrev pub ServesFound : {S : Type 0} → store.Ghosts S → Result (Register S) (RegisterFault × Held S) → Outcome × Held S → Type 0
-  ServesFound g (Err refused) ended = EndsSilent refused ended
+  ServesFound g (Err refused) ended = EndsWithout (IsSilent service before after quiet told) (outcome.Register refused.0) refused.1 ended
   ServesFound g (Ok register) ended = ListensOverRegister g register ended
 
   -- listening over a database: its register is found before the address is looked at, and none is made

@@ -6,12 +6,13 @@ ghost use Rattle.cadastre.specs.Entering.{RunsOffice};
 ghost use Rattle.cadastre.specs.Asking.{RunsAsk};
 ghost use Rattle.cadastre.specs.Opening.{opening_fault};
 
+use cad_io::{Counted, CountedRead};
 use cad_program::{Outcome, answer_over, enter_commands};
 use cad_register::{Register, RegisterFault};
 use sqlite::{Alter, Connection, Error, ErrorCode, File, FileStore};
 use std::alloc::Global;
 use std::fs;
-use std::io::{ErrorKind, Read, Write};
+use std::io::{ErrorKind, Write};
 
 /// Why a file is not opened.
 fn open_fault(error: Error) -> RegisterFault
@@ -24,7 +25,7 @@ fn open_fault(error: Error) -> RegisterFault
 }
 
 /// Enters the commands of the lines into the register of a database, which is made where none stands, and gives the connection back.
-pub fn run_office_over<S: Alter, R: Read, W: Write>(
+pub fn run_office_over<S: Alter, R: CountedRead, W: Write>(
     alloc: Global,
     connection: Connection<S>,
     reader: &mut R,
@@ -51,7 +52,7 @@ pub fn run_office(rt: &HostRuntime, file: &str) -> Outcome {
     let (outcome, connection) = run_office_over(
         rt.alloc(),
         connection,
-        &mut rt.stdin(),
+        &mut Counted::new(rt.stdin()),
         &mut rt.stdout(),
     );
     // The log holds what was accepted where closing fails to copy it into the file.
@@ -60,7 +61,7 @@ pub fn run_office(rt: &HostRuntime, file: &str) -> Outcome {
 }
 
 /// Serves a connection over the register of a database, and gives the database's connection back.
-pub fn run_ask_over<S: Alter, R: Read, W: Write>(
+pub fn run_ask_over<S: Alter, R: CountedRead, W: Write>(
     alloc: Global,
     connection: Connection<S>,
     reader: &mut R,
@@ -106,7 +107,7 @@ pub fn run_ask(rt: &HostRuntime, file: &str) -> Outcome {
     let (outcome, connection) = run_ask_over(
         rt.alloc(),
         connection,
-        &mut rt.stdin(),
+        &mut Counted::new(rt.stdin()),
         &mut rt.stdout(),
     );
     let _ = connection.close();

@@ -17,7 +17,8 @@ mod land;
 mod listening;
 mod sampling;
 
-use cad_program::{Command, Outcome, read_words, tell};
+use cad_listen::{read_words, tell};
+use cad_program::{Command, Outcome};
 use land::{run_ask, run_office};
 use listening::run_serve;
 use sampling::run_sample;
@@ -26,7 +27,7 @@ use std::process::ExitCode;
 fn run(rt: &HostRuntime) -> Outcome {
     let words = match read_words(rt) {
         Ok(words) => words,
-        Err(outcome) => return outcome,
+        Err(cause) => return Outcome::without_arguments(cause),
     };
     match Command::of_words(&words) {
         Some(Command::Sample) => run_sample(rt),
@@ -39,6 +40,7 @@ fn run(rt: &HostRuntime) -> Outcome {
 
 fn main(rt: HostRuntime) -> ExitCode {
     let outcome = run(&rt);
-    tell(&rt, outcome);
+    // Where that cannot be written, the status alone tells it.
+    let _ = tell(&mut rt.stderr(), outcome.told());
     ExitCode::from(outcome.status())
 }

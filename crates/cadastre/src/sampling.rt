@@ -4,14 +4,15 @@ ghost use Rattle.std.specs.Io.KnownBytes.{IsAtEnd};
 ghost use Rattle.std.specs.Prelude.{◌≡◌};
 ghost use Rattle.cadastre.specs.Sampling.{RunsSample};
 
+use cad_io::{Counted, CountedRead};
 use cad_program::{Outcome, answer_sample};
 use cad_register::{Register, RegisterFault};
 use sqlite::{Alter, Connection};
 use std::alloc::Global;
-use std::io::{Read, Write};
+use std::io::Write;
 
 /// Serves a connection over the sample register, which is made in the database and entered first, and gives the database's connection back.
-pub fn run_sample_over<S: Alter, R: Read, W: Write>(
+pub fn run_sample_over<S: Alter, R: CountedRead, W: Write>(
     alloc: Global,
     connection: Connection<S>,
     reader: &mut R,
@@ -34,6 +35,11 @@ pub fn run_sample(rt: &HostRuntime) -> Outcome {
     let Ok(connection) = Connection::open_in_memory(rt.alloc()) else {
         return Outcome::Register(RegisterFault::Memory);
     };
-    let (outcome, _) = run_sample_over(rt.alloc(), connection, &mut rt.stdin(), &mut rt.stdout());
+    let (outcome, _) = run_sample_over(
+        rt.alloc(),
+        connection,
+        &mut Counted::new(rt.stdin()),
+        &mut rt.stdout(),
+    );
     outcome
 }

@@ -6,28 +6,25 @@ use Rattle.cad_versions.specs.declared.fault.RegisterFault.{RegisterFault}
 use Rattle.cad_register.specs.declared.register.Register.{Register}
 use Rattle.cad_register.specs.Registers.{connection_of}
 use Rattle.cad_register.specs.Opening.{OpenedOrCreated}
+use Rattle.cad_host.specs.declared.doors.Doors.{Doors}
 use Rattle.cad_host.specs.declared.log.Log.{Log}
+use Rattle.cad_host.specs.Doors.{asked_at}
+use Rattle.cad_listen.specs.Statuses.{EndsWithout}
 use Rattle.cad_service.specs.declared.outcome.Outcome.{Outcome}
 use Rattle.cad_service.specs.declared.outcome.Outcome.TheVariants as outcome
 use Rattle.cad_service.specs.Hosting.{HostsOver}
 
--- what standard output holds before and after, and the log
-module _ {S E : Type 0} (g : Ghosts S) (before after : Option (List ℕ)) (quiet told : Log E) where
-  -- no register is had: the run ends for this cause, nothing is told, and the database's connection is given back
-  pub record EndsUnhosted (refused : RegisterFault × Held S) (ended : Outcome × Held S) : Type 0 where
-    pub cause : ended.0 ≡ outcome.Register refused.0
-    pub back : ended.1 ≡ refused.1
-    pub silent : after ≡ before
-    pub unlogged : told ≡ quiet
-
+-- the sockets, what standard output holds before and after, and the log
+module _ {S E : Type 0} (g : Ghosts S) (doors : Doors) (before after : Option (List ℕ)) (quiet told : Log E) where
   -- the register is hosted, and the database's connection is given back
   pub record EndsHosted (register : Register S) (ended : Outcome × Held S) : Type 0 where
     pub left : Register S
-    pub hosts : HostsOver before after register (ended.0, left)
+    pub hosts : HostsOver (asked_at doors) before after register (ended.0, left)
     pub back : ended.1 ≡ connection_of left
 
+  -- no register is had: the run ends for this cause and nothing is told or logged
   abbrev pub HostsFound : Result (Register S) (RegisterFault × Held S) → Outcome × Held S → Type 0
-  HostsFound (Err refused) ended = EndsUnhosted refused ended
+  HostsFound (Err refused) ended = EndsWithout ((after ≡ before) × (told ≡ quiet)) (outcome.Register refused.0) refused.1 ended
   HostsFound (Ok register) ended = EndsHosted register ended
 
   -- hosting over a database: its register is found, or made where none stands, before the address is told

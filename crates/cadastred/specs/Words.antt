@@ -1,25 +1,12 @@
 -- What is told of the program, and how a run ends without a service (own profile).
 use Rattle.std.specs.Prelude.{◌≡◌, ◌++◌, ℕ, ⊤, List, codes, Option, None, Some, Result, Ok, Err}
 use Rattle.std.specs.Io.KnownBytes.{Appends}
-use Rattle.std.specs.declared.io.ErrorKind.{ErrorKind}
-use Rattle.std.specs.declared.io.ErrorKind.TheVariants.{OutOfMemory}
 use Rattle.cad_service.specs.declared.invocation.Service.{Service}
 use Rattle.cad_service.specs.declared.invocation.Invocation.{Invocation}
 use Rattle.cad_service.specs.declared.invocation.Invocation.TheVariants.{Help, Version, Serve}
 use Rattle.cad_service.specs.declared.outcome.Outcome.{Outcome}
 use Rattle.cad_service.specs.declared.outcome.Outcome.TheVariants as outcome
-
--- how a run ends whose command line cannot be had, by the cause
-abbrev pub outcome_without_words : ErrorKind → Outcome
-outcome_without_words OutOfMemory = outcome.Failed
-outcome_without_words cause = outcome.Usage
-
--- it ends so for some cause
-abbrev pub IsWithoutWords : Outcome → Type 0
-IsWithoutWords ended = (cause : ErrorKind) × (ended ≡ outcome_without_words cause)
-
-abbrev pub usage : List ℕ
-usage = codes "usage: cadastred [--log] FILE ADDRESS OFFICE | --help | --version"
+use Rattle.cad_service.specs.Outcomes.{usage}
 
 abbrev pub version : List ℕ
 version = codes "cadastred 0.1.0"

@@ -32,7 +32,7 @@ fn host_register<N: Net + Clock, S: Alter, W: Write, E: Write>(
     writer: &mut W,
     log: &mut Log<E>,
 ) -> (Outcome, Connection<S>)
-    ensures { RunsHost S.Store (W.contents writer.old) (W.contents writer.new) log.old log.new connection result }
+    ensures { RunsHost S.Store doors (W.contents writer.old) (W.contents writer.new) log.old log.new connection result }
 {
     match Register::open_or_create(alloc, connection) {
         Ok(register) => {

@@ -1,7 +1,7 @@
 //! The cadastre feature server for many clients, and the land office, in one process.
 //!
 //! - `land`: clients and the land office, served over a register file
-//! - `words`: the words of the command line, and what is told of the program
+//! - `words`: what is told of the program
 //!
 //! What a command line asks for, the same work over any ledger, and how a run ends stand in `cad_service`.
 //!
@@ -15,15 +15,16 @@
 mod land;
 mod words;
 
-use cad_service::{Invocation, Outcome, tell};
+use cad_listen::{read_words, tell};
+use cad_service::{Invocation, Outcome};
 use land::run_service;
 use std::process::ExitCode;
-use words::{begin, read_words};
+use words::begin;
 
 fn run(rt: &HostRuntime) -> Outcome {
     let words = match read_words(rt) {
         Ok(words) => words,
-        Err(outcome) => return outcome,
+        Err(cause) => return Outcome::without_arguments(cause),
     };
     match begin(Invocation::of_words(&words), &mut rt.stdout()) {
         Ok(service) => run_service(rt, service),
@@ -33,6 +34,7 @@ fn run(rt: &HostRuntime) -> Outcome {
 
 fn main(rt: HostRuntime) -> ExitCode {
     let outcome = run(&rt);
-    tell(&rt, outcome);
+    // Where that cannot be written, the status alone tells it.
+    let _ = tell(&mut rt.stderr(), outcome.told());
     ExitCode::from(outcome.status())
 }

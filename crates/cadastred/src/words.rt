@@ -1,42 +1,12 @@
-//! The words of the command line, and what is told of the program.
+//! What is told of the program.
 
-ghost use Rattle.std.specs.Prelude.{◌≡◌, IfErr};
-ghost use Rattle.cadastred.specs.Words.{outcome_without_words, Begins, IsLine, IsWithoutWords};
+ghost use Rattle.cadastred.specs.Words.{Begins, IsLine};
 
 use cad_service::{HELP, Invocation, Outcome, Service};
-use std::env::args;
-use std::io::{ErrorKind, Write};
-use std::rt::Env;
+use std::io::Write;
 
 /// The program's name and version.
 const VERSION: &str = "cadastred 0.1.0";
-
-/// How a run ends whose command line cannot be had for this cause.
-fn without_words(cause: ErrorKind) -> Outcome
-    ensures { result ≡ outcome_without_words cause }
-{
-    match cause {
-        ErrorKind::OutOfMemory => Outcome::Failed,
-        _ => Outcome::Usage,
-    }
-}
-
-/// The words of the command line, the program's name first, or how the run ends without them.
-pub fn read_words<R: Env + AllocGlobal>(rt: &R) -> Result<Vec<String>, Outcome>
-    ensures { IfErr result IsWithoutWords }
-{
-    let mut words = Vec::new(rt.alloc());
-    let found = match args(rt) {
-        Ok(found) => found,
-        Err(error) => return Err(without_words(error.kind())),
-    };
-    for word in found {
-        if words.push(word).is_err() {
-            return Err(without_words(ErrorKind::OutOfMemory));
-        }
-    }
-    Ok(words)
-}
 
 /// Writes a line.
 fn write_line<W: Write>(writer: &mut W, line: &str) -> Outcome

@@ -4,6 +4,7 @@ use crate::answers::{Memory, refusal};
 use crate::bytes::json_of;
 use crate::lines::{Failure, Served};
 use cad_desk::Desk;
+use cad_io::Counted;
 use cad_serve::{Ending, ServeFault, serve};
 use cad_stream::Responder;
 use std::alloc::{AllocError, Global};
@@ -107,7 +108,7 @@ pub(crate) fn answer_served<R: Responder>(
     let mut writer = writer_of(alloc, served)?;
     let ended = serve(
         alloc,
-        &mut reader_of(served),
+        &mut Counted::new(reader_of(served)),
         &mut writer,
         desk,
         served.number,

@@ -15,6 +15,7 @@ ghost use Rattle.cad_versions.specs.Listing.{IsListing};
 use anyhow::{Result, bail, ensure};
 use cad_feature::flatten;
 use cad_feature_json::feature_json;
+use cad_io::Counted;
 use cad_office::office;
 use cad_plain::PlainLedger;
 use cad_schema::Collection;
@@ -22,7 +23,12 @@ use cad_versions::{Ledger, Version};
 
 fn main(rt: HostRuntime) -> Result<()> {
     let mut ledger = PlainLedger::new(rt.alloc());
-    let ended = office(rt.alloc(), &mut rt.stdin(), &mut rt.stdout(), &mut ledger);
+    let ended = office(
+        rt.alloc(),
+        &mut Counted::new(rt.stdin()),
+        &mut rt.stdout(),
+        &mut ledger,
+    );
     ensure!(ended == Ok(true), "a line was refused");
     let revision = ledger.revision();
     let Ok(versions) = ledger.as_of(revision) else {

@@ -6,13 +6,19 @@
 //! `{"do":"retire","object":99,"last":"2000-01-01"}`, by `refused 2 UnknownObject`.
 #![tactic(auto)]
 
+use cad_io::Counted;
 use cad_office::office;
 use cad_plain::PlainLedger;
 use std::process::ExitCode;
 
 fn main(rt: HostRuntime) -> ExitCode {
     let mut ledger = PlainLedger::new(rt.alloc());
-    let ended = office(rt.alloc(), &mut rt.stdin(), &mut rt.stdout(), &mut ledger);
+    let ended = office(
+        rt.alloc(),
+        &mut Counted::new(rt.stdin()),
+        &mut rt.stdout(),
+        &mut ledger,
+    );
     match ended {
         Ok(_) => ExitCode::from(0),
         Err(fault) => ExitCode::from(fault.number()),

@@ -1,4 +1,4 @@
-use Rattle.std.proofs.Common.{arith}
+use Rattle.std.proofs.Common.{arith, refl}
 use Rattle.cad_serve.proofs.ServeLemmas.{opens_open, begins, turned, turned_open, ended, failed, spent, not_opened}
 use Rattle.cad_serve.proofs.serving.serve.Goals as goal
 
@@ -9,6 +9,7 @@ returns-in-Err-clause-served g c =
 pub loop-turn_count-init : goal.loop-turn_count-init
 loop-turn_count-init g c = record {
   few = omega arith;
+  counted = omega arith;
   is_open = (opens_open g.R.Responder c.args.c c.args.desk.now c.step.new.self c.in_default.field-0 c.in_default.ensures).1;
   turned = begins g.R.Responder c.args.c _ _ c.args.desk.now c.step.new.self c.in_default.field-0 c.in_default.ensures;
 }
@@ -27,8 +28,11 @@ returns-in-Err-turn-clause-served g c =
 pub loop-turn_count-preserved : goal.loop-turn_count-preserved
 loop-turn_count-preserved g c =
     let told = rw c.in-Ok-None.field-0-is at c.in-Ok-None.ensures.turn in
+    let counted = rw c.in-Ok-None.field-0-is at c.in-Ok-None.ensures.counted in
+    let so_far = c.loop-turn_count.invariant.counted in
     record {
       few = omega (arith, c.loop-turn_count-test.true);
+      counted = omega (arith, so_far, counted.1 refl);
       is_open = turned_open g.R.Responder c.args.c _ _ _ _ c.loop-turn_count.desk c.turn.new.desk told;
       turned = turned g.R.Responder c.args.c c.loop-turn_count.turn_count _ _ _ _ _ _ c.args.desk.now c.loop-turn_count.desk c.turn.new.desk c.loop-turn_count.invariant.turned told;
     }

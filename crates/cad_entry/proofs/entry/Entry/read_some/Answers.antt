@@ -1,4 +1,5 @@
-use Rattle.std.proofs.Common.{[], take, refl, inl, inr}
+use Rattle.std.proofs.Common.{[], take, refl, inl, inr, rules}
+use Rattle.std.specs.Io.KnownBytes.{IsAtEnd}
 use Rattle.cad_entry.proofs.TurnLemmas.{last_turn}
 use Rattle.cad_entry.proofs.entry.Entry.read_some.Goals as goal
 
@@ -9,4 +10,5 @@ pub returns-in-Ok-eq0 : goal.returns-in-Ok-eq0
 returns-in-Ok-eq0 g c =
     let consumed = rw c.in-Ok-eq0.field-0-test at c.in-Ok-eq0.ensures.bytes.0 in
     let requires = c.requires in
-    ([], consumed, last_turn g.R.Responder c.args.desk.now c.end_input.new.desk c.args.self.now c.end_input.new.self c.end_input.result c.end_input.ensures.ends requires.nothing_unread requires.nothing_unwritten c.end_input.ensures.line)
+    let end : IsAtEnd (g.I.Read.remaining c.read.new.self) = search rules in
+    ([], consumed, last_turn g.R.Responder _ c.args.desk.now c.end_input.new.desk c.args.self.now c.end_input.new.self c.end_input.result c.end_input.ensures.ends end requires.nothing_unread requires.nothing_unwritten c.end_input.ensures.line)

@@ -2,8 +2,13 @@ use Rattle.std.proofs.Common.{◌<◌, [], length, arith, length-drop}
 use Rattle.std.proofs.KnownBytes.{Appends-nil, Consumes-nil}
 use Rattle.std.proofs.lemmas.List.{drop_all}
 use Rattle.cad_entry.specs.Turns.{unread}
-use Rattle.cad_entry.proofs.TurnLemmas.{fed_turn}
+use Rattle.cad_entry.proofs.TurnLemmas.{fed_turn, unended_turn}
 use Rattle.cad_entry.proofs.entry.Entry.turn.Goals as goal
+
+pub returns-then-self-len : goal.returns-then-self-len
+returns-then-self-len g c =
+    let w = c.write_some.ensures in
+    ([], w.0, Consumes-nil _, w.1, unended_turn g.R.Responder _ c.args.desk.now c.write_some.new.desk c.args.self.now c.write_some.new.self c.write_some.result [] w.0 w.2)
 
 pub returns-then-self-len-2 : goal.returns-then-self-len-2
 returns-then-self-len-2 g c =
@@ -11,4 +16,4 @@ returns-then-self-len-2 g c =
     let written = drop_all entry.output_at entry.output.items (let e = c.len.ensures in let f = c.if-self-len.false in omega (arith, e, f)) in
     let some : 0 < length (unread entry) =
     (let left = length-drop entry.input_at entry.input.items in let e = c.len-2.ensures in let f = c.if-self-len-2.true in omega (arith, left, e, f)) in
-    ([], [], Consumes-nil _, Appends-nil _, fed_turn g.R.Responder c.args.desk.now c.feed_some.new.desk entry c.feed_some.new.self c.feed_some.result c.feed_some.ensures.ends written some c.feed_some.ensures.fed)
+    ([], [], Consumes-nil _, Appends-nil _, fed_turn g.R.Responder _ c.args.desk.now c.feed_some.new.desk entry c.feed_some.new.self c.feed_some.result c.feed_some.ensures.ends written some c.feed_some.ensures.fed)
