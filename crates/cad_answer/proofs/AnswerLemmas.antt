@@ -1,5 +1,5 @@
 -- Answers among the candidates of a plan.
-use Rattle.std.proofs.Common.{◌≡◌, ◌∙◌, ℕ, zero, suc, ◌+◌, ℤ, Bool, true, false, cond, ◌&&◌, List, [], ◌∷◌, filter, get_or, refl, sym, ap, arith, true≢false, Option, Some, None}
+use Rattle.std.proofs.Common.{◌≡◌, ◌∙◌, ℕ, zero, suc, ◌+◌, ◌≤◌, length, ℤ, Bool, true, false, cond, ◌&&◌, List, [], ◌∷◌, filter, get_or, refl, sym, ap, arith, true≢false, Option, Some, None}
 use Rattle.std.specs.Prelude.{if◌then◌else◌, option_map}
 use Rattle.std.specs.List.{All}
 use Rattle.std.proofs.lemmas.List.Elements.{All-tail, All-take, All-filter}
@@ -16,7 +16,11 @@ use Rattle.cad_answer.specs.Answers.{restrictions_of, if_asked, meets_days, meet
 use Rattle.cad_answer.specs.Passing.{meets_form, passes_query}
 use Rattle.cad_answer.specs.Places.{lifespan_of, geometry_of}
 
--- ---- two tests that agree on a list
+one_step : (b : Bool) (m n : ℕ) → m ≤ n → (if b then 1 else (1 + m)) ≤ suc n
+one_step true m n h = omega arith
+one_step false m n h = omega (arith, h)
+
+-- ---- two tests of a list
 
 module _ {X : Type 0} where
   kept_here : (a b : Bool) (x : X) (p : X → Bool) (ys zs : List X) → p x ≡ b → (b ≡ true → a ≡ true) → filter p ys ≡ zs → filter p (cond a (x ∷ ys) ys) ≡ cond b (x ∷ zs) zs
@@ -25,12 +29,24 @@ module _ {X : Type 0} where
   kept_here false true x p ys zs e implies h = absurd (true≢false (sym (implies refl)))
   kept_here false false x p ys zs e implies h = h
 
-  -- what passes the second is among what a third lets through
-  pub kept_within : (p q c : X → Bool) (xs : List X) → All (λ x. p x ≡ q x) xs → All (λ x. q x ≡ true → c x ≡ true) xs → filter p (filter c xs) ≡ filter q xs
-  kept_within p q c [] same covers = refl
-  kept_within p q c (x ∷ xs) same covers =
-      kept_here (c x) (q x) x p (filter c xs) (filter q xs) (same 0 x (omega arith)) (covers 0 x (omega arith))
-      (kept_within p q c xs (All-tail (λ y. p y ≡ q y) x xs same) (All-tail (λ y. q y ≡ true → c y ≡ true) x xs covers))
+  -- what passes is among what another test lets through
+  pub kept_within : (p c : X → Bool) (xs : List X) → All (λ x. p x ≡ true → c x ≡ true) xs → filter p (filter c xs) ≡ filter p xs
+  kept_within p c [] covers = refl
+  kept_within p c (x ∷ xs) covers =
+      kept_here (c x) (p x) x p (filter c xs) (filter p xs) refl (covers 0 x (omega arith))
+      (kept_within p c xs (All-tail (λ y. p y ≡ true → c y ≡ true) x xs covers))
+
+  -- tests that agree keep the same
+  pub kept_alike : (p q : X → Bool) (xs : List X) → All (λ x. p x ≡ q x) xs → filter p xs ≡ filter q xs
+  kept_alike p q [] same = refl
+  kept_alike p q (x ∷ xs) same =
+      ap (λ b. cond b (x ∷ filter p xs) (filter p xs)) (same 0 x (omega arith))
+      ∙ ap (λ ys. cond (q x) (x ∷ ys) ys) (kept_alike p q xs (All-tail (λ y. p y ≡ q y) x xs same))
+
+  pub examined_within : (p : X → Bool) (ys : List X) (n : ℕ) → examined_of p n ys ≤ length ys
+  examined_within p [] n = omega arith
+  examined_within p (y ∷ ys) zero = one_step (p y) (examined_of p 0 ys) (length ys) (examined_within p ys 0)
+  examined_within p (y ∷ ys) (suc n) = omega (arith, examined_within p ys (if p y then n else (suc n)))
 
   pub same_examined : (p q : X → Bool) (ys : List X) → All (λ x. p x ≡ q x) ys → (n : ℕ) → examined_of p n ys ≡ examined_of q n ys
   same_examined p q [] same n = refl

@@ -1,10 +1,16 @@
 -- What holds of pages, whatever is asked.
-use Rattle.std.specs.Prelude.{◌≡◌, ℕ, ℤ, ◌≤◌, ◌<◌, ◌-◌, false, IsTrue, List, [], ◌∷◌, length, slice_get, Option, option_map}
+use Rattle.std.specs.Prelude.{◌≡◌, ℕ, ℤ, ◌≤◌, ◌<◌, ◌-◌, Bool, false, IsTrue, List, [], ◌∷◌, length, slice_get, Option, option_map}
 use Rattle.std.specs.Bool.{MatchBool}
 use Rattle.std.specs.List.{All, flat_map}
 use Rattle.std.specs.List.Sorted.{IsStrictlySortedBy}
+use Rattle.cad_schema.specs.declared.collection.Collection.{Collection}
 use Rattle.cad_feature.specs.Features.{Item, identifier_of, by_identifier}
+use Rattle.cad_lookup.specs.declared.plan.Plan.{Plan}
+use Rattle.cad_lookup.specs.Candidates.{candidates}
+use Rattle.cad_rows.specs.Pages.{examined_of}
 use Rattle.cad_run.specs.Slices.{is_later, later, slice, is_more}
+use Rattle.cad_answer.specs.Answers.{Restrictions, answer}
+use Rattle.cad_answer.specs.Passing.{Covers}
 
 -- the features of a page ascend by identifier, and come after the one that is named
 abbrev pub PagesAscend : Type 0
@@ -33,3 +39,15 @@ abbrev pub WalksAreWhole : Type 0
 WalksAreWhole =
     (limit : ℕ) (xs : List Item) (last : Option (ℤ × ℤ)) (pages : List (List Item)) → 1 ≤ limit → IsStrictlySortedBy by_identifier xs
     → AreWalk limit xs last pages → flat_map (λ page. page) pages ≡ later last xs
+
+-- of the candidates of a plan that covers an answer, those that answer are the answer
+abbrev pub CoveringPlansHaveTheAnswer : Type 0
+CoveringPlansHaveTheAnswer =
+    (p : Plan) (collection : Collection) (asked : Restrictions) (xs : List Item)
+    → Covers p collection asked xs → answer collection asked (candidates p xs) ≡ answer collection asked xs
+
+-- no more are tested for a page than the plan has candidates, which are no more than there are
+abbrev pub ExaminedAreCandidates : Type 0
+ExaminedAreCandidates =
+    (p : Plan) (passes : Item → Bool) (last : Option (ℤ × ℤ)) (limit : ℕ) (xs : List Item)
+    → (examined_of passes limit (later last (candidates p xs)) ≤ length (candidates p xs)) × (length (candidates p xs) ≤ length xs)

@@ -7,7 +7,6 @@ ghost use Rattle.cad_lookup.specs.Candidates.{candidates};
 ghost use Rattle.cad_rows.specs.Pages.{examined_of};
 ghost use Rattle.cad_run.specs.Slices.{later, rows_of, slice, is_more};
 ghost use Rattle.cad_answer.specs.Answers.{after_of, restrictions_of, answer, answers};
-ghost use Rattle.cad_answer.specs.Passing.{Covers};
 ghost use Rattle.cad_answer.specs.Places.{places_of};
 
 use crate::places::Places;
@@ -19,18 +18,18 @@ use std::alloc::{AllocError, Global};
 
 /// The page of the layer's features that the query asks for. An error is want of memory.
 ///
-/// The plan's candidates are looked at one after the other, up to the one that shows that more are left.
+/// The plan's candidates are looked at one after the other, up to the one that shows that more are left. The page shows those
+/// that answer; where the plan covers the answer, these are all (`covering_plans_have_the_answer`).
 pub fn page<'a>(
     alloc: Global,
     plan: &Plan,
     layer: &'a Layer,
     query: PageQuery,
 ) -> Result<Page<'a>, AllocError>
-    requires covers { Covers plan.now layer.now.collection (restrictions_of query) layer.now.features }
     ensures rows { IfOk result (λ page. rows_of page
-        ≡ slice (after_of query.entry) query.entry.limit (answer layer.now.collection (restrictions_of query.entry) layer.now.features)) }
+        ≡ slice (after_of query.entry) query.entry.limit (answer layer.now.collection (restrictions_of query.entry) (candidates plan.now layer.now.features))) }
     ensures more { IfOk result (λ page. page.more
-        ≡ is_more (after_of query.entry) query.entry.limit (answer layer.now.collection (restrictions_of query.entry) layer.now.features)) }
+        ≡ is_more (after_of query.entry) query.entry.limit (answer layer.now.collection (restrictions_of query.entry) (candidates plan.now layer.now.features))) }
     ensures examined { IfOk result (λ page. page.examined
         ≡ examined_of (answers (places_of layer.now.collection) (restrictions_of query.entry)) query.entry.limit (later (after_of query.entry) (candidates plan.now layer.now.features))) }
     ensures features { IfOk result (λ page. All (IsFeatureOf layer.now.collection) (rows_of page)) }

@@ -10,6 +10,7 @@ ghost use Rattle.cad_page.specs.Pages.{restrictions, beginning, rows_in, is_more
 ghost use Rattle.cad_page.specs.Plans.{CoversAnswer, FormStands, IsChosen, examined_in};
 
 use crate::planning::{form_of, plan_asked};
+use cad_answer::laws::covering_plans_have_the_answer;
 use cad_answer::{Condition, Page, PageQuery, Plan, page};
 use cad_ask::Ask;
 use cad_snapshot::Snapshot;
@@ -72,6 +73,7 @@ fn page_where<'a>(
     ensures examined { IfOk result (λ page. page.examined ≡ examined_in plan.now ask.now snapshot.now) }
     ensures features { IfOk result (λ page. All (IsFeatureOf ask.now.collection) (rows_of page)) }
 {
+    covering_plans_have_the_answer();
     let layer = snapshot.layer(ask.collection);
     let page = page(alloc, plan, layer, query(ask, condition))?;
     Ok(page)

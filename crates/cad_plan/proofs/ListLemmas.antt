@@ -1,7 +1,7 @@
 -- Lists of plans that are gathered one by one, and their costs.
 use Rattle.std.proofs.Common.{◌≡◌, ◌∙◌, ap, refl, sym, ℕ, suc, ◌+◌, ◌≤◌, min, Bool, true, false, nat_lt, if◌then◌else◌, List, [], ◌∷◌, ◌++◌, append_assoc, map, filter, length, get_or, drop, add-one, drop-cons, arith, append-nil}
 use Rattle.std.proofs.lemmas.List.{drop_all}
-use Rattle.cad_lookup.specs.Ways.{Way, Counts, cost, least_or, min_of, most, total}
+use Rattle.cad_lookup.specs.Ways.{Way, Counts, cost, min_of, most, total}
 use Rattle.cql_rewrite.specs.Choices.{Costs, after, filter_step, min_moved}
 use Rattle.cql_rewrite.specs.Menus.{is_narrow}
 use Rattle.cad_plan.specs.Gathered.{with_if}
@@ -52,12 +52,6 @@ pub least_next : (least part next whole : ℕ) (left cs : List ℕ) → left ≡
 least_next least part next whole left cs e n h =
     let s : next ≡ min part least = omega (arith, n) in
     ap (λ m. min_of m cs) s ∙ min_moved part least cs ∙ ap (min_of least) (sym e) ∙ h
-
-pub least_begun : (every first : ℕ) (all left : List ℕ) → all ≡ first ∷ left → min_of first left ≡ least_or every all
-least_begun every first all left e = ap (least_or every) (sym e)
-
-pub least_done : (least whole : ℕ) (left : List ℕ) → left ≡ [] → min_of least left ≡ whole → least ≡ whole
-least_done least whole left e h = ap (min_of least) (sym e) ∙ h
 
 -- ---- ways other than all
 

@@ -1,3 +1,4 @@
+pub mod AtomLemmas
 pub mod Covered
 pub mod FoldedLemmas
 pub mod Forms

@@ -1,5 +1,5 @@
 -- The features of which each kind of filter is true, or false, by its parts.
-use Rattle.std.proofs.Common.{List, ◌≡◌, ◌∙◌, ap, sym, refl, ℕ, ℤ, ◌≤◌, Bool, true, false, not, ◌&&◌, Vec, Box, Option, Some, None, option_map, arith}
+use Rattle.std.proofs.Common.{List, ◌≡◌, ◌∙◌, ap, sym, refl, ℕ, ℤ, ◌≤◌, Bool, true, false, not, Vec, Box, Option, Some, None, option_map, arith}
 use Rattle.std.specs.declared.alloc.Global.{Global}
 use Rattle.std.specs.declared.cmp.Ordering.{Ordering}
 use Rattle.std.specs.declared.cmp.Ordering.TheVariants.{Less, Equal, Greater}
@@ -25,9 +25,7 @@ use Rattle.cql_types.specs.declared.filter.DayTerm.{DayTerm}
 use Rattle.cql_truth.specs.Nodes.{sides_Between, sides_InWhole, sides_InText, sides_InDay, sides_CompareWhole, sides_CompareText, sides_CompareDay}
 use Rattle.cql_truth.specs.Sides.{between, equal_to, compared, wholes, texts, days}
 use Rattle.cql_truth.specs.Arithmetic.{whole_in, whole_value}
-use Rattle.cql_truth.specs.Values.{day_in, text_in, text_value, day_value}
-use Rattle.cad_day.specs.Days.{number_of}
-use Rattle.cad_day.specs.declared.day.Day.{Day}
+use Rattle.cql_truth.specs.Values.{text_in, text_value, day_value}
 use Rattle.cql_text.specs.Order.{text_cmp}
 use Rattle.std.proofs.lemmas.Cmp.{int_cmp_total, nat_list_cmp_total}
 use Rattle.std.specs.Ordering.{int_cmp}
@@ -90,20 +88,7 @@ flipped_wholes by a b = flipped int_cmp int_cmp_total.antisymm by a b
 pub flipped_texts : (by : Comparison) (a b : Option (List ℕ)) → compared (texts (turned_of by)) b a ≡ compared (texts by) a b
 flipped_texts by a b = flipped text_cmp nat_list_cmp_total.antisymm by a b
 
-pub flipped_days : (by : Comparison) (a b : Option Day) → compared (days (turned_of by)) b a ≡ compared (days by) a b
-flipped_days by a b = flipped (λ x y. int_cmp (number_of x) (number_of y)) (λ x y. int_cmp_total.antisymm (number_of x) (number_of y)) by a b
-
 -- ---- a property against a constant
-
-pub known_whole : (by : Comparison) (d : Datum) (n : ℤ) → told (option_map (stands by) (order_of d (a_whole n))) ≡ compared (wholes by) (whole_in d) (Some n)
-known_whole by null n = refl
-known_whole by (a_text t) n = refl
-known_whole by (a_whole m) n = refl
-known_whole by (a_flag f) n = refl
-known_whole by (a_day day) n = refl
-known_whole by (a_span days) n = refl
-known_whole by (a_spot p) n = refl
-known_whole by (an_area region) n = refl
 
 pub known_text : (by : Comparison) (d : Datum) (s : List ℕ) → told (option_map (stands by) (order_of d (a_text s))) ≡ compared (texts by) (text_in d) (Some s)
 known_text by null n = refl
@@ -114,16 +99,6 @@ known_text by (a_day day) n = refl
 known_text by (a_span days) n = refl
 known_text by (a_spot p) n = refl
 known_text by (an_area region) n = refl
-
-pub known_day : (by : Comparison) (d : Datum) (e : Day) → told (option_map (stands by) (order_of d (a_day e))) ≡ compared (days by) (day_in d) (Some e)
-known_day by null n = refl
-known_day by (a_text t) n = refl
-known_day by (a_whole m) n = refl
-known_day by (a_flag f) n = refl
-known_day by (a_day day) n = refl
-known_day by (a_span days) n = refl
-known_day by (a_spot p) n = refl
-known_day by (an_area region) n = refl
 
 -- a null operand
 pub null_right : {A : Type 0} (test : A → A → Bool) (a : Option A) → told None ≡ compared test a None

@@ -69,9 +69,6 @@ less_told m n h = grind arith
 less_tells : (m n : ℕ) → m < n → true ≡ nat_lt m n
 less_tells m n h = grind arith
 
-not_less_told : (m n : ℕ) → false ≡ nat_lt m n → n ≤ m
-not_less_told m n h = grind arith
-
 not_less_tells : (m n : ℕ) → n ≤ m → nat_lt m n ≡ false
 not_less_tells m n h = grind arith
 
@@ -158,11 +155,6 @@ narrow_costs counts (w ∷ ws) h = rw (filter_step w ws) (narrow_if counts w (fi
 pub min_of_under : (n : ℕ) (cs : List ℕ) → min_of n cs ≤ n
 min_of_under n [] = omega arith
 min_of_under n (c ∷ cs) = omega (arith, min_of_under n cs)
-
-least_of_narrow : (counts : Counts) (ws : List Way) → EachCosts counts ws → min_of counts.every (map (cost counts) (filter is_narrow ws)) ≤ min_of counts.every (map (cost counts) ws)
-least_of_narrow counts ws h =
-    let m : ℕ = min_of counts.every (map (cost counts) (filter is_narrow ws)) in
-    under_each counts m counts.every ws (min_of_under counts.every (map (cost counts) (filter is_narrow ws))) (min_of_under counts.every (map (cost counts) (filter is_narrow ws))) (omega arith)
 
 none_narrow : (counts : Counts) (ws : List Way) → [] ≡ filter is_narrow ws → first_least counts all_features ws ≡ all_features
 none_narrow counts ws e =

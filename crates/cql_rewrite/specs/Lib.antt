@@ -1,4 +1,5 @@
 pub mod Meets
+pub mod Atoms
 pub mod Terms
 pub mod Costs
 pub mod Menus

@@ -1,13 +1,9 @@
 -- The menu of each kind of form, and the choice of a part.
-use Rattle.std.specs.Prelude.{◌≡◌, ℕ, Bool, true, false, List, [], ◌∷◌, map, filter, ◌++◌, Vec}
-use Rattle.std.proofs.Common.{◌∙◌, ap, refl, sym, String}
-use Rattle.std.specs.Borrow.{Bor}
+use Rattle.std.specs.Prelude.{◌≡◌, true, false, List, [], ◌∷◌, map, filter, ◌++◌, Vec}
+use Rattle.std.proofs.Common.{◌∙◌, ap, refl, sym}
 use Rattle.std.specs.declared.alloc.Global.{Global}
 use Rattle.cad_cells.specs.Blocks.{block_around}
-use Rattle.cad_shape.specs.declared.shape.Shape.{Shape}
 use Rattle.cad_shape.specs.Shapes.{shape_corners}
-use Rattle.cad_feature.specs.declared.range.Range.{Range}
-use Rattle.cql_types.specs.declared.filter.Filter.{Filter}
 use Rattle.cad_lookup.specs.Ways.{Way, all_features, no_feature, near_block, join_of, ways_in, range_way, Counts}
 use Rattle.cql_rewrite.specs.declared.form.Normal.{Normal}
 use Rattle.cql_rewrite.specs.declared.form.Normal.TheVariants as form
@@ -16,24 +12,6 @@ use Rattle.cql_rewrite.specs.declared.form.Normal.TheFolds.{fold-roll-Normal, fo
 use Rattle.cql_rewrite.specs.declared.form.Normal.TheViews.{out-Normal}
 use Rattle.cql_rewrite.specs.Menus.{chosen, is_narrow, meets_of, and_menu, or_menu, menu_step, menu, choice}
 use Rattle.cql_rewrite.specs.Choices.{Costs, EachCosts, all_costs, first_costs}
-
-pub menu_Constant : (counts : Counts) (b : Bool) → menu counts (form.Constant b) ≡ menu_step counts (Normal-F.Constant b)
-menu_Constant counts b = ap (menu counts) (sym (form.rolls-Constant b)) ∙ fold-roll-Normal (List Way) (menu_step counts) (Normal-F.Constant b)
-
-pub menu_Range : (counts : Counts) (r : Range) → menu counts (form.Range r) ≡ all_features ∷ range_way r ∷ []
-menu_Range counts r = ap (menu counts) (sym (form.rolls-Range r)) ∙ fold-roll-Normal (List Way) (menu_step counts) (Normal-F.Range r)
-
-pub menu_Like : (counts : Counts) (pattern : String Global) (r : Range) → menu counts (form.Like pattern r) ≡ all_features ∷ range_way r ∷ []
-menu_Like counts pattern r = ap (menu counts) (sym (form.rolls-Like pattern r)) ∙ fold-roll-Normal (List Way) (menu_step counts) (Normal-F.Like pattern r)
-
-pub menu_Atom : (counts : Counts) (f : Bor Filter) (side : Bool) → menu counts (form.Atom f side) ≡ all_features ∷ []
-menu_Atom counts f side = ap (menu counts) (sym (form.rolls-Atom f side)) ∙ fold-roll-Normal (List Way) (menu_step counts) (Normal-F.Atom f side)
-
-pub menu_Folded : (counts : Counts) (f : Filter) (side : Bool) → menu counts (form.Folded f side) ≡ all_features ∷ []
-menu_Folded counts f side = ap (menu counts) (sym (form.rolls-Folded f side)) ∙ fold-roll-Normal (List Way) (menu_step counts) (Normal-F.Folded f side)
-
-pub menu_Near : (counts : Counts) (f : Bor Filter) (property : ℕ) (shape : Bor Shape) → menu counts (form.Near f property shape) ≡ all_features ∷ near_block property (block_around (shape_corners shape.now)) ∷ []
-menu_Near counts f property shape = ap (menu counts) (sym (form.rolls-Near f property shape)) ∙ fold-roll-Normal (List Way) (menu_step counts) (Normal-F.Near f property shape)
 
 choices_of : (counts : Counts) (ns : List Normal) → map (chosen counts) (map (menu counts) ns) ≡ map (choice counts) ns
 choices_of counts [] = refl

@@ -5,6 +5,7 @@ ghost use Rattle.cad_feature.specs.Features.{Item, datum_at};
 ghost use Rattle.cad_range.specs.Ranges.{lies_in_if_any};
 ghost use Rattle.cql_truth.specs.Arithmetic.{whole_in, whole_value};
 ghost use Rattle.cql_truth.specs.Sides.{between as between_of, sides};
+ghost use Rattle.cql_rewrite.specs.Atoms.{HasPlainAtoms, IsAtom};
 ghost use Rattle.cql_rewrite.specs.Costs.{IsCounted, is_plain_between};
 ghost use Rattle.cql_lexer.specs.declared.token.Comparison.TheVariants.{AtMost};
 ghost use Rattle.cql_rewrite.specs.Meets.{in_side, joined_test, meets, side_of};
@@ -34,6 +35,7 @@ fn literal_between<'a>(value: &WholeTerm, low: &WholeTerm, high: &WholeTerm) -> 
     ensures says { (x : Item) → met_or x result (between_of (whole_value x value.now) (whole_value x low.now) (whole_value x high.now)).yes ≡ (between_of (whole_value x value.now) (whole_value x low.now) (whole_value x high.now)).yes }
     ensures counted { IfSome result IsCounted }
     ensures is_there { is_plain_between value.now low.now high.now ≡ true → is_some result ≡ true }
+    ensures atoms { IfSome result HasPlainAtoms }
 {
     match (value, low, high) {
         (WholeTerm::Property(property), WholeTerm::Constant(a), WholeTerm::Constant(b)) => {
@@ -51,7 +53,8 @@ fn with_most<'a>(
     high: &WholeTerm,
     side: bool,
 ) -> Result<Option<Normal<'a>>, AllocError>
-    ensures { IfOk result (λ o. (x : Item) → met_or x o (joined_test side (meets x least.entry) (side_of side (whole_sides AtMost x value.now high.now))) ≡ joined_test side (meets x least.entry) (side_of side (whole_sides AtMost x value.now high.now))) }
+    ensures stands { IfOk result (λ o. (x : Item) → met_or x o (joined_test side (meets x least.entry) (side_of side (whole_sides AtMost x value.now high.now))) ≡ joined_test side (meets x least.entry) (side_of side (whole_sides AtMost x value.now high.now))) }
+    ensures atoms { IfOk result (λ o. HasPlainAtoms least.entry → IfSome o HasPlainAtoms) }
 {
     let most = match exact_form(alloc, plain_wholes(Comparison::AtMost, value, high), side) {
         Ok(most) => most,
@@ -76,7 +79,8 @@ fn computed_between<'a>(
     high: &WholeTerm,
     side: bool,
 ) -> Result<Option<Normal<'a>>, AllocError>
-    ensures { IfOk result (λ o. (x : Item) → met_or x o (side_of side (between_of (whole_value x value.now) (whole_value x low.now) (whole_value x high.now))) ≡ side_of side (between_of (whole_value x value.now) (whole_value x low.now) (whole_value x high.now))) }
+    ensures stands { IfOk result (λ o. (x : Item) → met_or x o (side_of side (between_of (whole_value x value.now) (whole_value x low.now) (whole_value x high.now))) ≡ side_of side (between_of (whole_value x value.now) (whole_value x low.now) (whole_value x high.now))) }
+    ensures atoms { IfOk result (λ o. IfSome o HasPlainAtoms) }
 {
     let least = exact_form(alloc, plain_wholes(Comparison::AtLeast, value, low), side)?;
     match least {
@@ -99,6 +103,7 @@ pub(crate) fn between<'a>(
 ) -> Result<Normal<'a>, AllocError>
     ensures stands { IfOk result (λ n. (x : Item) → sides x filter.now ≡ between_of (whole_value x value.now) (whole_value x low.now) (whole_value x high.now) → meets x n ≡ in_side side x filter.now) }
     ensures costs { IfOk result (λ n. side ≡ true → is_plain_between value.now low.now high.now ≡ true → IsCounted n) }
+    ensures atoms { IfOk result (λ n. IsAtom filter.now → HasPlainAtoms n) }
 {
     if side {
         if let Some(form) = literal_between(value, low, high) {

@@ -3,6 +3,7 @@
 ghost use Rattle.std.specs.Prelude.{◌≡◌, true, IfOk, IfSome, is_some};
 ghost use Rattle.cad_feature.specs.Features.{Item};
 ghost use Rattle.cql_truth.specs.Sides.{Sides, sides};
+ghost use Rattle.cql_rewrite.specs.Atoms.{HasPlainAtoms, IsAtom};
 ghost use Rattle.cql_rewrite.specs.Costs.{IsCounted};
 ghost use Rattle.cql_rewrite.specs.Meets.{Written, in_side, meets, side_of};
 ghost use Rattle.cql_rewrite.specs.Terms.{is_exact, met_or, plain_sides};
@@ -22,6 +23,7 @@ pub(crate) fn exact_form<'a>(
     ensures stands { IfOk result (λ o. (x : Item) (s : Sides) → plain_sides x plain s ≡ s → met_or x o (side_of side s) ≡ side_of side s) }
     ensures counted { IfOk result (λ o. IfSome o IsCounted) }
     ensures is_there { IfOk result (λ o. side ≡ true → is_exact plain ≡ true → is_some o ≡ true) }
+    ensures atoms { IfOk result (λ o. IfSome o HasPlainAtoms) }
 {
     match plain {
         Plain::Decided(b) => Ok(Some(Normal::Constant(b == side))),
@@ -50,6 +52,7 @@ pub(crate) fn formed<'a>(
 ) -> Result<Normal<'a>, AllocError>
     ensures stands { IfOk result (λ n. (x : Written) → plain_sides x.item plain (sides x.item filter.now) ≡ sides x.item filter.now → meets x.item n ≡ in_side side x.item filter.now) }
     ensures costs { IfOk result (λ n. side ≡ true → is_exact plain ≡ true → IsCounted n) }
+    ensures atoms { IfOk result (λ n. IsAtom filter.now → HasPlainAtoms n) }
 {
     let form = exact_form(alloc, plain, side)?;
     match form {

@@ -1,9 +1,10 @@
 //! Conditions that are kept as they are, with the case of their constants folded beforehand.
 
-ghost use Rattle.std.specs.Prelude.{◌≡◌, IfOk, map};
+ghost use Rattle.std.specs.Prelude.{◌≡◌, IfOk, IfSome, map};
 ghost use Rattle.cad_feature.specs.Features.{Item};
 ghost use Rattle.cql_truth.specs.Sides.{sides};
 ghost use Rattle.cql_truth.specs.Values.{folded_content, text_value};
+ghost use Rattle.cql_rewrite.specs.Atoms.{HasPlainAtoms, IsAtom};
 ghost use Rattle.cql_rewrite.specs.Meets.{in_side, meets};
 ghost use Rattle.cql_rewrite.specs.Terms.{filter_or, in_text_sides, like_sides, text_sides};
 
@@ -90,7 +91,8 @@ fn settled_comparison(
     left: &TextTerm,
     right: &TextTerm,
 ) -> Result<Filter, AllocError>
-    ensures { IfOk result (λ f. (x : Item) → sides x f ≡ text_sides by x left.now right.now) }
+    ensures stands { IfOk result (λ f. (x : Item) → sides x f ≡ text_sides by x left.now right.now) }
+    ensures atom { IfOk result IsAtom }
 {
     let left = settled(alloc, left)?;
     let right = settled(alloc, right)?;
@@ -98,7 +100,8 @@ fn settled_comparison(
 }
 
 fn settled_like(alloc: Global, value: &TextTerm, pattern: &TextTerm) -> Result<Filter, AllocError>
-    ensures { IfOk result (λ f. (x : Item) → sides x f ≡ like_sides x value.now pattern.now) }
+    ensures stands { IfOk result (λ f. (x : Item) → sides x f ≡ like_sides x value.now pattern.now) }
+    ensures atom { IfOk result IsAtom }
 {
     let value = settled(alloc, value)?;
     let pattern = settled(alloc, pattern)?;
@@ -106,7 +109,8 @@ fn settled_like(alloc: Global, value: &TextTerm, pattern: &TextTerm) -> Result<F
 }
 
 fn settled_in(alloc: Global, value: &TextTerm, items: &[TextTerm]) -> Result<Filter, AllocError>
-    ensures { IfOk result (λ f. (x : Item) → sides x f ≡ in_text_sides x value.now items.now) }
+    ensures stands { IfOk result (λ f. (x : Item) → sides x f ≡ in_text_sides x value.now items.now) }
+    ensures atom { IfOk result IsAtom }
 {
     let value = settled(alloc, value)?;
     let items = settled_items(alloc, items)?;
@@ -115,7 +119,8 @@ fn settled_in(alloc: Global, value: &TextTerm, items: &[TextTerm]) -> Result<Fil
 
 // The filter once more, where it folds the case of a constant.
 fn settled_filter(alloc: Global, filter: &Filter) -> Result<Option<Filter>, AllocError>
-    ensures { IfOk result (λ o. (x : Item) → filter_or x o (sides x filter.now) ≡ sides x filter.now) }
+    ensures stands { IfOk result (λ o. (x : Item) → filter_or x o (sides x filter.now) ≡ sides x filter.now) }
+    ensures atom { IfOk result (λ o. IfSome o IsAtom) }
 {
     match filter {
         Filter::CompareText { by, left, right } => {
@@ -149,7 +154,8 @@ pub(crate) fn atom<'a>(
     filter: &'a Filter,
     side: bool,
 ) -> Result<Normal<'a>, AllocError>
-    ensures { IfOk result (λ n. (x : Item) → meets x n ≡ in_side side x filter.now) }
+    ensures stands { IfOk result (λ n. (x : Item) → meets x n ≡ in_side side x filter.now) }
+    ensures atoms { IfOk result (λ n. IsAtom filter.now → HasPlainAtoms n) }
 {
     let settled = settled_filter(alloc, filter)?;
     match settled {

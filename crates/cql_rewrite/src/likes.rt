@@ -1,12 +1,13 @@
 //! The forms of LIKE.
 
-ghost use Rattle.std.specs.Prelude.{◌≡◌, ◌≤◌, List, true, IfOk, option_map};
+ghost use Rattle.std.specs.Prelude.{◌≡◌, ◌≤◌, List, true, IfOk, IfSome, option_map};
 ghost use Rattle.cad_feature.specs.Features.{datum_at};
 ghost use Rattle.cad_feature.specs.Limits.{limit_of};
 ghost use Rattle.cql_text.specs.Fronts.{IsLikeRange, front_of, text_of};
 ghost use Rattle.cql_text.specs.Patterns.{pieces};
 ghost use Rattle.cql_truth.specs.Sides.{sides};
 ghost use Rattle.cql_truth.specs.Values.{text_in};
+ghost use Rattle.cql_rewrite.specs.Atoms.{HasPlainAtoms, IsAtom};
 ghost use Rattle.cql_rewrite.specs.Costs.{begun_by, least, least_or, like_bound};
 ghost use Rattle.cql_rewrite.specs.Meets.{Written, in_side, is_liked, meets};
 ghost use Rattle.cql_rewrite.specs.Terms.{end_limit, like_sides, met_or};
@@ -35,6 +36,7 @@ fn front_form<'a>(property: usize, pattern: String, range: LikeRange) -> Normal<
     requires { IsLikeRange (text_of pattern) (text_of range.low) (option_map text_of range.end) range.is_exact }
     ensures stands { (x : Written) → meets x.item result ≡ is_liked (text_in (datum_at x.item property)) (text_of pattern) }
     ensures costs { (t : List Written) → least t result ≤ begun_by t property (text_of range.low) }
+    ensures atoms { HasPlainAtoms result }
 {
     let is_exact = range.is_exact;
     let range = Range {
@@ -56,6 +58,7 @@ fn property_form<'a>(
 ) -> Result<Option<Normal<'a>>, AllocError>
     ensures stands { IfOk result (λ o. (x : Written) → met_or x.item o (is_liked (text_in (datum_at x.item property)) (text_of pattern)) ≡ is_liked (text_in (datum_at x.item property)) (text_of pattern)) }
     ensures costs { IfOk result (λ o. (t : List Written) → least_or t o ≤ begun_by t property (front_of (pieces (text_of pattern)))) }
+    ensures atoms { IfOk result (λ o. IfSome o HasPlainAtoms) }
 {
     let range = like_range(alloc, pattern.as_str())?;
     if range.low.is_empty() {
@@ -72,6 +75,7 @@ fn like_form<'a>(
 ) -> Result<Option<Normal<'a>>, AllocError>
     ensures stands { IfOk result (λ o. (x : Written) → met_or x.item o (like_sides x.item value.now pattern.now).yes ≡ (like_sides x.item value.now pattern.now).yes) }
     ensures costs { IfOk result (λ o. (t : List Written) → least_or t o ≤ like_bound t value.now pattern.now) }
+    ensures atoms { IfOk result (λ o. IfSome o HasPlainAtoms) }
 {
     match (value, pattern) {
         (TextTerm::Property(property), TextTerm::Constant(pattern)) => {
@@ -102,6 +106,7 @@ fn liked<'a>(
 ) -> Result<Normal<'a>, AllocError>
     ensures stands { IfOk result (λ n. (x : Written) → sides x.item filter.now ≡ like_sides x.item value.now pattern.now → meets x.item n ≡ in_side true x.item filter.now) }
     ensures costs { IfOk result (λ n. (t : List Written) → least t n ≤ like_bound t value.now pattern.now) }
+    ensures atoms { IfOk result (λ n. IsAtom filter.now → HasPlainAtoms n) }
 {
     let form = like_form(alloc, value, pattern)?;
     match form {
@@ -123,6 +128,7 @@ pub(crate) fn likeness<'a>(
 ) -> Result<Normal<'a>, AllocError>
     ensures stands { IfOk result (λ n. (x : Written) → sides x.item filter.now ≡ like_sides x.item value.now pattern.now → meets x.item n ≡ in_side side x.item filter.now) }
     ensures costs { IfOk result (λ n. side ≡ true → (t : List Written) → least t n ≤ like_bound t value.now pattern.now) }
+    ensures atoms { IfOk result (λ n. IsAtom filter.now → HasPlainAtoms n) }
 {
     if side {
         let form = liked(alloc, filter, value, pattern)?;

@@ -4,6 +4,7 @@ ghost use Rattle.std.specs.Prelude.{◌≡◌, ◌<◌, ◌≤◌, ◌&&◌, ◌
 ghost use Rattle.std.specs.List.{list_all, list_any};
 ghost use Rattle.cad_feature.specs.Features.{Item};
 ghost use Rattle.cad_range.specs.Ranges.{lies_in_if_any};
+ghost use Rattle.cql_rewrite.specs.Atoms.{HasPlainAtoms, HavePlainAtoms, KeepsAtoms};
 ghost use Rattle.cql_rewrite.specs.Costs.{CostsAll, CostsBoth, CostsEither, CostsPart, every, least, least_of_all, least_of_some, range_count};
 ghost use Rattle.cql_rewrite.specs.Meets.{AddsAll, AddsBoth, AddsEither, AddsPart, Written, joined_test, meets};
 
@@ -15,6 +16,7 @@ use std::alloc::{AllocError, Global};
 pub(crate) fn add<'a>(parts: &mut Vec<Normal<'a>>, part: Normal<'a>) -> Result<(), AllocError>
     ensures stands { OnOk result (AddsPart parts.old.items parts.new.items part.entry) }
     ensures costs { OnOk result (CostsPart parts.old.items parts.new.items part.entry) }
+    ensures atoms { OnOk result (KeepsAtoms parts.old.items parts.new.items part.entry) }
 {
     match part {
         Normal::And(inner) => {
@@ -31,6 +33,7 @@ pub(crate) fn add<'a>(parts: &mut Vec<Normal<'a>>, part: Normal<'a>) -> Result<(
 fn add_all<'a>(parts: &mut Vec<Normal<'a>>, inner: Vec<Normal<'a>>) -> Result<(), AllocError>
     ensures stands { OnOk result (AddsAll parts.old.items parts.new.items inner.entry.items) }
     ensures costs { OnOk result (CostsAll parts.old.items parts.new.items inner.entry.items) }
+    ensures atoms { OnOk result (HavePlainAtoms parts.old.items → HavePlainAtoms inner.entry.items → HavePlainAtoms parts.new.items) }
 {
     for part in inner {
         add_one(parts, part)?;
@@ -42,6 +45,7 @@ fn add_all<'a>(parts: &mut Vec<Normal<'a>>, inner: Vec<Normal<'a>>) -> Result<()
 fn add_one<'a>(parts: &mut Vec<Normal<'a>>, part: Normal<'a>) -> Result<(), AllocError>
     ensures stands { OnOk result (AddsPart parts.old.items parts.new.items part.entry) }
     ensures costs { OnOk result (CostsPart parts.old.items parts.new.items part.entry) }
+    ensures atoms { OnOk result (KeepsAtoms parts.old.items parts.new.items part.entry) }
 {
     if is_always(&part) {
         drop(part);
@@ -55,6 +59,7 @@ fn add_one<'a>(parts: &mut Vec<Normal<'a>>, part: Normal<'a>) -> Result<(), Allo
 fn add_kept<'a>(parts: &mut Vec<Normal<'a>>, part: Normal<'a>) -> Result<(), AllocError>
     ensures stands { OnOk result (AddsPart parts.old.items parts.new.items part.entry) }
     ensures costs { OnOk result (CostsPart parts.old.items parts.new.items part.entry) }
+    ensures atoms { OnOk result (KeepsAtoms parts.old.items parts.new.items part.entry) }
 {
     match part {
         Normal::Range(range) => {
@@ -72,6 +77,7 @@ fn add_kept<'a>(parts: &mut Vec<Normal<'a>>, part: Normal<'a>) -> Result<(), All
 fn add_range(parts: &mut Vec<Normal>, range: Range) -> Result<(), AllocError>
     ensures stands { OnOk result (AddsPart parts.old.items parts.new.items (Normal.Range range)) }
     ensures costs { OnOk result (CostsPart parts.old.items parts.new.items (Normal.Range range)) }
+    ensures atoms { OnOk result (HavePlainAtoms parts.old.items → HavePlainAtoms parts.new.items) }
 {
     if let Some(place) = place_of(parts, range.property) {
         let old = parts.remove(place);
@@ -91,6 +97,7 @@ fn add_joined<'a>(
 ) -> Result<(), AllocError>
     ensures stands { OnOk result (AddsBoth parts.old.items parts.new.items old.entry (Normal.Range range)) }
     ensures costs { OnOk result (CostsBoth parts.old.items parts.new.items old.entry (Normal.Range range)) }
+    ensures atoms { OnOk result (KeepsAtoms parts.old.items parts.new.items old.entry) }
 {
     match old {
         Normal::Range(old) => {
@@ -108,6 +115,7 @@ fn add_joined<'a>(
 fn add_ranges(parts: &mut Vec<Normal>, old: Range, range: Range) -> Result<(), AllocError>
     ensures stands { OnOk result (AddsBoth parts.old.items parts.new.items (Normal.Range old) (Normal.Range range)) }
     ensures costs { OnOk result (CostsBoth parts.old.items parts.new.items (Normal.Range old) (Normal.Range range)) }
+    ensures atoms { OnOk result (HavePlainAtoms parts.old.items → HavePlainAtoms parts.new.items) }
 {
     if old.property == range.property {
         parts.push(range_or_never(joined(old, range)))?;
@@ -123,6 +131,7 @@ fn add_ranges(parts: &mut Vec<Normal>, old: Range, range: Range) -> Result<(), A
 pub(crate) fn range_or_never<'a>(range: Option<Range>) -> Normal<'a>
     ensures stands { (x : Item) → meets x result ≡ lies_in_if_any x range }
     ensures costs { (t : List Written) → least t result ≡ range_count t range }
+    ensures atoms { HasPlainAtoms result }
 {
     match range {
         None => Normal::Constant(false),
@@ -148,6 +157,7 @@ fn place_of(parts: &[Normal], property: usize) -> Option<usize>
 pub(crate) fn all_of(parts: Vec<Normal<'_>>) -> Normal<'_>
     ensures stands { (x : Item) → meets x result ≡ list_all (meets x) parts.entry.items }
     ensures costs { (t : List Written) → least t result ≤ least_of_all t parts.entry.items }
+    ensures atoms { HavePlainAtoms parts.entry.items → HasPlainAtoms result }
 {
     if has_never(&parts) {
         return Normal::Constant(false);
@@ -170,6 +180,7 @@ pub(crate) fn add_either<'a>(
 ) -> Result<(), AllocError>
     ensures stands { OnOk result (AddsEither parts.old.items parts.new.items part.entry) }
     ensures costs { OnOk result (CostsEither parts.old.items parts.new.items part.entry) }
+    ensures atoms { OnOk result (KeepsAtoms parts.old.items parts.new.items part.entry) }
 {
     if is_never(&part) {
         drop(part);
@@ -183,6 +194,7 @@ pub(crate) fn add_either<'a>(
 pub(crate) fn some_of(parts: Vec<Normal<'_>>) -> Normal<'_>
     ensures stands { (x : Item) → meets x result ≡ list_any (meets x) parts.entry.items }
     ensures costs { (t : List Written) → least t result ≤ least_of_some t parts.entry.items }
+    ensures atoms { HavePlainAtoms parts.entry.items → HasPlainAtoms result }
 {
     if has_always(&parts) {
         return Normal::Constant(true);
@@ -249,6 +261,7 @@ pub fn both<'a>(
 ) -> Result<Normal<'a>, AllocError>
     ensures stands { IfOk result (λ n. (x : Item) → meets x n ≡ (meets x first.entry && meets x second.entry)) }
     ensures costs { IfOk result (λ n. (t : List Written) → least t n ≤ min (least t first.entry) (least t second.entry)) }
+    ensures atoms { IfOk result (λ n. HasPlainAtoms first.entry → HasPlainAtoms second.entry → HasPlainAtoms n) }
 {
     let mut parts = Vec::new(alloc);
     if let Err(error) = add(&mut parts, first) {
@@ -264,7 +277,8 @@ fn either<'a>(
     first: Normal<'a>,
     second: Normal<'a>,
 ) -> Result<Normal<'a>, AllocError>
-    ensures { IfOk result (λ n. (x : Item) → meets x n ≡ (meets x first.entry || meets x second.entry)) }
+    ensures stands { IfOk result (λ n. (x : Item) → meets x n ≡ (meets x first.entry || meets x second.entry)) }
+    ensures atoms { IfOk result (λ n. HasPlainAtoms first.entry → HasPlainAtoms second.entry → HasPlainAtoms n) }
 {
     let mut parts = Vec::new(alloc);
     if let Err(error) = add_either(&mut parts, first) {
@@ -282,7 +296,8 @@ pub(crate) fn pair<'a>(
     second: Normal<'a>,
     all: bool,
 ) -> Result<Normal<'a>, AllocError>
-    ensures { IfOk result (λ n. (x : Item) → meets x n ≡ joined_test all (meets x first.entry) (meets x second.entry)) }
+    ensures stands { IfOk result (λ n. (x : Item) → meets x n ≡ joined_test all (meets x first.entry) (meets x second.entry)) }
+    ensures atoms { IfOk result (λ n. HasPlainAtoms first.entry → HasPlainAtoms second.entry → HasPlainAtoms n) }
 {
     if all {
         let form = both(alloc, first, second)?;

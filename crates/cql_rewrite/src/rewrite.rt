@@ -2,6 +2,7 @@
 
 ghost use Rattle.std.specs.Prelude.{◌≡◌, ◌≤◌, List, IfOk};
 ghost use Rattle.cql_truth.specs.Sides.{yes};
+ghost use Rattle.cql_rewrite.specs.Atoms.{HasPlainAtoms};
 ghost use Rattle.cql_rewrite.specs.Costs.{bound, bound_on, bounds_joined, least};
 ghost use Rattle.cql_rewrite.specs.Meets.{Written, in_side, joined_by, meets};
 
@@ -21,6 +22,7 @@ use std::alloc::{AllocError, Global};
 pub fn normal(alloc: Global, filter: &Filter) -> Result<Normal<'_>, AllocError>
     ensures stands { IfOk result (λ n. (x : Written) → meets x.item n ≡ yes filter.now x.item) }
     ensures costs { IfOk result (λ n. (t : List Written) → least t n ≤ bound t filter.now) }
+    ensures atoms { IfOk result HasPlainAtoms }
 {
     let form = normal_side(alloc, filter, true)?;
     Ok(form)
@@ -31,6 +33,7 @@ pub fn normal(alloc: Global, filter: &Filter) -> Result<Normal<'_>, AllocError>
 fn normal_side(alloc: Global, filter: &Filter, side: bool) -> Result<Normal<'_>, AllocError>
     ensures stands { IfOk result (λ n. (x : Written) → meets x.item n ≡ in_side side x.item filter.now) }
     ensures costs { IfOk result (λ n. (t : List Written) → least t n ≤ bound_on side t filter.now) }
+    ensures atoms { IfOk result HasPlainAtoms }
 {
     match filter {
         Filter::Truth(b) => Ok(Normal::Constant(*b == side)),
@@ -97,6 +100,7 @@ fn normal_parts(
 ) -> Result<Normal<'_>, AllocError>
     ensures stands { IfOk result (λ n. (x : Written) → meets x.item n ≡ joined_by all (in_side side x.item) parts.now) }
     ensures costs { IfOk result (λ n. (t : List Written) → least t n ≤ bounds_joined all side t parts.now) }
+    ensures atoms { IfOk result HasPlainAtoms }
 {
     if all {
         let mut forms = Vec::new(alloc);

@@ -3,6 +3,7 @@
 ghost use Rattle.std.specs.Prelude.{◌≡◌, ◌≤◌, List, true};
 ghost use Rattle.cad_feature.specs.Features.{Item};
 ghost use Rattle.cql_types.specs.declared.filter.Filter.TheVariants.{Spatial};
+ghost use Rattle.cql_rewrite.specs.Atoms.{HasPlainAtoms};
 ghost use Rattle.cql_rewrite.specs.Costs.{is_near_by, least, near_bound, near_terms};
 ghost use Rattle.cql_rewrite.specs.Meets.{Written, in_side, meets};
 
@@ -31,6 +32,7 @@ fn near<'a>(
     requires near { is_near_by by ≡ true }
     ensures stands { (x : Item) → meets x result ≡ in_side true x filter.now }
     ensures costs { (t : List Written) → least t result ≤ near_terms t left.now right.now }
+    ensures atoms { HasPlainAtoms result }
 {
     spatial_is_near();
     match (left, right) {
@@ -60,6 +62,7 @@ pub(crate) fn spatial<'a>(
     requires { filter.now ≡ Spatial by left.now right.now }
     ensures stands { (x : Item) → meets x result ≡ in_side side x filter.now }
     ensures costs { side ≡ true → (t : List Written) → least t result ≤ near_bound t by left.now right.now }
+    ensures atoms { HasPlainAtoms result }
 {
     if side && is_near(by) {
         return near(filter, by, left, right);

@@ -6,7 +6,7 @@ use Rattle.cad_run.specs.Slices.{is_later, later, slice, is_more}
 use Rattle.cad_answer.specs.Answers.{after_of, restrictions_of, answers}
 use Rattle.cad_answer.specs.Passing.{passes_query}
 use Rattle.cad_answer.specs.Places.{places_of}
-use Rattle.cad_answer.proofs.AnswerLemmas.{all_rows, kept_within, passes_each, same_examined}
+use Rattle.cad_answer.proofs.AnswerLemmas.{all_rows, kept_alike, passes_each, same_examined}
 use Rattle.cad_answer.proofs.paging.page.Goals as goal
 
 pub returns-clause-rows : goal.returns-clause-rows
@@ -14,20 +14,24 @@ returns-clause-rows c =
     let layer = c.args.layer.now in
     let query = c.args.query in
     let same = c.of.ensures ∙ ap places_of c.collection-collection.ensures.collection in
+    let agrees = λ (x : Item). passes_query c.of.result query x ≡ answers (places_of layer.collection) (restrictions_of query) x in
     c.in_ok-page.ensures.rows
     ∙ ap (slice (after_of query) query.limit)
-    (kept_within (passes_query c.of.result query) (answers (places_of layer.collection) (restrictions_of query)) (is_candidate c.args.plan.now) layer.features
-    (passes_each c.collection-collection.result (places_of layer.collection) c.of.result query layer.features c.features_are_written.ensures c.collection-collection.ensures.listed same) c.requires.covers)
+    (kept_alike (passes_query c.of.result query) (answers (places_of layer.collection) (restrictions_of query)) (candidates c.args.plan.now layer.features)
+    (All-filter (is_candidate c.args.plan.now) agrees layer.features
+    (passes_each c.collection-collection.result (places_of layer.collection) c.of.result query layer.features c.features_are_written.ensures c.collection-collection.ensures.listed same)))
 
 pub returns-clause-more : goal.returns-clause-more
 returns-clause-more c =
     let layer = c.args.layer.now in
     let query = c.args.query in
     let same = c.of.ensures ∙ ap places_of c.collection-collection.ensures.collection in
+    let agrees = λ (x : Item). passes_query c.of.result query x ≡ answers (places_of layer.collection) (restrictions_of query) x in
     c.in_ok-page.ensures.more
     ∙ ap (is_more (after_of query) query.limit)
-    (kept_within (passes_query c.of.result query) (answers (places_of layer.collection) (restrictions_of query)) (is_candidate c.args.plan.now) layer.features
-    (passes_each c.collection-collection.result (places_of layer.collection) c.of.result query layer.features c.features_are_written.ensures c.collection-collection.ensures.listed same) c.requires.covers)
+    (kept_alike (passes_query c.of.result query) (answers (places_of layer.collection) (restrictions_of query)) (candidates c.args.plan.now layer.features)
+    (All-filter (is_candidate c.args.plan.now) agrees layer.features
+    (passes_each c.collection-collection.result (places_of layer.collection) c.of.result query layer.features c.features_are_written.ensures c.collection-collection.ensures.listed same)))
 
 pub returns-clause-examined : goal.returns-clause-examined
 returns-clause-examined c =

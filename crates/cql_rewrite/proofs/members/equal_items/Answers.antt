@@ -21,6 +21,7 @@ loop-item-preserved g c =
     record {
       stands = λ x. any_next equal value x old new form item items i c.loop-item-test.true c.item-item.is (c.in_ok-add_either-in-Some.ensures.stands x) (same x) (c.loop-item.invariant.stands x);
       costs = λ t. sum_next equal value t old new form item items i c.loop-item-test.true c.item-item.is (c.in_ok-add_either-in-Some.ensures.costs t) (one_costs equal value t form item counted same) (c.loop-item.invariant.costs t);
+      atoms = c.in_ok-add_either-in-Some.ensures.atoms c.loop-item.invariant.atoms (rw c.in-Some.is at c.in_ok-form.ensures.atoms);
     }
 
 pub returns-clause-stands : goal.returns-clause-stands

@@ -9,4 +9,5 @@ pub returns-then-is_always : goal.returns-then-is_always
 returns-then-is_always c = record {
   stands = λ x. added_always x c.args.part (list_all (meets x) c.args.parts.now.items) (c.if-is_always.ensures refl);
   costs = λ t. always_costs t c.args.parts.now.items c.args.part (c.if-is_always.ensures refl);
+  atoms = λ h k. h;
 }

@@ -1,8 +1,10 @@
-use Rattle.std.proofs.Common.{refl, arith}
+use Rattle.std.proofs.Common.{◌∙◌, ap, refl, arith}
 use Rattle.std.proofs.lemmas.Grind.{common_steps}
 use Rattle.cql_truth.specs.Nodes.{sides_Between, sides_Like, sides_CompareWhole, sides_CompareText, sides_CompareDay}
 use Rattle.cql_rewrite.proofs.Least.{and_next, and_done, or_next}
 use Rattle.cql_rewrite.proofs.Turns.{turns_And, turns_Not, turns_Or, whole_costs, text_costs, day_costs, between_costs, near_costs, not_costs, and_costs, or_costs, like_costs, whole_members, text_members, day_members, whole_members_cost, text_members_cost, day_members_cost}
+use Rattle.cql_rewrite.specs.Atoms.{is_atom}
+use Rattle.cql_rewrite.proofs.AtomLemmas.{atom_Between, atom_CompareDay, atom_CompareText, atom_CompareWhole, atom_InDay, atom_InText, atom_InWhole, atom_Like}
 use Rattle.cql_rewrite.proofs.rewrite.+rewrite.Goals as goal
 
 pub normal_parts-loop-part-preserved : goal.normal_parts-loop-part-preserved
@@ -10,6 +12,7 @@ normal_parts-loop-part-preserved m c = record {
   stands = λ x. grind (arith, common_steps, c.loop-part.invariant.stands x, c.in_ok-form.ensures.stands x, c.in_ok-add.ensures.stands x.item);
   costs = λ t. and_next c.args.side t c.loop-part.forms.items c.add.new.parts.items c.in_ok-form.form c.part-item.result c.args.parts.now c.loop-part.part-index c.loop-part-test.true c.part-item.is
       (c.in_ok-add.ensures.costs t) (c.in_ok-form.ensures.costs t) (c.loop-part.invariant.costs t);
+  atoms = c.in_ok-add.ensures.atoms c.loop-part.invariant.atoms c.in_ok-form.ensures.atoms;
 }
 
 pub normal_parts-loop-part-else-all-preserved : goal.normal_parts-loop-part-else-all-preserved
@@ -17,6 +20,7 @@ normal_parts-loop-part-else-all-preserved m c = record {
   stands = λ x. grind (arith, common_steps, c.loop-part-else-all.invariant.stands x, c.in_ok-form-2.ensures.stands x, c.in_ok-add_either.ensures.stands x.item);
   costs = λ t. or_next c.args.side t c.loop-part-else-all.forms.items c.add_either.new.parts.items c.in_ok-form-2.form c.part-item-in-loop-part-else-all.result c.args.parts.now c.loop-part-else-all.part-index c.loop-part-else-all-test.true c.part-item-in-loop-part-else-all.is
       (c.in_ok-add_either.ensures.costs t) (c.in_ok-form-2.ensures.costs t) (c.loop-part-else-all.invariant.costs t);
+  atoms = c.in_ok-add_either.ensures.atoms c.loop-part-else-all.invariant.atoms c.in_ok-form-2.ensures.atoms;
 }
 
 pub normal_parts-returns-after-loop-part-clause-stands : goal.normal_parts-returns-after-loop-part-clause-stands
@@ -135,3 +139,27 @@ pub normal_side-returns-in_ok-form-in-Like-clause-costs : goal.normal_side-retur
 normal_side-returns-in_ok-form-in-Like-clause-costs m c = λ t.
     let k = c.in-Like in
     like_costs c.args.side t c.in_ok-form-in-Like.form c.args.filter.now k.value k.pattern k.is (λ e. c.in_ok-form-in-Like.ensures.costs e t)
+
+pub normal_side-returns-in_ok-form-in-CompareWhole-clause-atoms : goal.normal_side-returns-in_ok-form-in-CompareWhole-clause-atoms
+normal_side-returns-in_ok-form-in-CompareWhole-clause-atoms m c = let k = c.in-CompareWhole in c.in_ok-form-in-CompareWhole.ensures.atoms (ap is_atom k.is ∙ atom_CompareWhole k.by k.left k.right)
+
+pub normal_side-returns-in_ok-form-in-CompareText-clause-atoms : goal.normal_side-returns-in_ok-form-in-CompareText-clause-atoms
+normal_side-returns-in_ok-form-in-CompareText-clause-atoms m c = let k = c.in-CompareText in c.in_ok-form-in-CompareText.ensures.atoms (ap is_atom k.is ∙ atom_CompareText k.by k.left k.right)
+
+pub normal_side-returns-in_ok-form-in-CompareDay-clause-atoms : goal.normal_side-returns-in_ok-form-in-CompareDay-clause-atoms
+normal_side-returns-in_ok-form-in-CompareDay-clause-atoms m c = let k = c.in-CompareDay in c.in_ok-form-in-CompareDay.ensures.atoms (ap is_atom k.is ∙ atom_CompareDay k.by k.left k.right)
+
+pub normal_side-returns-in_ok-form-in-Between-clause-atoms : goal.normal_side-returns-in_ok-form-in-Between-clause-atoms
+normal_side-returns-in_ok-form-in-Between-clause-atoms m c = let k = c.in-Between in c.in_ok-form-in-Between.ensures.atoms (ap is_atom k.is ∙ atom_Between k.value k.low k.high)
+
+pub normal_side-returns-in_ok-form-in-InWhole-clause-atoms : goal.normal_side-returns-in_ok-form-in-InWhole-clause-atoms
+normal_side-returns-in_ok-form-in-InWhole-clause-atoms m c = let k = c.in-InWhole in c.in_ok-form-in-InWhole.ensures.atoms (ap is_atom k.is ∙ atom_InWhole k.value k.items)
+
+pub normal_side-returns-in_ok-form-in-InText-clause-atoms : goal.normal_side-returns-in_ok-form-in-InText-clause-atoms
+normal_side-returns-in_ok-form-in-InText-clause-atoms m c = let k = c.in-InText in c.in_ok-form-in-InText.ensures.atoms (ap is_atom k.is ∙ atom_InText k.value k.items)
+
+pub normal_side-returns-in_ok-form-in-InDay-clause-atoms : goal.normal_side-returns-in_ok-form-in-InDay-clause-atoms
+normal_side-returns-in_ok-form-in-InDay-clause-atoms m c = let k = c.in-InDay in c.in_ok-form-in-InDay.ensures.atoms (ap is_atom k.is ∙ atom_InDay k.value k.items)
+
+pub normal_side-returns-in_ok-form-in-Like-clause-atoms : goal.normal_side-returns-in_ok-form-in-Like-clause-atoms
+normal_side-returns-in_ok-form-in-Like-clause-atoms m c = let k = c.in-Like in c.in_ok-form-in-Like.ensures.atoms (ap is_atom k.is ∙ atom_Like k.value k.pattern)

@@ -7,6 +7,8 @@ use Rattle.cql_types.specs.declared.filter.ShapeTerm.TheVariants as place
 use Rattle.cql_truth.specs.Sides.{yes}
 use Rattle.cql_rewrite.specs.Meets.{in_side}
 use Rattle.cql_rewrite.proofs.Forms.{meets_Near, told_by_second}
+use Rattle.cql_rewrite.specs.Atoms.{is_atom}
+use Rattle.cql_rewrite.proofs.AtomLemmas.{atom_Spatial, plain_Near}
 use Rattle.cql_rewrite.proofs.spatial.near.Goals as goal
 
 pub returns-in-Property-Constant-clause-stands : goal.returns-in-Property-Constant-clause-stands
@@ -24,3 +26,9 @@ returns-in-Constant-Property-clause-stands c = λ x.
     meets_Near x c.args.filter k.property _
     ∙ told_by_second (is_near k.property (block_around (shape_corners k.shape)) x) (in_side true x c.args.filter.now)
     (λ h. (c.spatial_is_near.ensures x c.args.by k.property k.shape c.requires.near).1 (ap (λ f. yes f x) (sym e) ∙ h))
+
+pub returns-in-Property-Constant-clause-atoms : goal.returns-in-Property-Constant-clause-atoms
+returns-in-Property-Constant-clause-atoms c = plain_Near c.args.filter c.in-Property-Constant.property _ ∙ ap is_atom c.requires.filter ∙ atom_Spatial c.args.by c.args.left.now c.args.right.now
+
+pub returns-in-Constant-Property-clause-atoms : goal.returns-in-Constant-Property-clause-atoms
+returns-in-Constant-Property-clause-atoms c = plain_Near c.args.filter c.in-Constant-Property.property _ ∙ ap is_atom c.requires.filter ∙ atom_Spatial c.args.by c.args.left.now c.args.right.now
