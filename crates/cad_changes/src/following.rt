@@ -31,6 +31,6 @@ pub fn features_after(
         → after.features ≡ features_in (as_of (length commands + 1) (commands ++ command.now ∷ [])) features.now.collection) }
 {
     let touched = touched(alloc, command, features, units, parties)?;
-    let after = features.with(alloc, &touched)?;
+    let after = features.with(alloc, touched)?;
     Ok(after)
 }

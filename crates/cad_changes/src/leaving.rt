@@ -16,7 +16,7 @@ use crate::edits::{NewValues, edited};
 use crate::reading::{first_of, last_of, party_of, unit_of};
 use cad_day::Day;
 use cad_feature::{Feature, Value};
-use cad_merged::{Layer, merge};
+use cad_merged::{Layer, as_changes, merge};
 use cad_run::{Candidates, FeatureSource, Plan};
 use cad_schema::Collection;
 use cad_versions::{Command, ObjectId};
@@ -272,6 +272,7 @@ pub(crate) fn features_left(
     let name = name_after(command)?;
     let own = own_left(alloc, command, &name, features)?;
     let named = named_left(alloc, command, &name, features)?;
-    let all = merge(alloc, &own, &named)?;
+    let others = as_changes(alloc, named)?;
+    let all = merge(alloc, &own, &others)?;
     Ok(all)
 }

@@ -15,7 +15,7 @@ ghost use Rattle.cad_changes.specs.Touching.{items_touched};
 use crate::adding::{are_listed, feature_added};
 use crate::leaving::features_left;
 use cad_feature::Feature;
-use cad_merged::{Layer, merge};
+use cad_merged::{Layer, as_changes, merge};
 use cad_versions::Command;
 use std::alloc::{AllocError, Global};
 
@@ -33,7 +33,8 @@ fn with_added(
     };
     let mut one = Vec::new(alloc);
     one.push(feature)?;
-    merge(alloc, &features, &one)
+    let change = as_changes(alloc, one)?;
+    merge(alloc, &features, &change)
 }
 
 /// The features of a collection that are new after the command, or may be others than before: told by the features of the

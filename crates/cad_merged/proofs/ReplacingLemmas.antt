@@ -58,6 +58,10 @@ pub all_looked_for : (base changes : List Item) (i : ℕ) (positions : List ℕ)
 all_looked_for base changes i positions h so_far =
     sym (append-nil (standing_at base positions)) ∙ ap (λ cs. standing_at base positions ++ map Some (replaced_in by_identifier base cs)) (sym (drop_all i changes h)) ∙ so_far
 
+-- no change stands anywhere
+pub none_stand : (base changes : List Item) (positions : List ℕ) → changes ≡ [] → positions ≡ [] → StandAt base positions (replaced_in by_identifier base changes)
+none_stand base changes positions no_changes none = rw (no_changes, none) refl
+
 -- the same of lists that are they
 pub stand_as : (base shared changes more : List Item) (positions : List ℕ) → shared ≡ base → more ≡ changes → StandAt shared positions (replaced_in by_identifier shared more) → StandAt base positions (replaced_in by_identifier base changes)
 stand_as base shared changes more positions is_base is_changes stand = rw (← is_base, ← is_changes) stand

@@ -1,5 +1,5 @@
 -- Features are ordered totally by their identifiers.
-use Rattle.std.proofs.Common.{◌≡◌, List, ◌∷◌, subst}
+use Rattle.std.proofs.Common.{◌≡◌, ◌∙◌, List, ◌∷◌, ap, subst, sym}
 use Rattle.std.specs.Cmp.{IsTotalOrder}
 use Rattle.std.proofs.lemmas.Cmp.{on_total}
 use Rattle.cad_versions.specs.OrderLemmas.{identifiers_total}
@@ -13,3 +13,7 @@ items_total = on_total identifier_of identifiers_total
 pub rest_rises : (x : Item) (xs ys : List Item) → ys ≡ x ∷ xs → IsStrictlySortedBy by_identifier ys → IsStrictlySortedBy by_identifier xs
 unfolding IsStrictlySortedBy
 rest_rises x xs ys e up = (subst (IsStrictlySortedBy by_identifier) e up).1
+
+-- the same front, of a feature that is it
+pub front_as : (xs rest : List Item) (x y : Item) → xs ≡ x ∷ rest → y ≡ x → xs ≡ y ∷ rest
+front_as xs rest x y e same = e ∙ ap (λ z. z ∷ rest) (sym same)

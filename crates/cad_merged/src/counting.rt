@@ -6,16 +6,17 @@ ghost use Rattle.cad_lookup.specs.Ways.{how_many};
 ghost use Rattle.cad_merged.specs.Replaced.{StandAt, passes_at as passes_at_of, replaced_in};
 ghost use Rattle.cad_merged.specs.Walks.{all_in, IsInOrder};
 
+use crate::Change;
 use crate::criterion::Criterion;
 use cad_feature::Feature;
 
-/// How many of the features meet the criterion.
-fn count_passing<T: Criterion>(features: &[Feature], criterion: &T) -> u64
-    ensures { result ≡ count_by (T.passes criterion.now) features.now }
+/// How many of the changes meet the criterion.
+fn count_passing<T: Criterion>(changes: &[Change], criterion: &T) -> u64
+    ensures { result ≡ count_by (T.passes criterion.now) changes.now }
 {
-    features
+    changes
         .iter()
-        .filter(|feature| criterion.is_met_by(feature))
+        .filter(|change| criterion.is_met_by(change.feature()))
         .count() as u64
 }
 
@@ -44,7 +45,7 @@ fn count_passing_at<T: Criterion>(features: &[Feature], positions: &[u32], crite
 pub(crate) fn count_merged<T: Criterion>(
     of_base: u64,
     base: &[Feature],
-    changes: &[Feature],
+    changes: &[Change],
     replaced: &[u32],
     criterion: &T,
 ) -> u64

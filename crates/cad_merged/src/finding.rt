@@ -7,6 +7,8 @@ ghost use Rattle.cad_feature.specs.Features.{by_identifier};
 ghost use Rattle.cad_merged.specs.Identifiers.{identifier, compared, comes_after as is_after, after, of_object, IsTheOne};
 ghost use Rattle.cad_merged.specs.Walks.{all_in, IsInOrder};
 
+use crate::Change;
+use crate::changed::changed;
 use cad_feature::Feature;
 use cad_versions::ObjectId;
 use std::cmp::Ordering;
@@ -61,14 +63,14 @@ fn found(features: &[Feature], object: ObjectId, number: u32) -> Option<&Feature
 /// The feature of the base with the changes that has that identifier.
 pub fn find<'a>(
     base: &'a [Feature],
-    changes: &'a [Feature],
+    changes: &'a [Change],
     object: ObjectId,
     number: u32,
 ) -> Option<&'a Feature>
     requires { IsInOrder base.now changes.now }
     ensures { IsTheOne (identifier object number) (all_in base.now changes.now) (option_copied result) }
 {
-    match found(changes, object, number) {
+    match changed(changes, object, number) {
         Some(feature) => Some(feature),
         None => found(base, object, number),
     }

@@ -1,13 +1,15 @@
 //! The features of one collection at one revision of several.
 
-ghost use Rattle.std.specs.Prelude.{◌≡◌};
+ghost use Rattle.std.specs.Prelude.{◌≡◌, IfOk};
 
-use crate::Walk;
+use crate::adding::with_later;
+use crate::change::as_changes;
 use crate::counting::count_merged;
 use crate::criterion::{InRange, NearCells};
 use crate::finding::find;
 use crate::merging::merge;
 use crate::replacing::replaced_by;
+use crate::{Change, Walk};
 use cad_feature::{Feature, Range};
 use cad_index::Base;
 use cad_schema::Collection;
@@ -27,8 +29,8 @@ const MOST_FEATURES: usize = 4_294_967_295;
 #[derive(Drop)]
 pub struct Layer {
     base: Rc<Base>,
-    changes: Vec<Feature>,
-    replaced: Vec<u32>,
+    changes: Rc<Vec<Change>>,
+    replaced: Rc<Vec<u32>>,
 }
 
 /// What is shared.
@@ -36,6 +38,25 @@ fn shared(base: &Rc<Base>) -> &Base
     ensures { result.now ≡ base.now.value }
 {
     base
+}
+
+fn share<T: Drop>(alloc: Global, list: Vec<T>) -> Result<Rc<Vec<T>>, AllocError>
+    ensures { IfOk result (λ shared. shared.value.items ≡ list.items) }
+{
+    let shared = Rc::new(alloc, list)?;
+    Ok(shared)
+}
+
+fn listed(changes: &Rc<Vec<Change>>) -> &[Change]
+    ensures { result.now ≡ changes.now.value.items }
+{
+    changes.as_ref().as_slice()
+}
+
+fn positions(replaced: &Rc<Vec<u32>>) -> &[u32]
+    ensures { result.now ≡ replaced.now.value.items }
+{
+    replaced.as_ref().as_slice()
 }
 
 impl Model for Layer {
@@ -46,9 +67,9 @@ impl Model for Layer {
 
     ghost Value = { LayerFeatures };
 
-    ghost view = { λ l. record { collection = l.base.value.collection; features = all_in l.base.value.features l.changes.items } };
+    ghost view = { λ l. record { collection = l.base.value.collection; features = all_in l.base.value.features l.changes.value.items } };
 
-    ghost invariant = { λ l. AreFeaturesOf l.base.value.collection l.base.value.features × AreFeaturesOf l.base.value.collection l.changes.items × StandAt l.base.value.features l.replaced.items (replaced_in by_identifier l.base.value.features l.changes.items) };
+    ghost invariant = { λ l. AreFeaturesOf l.base.value.collection l.base.value.features × AreFeaturesOf l.base.value.collection l.changes.value.items × StandAt l.base.value.features l.replaced.value.items (replaced_in by_identifier l.base.value.features l.changes.value.items) };
 }
 
 impl Layer {
@@ -73,10 +94,14 @@ impl Layer {
     {
         let base = Base::build(alloc, features, collection)?;
         let base = Rc::new(alloc, base)?;
+        let changes = Vec::new(alloc);
+        let changes = share(alloc, changes)?;
+        let replaced = Vec::new(alloc);
+        let replaced = share(alloc, replaced)?;
         Ok(Layer {
             base,
-            changes: Vec::new(alloc),
-            replaced: Vec::new(alloc),
+            changes,
+            replaced,
         })
     }
 
@@ -89,22 +114,29 @@ impl Layer {
     }
 
     /// The base, and the changes to it by object and number.
-    pub fn parts(&self) -> (&Base, &[Feature])
+    pub fn parts(&self) -> (&Base, &[Change])
         ensures collection { result.0.now.collection ≡ self.now.collection }
         ensures all { all_in result.0.now.features result.1.now ≡ self.now.features }
         ensures order { IsInOrder result.0.now.features result.1.now }
     {
-        (shared(&self.base), &self.changes)
+        (shared(&self.base), listed(&self.changes))
     }
 
-    /// The same features with these merged into them, over the same base. An error is want of memory.
-    pub fn with(&self, alloc: Global, touched: &[Feature]) -> Result<Layer, AllocError>
-        requires { AreFeaturesOf self.now.collection touched.now }
-        ensures { IfOk result (λ layer. layer ≡ record { collection = self.now.collection; features = all_in self.now.features touched.now }) }
+    /// The same features with these merged into them, over the same base. Where there are none of these, all is shared; else the
+    /// changes are, one by one. An error is want of memory.
+    pub fn with(&self, alloc: Global, touched: Vec<Feature>) -> Result<Layer, AllocError>
+        requires { AreFeaturesOf self.now.collection touched.items }
+        ensures { IfOk result (λ layer. layer ≡ record { collection = self.now.collection; features = all_in self.now.features touched.items }) }
     {
-        let changes = merge(alloc, &self.changes, touched)?;
-        let replaced = replaced_by(alloc, shared(&self.base).features(), &changes)?;
+        if touched.is_empty() {
+            return self.copy();
+        }
+        let touched = as_changes(alloc, touched)?;
+        let merged = with_later(alloc, listed(&self.changes), &touched)?;
+        let places = replaced_by(alloc, shared(&self.base).features(), &merged)?;
         let base = self.base.clone()?;
+        let changes = share(alloc, merged)?;
+        let replaced = share(alloc, places)?;
         Ok(Layer {
             base,
             changes,
@@ -112,11 +144,18 @@ impl Layer {
         })
     }
 
-    /// The same features, over the same base. An error is want of memory.
-    pub fn copy(&self, alloc: Global) -> Result<Layer, AllocError>
+    /// The same features: base and changes are shared. An error says that too many share them.
+    pub fn copy(&self) -> Result<Layer, AllocError>
         ensures { IfOk result (λ layer. layer ≡ self.now) }
     {
-        self.with(alloc, &[])
+        let base = self.base.clone()?;
+        let changes = self.changes.clone()?;
+        let replaced = self.replaced.clone()?;
+        Ok(Layer {
+            base,
+            changes,
+            replaced,
+        })
     }
 
     /// The same features over a base of their own, where a base can hold them. An error is want of memory.
@@ -124,9 +163,9 @@ impl Layer {
         ensures { IfOk result (λ layer. layer ≡ self.now) }
     {
         let base = shared(&self.base);
-        let features = merge(alloc, base.features(), &self.changes)?;
+        let features = merge(alloc, base.features(), listed(&self.changes))?;
         if features.len() > MOST_FEATURES {
-            return self.copy(alloc);
+            return self.copy();
         }
         Layer::build(alloc, features, base.collection())
     }
@@ -135,7 +174,12 @@ impl Layer {
     pub fn feature(&self, object: ObjectId, number: u32) -> Option<&Feature>
         ensures { IsTheOne (identifier object number) self.now.features (option_copied result) }
     {
-        find(shared(&self.base).features(), &self.changes, object, number)
+        find(
+            shared(&self.base).features(),
+            listed(&self.changes),
+            object,
+            number,
+        )
     }
 
     /// A walk through the features, by object and number.
@@ -143,7 +187,7 @@ impl Layer {
         ensures all { all_in result.base.now result.changes.now ≡ self.now.features }
         ensures order { IsInOrder result.base.now result.changes.now }
     {
-        Walk::new(shared(&self.base).features(), &self.changes)
+        Walk::new(shared(&self.base).features(), listed(&self.changes))
     }
 
     /// How many features there are.
@@ -151,7 +195,9 @@ impl Layer {
         ensures { result ≡ length self.now.features }
     {
         let in_base = shared(&self.base).features().len();
-        (in_base + self.changes.len() - self.replaced.len()) as u64
+        let changes = listed(&self.changes).len();
+        let replaced = positions(&self.replaced).len();
+        (in_base + changes - replaced) as u64
     }
 
     /// How many features have a value in the range, by the base's index and a look at each change. No memory is taken.
@@ -163,8 +209,8 @@ impl Layer {
         count_merged(
             in_base,
             base.features(),
-            &self.changes,
-            &self.replaced,
+            listed(&self.changes),
+            positions(&self.replaced),
             &InRange { range },
         )
     }
@@ -178,8 +224,8 @@ impl Layer {
         count_merged(
             in_base,
             base.features(),
-            &self.changes,
-            &self.replaced,
+            listed(&self.changes),
+            positions(&self.replaced),
             &NearCells::to(property, bounds),
         )
     }

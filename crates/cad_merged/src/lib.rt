@@ -1,6 +1,8 @@
 //! The features of one collection at one revision of several: a base with its indexes, which revisions share, and the changes to it.
 //!
 //! - [`Layer`]: a base and its changes, seen as the features with the changes merged, which it counts by the base's indexes
+//! - [`Change`]: a feature that changes a base, which lists of changes share; [`as_changes`], [`changes_after`]: of these features, and
+//!   those after one of them
 //! - [`Walk`]: a walk through both, in the order of identifiers
 //! - [`merge`], [`find`]: all of both, and one of them
 //! - `laws`: that changes may be merged with one another first, and that identifiers are unique
@@ -9,6 +11,9 @@
 //! 2.1.
 #![tactic(auto)]
 
+mod adding;
+mod change;
+mod changed;
 mod copies;
 mod counting;
 mod criterion;
@@ -19,6 +24,8 @@ mod merging;
 mod replacing;
 mod walk;
 
+pub use change::{Change, as_changes};
+pub use changed::changes_after;
 pub use copies::{copy_feature, copy_value};
 pub use finding::find;
 pub use layer::Layer;

@@ -3,8 +3,8 @@
 ghost use Rattle.std.specs.Prelude.{◌≡◌, IfOk};
 ghost use Rattle.cad_merged.specs.Walks.{all_in, IsInOrder};
 
-use crate::Walk;
 use crate::copies::copy_feature;
+use crate::{Change, Walk};
 use cad_feature::Feature;
 use std::alloc::{AllocError, Global};
 
@@ -12,12 +12,12 @@ use std::alloc::{AllocError, Global};
 pub fn merge(
     alloc: Global,
     base: &[Feature],
-    changes: &[Feature],
+    changes: &[Change],
 ) -> Result<Vec<Feature>, AllocError>
     requires { IsInOrder base.now changes.now }
     ensures { IfOk result (λ all. all.items ≡ all_in base.now changes.now) }
 {
-    let mut all = Vec::new(alloc);
+    let mut all = Vec::with_capacity(alloc, base.len() + changes.len())?;
     let mut walk = Walk::new(base, changes);
     while let Some(feature) = walk.next() {
         let feature = copy_feature(alloc, feature)?;

@@ -5,6 +5,7 @@ ghost use Rattle.std.specs.List.Sorted.{IsStrictlySortedBy};
 ghost use Rattle.cad_feature.specs.Features.{by_identifier};
 ghost use Rattle.cad_merged.specs.Replaced.{StandAt, replaced_in, standing_at, twins};
 
+use crate::Change;
 use crate::finding::compare;
 use cad_feature::Feature;
 use std::alloc::{AllocError, Global};
@@ -13,12 +14,13 @@ use std::alloc::{AllocError, Global};
 fn add_replaced(
     positions: &mut Vec<u32>,
     base: &[Feature],
-    change: &Feature,
+    change: &Change,
 ) -> Result<(), AllocError>
     requires few { length base.now ≤ 4294967295 }
     requires order { IsStrictlySortedBy by_identifier base.now }
     ensures { OnOk result (standing_at base.now positions.new.items ≡ standing_at base.now positions.old.items ++ map Some (twins by_identifier change.now base.now)) }
 {
+    let change = change.feature();
     let place = base.binary_search_by(|feature| compare(feature, change.object, change.number));
     match place {
         Ok(at) => {
@@ -34,7 +36,7 @@ fn add_replaced(
 pub(crate) fn replaced_by(
     alloc: Global,
     base: &[Feature],
-    changes: &[Feature],
+    changes: &[Change],
 ) -> Result<Vec<u32>, AllocError>
     requires few { length base.now ≤ 4294967295 }
     requires order { IsStrictlySortedBy by_identifier base.now }

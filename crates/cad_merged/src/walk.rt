@@ -1,5 +1,7 @@
 //! Walks through a base and the changes to it.
 
+use crate::Change;
+use crate::changed::{changes_after, changes_to};
 use crate::finding::{rest_after, run_of};
 use cad_feature::Feature;
 use cad_versions::ObjectId;
@@ -9,7 +11,7 @@ use std::cmp::Ordering;
 #[derive(Debug, Clone, Copy)]
 pub struct Walk<'a> {
     base: &'a [Feature],
-    changes: &'a [Feature],
+    changes: &'a [Change],
 }
 
 impl<'a> Walk<'a> {
@@ -18,7 +20,7 @@ impl<'a> Walk<'a> {
     ghost use Rattle.cad_merged.specs.Walks.{all_in, IsInOrder};
 
     /// The walk through all of both.
-    pub fn new(base: &'a [Feature], changes: &'a [Feature]) -> Walk<'a>
+    pub fn new(base: &'a [Feature], changes: &'a [Change]) -> Walk<'a>
         ensures base { result.base.now ≡ base.now }
         ensures changes { result.changes.now ≡ changes.now }
     {
@@ -33,7 +35,7 @@ impl<'a> Walk<'a> {
     {
         Walk {
             base: rest_after(self.base, object, number),
-            changes: rest_after(self.changes, object, number),
+            changes: changes_after(self.changes, object, number),
         }
     }
 
@@ -45,7 +47,7 @@ impl<'a> Walk<'a> {
     {
         Walk {
             base: run_of(self.base, object),
-            changes: run_of(self.changes, object),
+            changes: changes_to(self.changes, object),
         }
     }
 
@@ -63,8 +65,9 @@ impl<'a> Walk<'a> {
         };
         let Some((b, base)) = self.base.split_first() else {
             self.changes = changes;
-            return Some(c);
+            return Some(c.feature());
         };
+        let c = c.feature();
         match c.compare(b) {
             Ordering::Less => {
                 self.changes = changes;

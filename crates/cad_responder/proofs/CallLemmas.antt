@@ -1,8 +1,6 @@
 -- What the calls of records and servers do, from what the calls inside them do.
-use Rattle.std.proofs.Common.{◌≡◌, inl, inr, ℕ, Bool, List, Option, Some, None, Result, Ok, Err, sym, ap, ◌∙◌, subst, nat_eq}
+use Rattle.std.proofs.Common.{◌≡◌, inl, inr, ℕ, Bool, List, Option, Some, None, Result, Ok, Err, refl, sym, ap, ◌∙◌, subst}
 use Rattle.std.specs.Prelude.{string_bytes}
-use Rattle.std.specs.Map.{lookup}
-use Rattle.lru.specs.LruCache.{LruCache, lru_cache, promoted}
 use Rattle.cad_versions.specs.declared.command.Command.{Command}
 use Rattle.cad_versions.specs.declared.fault.RegisterFault.{RegisterFault}
 use Rattle.cad_versions.specs.declared.fault.RegisterFault.TheVariants.{Store, Memory}
@@ -21,8 +19,9 @@ use Rattle.cad_responder.specs.declared.server.Server.{Server}
 use Rattle.cad_wanted.specs.declared.feature_request.FeatureRequest.{FeatureRequest}
 use Rattle.cad_responder.specs.Contents.{content_told, content_in, content_wanted}
 use Rattle.cad_responder.specs.Replies.{reply_of, IsReply, Asks, FailsToAnswer}
-use Rattle.cad_responder.specs.Servers.{AreKept, ledger_in, ledger_of, AreRecordsOf, IsServerOf, RefusesToAnswer, Recalls, Finds, Tells}
-use Rattle.cad_responder.proofs.KeptLemmas.{kept_promoted, kept_found}
+use Rattle.cad_responder.specs.Keeping.{StaysKept, kept_at}
+use Rattle.cad_responder.specs.Servers.{ledger_in, ledger_of, AreRecordsOf, IsServerOf, RefusesToAnswer, Recalls, Finds, Tells}
+use Rattle.cad_responder.proofs.KeptLemmas.{found_at}
 
 module _ {L : Type 0} (g : Ghosts L) where
   -- the ledger remains what it was, where nothing was listed
@@ -34,34 +33,38 @@ module _ {L : Type 0} (g : Ghosts L) where
 
   -- ---- what is kept
 
-  pub recalls_none : {E : Type 0} (revision : ℕ) (sought : FeatureRequest) (old new : Records L) → ledger_in new ≡ ledger_in old
-      → new.kept ≡ lru_cache (promoted (nat_eq revision) old.kept.entries) old.kept.cap → Recalls g {E = E} revision sought old (Ok None) new
-  recalls_none revision sought old new same kept = record {
+  pub recalls_none : {E : Type 0} (revision : ℕ) (sought : FeatureRequest) (old : Records L) → kept_at revision old.kept ≡ None → Recalls g {E = E} revision sought old (Ok None) old
+  recalls_none revision sought old none = record {
     told = tt;
-    same = same;
-    kept = λ commands. kept_promoted commands (nat_eq revision) old.kept new.kept kept;
+    none = λ e. none;
+    same = refl;
+    kept = λ commands all. all;
   }
 
-  pub recalls_nothing : {E : Type 0} (revision : ℕ) (sought : FeatureRequest) (old new : Records L) (fault : E) (given : Result (Option Told) E) → given ≡ Err fault → ledger_in new ≡ ledger_in old
-      → new.kept ≡ lru_cache (promoted (nat_eq revision) old.kept.entries) old.kept.cap → Recalls g {E = E} revision sought old given new
-  recalls_nothing {E} revision sought old new fault given e same kept = subst (λ (r : Result (Option Told) E). Recalls g revision sought old r new) (sym e) (record {
+  pub recalls_nothing : {E : Type 0} (revision : ℕ) (sought : FeatureRequest) (old : Records L) (fault : E) (given : Result (Option Told) E) → given ≡ Err fault → Recalls g {E = E} revision sought old given old
+  recalls_nothing {E} revision sought old fault given e = subst (λ (r : Result (Option Told) E). Recalls g revision sought old r old) (sym e) (record {
     told = tt;
-    same = same;
-    kept = λ commands. kept_promoted commands (nat_eq revision) old.kept new.kept kept;
+    none = tt;
+    same = refl;
+    kept = λ commands all. all;
   })
 
+  some_not_none : (told : Told) → ¬ (Some told ≡ None)
+  some_not_none told e = absurd cc
+
   pub recalls_some : {E : Type 0} (revision : ℕ) (sought : FeatureRequest) (old new : Records L) (snapshot : RevisionFeatures) (told : Told) → ledger_in new ≡ ledger_in old
-      → new.kept ≡ lru_cache (promoted (nat_eq revision) old.kept.entries) old.kept.cap → Some snapshot ≡ lookup (nat_eq revision) new.kept.entries
+      → StaysKept old.kept new.kept → Some snapshot ≡ kept_at revision old.kept
       → content_told told ≡ content_in sought snapshot → Recalls g {E = E} revision sought old (Ok (Some told)) new
   recalls_some revision sought old new snapshot told same kept found is = record {
-    told = λ commands all. is ∙ ap (content_in sought) (kept_found commands new.kept.entries revision snapshot (kept_promoted commands (nat_eq revision) old.kept new.kept kept all) (sym found)).1;
+    told = λ commands all. is ∙ ap (content_in sought) (found_at commands revision snapshot old.kept all (sym found)).1;
+    none = λ e. absurd (some_not_none told e);
     same = same;
-    kept = λ commands. kept_promoted commands (nat_eq revision) old.kept new.kept kept;
+    kept = kept;
   }
 
   -- ---- what is found
 
-  moved : (old new : Records L) → ledger_in new ≡ ledger_in old → ((commands : List Command) → AreKept commands old.kept.entries → AreKept commands new.kept.entries)
+  moved : (old new : Records L) → ledger_in new ≡ ledger_in old → StaysKept old.kept new.kept
       → (commands : List Command) → AreRecordsOf g old commands → AreRecordsOf g new commands
   moved old new same kept commands records = record {
     ledger = subst (λ (l : L). g.stands_for l commands) (sym same) records.ledger;
@@ -87,6 +90,13 @@ module _ {L : Type 0} (g : Ghosts L) where
       let is : given ≡ Ok (Some told) = e ∙ ap Ok f in
       found_so here revision sought old new told (subst (λ (r : Result (Option Told) E). Recalls g {E = E} revision sought old r new) is recalled)
 
+  -- where something is kept, it is found, and nothing else happens to the ledger
+  pub not_asked : {E : Type 0} (revision : ℕ) (sought : FeatureRequest) (old mid new : Records L) (found : Option Told) (given : Result (Option Told) E) → given ≡ Ok found → found ≡ None
+      → Recalls g {E = E} revision sought old given mid → ¬ (kept_at revision old.kept ≡ None) → ledger_in new ≡ ledger_in old
+  not_asked {E} revision sought old mid new found given e none recalled some =
+      let r = subst (λ (r : Result (Option Told) E). Recalls g {E = E} revision sought old r mid) e recalled in
+      absurd (some (r.none none))
+
   not_store : (fault : RegisterFault) → fault ≡ Memory → ¬ (fault ≡ Store)
   not_store fault m s = absurd (let e : Memory ≡ Store = sym m ∙ s in cc)
 
@@ -105,23 +115,25 @@ module _ {L : Type 0} (g : Ghosts L) where
   })
 
   -- there was no memory for what was listed
-  pub read_nothing : (revision : ℕ) (sought : FeatureRequest) (old new : Records L) (fault : RegisterFault) (given : Result Told RegisterFault) → given ≡ Err fault → fault ≡ Memory
-      → new.kept ≡ old.kept → (g.counts (ledger_in new) → (commands : List Command) → g.stands_for (ledger_in old) commands → g.stands_for (ledger_in new) commands)
-      → (g.counts (ledger_in new) → g.counts (ledger_in old)) → Finds g revision sought old given new
-  read_nothing revision sought old new fault given e m same stays clean = subst (λ (given : Result Told RegisterFault). Finds g revision sought old given new) (sym e) (record {
-    told = λ counts. tt;
-    cause = λ counts commands records within. inl m;
-    reads = record {
-      store = λ counts s. absurd (not_store fault m s);
-      still = λ counts. tt;
-      kept = λ counts. tt;
-      unchanged = λ counts lives commands records. record {
-        ledger = stays counts commands records.ledger;
-        kept = subst (λ (k : LruCache ℕ RevisionFeatures). AreKept commands k.entries) (sym same) records.kept;
-      };
-      clean = clean;
-    };
-  })
+  pub read_nothing : (revision : ℕ) (sought : FeatureRequest) (old new : Records L) (ledger : L) (fault : RegisterFault) (given : Result Told RegisterFault) → given ≡ Err fault → fault ≡ Memory
+      → ledger_in new ≡ ledger → StaysKept old.kept new.kept → (g.counts ledger → (commands : List Command) → g.stands_for (ledger_in old) commands → g.stands_for ledger commands)
+      → (g.counts ledger → g.counts (ledger_in old)) → Finds g revision sought old given new
+  read_nothing revision sought old new ledger fault given e m same kept stays clean =
+      let counted : g.counts (ledger_in new) → g.counts ledger = subst g.counts same in
+      subst (λ (given : Result Told RegisterFault). Finds g revision sought old given new) (sym e) (record {
+        told = λ counts. tt;
+        cause = λ counts commands records within. inl m;
+        reads = record {
+          store = λ counts s. absurd (not_store fault m s);
+          still = λ counts. tt;
+          kept = λ counts. tt;
+          unchanged = λ counts lives commands records. record {
+            ledger = subst (λ (l : L). g.stands_for l commands) (sym same) (stays (counted counts) commands records.ledger);
+            kept = kept commands records.kept;
+          };
+          clean = λ counts. clean (counted counts);
+        };
+      })
 
   pub found_read : {E : Type 0} (revision : ℕ) (sought : FeatureRequest) (old mid new : Records L) (was : Result (Option Told) E) (result : Result Told RegisterFault)
       → Recalls g revision sought old was mid → Finds g revision sought mid result new → Finds g revision sought old result new

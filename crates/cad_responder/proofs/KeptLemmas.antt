@@ -1,12 +1,12 @@
 -- What is kept stays right.
-use Rattle.std.proofs.Common.{◌≡◌, ◌≤◌, ℕ, ◌+◌, Bool, true, List, [], ◌∷◌, ◌++◌, length, Contains, Option, Some, Result, Ok, Err, OnOk, OnErr, refl, sym, ap, ap₂, ◌∙◌, subst, inl, inr, arith, nat_eq}
+use Rattle.std.proofs.Common.{◌≡◌, ◌≤◌, ℕ, ◌+◌, Bool, true, List, [], ◌∷◌, ◌++◌, length, Contains, Option, Some, None, Result, Ok, Err, OnOk, OnErr, refl, sym, ap, ap₂, ◌∙◌, subst, inl, inr, take, arith, nat_eq}
 use Rattle.std.proofs.lemmas.List.{length-append}
 use Rattle.std.proofs.lemmas.Bool.Decides.{nat_tests}
 use Rattle.std.specs.Option.{IfSome}
 use Rattle.std.specs.Result.{IfOk, result_ok}
-use Rattle.std.specs.Map.{lookup, remove_entry}
+use Rattle.std.specs.Map.{lookup}
 use Rattle.lru.specs.LruCache.{LruCache, lru_cache, promoted, put_entries}
-use Rattle.lru.proofs.CallerLemmas.{Contains-promoted, Contains-put_entries, Contains-lookup, Contains-remove_entry}
+use Rattle.lru.proofs.CallerLemmas.{Contains-promoted, Contains-put_entries, Contains-lookup, Contains-take}
 use Rattle.cad_versions.specs.declared.command.Command.{Command}
 use Rattle.cad_versions.specs.VersionedObject.{VersionedObject}
 use Rattle.cad_versions.specs.declared.fault.RegisterFault.{RegisterFault}
@@ -19,19 +19,28 @@ use Rattle.cad_feature.specs.Flatten.{features_in}
 use Rattle.cad_snapshot.specs.Snapshots.{RevisionFeatures, IsSnapshotOf, is_told, told_at}
 use Rattle.cad_responder.specs.Contents.{snapshot_of, snapshot_at}
 use Rattle.cad_responder.specs.declared.records.Records.{Records}
-use Rattle.cad_responder.specs.Servers.{IsKept, AreKept, ledger_in, AreRecordsOf, Keeps}
+use Rattle.cad_responder.specs.declared.kept.Kept.{Kept}
+use Rattle.cad_responder.specs.Keeping.{IsKept, AreKept, KeepsOf, Turns, StaysKept, kept_at, or_else}
+use Rattle.cad_responder.specs.Servers.{ledger_in, AreRecordsOf, Keeps}
 
 -- the snapshot of these versions is one value
 pub built : (revision : ℕ) (versions : List VersionedObject) (s : RevisionFeatures) → IsSnapshotOf revision versions s → s ≡ snapshot_of revision versions
 built revision versions s is = is_told s revision (features_in versions) is.of_revision is.features
 
 -- one command more changes nothing of what is kept
-pub kept_later : RevisionsStay → (commands : List Command) (command : Command) (entries : List (ℕ × RevisionFeatures)) → AreKept commands entries → AreKept (commands ++ command ∷ []) entries
+kept_later : RevisionsStay → (commands : List Command) (command : Command) (entries : List (ℕ × RevisionFeatures)) → AreKept commands entries → AreKept (commands ++ command ∷ []) entries
 kept_later stay commands command entries all entry among =
     let kept = all entry among in
     let h : entry.0 ≤ length commands = kept.0 in
     let n : length (commands ++ command ∷ []) ≡ length commands + 1 = length-append commands (command ∷ []) in
     (grind (arith, h, n), kept.1 ∙ ap (snapshot_of entry.0) (sym (stay commands (command ∷ []) entry.0 h)))
+
+pub keeps_later : RevisionsStay → (commands : List Command) (command : Command) (kept : Kept) → KeepsOf commands kept → KeepsOf (commands ++ command ∷ []) kept
+keeps_later stay commands command kept all = record {
+  newest = kept_later stay commands command kept.newest.entries all.newest;
+  before = kept_later stay commands command kept.before.entries all.before;
+  read = kept_later stay commands command kept.read.entries all.read;
+}
 
 -- a use changes the order alone
 pub kept_promoted : (commands : List Command) (test : ℕ → Bool) (old new : LruCache ℕ RevisionFeatures) → new ≡ lru_cache (promoted test old.entries) old.cap → AreKept commands old.entries → AreKept commands new.entries
@@ -39,9 +48,21 @@ kept_promoted commands test old new same all entry among =
     all entry (Contains-promoted test old.entries entry (subst (λ (c : LruCache ℕ RevisionFeatures). Contains c.entries entry) same among))
 
 -- and less may be kept
-pub kept_removed : (commands : List Command) (test : ℕ → Bool) (old new : LruCache ℕ RevisionFeatures) → new ≡ lru_cache (remove_entry test old.entries) old.cap → AreKept commands old.entries → AreKept commands new.entries
-kept_removed commands test old new same all entry among =
-    all entry (Contains-remove_entry test old.entries entry (subst (λ (c : LruCache ℕ RevisionFeatures). Contains c.entries entry) same among))
+pub kept_taken : (commands : List Command) (n : ℕ) (old new : LruCache ℕ RevisionFeatures) → new ≡ lru_cache (take n old.entries) old.cap → AreKept commands old.entries → AreKept commands new.entries
+kept_taken commands n old new same all entry among =
+    all entry (Contains-take n old.entries entry (subst (λ (c : LruCache ℕ RevisionFeatures). Contains c.entries entry) same among))
+
+-- or nothing
+none_kept : (commands : List Command) (entries : List (ℕ × RevisionFeatures)) → entries ≡ [] → AreKept commands entries
+none_kept commands entries none entry among = let at : Contains {X = ℕ × RevisionFeatures} [] entry = subst (λ es. Contains es entry) none among in absurd (omega (arith, at.1))
+
+-- what was on the newest bases is right on those before
+pub turned_kept : (old new : Kept) → Turns old new → StaysKept old new
+turned_kept old new t commands all = record {
+  newest = none_kept commands new.newest.entries t.newest;
+  before = subst (AreKept commands) (sym t.before) all.newest;
+  read = subst (AreKept commands) (sym t.read) all.read;
+}
 
 same_number : (a b : ℕ) → nat_eq a b ≡ true → a ≡ b
 same_number a b h = grind (arith, nat_tests)
@@ -75,6 +96,16 @@ kept_found commands entries revision snapshot all found =
     let r : revision ≡ at.0 = same_number revision at.0 at.2 in
     subst (λ n. IsKept commands (n, snapshot)) (sym r) (all (at.0, snapshot) at.1)
 
+-- what is found among all that is kept is that of the revision
+pub found_at : (commands : List Command) (revision : ℕ) (snapshot : RevisionFeatures) (kept : Kept) → KeepsOf commands kept → kept_at revision kept ≡ Some snapshot → IsKept commands (revision, snapshot)
+found_at commands revision snapshot kept all = go (lookup (nat_eq revision) kept.newest.entries) refl (lookup (nat_eq revision) kept.before.entries) refl (lookup (nat_eq revision) kept.read.entries) refl
+  where
+    go : (a : Option RevisionFeatures) → lookup (nat_eq revision) kept.newest.entries ≡ a → (b : Option RevisionFeatures) → lookup (nat_eq revision) kept.before.entries ≡ b
+        → (c : Option RevisionFeatures) → lookup (nat_eq revision) kept.read.entries ≡ c → or_else a (or_else b c) ≡ Some snapshot → IsKept commands (revision, snapshot)
+    go (Some s) e b f c g is = kept_found commands kept.newest.entries revision snapshot all.newest (e ∙ is)
+    go None e (Some s) f c g is = kept_found commands kept.before.entries revision snapshot all.before (f ∙ is)
+    go None e None f c g is = kept_found commands kept.read.entries revision snapshot all.read (g ∙ is)
+
 -- ---- the next revision
 
 -- what holds of a value that is there holds of it as an option
@@ -105,7 +136,7 @@ module _ {L : Type 0} (g : Ghosts L) where
   entered stay command (Ok revision) old new same a = record {
     accepted = λ counts commands records.
         let t = a.accepted counts commands records.ledger in
-        (t.0, t.1, record { ledger = t.2; kept = subst (λ (k : LruCache ℕ RevisionFeatures). AreKept (commands ++ command ∷ []) k.entries) (sym same) (kept_later stay commands command old.kept.entries records.kept) });
+        (t.0, t.1, record { ledger = t.2; kept = subst (KeepsOf (commands ++ command ∷ [])) (sym same) (keeps_later stay commands command old.kept records.kept) });
     refused = λ counts. tt;
     store = λ counts e commands records. a.store counts e commands records.ledger;
     unchanged = λ counts lives. tt;
@@ -115,7 +146,7 @@ module _ {L : Type 0} (g : Ghosts L) where
     accepted = λ counts. tt;
     refused = λ counts commands records. a.refused counts commands records.ledger;
     store = λ counts e commands records. a.store counts e commands records.ledger;
-    unchanged = λ counts lives commands records. record { ledger = a.unchanged counts lives commands records.ledger; kept = subst (λ (k : LruCache ℕ RevisionFeatures). AreKept commands k.entries) (sym same) records.kept };
+    unchanged = λ counts lives commands records. record { ledger = a.unchanged counts lives commands records.ledger; kept = subst (KeepsOf commands) (sym same) records.kept };
     clean = a.clean;
   }
 

@@ -3,3 +3,5 @@ pub mod Replies
 pub mod Servers
 pub mod Refusing
 pub mod Laws
+pub mod Keeping
+pub mod Rooms

@@ -1,5 +1,5 @@
 -- What clauses see of a server, and what its calls do (own profile).
-use Rattle.std.specs.Prelude.{◌≡◌, ◌≤◌, ◌⊎◌, ℕ, List, length, Contains, Option, IfSome, Result, IfOk, IfErr, OnOk, OnErr}
+use Rattle.std.specs.Prelude.{◌≡◌, ◌≤◌, ◌⊎◌, ℕ, List, length, Option, None, IfSome, Result, IfOk, IfErr, OnOk, OnErr}
 use Rattle.cad_versions.specs.declared.command.Command.{Command}
 use Rattle.cad_versions.specs.declared.fault.RegisterFault.{RegisterFault}
 use Rattle.cad_versions.specs.declared.fault.RegisterFault.TheVariants.{Store, Memory}
@@ -16,15 +16,8 @@ use Rattle.cad_responder.specs.declared.records.Records.{Records}
 use Rattle.cad_responder.specs.declared.server.Server.{Server}
 use Rattle.cad_wanted.specs.declared.feature_request.FeatureRequest.{FeatureRequest}
 use Rattle.cad_responder.specs.Contents.{content_told, content_in, content_of, content_wanted, revision_sought, snapshot_at}
+use Rattle.cad_responder.specs.Keeping.{KeepsOf, StaysKept, StaysWith, kept_at}
 use Rattle.cad_responder.specs.Replies.{AsksForFeatures, FailsToFind, FailsToTell}
-
--- what is kept under a revision are its features, and the revision was made
-abbrev pub IsKept : List Command → ℕ × RevisionFeatures → Type 0
-IsKept commands entry = (entry.0 ≤ length commands) × (entry.1 ≡ snapshot_at entry.0 commands)
-
--- so is all that is kept
-abbrev pub AreKept : List Command → List (ℕ × RevisionFeatures) → Type 0
-AreKept commands entries = (entry : ℕ × RevisionFeatures) → Contains entries entry → IsKept commands entry
 
 abbrev pub ledger_in : {L : Type 0} → Records L → L
 ledger_in records = records.ledger
@@ -37,7 +30,7 @@ module _ {L : Type 0} (g : Ghosts L) where
   -- the records are those of the commands
   pub record AreRecordsOf (records : Records L) (commands : List Command) : Type 0 where
     pub ledger : g.stands_for records.ledger commands
-    pub kept : AreKept commands records.kept.entries
+    pub kept : KeepsOf commands records.kept
 
   -- so are those of the server
   abbrev pub IsServerOf : Server L → List Command → Type 0
@@ -69,18 +62,20 @@ module _ {L : Type 0} (g : Ghosts L) where
   -- less is kept, and the ledger is not touched
   pub record Forgets (old new : Records L) : Type 0 where
     pub same : ledger_in new ≡ ledger_in old
-    pub kept : (commands : List Command) → AreKept commands old.kept.entries → AreKept commands new.kept.entries
+    pub kept : StaysKept old.kept new.kept
 
   -- more is kept, or less, and the ledger is not touched
   pub record Keeps (snapshot : RevisionFeatures) (old new : Records L) : Type 0 where
     pub same : ledger_in new ≡ ledger_in old
-    pub kept : (commands : List Command) → AreKept commands old.kept.entries → IsKept commands (snapshot.revision, snapshot) → AreKept commands new.kept.entries
+    pub kept : StaysWith snapshot old.kept new.kept
 
-  -- what is kept of a revision tells what is sought; only the order of what is kept changes
+  -- what is kept of a revision tells what is sought, and nothing does where nothing of the revision is kept; only the order of what is
+  -- kept changes
   pub record Recalls {E : Type 0} (revision : ℕ) (sought : FeatureRequest) (old : Records L) (result : Result (Option Told) E) (new : Records L) : Type 0 where
-    pub told : IfOk result (λ found. IfSome found (λ told. (commands : List Command) → AreKept commands old.kept.entries → content_told told ≡ content_in sought (snapshot_at revision commands)))
+    pub told : IfOk result (λ found. IfSome found (λ told. (commands : List Command) → KeepsOf commands old.kept → content_told told ≡ content_in sought (snapshot_at revision commands)))
+    pub none : IfOk result (λ found. found ≡ None → kept_at revision old.kept ≡ None)
     pub same : ledger_in new ≡ ledger_in old
-    pub kept : (commands : List Command) → AreKept commands old.kept.entries → AreKept commands new.kept.entries
+    pub kept : StaysKept old.kept new.kept
 
   -- what is sought at a revision that was made is told
   pub record Finds (revision : ℕ) (sought : FeatureRequest) (old : Records L) (result : Result Told RegisterFault) (new : Records L) : Type 0 where

@@ -5,9 +5,10 @@
 //! - `laws`: that a request has one reply
 //!
 //! What is read of the ledger at a revision is kept, and after a command what was kept of the revision before it, with what the
-//! command touches: so a page of the newest revision, or after another of the same revision, reads nothing of the ledger. At most
-//! 132 revisions are kept, most of which share their bases; two at most are old ones that were read of the ledger. Those that share the
-//! bases before the last ones are dropped when new bases are made. Keeping changes no reply.
+//! command touches: so a page of the newest revision, or after another of the same revision, reads nothing of the ledger. Revisions
+//! share their bases, and past a bound of changes, and 16 revisions, new bases are made; all revisions on the newest bases and on those
+//! before them are kept, 6,160 on each at most, and two at most that were read of the ledger when they were old. Keeping changes no
+//! reply.
 //!
 //! Of the ledger of no commands, the request
 //!
@@ -20,6 +21,8 @@
 //! `{"features":[],"links":[{"href":"/collections/parcels/items","rel":"self","type":"application/json"}],"numberReturned":0,"revision":0,"type":"FeatureCollection"}`.
 #![tactic(auto)]
 
+mod keeping;
+mod kept;
 pub mod laws;
 mod records;
 mod server;

@@ -1,10 +1,10 @@
 //! A ledger, and what was read of it.
 
-ghost use Rattle.std.specs.Prelude.{◌≡◌, ◌<◌, [], codes, IfOk};
-ghost use Rattle.lru.specs.LruCache.{lru_cache};
+ghost use Rattle.std.specs.Prelude.{◌≡◌, codes, IfOk};
 ghost use Rattle.cad_reply.specs.declared.status.Status.TheVariants.{BadRequest};
 ghost use Rattle.cad_responder.specs.Contents.{content_told, refusal};
 
+use crate::kept::Kept;
 use crate::sought::{revision_of, told_in};
 use cad_bodies::word_body;
 use cad_reply::Status;
@@ -12,29 +12,19 @@ use cad_snapshot::Snapshot;
 use cad_versions::laws::revisions_stay;
 use cad_versions::{Command, Ledger, RegisterFault};
 use cad_wanted::{FeatureRequest, Told, Wanted};
-use lru::LruCache;
 use std::alloc::{AllocError, Global};
-use std::num::NonZeroUsize;
-
-/// Of how many revisions the features are kept at most. Most of them share the bases of others, and cost their changes alone.
-const MOST_KEPT: usize = 132;
-
-/// Of how many old revisions that were read of the ledger the features are kept at most, each on bases of its own. With the newest
-/// bases and those before them there are four at most.
-const MOST_READ: usize = 2;
 
 /// How many changes a base of a collection gets before a new one is made, where nothing else is asked for.
 pub(crate) const MOST_CHANGES: usize = 512;
 
+/// How many revisions share bases at least, however much is changed, where a base gets that many changes. So at least as many are
+/// kept at any time.
+const LEAST_REVISIONS: usize = 16;
+
 /// A ledger, and the features at the revisions that were asked for last or entered last.
 pub(crate) struct Records<L: Ledger> {
     ledger: L,
-    kept: LruCache<u64, Snapshot>,
-    /// Which of those that are kept were read of the ledger when they were old.
-    read: LruCache<u64, ()>,
-    /// The revision from which on the kept ones share the newest bases, and the one before from which on they share the bases before.
-    based: u64,
-    based_before: u64,
+    kept: Kept,
     /// How many changes a base of a collection gets before a new one is made.
     most_changes: usize,
     alloc: Global,
@@ -45,9 +35,6 @@ impl<L: Ledger + Drop> Drop for Records<L> {
         let Records {
             ledger: _,
             kept: _,
-            read: _,
-            based: _,
-            based_before: _,
             most_changes: _,
             alloc: _,
         } = self;
@@ -55,11 +42,12 @@ impl<L: Ledger + Drop> Drop for Records<L> {
 }
 
 impl<L: Ledger> Records<L> {
-    ghost use Rattle.std.specs.Prelude.{◌≡◌, List, [], ◌∷◌, ◌++◌, length, IfOk, IfErr, IfSome};
+    ghost use Rattle.std.specs.Prelude.{◌≡◌, List, [], ◌∷◌, ◌++◌, length, None, IfOk, IfErr, IfSome};
     ghost use Rattle.cad_versions.specs.declared.command.Command.{Command as CommandOf};
     ghost use Rattle.cad_versions.specs.Ledgers.{Applied};
     ghost use Rattle.cad_versions.specs.Refusals.{AreAccepted};
-    ghost use Rattle.cad_responder.specs.Servers.{ledger_in, AreRecordsOf, IsKept, Forgets, Keeps, Recalls, Finds, Seeks, Tells};
+    ghost use Rattle.cad_responder.specs.Keeping.{IsKept, kept_at};
+    ghost use Rattle.cad_responder.specs.Servers.{ledger_in, AreRecordsOf, Forgets, Keeps, Recalls, Finds, Seeks, Tells};
 
     /// A ledger of which nothing was read yet, or the ledger back where there is no memory.
     pub(crate) fn new(alloc: Global, ledger: L, most_changes: usize) -> Result<Records<L>, L>
@@ -68,19 +56,12 @@ impl<L: Ledger> Records<L> {
         ensures same { IfOk result (λ records. ledger_in records ≡ ledger) }
         ensures back { IfErr result (λ back. back ≡ ledger) }
     {
-        let Ok(kept) = cache::<Snapshot>(alloc, MOST_KEPT) else {
+        let Ok(kept) = Kept::new(alloc) else {
             return Err(ledger);
         };
-        let Ok(read) = cache::<()>(alloc, MOST_READ) else {
-            return Err(ledger);
-        };
-        let revision = ledger.revision();
         Ok(Records {
             ledger,
             kept,
-            read,
-            based: revision,
-            based_before: revision,
             most_changes,
             alloc,
         })
@@ -93,9 +74,6 @@ impl<L: Ledger> Records<L> {
         let Records {
             ledger,
             kept: _,
-            read: _,
-            based: _,
-            based_before: _,
             most_changes: _,
             alloc: _,
         } = self;
@@ -133,98 +111,67 @@ impl<L: Ledger> Records<L> {
     {
         let newest = self.ledger.revision();
         let revision = newest.checked_add(1)?;
-        let snapshot = self.kept.peek(&newest)?;
+        let snapshot = self.kept.on_newest(newest)?;
         snapshot.next(self.alloc, command, revision).ok()
     }
 
-    /// Keeps the features of the revision in force, on new bases where there are many changes to the old ones.
+    /// Whether new bases are due: of a collection there are many changes, and enough revisions share the bases.
+    fn is_due(&self, next: &Snapshot) -> bool {
+        let least = self.most_changes.min(LEAST_REVISIONS);
+        !next.is_settled(self.most_changes) && least <= self.kept.on_newest_count()
+    }
+
+    /// Keeps the features of the revision in force, on new bases where these are due.
     fn keep_entered(&mut self, next: Snapshot)
         ensures { Keeps L.Ledger next self.old self.new }
     {
-        if next.is_settled(self.most_changes) {
-            self.put(next);
+        if !self.is_due(&next) {
+            self.kept.add(next);
             return;
         }
-        if let Ok(settled) = next.settled(self.alloc, self.most_changes) {
-            self.keep_based(settled);
+        // What the bases before are kept for goes first, so that there are four of a collection at most.
+        self.kept.turn();
+        match next.settled(self.alloc, self.most_changes) {
+            Ok(settled) => self.kept.add(settled),
+            Err(AllocError) => self.kept.add(next),
         }
     }
 
-    /// Keeps nothing of the revision any more.
-    fn forget(&mut self, revision: u64)
+    /// Lets go what is kept for the bases in whose place those of the revision are to be made.
+    fn make_room(&mut self, revision: u64)
         ensures { Forgets L.Ledger self.old self.new }
     {
-        drop(self.kept.pop(&revision));
-    }
-
-    /// Keeps nothing any more of the revision that another one was read in place of.
-    fn forget_displaced(&mut self, displaced: Option<(u64, ())>)
-        ensures { Forgets L.Ledger self.old self.new }
-    {
-        if let Some((old, ())) = displaced {
-            self.forget(old);
+        if revision != self.ledger.revision() {
+            self.kept.make_room();
+            return;
         }
-    }
-
-    /// Keeps features of the revision in force that have bases of their own: those that share the bases before the last are dropped.
-    fn keep_based(&mut self, snapshot: Snapshot)
-        ensures { Keeps L.Ledger snapshot self.old self.new }
-    {
-        let revision = snapshot.revision();
-        for old in self.based_before..self.based {
-            self.forget(old);
+        if self.kept.on_newest_count() == 0 {
+            return;
         }
-        self.based_before = self.based;
-        self.based = revision;
-        self.put(snapshot);
+        self.kept.turn();
     }
 
     /// Keeps features that were read of the ledger.
-    fn keep(&mut self, snapshot: Snapshot)
-        ensures { Keeps L.Ledger snapshot self.old self.new }
-    {
-        if snapshot.revision() == self.ledger.revision() {
-            self.keep_based(snapshot);
-        } else {
-            self.keep_read(snapshot);
-        }
-    }
-
-    /// Keeps features of an old revision, which were read of the ledger, in place of those that were not asked for longest.
     fn keep_read(&mut self, snapshot: Snapshot)
         ensures { Keeps L.Ledger snapshot self.old self.new }
     {
-        let revision = snapshot.revision();
-        let Ok(displaced) = self.read.push(revision, ()) else {
+        if snapshot.revision() == self.ledger.revision() {
+            self.kept.add(snapshot);
             return;
-        };
-        self.forget_displaced(displaced);
-        self.put(snapshot);
-    }
-
-    /// Keeps features under their revision, if there is memory.
-    fn put(&mut self, snapshot: Snapshot)
-        ensures { Keeps L.Ledger snapshot self.old self.new }
-    {
-        let revision = snapshot.revision();
-        drop(self.kept.put(revision, snapshot));
+        }
+        self.kept.add_read(snapshot);
     }
 
     /// What is kept of the revision tells what is sought, if it is kept.
     fn recall(&mut self, revision: u64, sought: &FeatureRequest) -> Result<Option<Told>, AllocError>
         ensures { Recalls L.Ledger revision sought.now self.old result self.new }
     {
-        if !self.kept.promote(&revision) {
+        let Some(snapshot) = self.kept.at(revision) else {
             return Ok(None);
-        }
-        let _ = self.read.promote(&revision);
-        match self.kept.peek(&revision) {
-            None => Ok(None),
-            Some(snapshot) => {
-                let told = told_in(self.alloc, sought, snapshot)?;
-                Ok(Some(told))
-            }
-        }
+        };
+        let told = told_in(self.alloc, sought, snapshot)?;
+        self.kept.touch(revision);
+        Ok(Some(told))
     }
 
     /// What the ledger lists at the revision tells what is sought, and is kept, if there is memory.
@@ -232,15 +179,17 @@ impl<L: Ledger> Records<L> {
         ensures { Finds L.Ledger revision sought.now self.old result self.new }
     {
         let versions = self.ledger.as_of(revision)?;
+        self.make_room(revision);
         let snapshot = Snapshot::build(self.alloc, revision, versions)?;
         let told = told_in(self.alloc, sought, &snapshot)?;
-        self.keep(snapshot);
+        self.keep_read(snapshot);
         Ok(told)
     }
 
-    /// What is sought at a revision that was made.
+    /// What is sought at a revision that was made. The ledger is asked where nothing of the revision is kept, and else not.
     fn find(&mut self, revision: u64, sought: &FeatureRequest) -> Result<Told, RegisterFault>
-        ensures { Finds L.Ledger revision sought.now self.old result self.new }
+        ensures found { Finds L.Ledger revision sought.now self.old result self.new }
+        ensures unasked { ¬ (kept_at revision self.old.kept ≡ None) → ledger_in self.new ≡ ledger_in self.old }
     {
         match self.recall(revision, sought)? {
             Some(told) => Ok(told),
@@ -278,17 +227,6 @@ impl<L: Ledger> Records<L> {
             Wanted::Features(sought) => self.answer(sought),
         }
     }
-}
-
-/// A cache of so many values by revision.
-fn cache<V>(alloc: Global, most: usize) -> Result<LruCache<u64, V>, AllocError>
-    requires { 0 < most }
-    ensures { IfOk result (λ cache. cache ≡ lru_cache [] most) }
-{
-    let Some(most) = NonZeroUsize::new(most) else {
-        unreachable!()
-    };
-    LruCache::new(alloc, most)
 }
 
 /// The refusal of a revision above the one in force.

@@ -7,6 +7,7 @@ ghost use Rattle.cad_merged.specs.Identifiers as spec;
 ghost use Rattle.cad_run.specs.Slices.{identifier, later};
 
 use cad_feature::Feature;
+use cad_merged::{Change, changes_after};
 use cad_versions::ObjectId;
 
 fn comes_after(feature: &Feature, last: (ObjectId, u32)) -> bool
@@ -37,11 +38,13 @@ pub(crate) fn first_after(features: &[Feature], after: Option<(ObjectId, u32)>) 
     }
 }
 
-/// The features after that one.
-pub(crate) fn rest_after(features: &[Feature], after: Option<(ObjectId, u32)>) -> &[Feature]
-    requires { IsStrictlySortedBy by_identifier features.now }
-    ensures { result.now ≡ later (option_map identifier after) features.now }
+/// The changes after that one.
+pub(crate) fn changes_later(changes: &[Change], after: Option<(ObjectId, u32)>) -> &[Change]
+    requires { IsStrictlySortedBy by_identifier changes.now }
+    ensures { result.now ≡ later (option_map identifier after) changes.now }
 {
-    let first = first_after(features, after);
-    &features[first..]
+    match after {
+        None => changes,
+        Some((object, number)) => changes_after(changes, object, number),
+    }
 }

@@ -7,13 +7,13 @@ ghost use Rattle.cad_lookup.specs.Candidates.{is_candidate as is_candidate_of};
 ghost use Rattle.cad_merged.specs.Walks.{IsInOrder};
 ghost use Rattle.cad_run.specs.Bases.{bases_left};
 
-use crate::after::rest_after;
+use crate::after::changes_later;
 use crate::bases::Bases;
 use crate::candidacy::is_candidate;
 use crate::feature_source::FeatureSource;
 use cad_feature::Feature;
 use cad_lookup::Plan;
-use cad_merged::Layer;
+use cad_merged::{Change, Layer};
 use cad_versions::ObjectId;
 use std::alloc::{AllocError, Global};
 
@@ -22,7 +22,7 @@ use std::alloc::{AllocError, Global};
 pub struct Candidates<'a, 'p> {
     plan: &'p Plan,
     bases: Bases<'a>,
-    changes: &'a [Feature],
+    changes: &'a [Change],
     ghost order: { IsInOrder (bases_left bases) changes.now } by { Prim.hlevel props },
     ghost passing: { All (λ x. is_candidate_of plan.now x ≡ true) (bases_left bases) },
     ghost few: { length changes.now < 2 ^ 63 },
@@ -45,7 +45,7 @@ impl<'a, 'p> Candidates<'a, 'p> {
     {
         let (base, changes) = layer.parts();
         let bases = Bases::of(alloc, plan, base, after)?;
-        let changes = rest_after(changes, after);
+        let changes = changes_later(changes, after);
         Ok(Candidates {
             plan,
             bases,
@@ -63,12 +63,13 @@ impl<'a> FeatureSource<'a> for Candidates<'a, '_> {
 
     fn next(&mut self) -> Option<&'a Feature> {
         while let Some((change, changes)) = self.changes.split_first() {
-            if !self.bases.give_way(change) {
+            let feature = change.feature();
+            if !self.bases.give_way(feature) {
                 return self.bases.next();
             }
             self.changes = changes;
-            if is_candidate(self.plan, change) {
-                return Some(change);
+            if is_candidate(self.plan, feature) {
+                return Some(feature);
             }
         }
         self.bases.next()

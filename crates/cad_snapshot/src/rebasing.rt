@@ -16,7 +16,7 @@ pub(crate) fn settled_layer(alloc: Global, layer: &Layer, most: usize) -> Result
     ensures { IfOk result (λ settled. settled ≡ layer.now) }
 {
     if has_few_changes(layer, most) {
-        layer.copy(alloc)
+        layer.copy()
     } else {
         layer.rebased(alloc)
     }

@@ -9,4 +9,4 @@ returns-in-Some c =
 
 pub returns-in-None : goal.returns-in-None
 returns-in-None c =
-    base_one (identifier c.args.object c.args.number) c.args.base.now c.args.changes.now (option_copied c.found-in-None.result) c.in-None.ensures c.found-in-None.ensures
+    base_one (identifier c.args.object c.args.number) c.args.base.now c.args.changes.now (option_copied c.found.result) c.in-None.ensures c.found.ensures

@@ -6,5 +6,5 @@ use Rattle.cad_merged.proofs.layer.Layer.rebased.Goals as goal
 
 pub build-requires-clause-listed : goal.build-requires-clause-listed
 build-requires-clause-listed c =
-    rw (c.collection.ensures.collection, c.shared-base.ensures) (listed_is _ c.self.inside.base.value.features c.self.inside.changes.items _
-    (c.in_ok-features.ensures ∙ ap₂ all_in (c.features.ensures.features ∙ ap (λ (f : LayerFeatures). f.features) c.shared-base.ensures) c.deref.ensures.value) c.self.invariant.0 c.self.invariant.1)
+    rw (c.collection.ensures.collection, c.shared-base.ensures) (listed_is _ c.self.inside.base.value.features c.self.inside.changes.value.items _
+    (c.in_ok-features.ensures ∙ ap₂ all_in (c.features.ensures.features ∙ ap (λ (f : LayerFeatures). f.features) c.shared-base.ensures) c.listed.ensures) c.self.invariant.0 c.self.invariant.1)

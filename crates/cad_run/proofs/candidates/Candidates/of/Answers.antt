@@ -7,10 +7,10 @@ pub invariant_of-result : goal.invariant_of-result
 invariant_of-result c =
     let last = option_map identifier c.args.after in
     record {
-      order = begins_in_order c.args.plan.now last _ _ _ _ c.in_ok-bases.ensures c.rest_after-changes.ensures c.parts.ensures.order;
-      passing = begins_passing c.args.plan.now last _ _ _ _ c.in_ok-bases.ensures c.rest_after-changes.ensures c.parts.ensures.order;
+      order = begins_in_order c.args.plan.now last _ _ _ _ c.in_ok-bases.ensures c.changes_later-changes.ensures c.parts.ensures.order;
+      passing = begins_passing c.args.plan.now last _ _ _ _ c.in_ok-bases.ensures c.changes_later-changes.ensures c.parts.ensures.order;
       few = search rules;
     }
 
 pub returns : goal.returns
-returns c = begins_with c.args.plan.now (option_map identifier c.args.after) _ _ _ _ c.in_ok-bases.ensures c.rest_after-changes.ensures c.parts.ensures.order _ c.parts.ensures.all
+returns c = begins_with c.args.plan.now (option_map identifier c.args.after) _ _ _ _ c.in_ok-bases.ensures c.changes_later-changes.ensures c.parts.ensures.order _ c.parts.ensures.all

@@ -1,0 +1,12 @@
+use Rattle.std.proofs.Common.{subst, sym}
+use Rattle.cad_responder.specs.Keeping.{IsKept}
+use Rattle.cad_responder.proofs.KeptLemmas.{kept_put}
+use Rattle.cad_responder.proofs.kept.Kept.add.Goals as goal
+
+pub returns : goal.returns
+returns c = λ commands all is. record {
+  newest = kept_put commands c.args.self.now.newest _ c.revision-revision.result c.args.snapshot c.put.result c.put.ensures.entries c.put.ensures.err all.newest
+      (subst (λ n. IsKept commands (n, c.args.snapshot)) (sym c.revision-revision.ensures) is);
+  before = all.before;
+  read = all.read;
+}
