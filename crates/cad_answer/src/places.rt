@@ -32,21 +32,14 @@ impl Places {
     pub(crate) fn lifespan(self, feature: &Feature) -> Option<Interval>
         ensures { result ≡ lifespan_of self feature.now }
     {
-        match value_at(feature, self.lifespan)? {
-            Value::Span(days) => Some(**days),
-            _ => None,
-        }
+        value_at(feature, self.lifespan)?.as_span()
     }
 
     /// The shape of the version.
     pub(crate) fn geometry(self, feature: &Feature) -> Option<ShapeRef<'_>>
         ensures { option_map lent_shape result ≡ geometry_of self feature.now }
     {
-        match value_at(feature, self.geometry)? {
-            Value::Spot(point) => Some(ShapeRef::Spot(**point)),
-            Value::Area(region) => Some(ShapeRef::Area(region)),
-            _ => None,
-        }
+        value_at(feature, self.geometry)?.as_shape()
     }
 }
 

@@ -82,8 +82,6 @@ module _ (e : Edits) (fit : Fit e) (first : Option Day) where
 
 pub edited_fits : (e : Edits) (collection : Collection) (x y : Item) → y ≡ edited e collection x → IsFeatureOf collection x → Fit e → IsFeatureOf collection y
 edited_fits e collection x y is of fit = subst (IsFeatureOf collection) (sym is) (record {
-  positive = of.positive;
-  small = of.small;
   fits = data_fit e fit (first_of x) (attributes_of collection) x.values of.fits;
 })
 

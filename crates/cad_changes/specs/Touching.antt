@@ -24,19 +24,12 @@ use Rattle.cad_feature.specs.Features.{Item, datum_at, by_identifier}
 use Rattle.cad_feature.specs.Flatten.{is_in, or_null, as_text, feature_in}
 use Rattle.cad_feature.specs.Lifespans.{is_up_to}
 use Rattle.cad_feature.specs.Values.{Datum, null, a_whole, a_day, a_span}
+pub use Rattle.cad_feature.specs.Values.{day_in, whole_in}
 use Rattle.cad_merged.specs.Identifiers.{is_item_of, of_object}
 use Rattle.cad_merged.specs.Merging.{put_if}
 use Rattle.cad_changes.specs.Changes.{renames_on}
 
 -- ---- what a feature says
-
-abbrev pub day_in : Datum → Option Day
-day_in (a_day day) = Some day
-day_in other = None
-
-abbrev pub whole_in : Datum → Option ℤ
-whole_in (a_whole n) = Some n
-whole_in other = None
 
 abbrev pub first_of : Item → Option Day
 first_of x = day_in (datum_at x 2)

@@ -2,12 +2,11 @@
 
 ghost use Rattle.std.specs.Prelude.{◌≡◌};
 ghost use Rattle.cad_feature.specs.Features.{datum_at};
-ghost use Rattle.cad_feature.specs.Values.{datum_of};
 ghost use Rattle.cad_changes.specs.Touching as spec;
 ghost use Rattle.cad_changes.specs.Touching.{day_in, whole_in};
 
 use cad_day::Day;
-use cad_feature::{Feature, Value};
+use cad_feature::Feature;
 use cad_schema::Collection;
 
 /// Where each feature says its first day.
@@ -16,34 +15,16 @@ const BEGIN: usize = 2;
 /// Where each feature says its last day.
 const END: usize = 3;
 
-fn day_of(value: &Value) -> Option<Day>
-    ensures { result ≡ day_in (datum_of value.now) }
-{
-    match value {
-        Value::Day(day) => Some(*day),
-        _ => None,
-    }
-}
-
-fn whole_of(value: &Value) -> Option<i64>
-    ensures { result ≡ whole_in (datum_of value.now) }
-{
-    match value {
-        Value::Whole(number) => Some(*number),
-        _ => None,
-    }
-}
-
 fn day_at(feature: &Feature, place: usize) -> Option<Day>
     ensures { result ≡ day_in (datum_at feature.now place) }
 {
-    day_of(feature.value(place)?)
+    feature.value(place)?.as_day()
 }
 
 fn whole_at(feature: &Feature, place: usize) -> Option<i64>
     ensures { result ≡ whole_in (datum_at feature.now place) }
 {
-    whole_of(feature.value(place)?)
+    feature.value(place)?.as_whole()
 }
 
 /// The first day of the feature's version.

@@ -14,6 +14,7 @@ use cad_shape::{Point, Region, Ring};
 use serde_json::Value;
 use std::alloc::Global;
 use std::marker::Model;
+use std::rc::Rc;
 
 impl FromValue for Ring {
     ghost use Rattle.cad_commands.specs.Values.{IsRingOf};
@@ -95,8 +96,8 @@ fn region(alloc: Global, outline: Ring, holes: Option<Holes>) -> Result<Region, 
 {
     let mut rings = listed(alloc, holes);
     rings.insert(0, outline)?;
-    let found = Region::new(alloc, rings)?;
-    match found {
+    let rings = Rc::new(alloc, rings)?;
+    match Region::new(rings) {
         Ok(region) => Ok(region),
         Err(_) => Err(CommandError::NotACommand),
     }

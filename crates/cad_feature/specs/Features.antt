@@ -1,11 +1,11 @@
 -- Features of a collection (OGC 17-069r4, 7.15: items; own profile: identifiers).
-use Rattle.std.specs.Prelude.{ℕ, ◌≤◌, ℤ, pos, List, slice_index_or}
+use Rattle.std.specs.Prelude.{ℕ, ℤ, List, slice_index_or}
 use Rattle.std.specs.List.{All, AllZip}
 use Rattle.std.specs.List.Sorted.{IsStrictlySortedBy}
 use Rattle.std.specs.declared.cmp.Ordering.{Ordering}
 use Rattle.cad_versions.specs.declared.object_id.ObjectId.{ObjectId}
 use Rattle.cad_versions.specs.Objects.{object_number}
-use Rattle.cad_versions.specs.Identifiers.{identifier_cmp}
+use Rattle.cad_versions.specs.Identifiers.{identifier, identifier_cmp, Numbers, IsVersionNumber}
 use Rattle.cad_schema.specs.declared.collection.Collection.{Collection}
 use Rattle.cad_schema.specs.Attributes.{Named}
 use Rattle.cad_schema.specs.Schema.{schema_of}
@@ -23,7 +23,15 @@ datum_at x i = slice_index_or x.values i null
 
 -- the number of the object, and the number of its version
 abbrev pub identifier_of : Item → ℤ × ℤ
-identifier_of x = (pos (object_number x.object), pos x.number)
+identifier_of x = identifier x.object x.number
+
+-- the same numbers, as its text says them
+abbrev pub numbers_of : Item → Numbers
+numbers_of x = (object_number x.object, x.number)
+
+-- the number of its version is one that a version can have
+abbrev pub IsNumbered : Item → Type 0
+IsNumbered x = IsVersionNumber x.number
 
 -- by object, and then by version
 abbrev pub by_identifier : Item → Item → Ordering
@@ -33,10 +41,8 @@ by_identifier x y = identifier_cmp (identifier_of x) (identifier_of y)
 abbrev pub FitSchema : List Named → List Datum → Type 0
 FitSchema ps ds = AllZip (λ p d. IsOfKind p.1 d) ps ds
 
--- its version has a number from 1 to 2^31 - 1, and its values fit the schema
+-- its values fit the schema: one of its kind, or null, for each property
 pub record IsFeatureOf (collection : Collection) (x : Item) : Type 0 where
-  pub positive : 1 ≤ x.number
-  pub small : x.number ≤ 2147483647
   pub fits : FitSchema (schema_of collection) x.values
 
 -- the features of a collection at a revision, as they are listed: no two have one identifier, and they ascend by it

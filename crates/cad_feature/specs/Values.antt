@@ -1,11 +1,13 @@
 -- Values of properties (OGC 19-079r2, 6.2: queryables; the kinds: own profile).
-use Rattle.std.specs.Prelude.{◌≡◌, ℕ, ℤ, Bool, true, List, chars, string_bytes, FitsSigned, ⊤}
+use Rattle.std.specs.Prelude.{◌≡◌, ℕ, ℤ, Bool, true, List, Option, Some, None, chars, string_bytes, FitsSigned, ⊤}
 use Rattle.std.specs.Int.{w64}
 use Rattle.std.specs.Str.{all_scalars}
 use Rattle.cad_day.specs.declared.day.Day.{Day}
 use Rattle.cad_day.specs.declared.interval.Interval.{Interval}
 use Rattle.cad_shape.specs.declared.point.Point.{Point}
 use Rattle.cad_shape.specs.declared.polygon.Region.{Region}
+use Rattle.cad_shape.specs.declared.shape.Shape.{Shape}
+use Rattle.cad_shape.specs.declared.shape.Shape.TheVariants as shape
 use Rattle.cad_feature.specs.declared.value.Value.{Value}
 use Rattle.cad_feature.specs.declared.value.Value.TheVariants as value
 use Rattle.cad_schema.specs.declared.property.PropertyKind.{PropertyKind}
@@ -31,6 +33,24 @@ datum_of (value.Day day) = a_day day
 datum_of (value.Span days) = a_span days.value
 datum_of (value.Spot point) = a_spot point.value
 datum_of (value.Area region) = an_area region
+
+-- the whole number that it is, the day, the days and the shape
+abbrev pub whole_in : Datum → Option ℤ
+whole_in (a_whole n) = Some n
+whole_in _ = None
+
+abbrev pub day_in : Datum → Option Day
+day_in (a_day d) = Some d
+day_in _ = None
+
+abbrev pub span_in : Datum → Option Interval
+span_in (a_span days) = Some days
+span_in _ = None
+
+abbrev pub shape_in : Datum → Option Shape
+shape_in (a_spot p) = Some (shape.Spot p)
+shape_in (an_area region) = Some (shape.Area region)
+shape_in _ = None
 
 -- of the kind, or no value; texts hold characters alone (Unicode scalar values), and whole numbers have 64 bits
 abbrev pub IsOfKind : PropertyKind → Datum → Type 0

@@ -1,13 +1,13 @@
 //! Features.
 
 use crate::Value;
-use cad_versions::ObjectId;
+use cad_versions::{Identifier, ObjectId, compare_identifiers};
 use std::cmp::Ordering;
 use std::marker::Model;
 
 /// One version of an object as a feature of a collection: its values stand in the order of the collection's schema.
 ///
-/// `object` and `number` identify it. Contracts see it as an `Item`.
+/// `object` and `number` identify it; the number is from 1 to 2,147,483,647. Contracts see it as an `Item`.
 #[derive(Debug, Drop)]
 pub struct Feature {
     /// The object of the version.
@@ -26,19 +26,33 @@ impl Model for Feature {
     ghost Value = { Item };
 
     ghost view = { λ x. record { object = x.object; number = x.number; values = map datum_of x.values.items } };
+
+    ghost use Rattle.cad_versions.specs.Identifiers.{IsVersionNumber};
+
+    ghost invariant = { λ x. IsVersionNumber x.number };
 }
 
 impl Feature {
     ghost use Rattle.std.specs.Prelude.{◌≡◌, MatchOption};
-    ghost use Rattle.cad_feature.specs.Features.{by_identifier, datum_at};
+    ghost use Rattle.cad_versions.specs.Identifiers.{numbers_of as numbers_said};
+    ghost use Rattle.cad_feature.specs.Features.{by_identifier, datum_at, numbers_of};
     ghost use Rattle.cad_feature.specs.Values.{datum_of, null};
+
+    /// Its object and its number.
+    pub fn identifier(&self) -> Identifier
+        ensures { numbers_said result ≡ numbers_of self.now }
+    {
+        Identifier {
+            object: self.object,
+            number: self.number,
+        }
+    }
 
     /// How it stands to another by their identifiers.
     pub fn compare(&self, other: &Feature) -> Ordering
         ensures { result ≡ by_identifier self.now other.now }
     {
-        let by_object = self.object.number().cmp(&other.object.number());
-        by_object.then(self.number.cmp(&other.number))
+        compare_identifiers((self.object, self.number), (other.object, other.number))
     }
 
     /// The value of the property at that place of the schema, if there is such a place.

@@ -1,9 +1,9 @@
 //! From versions to features.
 
 ghost use Rattle.std.specs.Prelude.{◌≡◌, IfOk, drop};
-ghost use Rattle.std.specs.List.{position_or_len};
+ghost use Rattle.std.specs.List.{All, position_or_len};
 ghost use Rattle.cad_versions.specs.Listing.{IsListing};
-ghost use Rattle.cad_feature.specs.Features.{IsFeatureOf, AreFeaturesOf};
+ghost use Rattle.cad_feature.specs.Features.{IsNumbered, IsFeatureOf, AreFeaturesOf};
 ghost use Rattle.cad_feature.specs.Joined.{is_joined as is_joined_of, joins_names as joins_names_of};
 ghost use Rattle.cad_feature.specs.Flatten.{class_for, is_in as is_of_class, feature_in, features_in};
 
@@ -42,6 +42,7 @@ fn feature(
     collection: Collection,
 ) -> Result<Feature, AllocError>
     ensures feature { IfOk result (λ x. x ≡ feature_in objects.now.versions.now collection version.now) }
+    ensures numbered { IfOk result IsNumbered }
     ensures fits { IfOk result (IsFeatureOf collection) }
 {
     let properties = schema(collection);
@@ -122,6 +123,7 @@ pub fn flatten(
 ) -> Result<Vec<Feature>, AllocError>
     requires { IsListing versions.now }
     ensures features { IfOk result (λ features. features.items ≡ features_in versions.now collection) }
+    ensures numbered { IfOk result (λ features. All IsNumbered features.items) }
     ensures listed { IfOk result (λ features. AreFeaturesOf collection features.items) }
 {
     let rest = from_first(versions, collection);

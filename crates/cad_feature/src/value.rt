@@ -1,7 +1,7 @@
 //! Values of properties.
 
 use cad_day::{Day, Interval};
-use cad_shape::{Point, Region};
+use cad_shape::{Point, Region, ShapeRef};
 use std::rc::Rc;
 
 /// A value of one property, which takes 16 bytes: what needs more lies beside it.
@@ -23,4 +23,51 @@ pub enum Value {
     Spot(Box<Point>),
     /// A region of the register's plane.
     Area(Region),
+}
+
+impl Value {
+    ghost use Rattle.std.specs.Prelude.{◌≡◌, option_map};
+    ghost use Rattle.cad_shape.specs.Shapes.{lent_shape};
+    ghost use Rattle.cad_feature.specs.Values.{datum_of, whole_in, day_in, span_in, shape_in};
+
+    /// The whole number, where it is one.
+    pub fn as_whole(&self) -> Option<i64>
+        ensures { result ≡ whole_in (datum_of self.now) }
+    {
+        match self {
+            Value::Whole(number) => Some(*number),
+            _ => None,
+        }
+    }
+
+    /// The day, where it is one.
+    pub fn as_day(&self) -> Option<Day>
+        ensures { result ≡ day_in (datum_of self.now) }
+    {
+        match self {
+            Value::Day(day) => Some(*day),
+            _ => None,
+        }
+    }
+
+    /// The days from one to another, where it is such.
+    pub fn as_span(&self) -> Option<Interval>
+        ensures { result ≡ span_in (datum_of self.now) }
+    {
+        match self {
+            Value::Span(days) => Some(**days),
+            _ => None,
+        }
+    }
+
+    /// The point or the region, where it is one. It is lent.
+    pub fn as_shape(&self) -> Option<ShapeRef<'_>>
+        ensures { option_map lent_shape result ≡ shape_in (datum_of self.now) }
+    {
+        match self {
+            Value::Spot(point) => Some(ShapeRef::Spot(**point)),
+            Value::Area(region) => Some(ShapeRef::Area(region)),
+            _ => None,
+        }
+    }
 }

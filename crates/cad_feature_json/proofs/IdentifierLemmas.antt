@@ -1,14 +1,13 @@
 -- Identifiers, cut at their full stop.
-use Rattle.std.proofs.Common.{◌≡◌, ℕ, ◌+◌, ◌%◌, ◌<◌, ◌^◌, List, [], ◌∷◌, ◌++◌, Bool, false, ◌==◌, decimal, ℤ, pos, refl, sym, codes, ◌∙◌, append_assoc, arith}
+use Rattle.std.proofs.Common.{◌≡◌, ℕ, ◌+◌, ◌%◌, ◌<◌, ◌^◌, List, [], ◌∷◌, ◌++◌, Bool, false, ◌==◌, decimal, ℤ, pos, refl, sym, ◌∙◌, arith}
 use Rattle.std.specs.List.{list_any}
 use Rattle.std.proofs.lemmas.Bool.{eqb-false, or_parts, or_from}
 use Rattle.std.proofs.lemmas.Bool.Decides.{nat_tests}
 use Rattle.std.proofs.lemmas.List.Folds.{list_any-append}
 use Rattle.std.proofs.lemmas.Fmt.{decimal_by_steps, decimal_injective}
 use Rattle.cad_versions.specs.Objects.{object_number}
-use Rattle.cad_schema.specs.declared.collection.Collection.{Collection}
-use Rattle.cad_feature.specs.Features.{Item, IsFeatureOf, identifier_of}
-use Rattle.cad_feature_json.specs.Tree.{identifier_text}
+use Rattle.cad_versions.specs.Identifiers.{identifier_text}
+use Rattle.cad_feature.specs.Features.{Item, IsNumbered, identifier_of, numbers_of}
 
 -- a full stop
 abbrev is_stop : ℕ → Bool
@@ -44,19 +43,19 @@ cut_alike (x ∷ xs) ys (u ∷ us) vs a b same =
     (rw (head, rest.0) refl, rest.1)
 
 -- the full stop and what follows it, as one text
-text_is : (x : Item) → identifier_text x ≡ decimal (object_number x.object) ++ 46 ∷ decimal x.number
-text_is x = append_assoc (decimal (object_number x.object)) (codes ".") (decimal x.number)
+text_is : (x : Item) → identifier_text (numbers_of x) ≡ decimal (object_number x.object) ++ 46 ∷ decimal x.number
+text_is x = refl
 
 same_pair : (a b c d : ℕ) → a ≡ c → b ≡ d → ◌≡◌ {A = ℤ × ℤ} (pos a, pos b) (pos c, pos d)
 same_pair a b c d e f = rw (e, f) refl
 
 -- identifiers that are written alike are one
-pub identifier_unique : (collection : Collection) (x y : Item) → IsFeatureOf collection x → IsFeatureOf collection y → identifier_text x ≡ identifier_text y → identifier_of x ≡ identifier_of y
-identifier_unique collection x y xs ys same =
+pub identifier_unique : (x y : Item) → IsNumbered x → IsNumbered y → identifier_text (numbers_of x) ≡ identifier_text (numbers_of y) → identifier_of x ≡ identifier_of y
+identifier_unique x y xs ys same =
     let a : object_number x.object < 2 ^ 64 = omega (arith, x.object.small) in
-    let b : x.number < 2 ^ 64 = omega (arith, xs.small) in
+    let b : x.number < 2 ^ 64 = omega (arith, xs.1) in
     let m : object_number y.object < 2 ^ 64 = omega (arith, y.object.small) in
-    let n : y.number < 2 ^ 64 = omega (arith, ys.small) in
+    let n : y.number < 2 ^ 64 = omega (arith, ys.1) in
     let equal = sym (text_is x) ∙ same ∙ text_is y in
     let parts = cut_alike (decimal (object_number x.object)) (decimal x.number) (decimal (object_number y.object)) (decimal y.number) (decimal_no_stop (object_number x.object) a) (decimal_no_stop (object_number y.object) m) equal in
     same_pair (object_number x.object) x.number (object_number y.object) y.number (decimal_injective (object_number x.object) (object_number y.object) a m parts.0) (decimal_injective x.number y.number b n parts.1)

@@ -1,12 +1,12 @@
 -- What the trees of features hold, in terms of the features (RFC 7946, section 3.2: properties and id; own profile).
 use Rattle.std.specs.Prelude.{◌≡◌, ℕ, List, Some, None, option_map, if◌then◌else◌, slice_get, IsTrue}
 use Rattle.serde_json.specs.Find.{get}
+use Rattle.cad_versions.specs.Identifiers.{identifier_text}
 use Rattle.cad_schema.specs.declared.collection.Collection.{Collection}
-use Rattle.cad_feature.specs.Features.{Item, IsFeatureOf, identifier_of}
+use Rattle.cad_feature.specs.Features.{Item, IsNumbered, IsFeatureOf, identifier_of, numbers_of}
 use Rattle.cad_schema.specs.Attributes.{Named}
 use Rattle.cad_schema.specs.Schema.{schema_of}
 use Rattle.cad_feature.specs.Values.{Datum}
-use Rattle.cad_feature_json.specs.Tree.{identifier_text}
 use Rattle.cad_feature_json.specs.Values.{value_data, named_values, is_property, value_named, properties_data}
 
 -- the value in the place of a property is the one under that property's name (own profile)
@@ -33,4 +33,4 @@ EveryPropertyIsWritten =
 -- two features are written under one identifier only where they have one (OGC 17-069r4, section 7.16: feature)
 abbrev pub IdentifiersAreUnique : Type 0
 IdentifiersAreUnique =
-    (c : Collection) (x y : Item) → IsFeatureOf c x → IsFeatureOf c y → identifier_text x ≡ identifier_text y → identifier_of x ≡ identifier_of y
+    (x y : Item) → IsNumbered x → IsNumbered y → identifier_text (numbers_of x) ≡ identifier_text (numbers_of y) → identifier_of x ≡ identifier_of y

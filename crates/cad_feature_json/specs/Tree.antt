@@ -1,22 +1,18 @@
 -- Features as JSON, members in byte order of their names.
-use Rattle.std.specs.Prelude.{ℕ, List, ◌++◌, map, codes, decimal}
+use Rattle.std.specs.Prelude.{List, map, codes}
 use Rattle.serde_json.specs.Data.{Data, string, array, object, member, no_members}
 use Rattle.serde_json.specs.View.{items_of}
-use Rattle.cad_versions.specs.Objects.{object_number}
+use Rattle.cad_versions.specs.Identifiers.{identifier_text}
 use Rattle.cad_schema.specs.declared.collection.Collection.{Collection}
-use Rattle.cad_feature.specs.Features.{Item}
+use Rattle.cad_feature.specs.Features.{Item, numbers_of}
 use Rattle.cad_schema.specs.Schema.{schema_of}
 use Rattle.cad_feature_json.specs.Values.{geometry_data, properties_data}
-
--- an identifier: the number of the object, a full stop, the number of the version (own profile)
-abbrev pub identifier_text : Item → List ℕ
-identifier_text x = decimal (object_number x.object) ++ codes "." ++ decimal x.number
 
 -- a feature of the collection (RFC 7946, section 3.2)
 abbrev pub feature_data : Collection → Item → Data
 feature_data collection x =
     object (member (codes "geometry") (geometry_data (schema_of collection) x.values)
-    (member (codes "id") (string (identifier_text x))
+    (member (codes "id") (string (identifier_text (numbers_of x)))
     (member (codes "properties") (properties_data (schema_of collection) x.values)
     (member (codes "type") (string (codes "Feature")) no_members))))
 

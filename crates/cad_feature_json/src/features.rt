@@ -22,8 +22,7 @@ fn feature_tree(
 {
     let schema = schema(collection);
     let geometry = geometry_json(alloc, schema, &feature.values)?;
-    let object = feature.object.number();
-    let id = format!(in alloc; "{}.{}", object, feature.number)?;
+    let id = feature.identifier().text(alloc)?;
     let properties = properties_json(alloc, schema, &feature.values)?;
     json!(in alloc; {"geometry": geometry, "id": id, "properties": properties, "type": "Feature"})
 }

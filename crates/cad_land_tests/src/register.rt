@@ -74,7 +74,8 @@ fn region(alloc: Global, outlines: &[&[(i64, i64)]]) -> Result<Region, Fail> {
     for corners in outlines {
         rings.push(ring(alloc, corners)?)?;
     }
-    Ok(Region::new(alloc, rings)?.ok().ok_or("region")?)
+    let rings = Rc::new(alloc, rings)?;
+    Ok(Region::new(rings).ok().ok_or("region")?)
 }
 
 fn parcel(

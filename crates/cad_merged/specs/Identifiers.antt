@@ -1,16 +1,13 @@
 -- Features by their identifiers (OGC 17-069r4, 7.16: feature; the identifier and after: own profile).
-use Rattle.std.specs.Prelude.{◌≡◌, ℕ, ℤ, pos, Bool, List, Contains, filter, Option, Some, None}
+use Rattle.std.specs.Prelude.{◌≡◌, ℤ, pos, Bool, List, Contains, filter, Option, Some, None}
 use Rattle.std.specs.Ordering.{is_gt, int_eq}
 use Rattle.std.specs.List.{All}
 use Rattle.std.specs.declared.cmp.Ordering.{Ordering}
 use Rattle.cad_versions.specs.declared.object_id.ObjectId.{ObjectId}
 use Rattle.cad_versions.specs.Objects.{object_number}
 use Rattle.cad_versions.specs.Identifiers.{identifier_cmp}
+pub use Rattle.cad_versions.specs.Identifiers.{identifier}
 use Rattle.cad_feature.specs.Features.{Item, identifier_of}
-
--- of the version of the object with that number
-abbrev pub identifier : ObjectId → ℕ → ℤ × ℤ
-identifier object number = (pos (object_number object), pos number)
 
 -- how the feature stands to the one that is identified
 abbrev pub compared : ℤ × ℤ → Item → Ordering

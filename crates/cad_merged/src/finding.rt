@@ -10,15 +10,14 @@ ghost use Rattle.cad_merged.specs.Walks.{all_in, IsInOrder};
 use crate::Change;
 use crate::changed::changed;
 use cad_feature::Feature;
-use cad_versions::ObjectId;
+use cad_versions::{ObjectId, compare_identifiers};
 use std::cmp::Ordering;
 
 /// How the feature stands to the one with that identifier.
 pub(crate) fn compare(feature: &Feature, object: ObjectId, number: u32) -> Ordering
     ensures { result ≡ compared (identifier object number) feature.now }
 {
-    let by_object = feature.object.number().cmp(&object.number());
-    by_object.then(feature.number.cmp(&number))
+    compare_identifiers((feature.object, feature.number), (object, number))
 }
 
 fn comes_after(feature: &Feature, object: ObjectId, number: u32) -> bool

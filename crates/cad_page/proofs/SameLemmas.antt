@@ -11,7 +11,7 @@ use Rattle.cql_types.specs.declared.filter.Filter.{Filter}
 use Rattle.cql_truth.specs.Laws.{FiltersOfOneConditionAgree}
 use Rattle.cad_bodies.specs.Links.{link_data}
 use Rattle.cad_bodies.specs.Paths.{items_path}
-use Rattle.cad_query.specs.declared.identifier.Identifier.{Identifier}
+use Rattle.cad_versions.specs.declared.identifier.Identifier.{Identifier}
 use Rattle.cad_query.specs.Identifiers.{numbers_of as numbers_named}
 use Rattle.cad_query.specs.Links.{self_target, next_target}
 use Rattle.cad_query.specs.Pairs.{PairText}

@@ -1,20 +1,16 @@
 -- A page of features as JSON (OGC 17-069r4, 7.15.7: response; 7.15.5: links; revision: own profile), members in byte order of their names.
 use Rattle.std.specs.Prelude.{ℕ, Bool, ◌-◌, if◌then◌else◌, List, length, map, slice_get, codes, Option, Some, None, option_map}
 use Rattle.serde_json.specs.Data.{Data, number, unsigned, string, array, object, Items, no_items, item, no_members, member}
-use Rattle.cad_versions.specs.Objects.{object_number}
 use Rattle.cad_feature.specs.Features.{Item}
+pub use Rattle.cad_feature.specs.Features.{numbers_of}
 use Rattle.cad_feature_json.specs.Tree.{features_data}
 use Rattle.cad_bodies.specs.Links.{link_data}
 use Rattle.cad_bodies.specs.Paths.{items_path}
-use Rattle.cad_query.specs.Identifiers.{Numbers}
 use Rattle.cad_query.specs.Links.{self_target, next_target}
 use Rattle.cad_query.specs.Pairs.{PairText, pair_text}
 use Rattle.cad_ask.specs.declared.ask.Ask.{Ask}
 use Rattle.cad_snapshot.specs.Snapshots.{RevisionFeatures}
 use Rattle.cad_page.specs.Pages.{rows_in, is_more_in}
-
-abbrev pub numbers_of : Item → Numbers
-numbers_of x = (object_number x.object, x.number)
 
 -- the parameters of the request
 abbrev pub pairs_of : Ask → List PairText

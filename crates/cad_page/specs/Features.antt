@@ -1,14 +1,15 @@
 -- One feature as JSON (OGC 17-069r4, 7.16: feature), members in byte order of their names.
 use Rattle.std.specs.Prelude.{ℕ, List, ◌++◌, codes}
 use Rattle.serde_json.specs.Data.{Data, null, boolean, number, string, array, object, item, no_items, put}
+use Rattle.cad_versions.specs.Identifiers.{identifier_text}
 use Rattle.cad_schema.specs.declared.collection.Collection.{Collection}
-use Rattle.cad_feature.specs.Features.{Item}
-use Rattle.cad_feature_json.specs.Tree.{identifier_text, feature_data}
+use Rattle.cad_feature.specs.Features.{Item, numbers_of}
+use Rattle.cad_feature_json.specs.Tree.{feature_data}
 use Rattle.cad_bodies.specs.Links.{link_data}
 use Rattle.cad_bodies.specs.Paths.{collection_path, items_path}
 
 abbrev pub feature_path : Collection → Item → List ℕ
-feature_path collection x = items_path collection ++ codes "/" ++ identifier_text x
+feature_path collection x = items_path collection ++ codes "/" ++ identifier_text (numbers_of x)
 
 -- to the feature itself, and to its collection (OGC 17-069r4, 7.16.2: links self and collection)
 abbrev pub feature_links_data : Collection → Item → Data

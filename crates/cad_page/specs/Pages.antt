@@ -1,7 +1,7 @@
 -- The features that a request asks for, of a snapshot (OGC 17-069r4, 7.15: items; revision and after: own profile).
 use Rattle.std.specs.Prelude.{ℤ, Bool, List, Option, option_map}
 use Rattle.cad_feature.specs.Features.{Item}
-use Rattle.cad_query.specs.declared.identifier.Identifier.{Identifier}
+use Rattle.cad_versions.specs.declared.identifier.Identifier.{Identifier}
 use Rattle.cad_ask.specs.declared.ask.Ask.{Ask}
 use Rattle.cad_snapshot.specs.Snapshots.{RevisionFeatures, features_at}
 use Rattle.cad_answer.specs.Answers.{Restrictions, answer}

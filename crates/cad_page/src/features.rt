@@ -23,8 +23,7 @@ fn feature_path(
 ) -> Result<String, AllocError>
     ensures { IfOk result (λ path. string_bytes path ≡ spec.feature_path collection feature.now) }
 {
-    let object = feature.object.number();
-    let id = format!(in alloc; "{}.{}", object, feature.number)?;
+    let id = feature.identifier().text(alloc)?;
     let mut path = items_path(alloc, collection)?;
     path.push_str("/")?;
     path.push_str(id.as_str())?;

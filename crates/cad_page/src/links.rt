@@ -14,21 +14,22 @@ use cad_answer::Page;
 use cad_ask::Ask;
 use cad_bodies::{items_path, link_json};
 use cad_feature::Feature;
-use cad_query::{Identifier, next_target, self_target};
+use cad_query::{next_target, self_target};
 use serde_json::{Value as Json, json};
 use std::alloc::{AllocError, Global};
 
 /// The target of the page that begins after this feature.
 fn target(alloc: Global, ask: &Ask, revision: u64, last: &Feature) -> Result<String, AllocError>
-    requires { IsFeatureOf ask.now.collection last.now }
     ensures { IfOk result (λ text. string_bytes text ≡ target_after ask.now revision last.now) }
 {
     let path = items_path(alloc, ask.collection)?;
-    let last = Identifier {
-        object: last.object,
-        number: last.number,
-    };
-    next_target(alloc, path.as_str(), &ask.pairs, revision, last)
+    next_target(
+        alloc,
+        path.as_str(),
+        &ask.pairs,
+        revision,
+        last.identifier(),
+    )
 }
 
 /// The target of the page after this one, where features are left.

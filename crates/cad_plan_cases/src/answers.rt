@@ -66,8 +66,9 @@ pub fn put_identifier(
     feature: &Feature,
     line: &mut String,
 ) -> Result<(), AllocError> {
-    let object = feature.object.number();
-    line.push_str(&format!(in alloc; " {object}.{}", feature.number)?)
+    let identifier = feature.identifier().text(alloc)?;
+    line.push_str(" ")?;
+    line.push_str(identifier.as_str())
 }
 
 fn put_taken(alloc: Global, taken: &[&Feature], line: &mut String) -> Result<(), AllocError> {

@@ -10,6 +10,7 @@ use Rattle.std.proofs.lemmas.Bool.{and_parts, and_from}
 use Rattle.std.proofs.lemmas.List.{take_at, drop_at, length-append}
 use Rattle.std.proofs.lemmas.List.Sums.{split_at_first, passes_at_first}
 use Rattle.std.proofs.lemmas.Fmt.{decimal_nonempty, digits_decimal, digits_value-decimal, decimal-digits_value, first_decimal}
+use Rattle.cad_versions.specs.Limits.{most_number}
 use Rattle.cad_query.specs.Parts.{is_byte, parted}
 use Rattle.cad_decimal.specs.Decimals.{is_number, number_in}
 use Rattle.cad_query.specs.Numerals.{counting_number}
@@ -31,7 +32,7 @@ counting_decimal n range =
     let first = first_decimal n (omega (arith, range.0)) small in
     let no_zero : (get_or (decimal n) 0 0 == 48) ≡ false = grind (arith, nat_tests) in
     let low : nat_le 1 n ≡ true = let l = range.0 in grind (arith, nat_tests) in
-    let high : nat_le n 2147483647 ≡ true = let h = range.1 in grind (arith, nat_tests) in
+    let high : nat_le n most_number ≡ true = let h = range.1 in grind (arith, nat_tests) in
     rw (no_zero, number_in_decimal n small, low, high) refl
 
 -- a counting number is read of its own decimal digits alone
@@ -45,13 +46,13 @@ counted digits n e = by_first (get_or digits 0 0 == 48) refl e
     value : ℕ
     value = digits_value 10 digits
 
-    in_range : (t : Bool) → (nat_le 1 value && nat_le value 2147483647) ≡ t → is_number digits ≡ true → (get_or digits 0 0 == 48) ≡ false
+    in_range : (t : Bool) → (nat_le 1 value && nat_le value most_number) ≡ t → is_number digits ≡ true → (get_or digits 0 0 == 48) ≡ false
         → cond t (Some value) None ≡ Some n → IsCounted digits n
     in_range true range number first e =
         let is : value ≡ n = cc in
-        let both = and_parts (nat_le 1 value) (nat_le value 2147483647) range in
+        let both = and_parts (nat_le 1 value) (nat_le value most_number) range in
         let low : 1 ≤ value = grind (arith, nat_tests) in
-        let high : value ≤ 2147483647 = grind (arith, nat_tests) in
+        let high : value ≤ most_number = grind (arith, nat_tests) in
         let all = and_parts (nat_lt 0 (length digits)) (list_all is_ascii_digit digits) number in
         let some : 0 < length digits = grind (arith, nat_tests) in
         let other : get_or digits 0 0 ≡ 48 → length digits ≡ 1 = λ zero_first. absurd (let t : (get_or digits 0 0 == 48) ≡ true = grind (arith, nat_tests) in let no_more : true ≡ false = sym t ∙ first in cc) in
@@ -59,12 +60,12 @@ counted digits n e = by_first (get_or digits 0 0 == 48) refl e
     in_range false range number first e = absurd (let told : None ≡ Some n = e in cc)
 
     by_number : (t : Bool) → is_number digits ≡ t → (get_or digits 0 0 == 48) ≡ false
-        → option_and_then (λ m. cond (nat_le 1 m && nat_le m 2147483647) (Some m) None) (cond t (Some value) None) ≡ Some n → IsCounted digits n
-    by_number true number first e = in_range (nat_le 1 value && nat_le value 2147483647) refl number first e
+        → option_and_then (λ m. cond (nat_le 1 m && nat_le m most_number) (Some m) None) (cond t (Some value) None) ≡ Some n → IsCounted digits n
+    by_number true number first e = in_range (nat_le 1 value && nat_le value most_number) refl number first e
     by_number false number first e = absurd (let told : None ≡ Some n = e in cc)
 
     by_first : (t : Bool) → (get_or digits 0 0 == 48) ≡ t
-        → cond t None (option_and_then (λ m. cond (nat_le 1 m && nat_le m 2147483647) (Some m) None) (number_in digits)) ≡ Some n → IsCounted digits n
+        → cond t None (option_and_then (λ m. cond (nat_le 1 m && nat_le m most_number) (Some m) None) (number_in digits)) ≡ Some n → IsCounted digits n
     by_first true first e = absurd (let told : None ≡ Some n = e in cc)
     by_first false first e = by_number (is_number digits) refl first e
 

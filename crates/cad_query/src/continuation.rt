@@ -8,10 +8,11 @@ ghost use Rattle.cad_query.specs.Identifiers.{identifier_named, numbers_of};
 ghost use Rattle.cad_query.specs.Parameters.{any_text, first_of, continuation_faults, asked_for, IsContinuation};
 
 use crate::fault::ParameterFault;
-use crate::identifier::Identifier;
+use crate::identifier::read_identifier;
 use crate::names::value_under;
 use crate::numerals::revision_in;
 use crate::pairs::Pair;
+use cad_versions::Identifier;
 
 /// Where a page begins: the pages of one walk show one revision, each after the last feature of the one before.
 #[derive(Clone, Copy, Debug, PartialEq, Eq)]
@@ -52,7 +53,7 @@ fn after(pairs: &[Pair]) -> Result<Option<Identifier>, ParameterFault>
     ensures value { IfOk result (λ after. option_map numbers_of after ≡ asked_for identifier_named (codes "after") (map pair_text pairs.now)) }
 {
     match value_under(pairs, "after") {
-        Some(text) => match Identifier::read(text) {
+        Some(text) => match read_identifier(text) {
             Some(identifier) => Ok(Some(identifier)),
             None => Err(ParameterFault::After),
         },

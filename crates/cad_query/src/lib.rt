@@ -1,7 +1,7 @@
 //! What a request for features asks by its parameters, and the links that a page of features carries.
 //!
 //! - `Pair`: a parameter; `read_pairs` and `write_pairs` read and write the pairs of a query
-//! - `Identifier`: the object and the number of a version, as the text `3.1`
+//! - `read_identifier`: the `Identifier` of a version, of `cad_versions`, that a text as `3.1` names
 //! - `Selection`, `filter_text` and `Continuation`: what the pairs ask for; they are read in this order
 //! - `ParameterFault`: why pairs are refused, in the order in which its faults are looked for
 //! - `self_target` and `next_target`: the targets of the links to a page and to the one after it
@@ -25,9 +25,10 @@ mod pairs;
 mod parts;
 mod selection;
 
+pub use cad_versions::Identifier;
 pub use continuation::Continuation;
 pub use fault::ParameterFault;
-pub use identifier::Identifier;
+pub use identifier::read_identifier;
 pub use links::{next_target, self_target};
 pub use names::filter_text;
 pub use pairs::{Pair, read_pairs, write_pairs};

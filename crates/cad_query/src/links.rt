@@ -7,8 +7,8 @@ ghost use Rattle.cad_query.specs.Identifiers.{numbers_of};
 ghost use Rattle.cad_query.specs.Links as spec;
 ghost use Rattle.cad_query.specs.Links.{continued};
 
-use crate::identifier::Identifier;
 use crate::pairs::{Pair, write_pairs};
+use cad_versions::Identifier;
 use form_urlencoded::Serializer;
 use std::alloc::{AllocError, Global};
 

@@ -4,7 +4,7 @@ use Rattle.std.specs.List.{AllZip}
 use Rattle.std.specs.declared.cmp.Ordering.{Ordering}
 use Rattle.sqlite_value.specs.Order.{Row, column}
 use Rattle.cad_versions.specs.Entries.{Entry}
-use Rattle.cad_versions.specs.Identifiers.{identifier_cmp}
+use Rattle.cad_versions.specs.Identifiers.{identifier_of as identifier_of_version, identifier_cmp}
 use Rattle.cad_versions.specs.Objects.{object_number}
 use Rattle.cad_versions.specs.declared.fault.RegisterFault.{RegisterFault}
 use Rattle.cad_versions.specs.declared.fault.RegisterFault.TheVariants as fault
@@ -21,7 +21,7 @@ IsReadOf row (Version kept) = IsRowOf row (entry_of kept)
 IsReadOf row (Damaged object number) = (identifier_in row ≡ (object, number)) × ((e : Entry) → ¬ IsRowOf row e)
 
 abbrev pub identifier_of : FoundRow → ℤ × ℤ
-identifier_of (Version kept) = (pos (object_number kept.version.object), pos kept.version.number)
+identifier_of (Version kept) = identifier_of_version kept.version
 identifier_of (Damaged object number) = (object, number)
 
 -- what is read of the row of no version

@@ -1,15 +1,15 @@
 -- The part of a list of features that a page shows (OGC 17-069r4, 7.15.2: parameter limit; after: own profile).
-use Rattle.std.specs.Prelude.{ℕ, ℤ, pos, nat_lt, Bool, true, List, length, filter, take, map, Option, Some, None}
+use Rattle.std.specs.Prelude.{ℕ, ℤ, nat_lt, Bool, true, List, length, filter, take, map, Option, Some, None}
 use Rattle.std.proofs.Common.{Bor}
 use Rattle.cad_versions.specs.declared.object_id.ObjectId.{ObjectId}
-use Rattle.cad_versions.specs.Objects.{object_number}
+use Rattle.cad_versions.specs.Identifiers.{identifier as identifier_with}
 use Rattle.cad_feature.specs.Features.{Item}
 use Rattle.cad_merged.specs.Identifiers.{comes_after}
 use Rattle.cad_run.specs.declared.rows.Page.{Page}
 
 -- of an object and the number of its version
 abbrev pub identifier : ObjectId × ℕ → ℤ × ℤ
-identifier i = (pos (object_number i.0), pos i.1)
+identifier i = identifier_with i.0 i.1
 
 -- those after the one that is named, or all
 abbrev pub is_later : Option (ℤ × ℤ) → Item → Bool

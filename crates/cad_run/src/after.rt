@@ -8,14 +8,12 @@ ghost use Rattle.cad_run.specs.Slices.{identifier, later};
 
 use cad_feature::Feature;
 use cad_merged::{Change, changes_after};
-use cad_versions::ObjectId;
+use cad_versions::{ObjectId, compare_identifiers};
 
 fn comes_after(feature: &Feature, last: (ObjectId, u32)) -> bool
     ensures { result ≡ spec.comes_after (identifier last) feature.now }
 {
-    let (object, number) = last;
-    let by_object = feature.object.number().cmp(&object.number());
-    by_object.then(feature.number.cmp(&number)).is_gt()
+    compare_identifiers((feature.object, feature.number), last).is_gt()
 }
 
 fn first_later(features: &[Feature], last: (ObjectId, u32)) -> usize

@@ -85,20 +85,18 @@ impl Region {
     ghost use Rattle.cad_shape.specs.Frames.{IsLeastBounds};
     ghost use Rattle.cad_shape.specs.RegionRings.{rings_of, outer_corners, region_corners, IsRegionFault};
 
-    /// The region of these rings, the exterior boundary first, or its first fault and the rings again. An error is want of memory.
-    pub fn new(
-        alloc: Global,
-        rings: Vec<Ring>,
-    ) -> Result<Result<Region, (RegionFault, Vec<Ring>)>, AllocError>
-        ensures { IfOk result (λ found. MatchResult found
-            (λ region. rings_of region ≡ rings.items)
-            (λ refusal. IsRegionFault rings.items refusal.0 × (refusal.1 ≡ rings))) }
+    /// The region of these rings, the exterior boundary first, or its first fault and the rings again. It takes no memory.
+    pub fn new(rings: Rc<Vec<Ring>>) -> Result<Region, (RegionFault, Rc<Vec<Ring>>)>
+        ensures { MatchResult result
+            (λ region. rings_of region ≡ rings.value.items)
+            (λ refusal. IsRegionFault rings.value.items refusal.0 × (refusal.1 ≡ rings)) }
     {
-        if let Some(fault) = RegionFault::first(rings.as_slice()) {
-            return Ok(Err((fault, rings)));
+        match RegionFault::first(rings.as_ref().as_slice()) {
+            Some(fault) => Err((fault, rings)),
+            None => Ok(Region {
+                rings: Rings { list: rings },
+            }),
         }
-        let rings = Rings::new(alloc, rings)?;
-        Ok(Ok(Region { rings }))
     }
 
     /// The region of one ring, without holes.

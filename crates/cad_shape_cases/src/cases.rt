@@ -5,6 +5,7 @@ use cad_shape::{
     segments_meet, within,
 };
 use std::alloc::{AllocError, Global};
+use std::rc::Rc;
 
 fn point(text: &str) -> Option<Point> {
     let (x, y) = text.split_once(',')?;
@@ -49,7 +50,8 @@ fn region(alloc: Global, text: &str) -> Result<Option<Region>, AllocError> {
     let Some(rings) = rings(alloc, text)? else {
         return Ok(None);
     };
-    Ok(Region::new(alloc, rings)?.ok())
+    let rings = Rc::new(alloc, rings)?;
+    Ok(Region::new(rings).ok())
 }
 
 fn frame(text: &str) -> Option<Shape> {
@@ -116,7 +118,8 @@ fn region_answer(alloc: Global, text: &str) -> Result<Option<String>, AllocError
     let Some(rings) = rings(alloc, text)? else {
         return Ok(None);
     };
-    match Region::new(alloc, rings)? {
+    let rings = Rc::new(alloc, rings)?;
+    match Region::new(rings) {
         Ok(region) => {
             let copy = region.copy()?;
             let same = same_rings(copy.rings(), region.rings());

@@ -1,3 +1,4 @@
+pub mod Limits
 pub mod Objects
 pub mod Texts
 pub mod Fractions

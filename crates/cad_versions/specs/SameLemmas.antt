@@ -9,6 +9,7 @@ use Rattle.cad_shape.specs.RegionRings.{rings_of, same_region}
 use Rattle.cad_versions.specs.declared.object_id.ObjectId.{ObjectId}
 use Rattle.cad_versions.specs.declared.words.Words.{Words}
 use Rattle.cad_versions.specs.declared.share.Share.{Share}
+use Rattle.cad_versions.specs.Limits.{most_number}
 use Rattle.cad_versions.specs.Objects.{object_number}
 use Rattle.cad_versions.specs.Texts.{bytes_of}
 use Rattle.cad_versions.specs.Fractions.{num_of, den_of}
@@ -18,7 +19,7 @@ use Rattle.cad_versions.specs.RingLemmas.{same_front_ring, rings_same}
 
 pub same_object : (a b : ObjectId) → object_number a ≡ object_number b → a ≡ b
 same_object a b e =
-    subst (λ n. (p : 1 ≤ n) (q : n ≤ 2147483647) → a ≡ record { number = n; positive = p; small = q }) e
+    subst (λ n. (p : 1 ≤ n) (q : n ≤ most_number) → a ≡ record { number = n; positive = p; small = q }) e
     (λ p q. ap₂ (λ p q. record { number = a.number; positive = p; small = q }) (le_prop a.positive p) (le_prop a.small q)) b.positive b.small
 
 pub same_share : (a b : Share) → num_of a ≡ num_of b → den_of a ≡ den_of b → a ≡ b

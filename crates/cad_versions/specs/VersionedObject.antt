@@ -5,6 +5,7 @@ use Rattle.cad_day.specs.declared.day.Day.{Day}
 use Rattle.cad_day.specs.Days.{number_of}
 use Rattle.cad_versions.specs.declared.object_id.ObjectId.{ObjectId}
 use Rattle.cad_versions.specs.declared.body.Body.{Body}
+use Rattle.cad_versions.specs.Limits.{most_number}
 
 -- what the register says of an object from a first day on, and to a last one where there is one
 pub record VersionedObject : Type 0 where
@@ -17,5 +18,5 @@ pub record VersionedObject : Type 0 where
 -- numbers begin at 1, and no version ends before it begins
 pub record IsVersion (v : VersionedObject) : Type 0 where
   pub positive : 1 ≤ v.number
-  pub small : v.number ≤ 2147483647
+  pub small : v.number ≤ most_number
   pub forward : ForSome v.last (λ last. number_of v.first ≤ℤ number_of last)

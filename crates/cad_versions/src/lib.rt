@@ -1,6 +1,7 @@
 //! The versions of a land register: what the register keeps, and how commands change it.
 //!
 //! - `ObjectId`, `Words`, `Share`: values that cannot hold what the register must not.
+//! - `Identifier`: the object and the number of a version, as the text `3.1`; `compare_identifiers` is their order.
 //! - `Body`, `Class`, `Version`: one version of an object, what it says, and the class of the object.
 //! - `BodyParts`, `LentParts`: what a body says, part by part, whatever its class.
 //! - `Command`, `RegisterFault`: what the land office asks for, and why it is refused.
@@ -24,6 +25,8 @@ mod command;
 mod copies;
 mod decision;
 mod fault;
+mod identifier;
+mod identifier_order;
 pub mod laws;
 mod ledger;
 mod limits;
@@ -38,6 +41,8 @@ pub use body::{Body, Class};
 pub use body_parts::{BodyParts, LentParts};
 pub use command::Command;
 pub use fault::RegisterFault;
+pub use identifier::Identifier;
+pub use identifier_order::compare_identifiers;
 pub use ledger::Ledger;
 pub use limits::{MOST_NUMBER, MOST_VERSIONS};
 pub use object_id::ObjectId;

@@ -1,6 +1,7 @@
 //! The number of an object of the register.
 
 ghost use Rattle.std.specs.Prelude.{◌≤◌};
+ghost use Rattle.cad_versions.specs.Limits.{most_number};
 
 use crate::limits::MOST_NUMBER;
 
@@ -11,7 +12,7 @@ pub struct ObjectId {
     /// Numbers begin with 1.
     pub ghost positive: { 1 ≤ number },
     /// Numbers have 31 bits.
-    pub ghost small: { number ≤ 2147483647 },
+    pub ghost small: { number ≤ most_number },
 }
 
 impl ObjectId {

@@ -11,6 +11,7 @@ ghost use Rattle.cad_versions.specs.ShapeBytes.{rings_bytes, shape_bytes, IsOneR
 use crate::ring_bytes::{first_count, first_ring, push_ring};
 use cad_shape::{Region, Ring};
 use std::alloc::{AllocError, Global};
+use std::rc::Rc;
 
 // The form of one ring, which is read alone.
 const ONE_RING: u8 = 1;
@@ -62,8 +63,8 @@ fn all_rings(alloc: Global, bytes: &[u8]) -> Result<Option<Vec<Ring>>, AllocErro
 fn region_of(alloc: Global, rings: Vec<Ring>) -> Result<Option<Region>, AllocError>
     ensures { IfOk result (λ found. MatchOption found (¬ (IsRegion rings.items)) (λ region. rings_of region ≡ rings.items)) }
 {
-    let found = Region::new(alloc, rings)?;
-    match found {
+    let rings = Rc::new(alloc, rings)?;
+    match Region::new(rings) {
         Ok(region) => Ok(Some(region)),
         Err(_) => Ok(None),
     }

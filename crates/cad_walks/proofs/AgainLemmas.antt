@@ -2,7 +2,7 @@
 use Rattle.std.proofs.Common.{◌≡◌, ℕ, ℤ, pos, List, Option, Some, None, refl, ap, subst, ◌∙◌}
 use Rattle.std.specs.Prelude.{option_map, unwrap_or}
 use Rattle.cad_schema.specs.declared.collection.Collection.{Collection}
-use Rattle.cad_query.specs.declared.identifier.Identifier.{Identifier}
+use Rattle.cad_versions.specs.declared.identifier.Identifier.{Identifier}
 use Rattle.cad_query.specs.Identifiers.{Numbers, numbers_of}
 use Rattle.cad_query.specs.Laws.{AsksToGoOn}
 use Rattle.cad_query.specs.Pairs.{PairText}

@@ -8,7 +8,7 @@ use crate::feature_request::FeatureRequest;
 use crate::plain::{has_pairs, unknown};
 use crate::request::Wanted;
 use crate::told::refusal;
-use cad_query::Identifier;
+use cad_query::read_identifier;
 use cad_reply::Status;
 use cad_schema::Collection;
 use std::alloc::{AllocError, Global};
@@ -31,7 +31,7 @@ pub(crate) fn wanted_feature(
 fn identified(alloc: Global, collection: Collection, text: &str) -> Result<Wanted, AllocError>
     ensures { IfOk result (IsIdentified collection text.now) }
 {
-    match Identifier::read(text) {
+    match read_identifier(text) {
         Some(identifier) => Ok(Wanted::Features(FeatureRequest::Feature {
             collection,
             identifier,

@@ -82,8 +82,8 @@ fn accepted(
     let mut line = String::from_str(alloc, "accepted")?;
     for feature in features {
         if is_taken(alloc, filter, days, feature)? {
-            let object = feature.object.number();
-            let identifier = format!(in alloc; " {object}.{}", feature.number)?;
+            let identifier = feature.identifier().text(alloc)?;
+            line.push_str(" ")?;
             line.push_str(identifier.as_str())?;
         }
     }

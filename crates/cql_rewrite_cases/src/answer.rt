@@ -22,8 +22,8 @@ fn constant_word(form: &Normal) -> &'static str {
 }
 
 fn named(alloc: Global, word: &str, feature: &Feature) -> Result<String, AllocError> {
-    let object = feature.object.number();
-    format!(in alloc; "{word} {object}.{}", feature.number)
+    let identifier = feature.identifier().text(alloc)?;
+    format!(in alloc; "{word} {identifier}")
 }
 
 /// What is wrong with the form on this feature, in a word, if something is.

@@ -1,7 +1,7 @@
 -- The value of a term of whole numbers on a feature, or none (OGC 21-065r2, requirements class Arithmetic Expressions; 64 bits at each step: own profile).
 use Rattle.std.specs.Prelude.{◌^◌, ℤ, zero, suc, pos, negsuc, ◌+ℤ◌, ◌-ℤ◌, ◌*ℤ◌, nat_lt, Bool, if◌then◌else◌, List, [], ◌∷◌, Option, Some, None}
 use Rattle.std.specs.Int.RustNames.{int_div, int_rem}
-use Rattle.cad_feature.specs.Values.{Datum, a_whole}
+pub use Rattle.cad_feature.specs.Values.{whole_in}
 use Rattle.cad_feature.specs.Features.{Item, datum_at}
 use Rattle.cql_tree.specs.declared.expression.Operation.{Operation}
 use Rattle.cql_tree.specs.declared.expression.Operation.TheVariants.{Plus, Minus, Times, Div, Modulo}
@@ -38,10 +38,6 @@ computed Minus a b = bounded (a -ℤ b)
 computed Times a b = bounded (a *ℤ b)
 computed Div a b = quotient a b
 computed Modulo a b = remainder a b
-
-abbrev pub whole_in : Datum → Option ℤ
-whole_in (a_whole n) = Some n
-whole_in _ = None
 
 -- a part of a sum or a product behind the first: what it makes of the value before it
 abbrev pub made : Operation → Option ℤ → Option ℤ → Option ℤ

@@ -5,8 +5,8 @@ use Rattle.caseless.specs.Caseless.{default_case_fold}
 use Rattle.cad_day.specs.declared.day.Day.{Day}
 use Rattle.cad_day.specs.declared.interval.Interval.{Interval}
 use Rattle.cad_shape.specs.declared.shape.Shape.{Shape}
-use Rattle.cad_shape.specs.declared.shape.Shape.TheVariants as shape
-use Rattle.cad_feature.specs.Values.{Datum, a_text, a_flag, a_day, a_span, a_spot, an_area}
+use Rattle.cad_feature.specs.Values.{Datum, a_text, a_flag}
+pub use Rattle.cad_feature.specs.Values.{day_in, span_in, shape_in}
 use Rattle.cad_feature.specs.Features.{Item, datum_at}
 use Rattle.cql_types.specs.declared.filter.TextTerm.{TextTerm}
 use Rattle.cql_types.specs.declared.filter.TextTerm.TheOpen.{TextTerm-F}
@@ -58,10 +58,6 @@ flag_value x (flag.Property i) = flag_in (datum_at x i)
 
 -- ---- days and intervals (OGC 21-065r2, requirements class Temporal Functions; intervals of whole days: own profile)
 
-abbrev pub day_in : Datum → Option Day
-day_in (a_day d) = Some d
-day_in _ = None
-
 abbrev pub day_value : Item → DayTerm → Option Day
 day_value x (day.Constant d) = Some d
 day_value x (day.Property i) = day_in (datum_at x i)
@@ -71,10 +67,6 @@ abbrev pub end_value : Item → EndTerm → Option (Option Day)
 end_value x end.Open = Some None
 end_value x (end.Day d) = option_map Some (day_value x d)
 
-abbrev pub span_in : Datum → Option Interval
-span_in (a_span days) = Some days
-span_in _ = None
-
 -- a day is the interval of that day; an INTERVAL with an end that has no value, or turned round on this feature, has none
 abbrev pub span_value : Item → SpanTerm → Option Interval
 span_value x (span.Day d) = option_and_then day_interval (day_value x d)
@@ -82,11 +74,6 @@ span_value x (span.Property i) = span_in (datum_at x i)
 span_value x (span.Interval from to) = both interval_of (end_value x from) (end_value x to)
 
 -- ---- shapes (OGC 21-065r2, requirements class Basic Spatial Functions: spatial literals)
-
-abbrev pub shape_in : Datum → Option Shape
-shape_in (a_spot p) = Some (shape.Spot p)
-shape_in (an_area region) = Some (shape.Area region)
-shape_in _ = None
 
 abbrev pub shape_value : Item → ShapeTerm → Option Shape
 shape_value x (place.Constant s) = Some s

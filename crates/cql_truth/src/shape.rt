@@ -1,27 +1,16 @@
 //! Shapes.
 
 ghost use Rattle.std.specs.Prelude.{◌≡◌, option_map};
-ghost use Rattle.cad_feature.specs.Values.{datum_of};
 ghost use Rattle.cad_shape.specs.Shapes.{lent_shape};
 ghost use Rattle.cql_truth.specs.Said.{said};
 ghost use Rattle.cql_truth.specs.Sides.{told as told_of, spatial as spatial_of};
-ghost use Rattle.cql_truth.specs.Values.{both, shape_in as shape_in_of, shape_value};
+ghost use Rattle.cql_truth.specs.Values.{both, shape_value};
 
 use crate::verdict::{Truth, told};
-use cad_feature::{Feature, Value};
+use cad_feature::Feature;
 use cad_shape::ShapeRef;
 use cql_lexer::SpatialRelation;
 use cql_types::ShapeTerm;
-
-fn shape_in(value: &Value) -> Option<ShapeRef<'_>>
-    ensures { option_map lent_shape result ≡ shape_in_of (datum_of value.now) }
-{
-    match value {
-        Value::Spot(point) => Some(ShapeRef::Spot(**point)),
-        Value::Area(region) => Some(ShapeRef::Area(region)),
-        _ => None,
-    }
-}
 
 /// The value of a term on a feature, if it has one. It is lent by the term or by the feature.
 pub(crate) fn shape<'a>(term: &'a ShapeTerm, feature: &'a Feature) -> Option<ShapeRef<'a>>
@@ -29,7 +18,7 @@ pub(crate) fn shape<'a>(term: &'a ShapeTerm, feature: &'a Feature) -> Option<Sha
 {
     match term {
         ShapeTerm::Constant(shape) => Some(shape.lent()),
-        ShapeTerm::Property(place) => shape_in(feature.value(*place)?),
+        ShapeTerm::Property(place) => feature.value(*place)?.as_shape(),
     }
 }
 

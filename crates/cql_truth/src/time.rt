@@ -2,28 +2,18 @@
 
 ghost use Rattle.std.specs.Prelude.{◌≡◌};
 ghost use Rattle.cad_day.specs.Relations.{holds as holds_of};
-ghost use Rattle.cad_feature.specs.Values.{datum_of};
 ghost use Rattle.cad_day.specs.Intervals.{interval_of};
 ghost use Rattle.cql_truth.specs.Said.{said};
 ghost use Rattle.cql_truth.specs.Sides.{among, compared, days};
-ghost use Rattle.cql_truth.specs.Values.{day_in as day_in_of, day_value, end_value, span_in as span_in_of, span_value};
+ghost use Rattle.cql_truth.specs.Values.{day_value, end_value, span_value};
 ghost use Rattle.cql_lexer.specs.declared.token.Comparison.TheVariants.{Equal};
 
 use crate::comparison::stands;
 use crate::verdict::{Truth, or, told};
 use cad_day::{Day, Interval, Relation, holds};
-use cad_feature::{Feature, Value};
+use cad_feature::Feature;
 use cql_lexer::Comparison;
 use cql_types::{DayTerm, EndTerm, SpanTerm};
-
-fn day_in(value: &Value) -> Option<Day>
-    ensures { result ≡ day_in_of (datum_of value.now) }
-{
-    match value {
-        Value::Day(day) => Some(*day),
-        _ => None,
-    }
-}
 
 /// The value of a term on a feature, if it has one.
 pub(crate) fn day(term: &DayTerm, feature: &Feature) -> Option<Day>
@@ -31,7 +21,7 @@ pub(crate) fn day(term: &DayTerm, feature: &Feature) -> Option<Day>
 {
     match term {
         DayTerm::Constant(day) => Some(*day),
-        DayTerm::Property(place) => day_in(feature.value(*place)?),
+        DayTerm::Property(place) => feature.value(*place)?.as_day(),
     }
 }
 
@@ -55,15 +45,6 @@ pub(crate) fn in_days(value: Option<Day>, items: &[DayTerm], feature: &Feature) 
         );
     }
     found
-}
-
-fn span_in(value: &Value) -> Option<Interval>
-    ensures { result ≡ span_in_of (datum_of value.now) }
-{
-    match value {
-        Value::Span(days) => Some(**days),
-        _ => None,
-    }
 }
 
 // The interval with these ends, if it is not turned round.
@@ -95,7 +76,7 @@ pub(crate) fn span(term: &SpanTerm, feature: &Feature) -> Option<Interval>
             let day = day(term, feature)?;
             interval(Some(day), Some(day))
         }
-        SpanTerm::Property(place) => span_in(feature.value(*place)?),
+        SpanTerm::Property(place) => feature.value(*place)?.as_span(),
         SpanTerm::Interval { from, to } => {
             let from = end(from, feature)?;
             let to = end(to, feature)?;

@@ -1,26 +1,16 @@
 //! Whole numbers.
 
 ghost use Rattle.std.specs.Prelude.{◌≡◌};
-ghost use Rattle.cad_feature.specs.Values.{datum_of};
-ghost use Rattle.cql_truth.specs.Arithmetic.{computed as computed_of, made as made_of, whole_in as whole_in_of, whole_value};
+ghost use Rattle.cql_truth.specs.Arithmetic.{computed as computed_of, made as made_of, whole_value};
 ghost use Rattle.cql_truth.specs.Said.{said};
 ghost use Rattle.cql_truth.specs.Sides.{among, between as between_of, compared, wholes};
 ghost use Rattle.cql_lexer.specs.declared.token.Comparison.TheVariants.{Equal};
 
 use crate::comparison::stands;
 use crate::verdict::{Truth, and, or, told};
-use cad_feature::{Feature, Value};
+use cad_feature::Feature;
 use cql_lexer::Comparison;
 use cql_types::{Operation, WholeTerm};
-
-fn whole_in(value: &Value) -> Option<i64>
-    ensures { result ≡ whole_in_of (datum_of value.now) }
-{
-    match value {
-        Value::Whole(number) => Some(*number),
-        _ => None,
-    }
-}
 
 // One step of a sum or a product, if its result has 64 bits.
 fn computed(by: Operation, left: i64, right: i64) -> Option<i64>
@@ -54,7 +44,7 @@ pub(crate) fn whole(term: &WholeTerm, feature: &Feature) -> Option<i64>
 {
     match term {
         WholeTerm::Constant(number) => Some(*number),
-        WholeTerm::Property(place) => whole_in(feature.value(*place)?),
+        WholeTerm::Property(place) => feature.value(*place)?.as_whole(),
         WholeTerm::Computed { first, steps } => {
             let mut value = whole(first, feature);
             for step in steps {

@@ -28,8 +28,9 @@ fn put_those(
 ) -> Result<(), AllocError> {
     for feature in features {
         if truth(alloc, filter, feature)? == wanted {
-            let object = feature.object.number();
-            answer.push_str(&format!(in alloc; " {object}.{}", feature.number)?)?;
+            let identifier = feature.identifier().text(alloc)?;
+            answer.push_str(" ")?;
+            answer.push_str(identifier.as_str())?;
         }
     }
     Ok(())

@@ -28,6 +28,7 @@ use cad_schema::{Collection, PropertyKind, find_property};
 use cad_shape::{Bounds, Point, Region, Ring, Shape};
 use cql_tree::{Bound, Corner, Number};
 use std::alloc::{AllocError, Global};
+use std::rc::Rc;
 
 /// A point of a literal, before it is known to be one of the plane.
 #[derive(Drop)]
@@ -255,8 +256,8 @@ fn region_along(alloc: Global, lines: &[Vec<Position>]) -> Result<Option<Region>
 fn region_inside(alloc: Global, rings: Vec<Ring>) -> Result<Option<Region>, AllocError>
     ensures { IfOk result (λ found. MatchOption found (¬ IsRegion rings.items) (λ region. region_rings region ≡ rings.items)) }
 {
-    let found = Region::new(alloc, rings)?;
-    match found {
+    let rings = Rc::new(alloc, rings)?;
+    match Region::new(rings) {
         Ok(region) => Ok(Some(region)),
         Err(_) => Ok(None),
     }

@@ -14,10 +14,11 @@ loop-property-preserved c =
       fit = fit_more vs v properties i _ c.loop-property-test.true c.loop-property.invariant.fit c.in_ok-value.ensures.1;
     }
 
+pub returns-clause-numbered : goal.returns-clause-numbered
+returns-clause-numbered c = (c.version.invariant.positive, c.version.invariant.small)
+
 pub returns-clause-fits : goal.returns-clause-fits
 returns-clause-fits c =
     record {
-      positive = c.version.invariant.positive;
-      small = c.version.invariant.small;
       fits = all_fit c.args.collection c.args.objects.now.versions.now c.args.version.now c.schema-properties.result.now c.loop-property.property-index _ c.schema-properties.ensures.attributes c.loop-property-test.false c.loop-property.invariant.fit c.loop-property.invariant.said;
     }

@@ -1,7 +1,7 @@
 use Rattle.std.proofs.Common.{refl, ◌∙◌, sym, ap}
 use Rattle.std.proofs.lemmas.List.{take_all}
 use Rattle.std.proofs.lemmas.List.Elements.{All-push}
-use Rattle.cad_feature.specs.Features.{IsFeatureOf, by_identifier}
+use Rattle.cad_feature.specs.Features.{IsNumbered, IsFeatureOf, by_identifier}
 use Rattle.cad_feature.specs.Flatten.{is_in, feature_in}
 use Rattle.cad_feature.proofs.ListLemmas.{kept_more, left_more, ascends_kept, from_first}
 use Rattle.cad_feature.proofs.flattening.flatten.Goals.{then-is_in+in_ok-feature+in_ok-push, else-is_in}
@@ -16,10 +16,12 @@ loop-version-preserved c =
     elim c.if-is_in.branch [
       | then-is_in+in_ok-feature+in_ok-push w ↦ rw w.features-is (record {
         so_far = kept_more (feature_in vs c.args.collection) (is_in c.args.collection) rest i c.version-item.result c.loop-version.features.items _ _ c.loop-version-test.true c.version-item.is (sym c.is_in.ensures ∙ w.if-is_in.true) so_far w.in_ok-push.ensures.items (w.in_ok-feature.ensures.feature ∙ ap (λ us. feature_in us c.args.collection c.version-item.result) c.in_ok-objects.ensures);
+        numbered = rw w.in_ok-push.ensures.items (All-push IsNumbered c.loop-version.features.items w.in_ok-feature.feature c.loop-version.invariant.numbered w.in_ok-feature.ensures.numbered);
         each = rw w.in_ok-push.ensures.items (All-push (IsFeatureOf c.args.collection) c.loop-version.features.items w.in_ok-feature.feature c.loop-version.invariant.each w.in_ok-feature.ensures.fits);
       })
       | else-is_in w ↦ rw w.features-is (record {
         so_far = left_more (feature_in vs c.args.collection) (is_in c.args.collection) rest i c.version-item.result _ c.loop-version-test.true c.version-item.is (sym c.is_in.ensures ∙ w.if-is_in.false) so_far;
+        numbered = c.loop-version.invariant.numbered;
         each = c.loop-version.invariant.each;
       })
     ]
