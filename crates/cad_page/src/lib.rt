@@ -5,7 +5,7 @@
 //! - [`explain`]: which features are looked at for it: a [`Report`]
 //! - [`feature_body`]: one feature
 //! - [`Ask`], [`fault_body`], [`Snapshot`], and the bodies that show no features (`landing_body` and its like): from the crates below
-//! - [`bytes`]: the same bodies and link as bytes
+//! - [`as_bytes`]: the same bodies and link as bytes
 //! - `laws`: that what asks the same is answered by the same page, and has the same answer; that the link's target is read again as the
 //!   same request, at the page's revision and after its last feature
 //!
@@ -14,7 +14,7 @@
 //! `{"features":[],"links":[{"href":"/collections/parcels/items","rel":"self","type":"application/json"}],"numberReturned":0,"revision":0,"type":"FeatureCollection"}`.
 #![tactic(auto)]
 
-pub mod bytes;
+pub mod as_bytes;
 mod explaining;
 mod features;
 mod finding;
