@@ -42,19 +42,14 @@ below c k most h g = grind (arith, nat_tests)
 pub no_unit : (b : Body) → nat_lt (class_number (class_of b)) 3 ≡ true → unit_named b ≡ None
 no_unit (body.Party name code) h = refl
 no_unit (body.Unit name) h = refl
-no_unit (body.Parcel unit label area shape spot) h = absurd cc
-no_unit (body.Right unit party code share) h = absurd cc
-no_unit (body.Restriction unit party code share required) h = absurd cc
-no_unit (body.Responsibility unit party code share) h = absurd cc
+no_unit other h = absurd cc
 
 -- of these or a parcel
 pub no_party : (b : Body) → nat_lt (class_number (class_of b)) 4 ≡ true → party_named b ≡ None
 no_party (body.Party name code) h = refl
 no_party (body.Unit name) h = refl
 no_party (body.Parcel unit label area shape spot) h = refl
-no_party (body.Right unit party code share) h = absurd cc
-no_party (body.Restriction unit party code share required) h = absurd cc
-no_party (body.Responsibility unit party code share) h = absurd cc
+no_party other h = absurd cc
 
 -- ---- the class of an object
 

@@ -18,7 +18,7 @@ use Rattle.cad_versions.specs.Versions.{is_of, is_open_of, closed_on}
 use Rattle.cad_schema.specs.declared.attribute.Attribute.{Attribute}
 use Rattle.cad_schema.specs.declared.attribute.Attribute.TheVariants as attribute
 use Rattle.cad_schema.specs.declared.collection.Collection.{Collection}
-use Rattle.cad_schema.specs.declared.collection.Collection.TheVariants.{Parcels, Rights, Restrictions, Units, Parties, Responsibilities}
+use Rattle.cad_schema.specs.declared.collection.Collection.TheVariants.{Parcels, Units, Parties}
 use Rattle.cad_schema.specs.Attributes.{attributes_of}
 use Rattle.cad_feature.specs.Flatten.{is_in, joined_name, or_null, as_text, as_whole, value_in, feature_in, features_in}
 use Rattle.cad_feature.specs.Values.{Datum, a_day, a_span}
@@ -47,38 +47,25 @@ numbered_is object (Some other) = refl
 module _ (vs : List VersionedObject) (v : VersionedObject) where
   pub first_is : (collection : Collection) → first_of (feature_in vs collection v) ≡ Some v.first
   first_is Parcels = refl
-  first_is Rights = refl
-  first_is Restrictions = refl
-  first_is Units = refl
-  first_is Parties = refl
-  first_is Responsibilities = refl
+  first_is other = refl
 
   pub last_is : (collection : Collection) → last_of (feature_in vs collection v) ≡ v.last
   last_is Parcels = day_back v.last
-  last_is Rights = day_back v.last
-  last_is Restrictions = day_back v.last
-  last_is Units = day_back v.last
-  last_is Parties = day_back v.last
-  last_is Responsibilities = day_back v.last
+  last_is other = day_back v.last
 
   none_by : (o : Option ObjectId) → o ≡ None → None ≡ option_map (λ (p : ObjectId). pos (object_number p)) o
   none_by o e = ap (option_map (λ (p : ObjectId). pos (object_number p))) (sym e)
 
   unit_is : (collection : Collection) → is_in collection v ≡ true → number_at (feature_in vs collection v) (unit_place collection) ≡ option_map (λ (p : ObjectId). pos (object_number p)) (unit_named v.body)
-  unit_is Parcels h = whole_back (unit_named v.body)
-  unit_is Rights h = whole_back (unit_named v.body)
-  unit_is Restrictions h = whole_back (unit_named v.body)
   unit_is Units h = none_by (unit_named v.body) (no_unit v.body (below (class_number (class_of v.body)) 2 3 h refl))
   unit_is Parties h = none_by (unit_named v.body) (no_unit v.body (below (class_number (class_of v.body)) 1 3 h refl))
-  unit_is Responsibilities h = whole_back (unit_named v.body)
+  unit_is other h = whole_back (unit_named v.body)
 
   party_is : (collection : Collection) → is_in collection v ≡ true → number_at (feature_in vs collection v) (party_place collection) ≡ option_map (λ (p : ObjectId). pos (object_number p)) (party_named v.body)
   party_is Parcels h = none_by (party_named v.body) (no_party v.body (below (class_number (class_of v.body)) 3 4 h refl))
-  party_is Rights h = whole_back (party_named v.body)
-  party_is Restrictions h = whole_back (party_named v.body)
   party_is Units h = none_by (party_named v.body) (no_party v.body (below (class_number (class_of v.body)) 2 4 h refl))
   party_is Parties h = none_by (party_named v.body) (no_party v.body (below (class_number (class_of v.body)) 1 4 h refl))
-  party_is Responsibilities h = whole_back (party_named v.body)
+  party_is other h = whole_back (party_named v.body)
 
   module _ (c : Command) (collection : Collection) where
     closes_is : closes c (feature_in vs collection v) ≡ is_closed_by c v

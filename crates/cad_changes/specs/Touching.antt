@@ -1,5 +1,5 @@
 -- What a command changes, told from the features of the revision before it alone (ISO 19152:2012, VersionedObject; OGC 17-069r4, 7.15: items).
-use Rattle.std.specs.Prelude.{ℕ, ◌+◌, ℤ, pos, Bool, true, false, ◌&&◌, ◌||◌, if◌then◌else◌, int_le, nat_lt, List, [], ◌∷◌, length, map, filter, find, Option, Some, None, is_none, option_map, option_and_then}
+use Rattle.std.specs.Prelude.{ℕ, ◌+◌, ℤ, pos, Bool, true, false, ◌&&◌, ◌||◌, if◌then◌else◌, int_le, nat_lt, List, [], ◌∷◌, length, map, filter, find, codes, Option, Some, None, is_none, option_map, option_and_then}
 use Rattle.std.specs.Ordering.{int_eq}
 use Rattle.cad_day.specs.declared.day.Day.{Day}
 use Rattle.cad_day.specs.Days.{number_of}
@@ -18,8 +18,9 @@ use Rattle.cad_versions.specs.Versions.{begun}
 use Rattle.cad_schema.specs.declared.attribute.Attribute.{Attribute}
 use Rattle.cad_schema.specs.declared.attribute.Attribute.TheVariants as attribute
 use Rattle.cad_schema.specs.declared.collection.Collection.{Collection}
-use Rattle.cad_schema.specs.declared.collection.Collection.TheVariants.{Parcels, Rights, Restrictions, Units, Parties, Responsibilities}
+use Rattle.cad_schema.specs.declared.property.PropertyKind.{PropertyKind}
 use Rattle.cad_schema.specs.Attributes.{attributes_of}
+use Rattle.cad_schema.specs.Schema.{schema_of, find as find_property}
 use Rattle.cad_feature.specs.Features.{Item, datum_at, by_identifier}
 use Rattle.cad_feature.specs.Flatten.{is_in, or_null, as_text, feature_in}
 use Rattle.cad_feature.specs.Lifespans.{is_up_to}
@@ -37,23 +38,17 @@ first_of x = day_in (datum_at x 2)
 abbrev pub last_of : Item → Option Day
 last_of x = day_in (datum_at x 3)
 
--- where a feature of the collection says the number of its unit
+-- where a feature of the collection says what has this name
+abbrev pub place_named : Collection → List ℕ → Option ℕ
+place_named collection name = option_map (λ (p : ℕ × PropertyKind). p.0) (find_property (schema_of collection) name)
+
+-- where it says the number of its unit
 abbrev pub unit_place : Collection → Option ℕ
-unit_place Parcels = Some 9
-unit_place Rights = Some 8
-unit_place Restrictions = Some 8
-unit_place Units = None
-unit_place Parties = None
-unit_place Responsibilities = Some 8
+unit_place collection = place_named collection (codes "unit")
 
 -- and that of its party
 abbrev pub party_place : Collection → Option ℕ
-party_place Parcels = None
-party_place Rights = Some 10
-party_place Restrictions = Some 10
-party_place Units = None
-party_place Parties = None
-party_place Responsibilities = Some 10
+party_place collection = place_named collection (codes "party")
 
 abbrev pub number_at : Item → Option ℕ → Option ℤ
 number_at x None = None

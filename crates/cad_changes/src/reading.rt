@@ -7,7 +7,7 @@ ghost use Rattle.cad_changes.specs.Touching.{day_in, whole_in};
 
 use cad_day::Day;
 use cad_feature::Feature;
-use cad_schema::Collection;
+use cad_schema::{Collection, find_property};
 
 /// Where each feature says its first day.
 const BEGIN: usize = 2;
@@ -41,25 +41,26 @@ pub(crate) fn last_of(feature: &Feature) -> Option<Day>
     day_at(feature, END)
 }
 
-/// Where a feature of the collection says the number of its unit, if it says one.
+/// Where a feature of the collection says what has this name, if it says such a thing.
+fn place_named(collection: Collection, name: &str) -> Option<usize>
+    ensures { result ≡ spec.place_named collection name.now }
+{
+    let (place, _) = find_property(collection, name)?;
+    Some(place)
+}
+
+/// Where it says the number of its unit.
 pub(crate) fn unit_place(collection: Collection) -> Option<usize>
     ensures { result ≡ spec.unit_place collection }
 {
-    match collection {
-        Collection::Parcels => Some(9),
-        Collection::Rights | Collection::Restrictions | Collection::Responsibilities => Some(8),
-        Collection::Units | Collection::Parties => None,
-    }
+    place_named(collection, "unit")
 }
 
 /// And where that of its party.
 pub(crate) fn party_place(collection: Collection) -> Option<usize>
     ensures { result ≡ spec.party_place collection }
 {
-    match collection {
-        Collection::Rights | Collection::Restrictions | Collection::Responsibilities => Some(10),
-        Collection::Parcels | Collection::Units | Collection::Parties => None,
-    }
+    place_named(collection, "party")
 }
 
 /// The number of the unit that the feature of the collection names, if it names one.

@@ -1,3 +1,4 @@
 pub mod SameLemmas
 pub mod PlanLemmas
 pub mod WholeLemmas
+pub mod NextLemmas

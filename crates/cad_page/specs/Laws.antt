@@ -1,10 +1,19 @@
 -- What holds of every page.
-use Rattle.std.specs.Prelude.{◌≡◌}
+use Rattle.std.specs.Prelude.{◌≡◌, ℕ, ◌<◌, ◌^◌, ◌-◌, true, List, length, slice_get, Some, option_map}
+use Rattle.std.specs.List.{All}
+use Rattle.cql_types.specs.Conditions.{condition_in}
+use Rattle.cad_feature.specs.Features.{Item}
+use Rattle.cad_bodies.specs.Paths.{items_path}
+use Rattle.cad_query.specs.Identifiers.{IsVersionNumber}
+use Rattle.cad_query.specs.Identifiers as identifiers
+use Rattle.cad_query.specs.Laws.{path_of, asked_pairs}
+use Rattle.cad_query.specs.Pairs as queries
 use Rattle.cad_ask.specs.declared.ask.Ask.{Ask}
+use Rattle.cad_ask.specs.Answers.{IsAsk, AsksWell}
 use Rattle.cad_ask.specs.Laws.{AskTheSame}
-use Rattle.cad_snapshot.specs.Snapshots.{RevisionFeatures}
-use Rattle.cad_page.specs.Bodies.{page_data}
-use Rattle.cad_page.specs.Pages.{answer_in}
+use Rattle.cad_snapshot.specs.Snapshots.{RevisionFeatures, features_at}
+use Rattle.cad_page.specs.Bodies.{numbers_of, next_in, page_data}
+use Rattle.cad_page.specs.Pages.{answer_in, rows_in, is_more_in}
 
 -- what asks the same is answered by the same page
 abbrev pub TheSameIsAnswered : Type 0
@@ -13,3 +22,31 @@ TheSameIsAnswered = (a b : Ask) (snapshot : RevisionFeatures) → AskTheSame a b
 -- and the same features answer it, of which the page is a part
 abbrev pub TheSameHasOneAnswer : Type 0
 TheSameHasOneAnswer = (a b : Ask) (snapshot : RevisionFeatures) → AskTheSame a b → answer_in a snapshot ≡ answer_in b snapshot
+
+-- ---- the next page
+
+-- asks for the same features of the same collection, but at this revision and after this feature
+pub record GoesOn (ask again : Ask) (revision : ℕ) (last : Item) : Type 0 where
+  pub collection : again.collection ≡ ask.collection
+  pub limit : again.selection.limit ≡ ask.selection.limit
+  pub datetime : again.selection.datetime ≡ ask.selection.datetime
+  pub bbox : again.selection.bbox ≡ ask.selection.bbox
+  pub condition : option_map condition_in again.filter ≡ option_map condition_in ask.filter
+  pub revision_is : again.continuation.revision ≡ Some revision
+  pub after_is : option_map identifiers.numbers_of again.continuation.after ≡ Some (numbers_of last)
+
+-- more is left behind the page's last feature, and the target is read as a request that goes on there: its query has no fault
+pub record IsReadAgain (ask : Ask) (snapshot : RevisionFeatures) (target : List ℕ) : Type 0 where
+  pub more : is_more_in ask snapshot ≡ true
+  pub last : Item
+  pub stands : slice_get (rows_in ask snapshot) (length (rows_in ask snapshot) - 1) ≡ Some last
+  pub path_is : path_of target ≡ items_path ask.collection
+  pub well : AsksWell ask.collection (asked_pairs target)
+  pub goes_on : (again : Ask) → IsAsk ask.collection (asked_pairs target) again → GoesOn ask again snapshot.revision last
+
+-- the target of the link to the next page is read again as the same request, at the page's revision and after its last feature
+abbrev pub NextIsReadAgain : Type 0
+NextIsReadAgain =
+    (query : List ℕ) (ask : Ask) (snapshot : RevisionFeatures) (target : List ℕ)
+    → IsAsk ask.collection (queries.pairs_of query) ask → All (λ (x : Item). IsVersionNumber x.number) (features_at snapshot ask.collection)
+    → snapshot.revision < 10 ^ 18 → next_in ask snapshot ≡ Some target → IsReadAgain ask snapshot target

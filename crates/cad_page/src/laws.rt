@@ -1,7 +1,9 @@
 //! What holds of every page. Each contract is a law; the functions do nothing.
 
-ghost use Rattle.cad_page.specs.Laws.{TheSameHasOneAnswer, TheSameIsAnswered};
+ghost use Rattle.cad_page.specs.Laws.{NextIsReadAgain, TheSameHasOneAnswer, TheSameIsAnswered};
 
+use cad_ask::laws::{next_asks_the_same, pairs_ask_one_thing};
+use cad_query::laws::{next_is_read_back, pairs_are_texts};
 use cql_truth::laws::filters_of_one_condition_agree;
 
 /// What asks the same is answered by the same page, wherever its filter lies in memory.
@@ -16,4 +18,15 @@ pub fn the_same_has_one_answer()
     ensures { TheSameHasOneAnswer }
 {
     filters_of_one_condition_agree();
+}
+
+/// The target of the link to the next page is read again as the same request, at the page's revision and after its last
+/// feature.
+pub fn next_is_read_again()
+    ensures { NextIsReadAgain }
+{
+    next_asks_the_same();
+    pairs_ask_one_thing();
+    pairs_are_texts();
+    next_is_read_back();
 }

@@ -5,13 +5,16 @@
 //! - [`explain`]: which features are looked at for it: a [`Report`]
 //! - [`feature_body`]: one feature
 //! - [`Ask`], [`fault_body`], [`Snapshot`], and the bodies that show no features (`landing_body` and its like): from the crates below
-//! - `laws`: that what asks the same is answered by the same page, and has the same answer
+//! - [`as_bytes`]: the same bodies and link as bytes
+//! - `laws`: that what asks the same is answered by the same page, and has the same answer; that the link's target is read again as the
+//!   same request, at the page's revision and after its last feature
 //!
 //! Each body is compact text, with the members of each object in byte order of their names. What a body holds is said as
 //! a tree of JSON. Of an empty register `/collections/parcels/items` has the body
 //! `{"features":[],"links":[{"href":"/collections/parcels/items","rel":"self","type":"application/json"}],"numberReturned":0,"revision":0,"type":"FeatureCollection"}`.
 #![tactic(auto)]
 
+pub mod as_bytes;
 mod explaining;
 mod features;
 mod finding;
@@ -24,6 +27,7 @@ pub use cad_ask::{Ask, AskFault, fault_body};
 pub use cad_bodies::{
     collection_body, collections_body, filter_fault_body, landing_body, queryables_body, word_body,
 };
+pub use cad_query::ParameterFault;
 pub use cad_snapshot::Snapshot;
 pub use cql_filter::Cause;
 pub use explaining::{Report, explain};

@@ -1,9 +1,12 @@
 //! Tests of what no case of data can say of the query side.
 //!
+//! - `bodies`: bodies and the link of a page as bytes
 //! - `listening`: a connection that is taken from a listener
 //! - `serving`: readers and writers that fail at each call, and one connection after another
 #![tactic(auto)]
 
+#[cfg(test)]
+mod bodies;
 #[cfg(test)]
 mod listening;
 #[cfg(test)]

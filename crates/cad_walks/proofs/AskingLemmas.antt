@@ -1,18 +1,16 @@
 -- What a request for a page asks for, and that it is read.
-use Rattle.std.proofs.Common.{◌≡◌, ◌≢◌, ℕ, ◌≤◌, ◌<◌, ◌==◌, Bool, true, false, not, cond, ◌||◌, List, [], ◌∷◌, length, Option, Some, None, Result, refl, sym, ap, subst, ◌∙◌, arith, true≢false}
+use Rattle.std.proofs.Common.{◌≡◌, ◌≢◌, ℕ, ◌≤◌, ◌<◌, ◌==◌, Bool, true, false, not, cond, List, [], ◌∷◌, length, Option, Some, None, Result, refl, sym, ap, subst, ◌∙◌, arith, true≢false}
 use Rattle.std.specs.Prelude.{codes, min, unwrap_or}
 use Rattle.std.specs.Option.{option_and_then}
-use Rattle.std.specs.List.{AllByRecursion, list_any}
+use Rattle.std.specs.List.{list_any}
 use Rattle.std.proofs.lemmas.Bool.Decides.{nat_tests}
 use Rattle.std.proofs.lemmas.List.Elements.{All-from_recursion}
-use Rattle.std.proofs.lemmas.Bool.{or_parts, not-true}
 use Rattle.cad_versions.specs.ListLemmas.{all_weaker}
 use Rattle.cad_schema.specs.declared.collection.Collection.{Collection}
 use Rattle.cad_schema.specs.Collections.{name_of}
 use Rattle.cad_schema.specs.NameLemmas.{each_passes}
 use Rattle.cad_bodies.specs.Paths.{items_path}
 use Rattle.cad_head.specs.Request.{Request, path, query}
-use Rattle.cad_query.specs.Laws.{IsPath}
 use Rattle.cad_decimal.specs.Decimals.{number_in}
 use Rattle.cad_query.specs.Numerals.{limit_of}
 use Rattle.cad_query.specs.Pairs.{PairText, pairs_of, given}
@@ -20,6 +18,7 @@ use Rattle.cad_query.specs.Parts.{is_byte}
 use Rattle.cad_ask.specs.declared.ask.Ask.{Ask}
 use Rattle.cad_ask.specs.Answers.{IsAsk, AsksWell}
 use Rattle.cad_ask.specs.Laws.{HasFaultOrAsks}
+use Rattle.cad_page.specs.PathLemmas.{lacks_not}
 use Rattle.cad_resource.specs.declared.check.Check.{Check}
 use Rattle.cad_resource.specs.Asking.{AskedText, asked}
 use Rattle.cad_resource.specs.Laws.{IsGet, IsSegment, ResourcesAreAsked, KnownPathsAreReadBack}
@@ -31,15 +30,8 @@ use Rattle.cad_wanted.specs.Wants.{IsPageWanted, IsWanted}
 
 -- ---- paths
 
-lacks : (byte : ℕ) (xs : List ℕ) → list_any (is_byte byte) xs ≡ false → AllByRecursion (λ b. (b == byte) ≡ false) xs
-lacks byte [] h = tt
-lacks byte (x ∷ xs) h = let p = or_parts (x == byte) (list_any (is_byte byte) xs) h in (p.0, lacks byte xs p.1)
-
 other_byte : (b : ℕ) → (b == 47) ≡ false → b ≢ 47
 other_byte b e = grind (arith, nat_tests)
-
-lacks_not : (byte : ℕ) (xs : List ℕ) → not (list_any (is_byte byte) xs) ≡ true → AllByRecursion (λ b. (b == byte) ≡ false) xs
-lacks_not byte xs h = lacks byte xs (not-true (list_any (is_byte byte) xs) h)
 
 is_longer : (xs : List ℕ) → not (length xs == 0) ≡ true → 0 < length xs
 is_longer [] h = absurd (true≢false (sym h))
@@ -50,9 +42,6 @@ named c = record {
   some = is_longer (name_of c) (each_passes (λ c. not (length (name_of c) == 0)) refl c);
   no_slash = All-from_recursion (λ b. b ≢ 47) (name_of c) (all_weaker (λ b. (b == 47) ≡ false) (λ b. b ≢ 47) other_byte (name_of c) (lacks_not 47 (name_of c) (each_passes (λ c. not (list_any (is_byte 47) (name_of c))) refl c)));
 }
-
-pub is_path : (c : Collection) → IsPath (items_path c)
-is_path c = All-from_recursion (λ b. (b == 63) ≡ false) (items_path c) (lacks_not 63 (items_path c) (each_passes (λ c. not (list_any (is_byte 63) (items_path c))) refl c))
 
 -- ---- what is wanted
 

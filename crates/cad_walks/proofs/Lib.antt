@@ -1,4 +1,3 @@
-pub mod AgainLemmas
 pub mod AskingLemmas
 pub mod CountLemmas
 pub mod ListingLemmas

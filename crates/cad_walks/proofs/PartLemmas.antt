@@ -1,23 +1,18 @@
 -- A visit that is a part of a walk, and what its reply tells.
-use Rattle.std.proofs.Common.{◌≡◌, ℕ, ◌-◌, ◌≤◌, ◌<◌, Bool, true, false, cond, nat_lt, List, [], ◌∷◌, length, take, slice_get, Option, Some, None, refl, sym, ap, ap₂, subst, ◌∙◌, arith, get_or}
+use Rattle.std.proofs.Common.{◌≡◌, ℕ, ◌-◌, ◌≤◌, Bool, true, false, cond, nat_lt, List, [], ◌∷◌, length, take, slice_get, Option, Some, None, refl, sym, ap, ap₂, ◌∙◌, arith, get_or}
 use Rattle.std.specs.Prelude.{codes, option_map}
-use Rattle.std.specs.List.{All}
 use Rattle.std.proofs.lemmas.Bool.Decides.{nat_tests}
 use Rattle.std.proofs.lemmas.List.{length-take-le}
-use Rattle.std.proofs.lemmas.List.Elements.{All-take, All-filter}
-use Rattle.std.proofs.lemmas.Option.{slice_get_within, slice_get-get_or, get_or_from_slice_get}
+use Rattle.std.proofs.lemmas.Option.{slice_get-get_or}
 use Rattle.std.proofs.lemmas.Bool.{ltb-true}
 use Rattle.serde_json.specs.Written.{compact_text}
 use Rattle.cad_versions.specs.declared.command.Command.{Command}
 use Rattle.cad_feature.specs.Features.{Item}
-use Rattle.cad_query.specs.Identifiers.{IsVersionNumber, Identifies, identifier_text}
 use Rattle.cad_ask.specs.declared.ask.Ask.{Ask}
-use Rattle.cad_snapshot.specs.Snapshots.{RevisionFeatures, features_at}
-use Rattle.cad_answer.specs.Answers.{answers}
-use Rattle.cad_answer.specs.Places.{places_of}
-use Rattle.cad_run.specs.Slices.{is_later, later}
-use Rattle.cad_page.specs.Pages.{restrictions, beginning, answer_in, rows_in, is_more_in}
-use Rattle.cad_page.specs.Bodies.{numbers_of, target_after, next_in, page_data}
+use Rattle.cad_snapshot.specs.Snapshots.{RevisionFeatures}
+use Rattle.cad_run.specs.Slices.{later}
+use Rattle.cad_page.specs.Pages.{beginning, answer_in, rows_in, is_more_in}
+use Rattle.cad_page.specs.Bodies.{target_after, next_in, page_data}
 use Rattle.cad_reply.specs.declared.status.Status.TheVariants as status
 use Rattle.cad_wanted.specs.declared.request.Wanted.{Wanted}
 use Rattle.cad_wanted.specs.declared.request.Wanted.TheVariants as wants
@@ -66,24 +61,6 @@ module _ (snapshot : RevisionFeatures) (visit : Visit) (ask : Ask) (part : IsPar
     told = visit.replied.2 ∙ ap (reply_of visit.request) told;
   }
 
--- ---- the link of a page
-
--- where there is a link, more is left, and it goes on after the last feature
-pub record Links (ask : Ask) (snapshot : RevisionFeatures) (target : List ℕ) : Type 0 where
-  pub more : is_more_in ask snapshot ≡ true
-  pub last : Item
-  pub stands : slice_get (rows_in ask snapshot) (length (rows_in ask snapshot) - 1) ≡ Some last
-  pub target_is : target ≡ target_after ask snapshot.revision last
-
-links_by : (ask : Ask) (snapshot : RevisionFeatures) (target : List ℕ) (more : Bool) (last : Option Item) → is_more_in ask snapshot ≡ more
-    → slice_get (rows_in ask snapshot) (length (rows_in ask snapshot) - 1) ≡ last → cond more (option_map (target_after ask snapshot.revision) last) None ≡ Some target → Links ask snapshot target
-links_by ask snapshot target true (Some x) is stands e = record { more = is; last = x; stands = stands; target_is = cc }
-links_by ask snapshot target true None is stands e = absurd cc
-links_by ask snapshot target false last is stands e = absurd cc
-
-pub links : (ask : Ask) (snapshot : RevisionFeatures) (target : List ℕ) → next_in ask snapshot ≡ Some target → Links ask snapshot target
-links ask snapshot target e = links_by ask snapshot target (is_more_in ask snapshot) (slice_get (rows_in ask snapshot) (length (rows_in ask snapshot) - 1)) refl refl e
-
 -- ---- no link
 
 -- a page before more has a last feature
@@ -103,22 +80,3 @@ ends_by ask snapshot true None some is stands e = absurd (last_stands ask.select
 
 pub ends : (ask : Ask) (snapshot : RevisionFeatures) → 1 ≤ ask.selection.limit → next_in ask snapshot ≡ None → is_more_in ask snapshot ≡ false
 ends ask snapshot some e = ends_by ask snapshot (is_more_in ask snapshot) (slice_get (rows_in ask snapshot) (length (rows_in ask snapshot) - 1)) some refl refl e
-
--- ---- the last feature has an identifier
-
-all_at : {X : Type 0} (P : X → Type 0) (xs : List X) (i : ℕ) (x : X) → All P xs → slice_get xs i ≡ Some x → P x
-all_at P xs i x all stands = subst P (get_or_from_slice_get xs i x x stands) (all i x (slice_get_within xs i x stands))
-
-rows_numbered : (ask : Ask) (snapshot : RevisionFeatures) → All (λ (x : Item). IsVersionNumber x.number) (features_at snapshot ask.collection) → All (λ (x : Item). IsVersionNumber x.number) (rows_in ask snapshot)
-rows_numbered ask snapshot all =
-    All-take (λ (x : Item). IsVersionNumber x.number) ask.selection.limit (later (beginning ask) (answer_in ask snapshot))
-    (All-filter (is_later (beginning ask)) (λ (x : Item). IsVersionNumber x.number) (answer_in ask snapshot)
-    (All-filter (answers (places_of ask.collection) (restrictions ask)) (λ (x : Item). IsVersionNumber x.number) (features_at snapshot ask.collection) all))
-
-pub last_identifies : (ask : Ask) (snapshot : RevisionFeatures) (i : ℕ) (last : Item) → All (λ (x : Item). IsVersionNumber x.number) (features_at snapshot ask.collection)
-    → slice_get (rows_in ask snapshot) i ≡ Some last → Identifies (identifier_text (numbers_of last)) (numbers_of last)
-last_identifies ask snapshot i last all stands = record {
-  object = (last.object.positive, last.object.small);
-  number = all_at (λ (x : Item). IsVersionNumber x.number) (rows_in ask snapshot) i last (rows_numbered ask snapshot all) stands;
-  spelt = refl;
-}

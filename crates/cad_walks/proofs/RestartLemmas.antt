@@ -1,18 +1,16 @@
 -- The visits of runs with restarts between them, in which the commands in force only grow.
-use Rattle.std.proofs.Common.{◌≡◌, ℕ, ◌≤◌, List, [], ◌∷◌, ◌++◌, length, Result, Ok, AllPairs, sym, subst, ◌∙◌, ap, ap₂, append-nil, inl, inr}
-use Rattle.std.specs.Prelude.{Contains}
+use Rattle.std.proofs.Common.{ℕ, List, [], ◌∷◌, Result, Ok, sym, subst, ◌∙◌, append-nil, inl, inr}
 use Rattle.std.specs.List.{AllByRecursion}
 use Rattle.std.proofs.lemmas.List.Elements.{All-from_recursion, recursion_from_All, All-contains}
 use Rattle.cad_versions.specs.declared.command.Command.{Command}
 use Rattle.cad_versions.specs.Refusals.{AreAccepted}
 use Rattle.cad_desk.specs.declared.event.Event.{Event}
-use Rattle.cad_desk.specs.declared.event.Event.TheVariants.{Open}
 use Rattle.cad_desk.specs.declared.event.Reply.{Reply}
 use Rattle.cad_desk.specs.declared.event.Reply.TheVariants.{Opened}
 use Rattle.cad_desk.specs.declared.fault.DeskFault.{DeskFault}
 use Rattle.cad_desk.specs.Connections.{Connections}
 use Rattle.cad_desk.specs.Events.{Rules, commands_after}
-use Rattle.cad_desk.specs.Runs.{Exchange, RunOf, exchanges_of}
+use Rattle.cad_desk.specs.Runs.{Exchange, RunOf}
 use Rattle.cad_desk.specs.Laws.{Opens}
 use Rattle.cad_walks.specs.Walks.{Visit}
 use Rattle.cad_walks.specs.Visits.{Run, in_force, OpensAmong}

@@ -1,15 +1,13 @@
 -- The visits of a run, in which the commands in force only grow.
-use Rattle.std.proofs.Common.{◌≡◌, ℕ, suc, ◌≤◌, Bool, true, false, cond, nat_eq, List, [], ◌∷◌, ◌++◌, length, map, fold, None, Result, Ok, Err, AllPairs, refl, sym, ap, ap₂, ◌∙◌, subst, arith, append_assoc, append-nil, inl, inr}
+use Rattle.std.proofs.Common.{◌≡◌, ℕ, suc, ◌≤◌, Bool, true, false, cond, nat_eq, List, [], ◌∷◌, ◌++◌, length, map, Result, Ok, Err, AllPairs, refl, sym, ap, ap₂, ◌∙◌, subst, arith, append_assoc, append-nil, inl, inr}
 use Rattle.std.specs.List.{AllZip, AllByRecursion, flat_map}
 use Rattle.std.specs.List.Sorted.{IsNonDecreasingBy}
 use Rattle.std.proofs.lemmas.List.Elements.{All-from_recursion, recursion_from_All, All-contains}
 use Rattle.std.proofs.lemmas.List.Kept.{AllPairs-cons}
 use Rattle.httparse.specs.Grammar.{RequestHead}
 use Rattle.cad_versions.specs.declared.command.Command.{Command}
-use Rattle.cad_versions.specs.VersionedObject.{VersionedObject}
-use Rattle.cad_versions.specs.Refusals.{refusal, AreAccepted}
+use Rattle.cad_versions.specs.Refusals.{AreAccepted}
 use Rattle.cad_versions.specs.AcceptedLemmas.{accepted_then, accepted_front}
-use Rattle.cad_versions.specs.Versions.{after}
 use Rattle.cad_head.specs.Request.{Request, request_of}
 use Rattle.cad_stream.specs.Streams.{Outcome, waits, closed, refused}
 use Rattle.cad_stream.specs.Replies.{AreReplies, last_reply}

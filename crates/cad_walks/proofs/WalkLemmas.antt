@@ -1,5 +1,5 @@
 -- A walk goes through the whole answer of one revision.
-use Rattle.std.proofs.Common.{◌≡◌, ℕ, ◌+◌, ◌-◌, ◌≤◌, ◌<◌, ◌^◌, ℤ, true, false, List, [], ◌∷◌, length, map, Option, None, refl, sym, ap, ap₂, subst, ◌∙◌, arith, length-append}
+use Rattle.std.proofs.Common.{◌≡◌, ℕ, ◌+◌, ◌≤◌, ◌<◌, ◌^◌, ℤ, pos, true, false, List, [], ◌∷◌, length, Option, Some, None, refl, sym, ap, ap₂, subst, ◌∙◌, arith, length-append}
 use Rattle.std.specs.Prelude.{unwrap_or, option_map}
 use Rattle.std.specs.Bool.{MatchBool}
 use Rattle.std.specs.List.{All, AllZip}
@@ -11,35 +11,30 @@ use Rattle.cad_versions.specs.Laws.{RevisionsStay}
 use Rattle.cad_schema.specs.declared.collection.Collection.{Collection}
 use Rattle.cad_feature.specs.Features.{Item, identifier_of, by_identifier}
 use Rattle.cad_bodies.specs.Paths.{items_path}
-use Rattle.cad_head.specs.Request.{Request, path, query}
-use Rattle.cad_query.specs.Identifiers.{Numbers, numbers_of as named_numbers, IsVersionNumber, Identifies, identifier_text}
-use Rattle.cad_query.specs.Laws.{IsPairOfTexts, PairsAreTexts, NextIsReadBack, AsksToGoOn, path_of, asked_pairs}
-use Rattle.cad_query.specs.Links.{continued}
-use Rattle.cad_query.specs.Pairs.{PairText, pair_text, pairs_of}
-use Rattle.cad_query.specs.Parameters.{any_text}
+use Rattle.cad_head.specs.Request.{query}
+use Rattle.cad_query.specs.declared.identifier.Identifier.{Identifier}
+use Rattle.cad_query.specs.Identifiers.{Numbers, numbers_of as named_numbers, IsVersionNumber}
+use Rattle.cad_query.specs.Pairs.{pairs_of}
 use Rattle.cad_ask.specs.declared.ask.Ask.{Ask}
-use Rattle.cad_ask.specs.Answers.{IsAsk, AsksWell}
-use Rattle.cad_ask.specs.Laws.{HasFaultOrAsks, NextAsksTheSame, AskTheSame, PairsAskOneThing}
+use Rattle.cad_ask.specs.Answers.{IsAsk}
+use Rattle.cad_ask.specs.Laws.{HasFaultOrAsks, AskTheSame, PairsAskOneThing}
 use Rattle.cad_ask.specs.AnswerLemmas.{asks_well}
 use Rattle.cad_snapshot.specs.Snapshots.{RevisionFeatures, features_at}
 use Rattle.cad_answer.specs.Answers.{answers}
 use Rattle.cad_answer.specs.Laws.{last_of, AreWalk, WalksAreWhole}
 use Rattle.cad_answer.specs.Places.{places_of}
-use Rattle.cad_run.specs.Slices.{is_later, later, is_more}
-use Rattle.cad_page.specs.Bodies.{numbers_of, target_after}
-use Rattle.cad_page.specs.Laws.{TheSameHasOneAnswer}
+use Rattle.cad_run.specs.Slices.{identifier, is_later, later, is_more}
+use Rattle.cad_page.specs.Bodies.{numbers_of}
+use Rattle.cad_page.specs.Laws.{TheSameHasOneAnswer, GoesOn, NextIsReadAgain}
 use Rattle.cad_page.specs.Pages.{restrictions, beginning, answer_in, rows_in, is_more_in}
 use Rattle.cad_resource.specs.Laws.{ResourcesAreAsked, KnownPathsAreReadBack}
-use Rattle.cad_wanted.specs.declared.request.Wanted.TheVariants as wants
-use Rattle.cad_wanted.specs.declared.feature_request.FeatureRequest.TheVariants as features
 use Rattle.cad_responder.specs.Contents.{snapshot_of, snapshot_at}
 use Rattle.cad_walks.specs.Walks.{Visit, AsksFor, revision_asked, snapshot_asked, next_of, Follows, IsWalk, Shows, joined, pages_of}
 use Rattle.cad_walks.specs.Registers.{AcceptedAreListed, AcceptedAreFew}
 use Rattle.cad_walks.specs.Laws.{WalksHaveThatManyPages, WalksShowTheAnswer}
-use Rattle.cad_walks.proofs.AgainLemmas.{GoesOn, begins_at, goes_on}
-use Rattle.cad_walks.proofs.AskingLemmas.{is_path, page_wanted, page_read, some_wanted}
+use Rattle.cad_walks.proofs.AskingLemmas.{page_wanted, page_read, some_wanted}
 use Rattle.cad_walks.proofs.ListingLemmas.{ascend, have_numbers}
-use Rattle.cad_walks.proofs.PartLemmas.{IsPart, linked, shows, links, ends, last_identifies}
+use Rattle.cad_walks.proofs.PartLemmas.{IsPart, linked, shows, ends}
 
 -- ---- the laws that a walk stands on
 
@@ -47,44 +42,28 @@ pub record Laws : Type 0 where
   pub asked : ResourcesAreAsked
   pub paths : KnownPathsAreReadBack
   pub faults : HasFaultOrAsks
-  pub again : NextAsksTheSame
   pub one : PairsAskOneThing
   pub answer : TheSameHasOneAnswer
-  pub texts : PairsAreTexts
-  pub back : NextIsReadBack
+  pub next : NextIsReadAgain
   pub stay : RevisionsStay
   pub whole : WalksAreWhole
   pub count : WalksHaveThatManyPages
   pub listed : AcceptedAreListed
   pub few : AcceptedAreFew
 
--- ---- the request of the link next
+-- ---- where a page begins
 
--- of the parameters as they were given
-own_pairs : (r : Request) (ask : Ask) → AsksFor r ask → IsAsk ask.collection (map pair_text ask.pairs.items) ask
-own_pairs r ask asks = subst (λ (pairs : List PairText). IsAsk ask.collection pairs ask) (sym asks.asks.pairs_are) asks.asks
+-- the two numbers of an identifier
+abbrev place_of : Numbers → ℤ × ℤ
+place_of n = (pos n.0, pos n.1)
 
-own_texts : Laws → (r : Request) (ask : Ask) → AsksFor r ask → All IsPairOfTexts (map pair_text ask.pairs.items)
-own_texts laws r ask asks = subst (All IsPairOfTexts) (sym asks.asks.pairs_are) (laws.texts (query r))
+after_is : (after : Option Identifier) → option_map (λ (i : Identifier). identifier (i.object, i.number)) after ≡ option_map place_of (option_map named_numbers after)
+after_is None = refl
+after_is (Some i) = refl
 
--- a request for the target of the link after a feature
-pub record AsksAfter (ask : Ask) (revision : ℕ) (last : Numbers) (r : Request) : Type 0 where
-  pub path_is : path r ≡ items_path ask.collection
-  pub well : AsksWell ask.collection (pairs_of (query r))
-  pub on : AsksToGoOn any_text (map pair_text ask.pairs.items) revision last (pairs_of (query r))
-
-asks_after : Laws → (r next : Request) (ask : Ask) (revision : ℕ) (last : Item) → AsksFor r ask → revision < 10 ^ 18 → Identifies (identifier_text (numbers_of last)) (numbers_of last)
-    → next.target ≡ target_after ask revision last → AsksAfter ask revision (numbers_of last) next
-asks_after laws r next ask revision last asks small identifies target =
-    let own = map pair_text ask.pairs.items in
-    let read = laws.back (items_path ask.collection) own revision (numbers_of last) (is_path ask.collection) (own_texts laws r ask asks) small identifies in
-    let goes = laws.again ask.collection own revision (numbers_of last) small identifies (asks_well ask.collection own ask (own_pairs r ask asks)) in
-    let pairs : pairs_of (query next) ≡ continued revision (numbers_of last) own = ap asked_pairs target ∙ read.1 in
-    record {
-      path_is = ap path_of target ∙ read.0;
-      well = subst (AsksWell ask.collection) (sym pairs) goes.0;
-      on = subst (AsksToGoOn any_text own revision (numbers_of last)) (sym pairs) goes.1;
-    }
+-- it follows from the numbers that it begins after
+begins_at : (ask : Ask) (last : Option Numbers) → option_map named_numbers ask.continuation.after ≡ last → beginning ask ≡ option_map place_of last
+begins_at ask last e = after_is ask.continuation.after ∙ ap (option_map place_of) e
 
 -- ---- the page after a page
 
@@ -97,25 +76,22 @@ pub record IsNext (snapshot : RevisionFeatures) (ask : Ask) (next : Visit) : Typ
   pub same_answer : answer_in again snapshot ≡ answer_in ask snapshot
   pub begins : beginning again ≡ last_of (rows_in ask snapshot)
 
--- a request that asks to go on is answered by what it asks for
-pub record IsAnswered (ask : Ask) (revision : ℕ) (last : Numbers) (next : Visit) : Type 0 where
-  pub again : Ask
-  pub asks : AsksFor next.request again
-  pub wanted : next.replied.0 ≡ wants.Features (features.Page again)
-  pub on : GoesOn ask again revision last
+-- the old pairs and beginning with the selection and the filter of what goes on
+abbrev between : Ask → Ask → Ask
+between ask again = record { collection = again.collection; pairs = ask.pairs; selection = again.selection; filter = again.filter; continuation = ask.continuation }
 
-answered : Laws → (visit next : Visit) (ask : Ask) (revision : ℕ) (last : Numbers) → AsksFor visit.request ask → Follows visit next → AsksAfter ask revision last next.request → IsAnswered ask revision last next
-answered laws visit next ask revision last asks follows after =
-    let c = ask.collection in
-    let pairs = pairs_of (query next.request) in
-    let read = page_read laws.faults c pairs next.replied.0 after.well (page_wanted laws.asked laws.paths next.request c next.replied.0 follows.get after.path_is next.replied.1) in
-    let same : read.0.collection ≡ c = read.2.collection_is in
-    record {
-      again = read.0;
-      asks = record { get = follows.get; path_is = after.path_is ∙ ap items_path (sym same); asks = subst (λ (d : Collection). IsAsk d pairs read.0) (sym same) read.2 };
-      wanted = read.1;
-      on = goes_on laws.one laws.answer c (map pair_text ask.pairs.items) pairs revision last ask read.0 (own_pairs visit.request ask asks) read.2 after.on;
-    }
+-- what goes on has the same answer
+one_answer : TheSameHasOneAnswer → (snapshot : RevisionFeatures) (ask again : Ask) (revision : ℕ) (last : Item) → GoesOn ask again revision last → answer_in again snapshot ≡ answer_in ask snapshot
+one_answer answer snapshot ask again revision last on = answer (between ask again) ask snapshot (record {
+  collection = on.collection;
+  pairs = refl;
+  limit = on.limit;
+  datetime = on.datetime;
+  bbox = on.bbox;
+  condition = on.condition;
+  revision = refl;
+  after = refl;
+})
 
 -- the revision is made, and stays what it was
 stays : RevisionsStay → (snapshot : RevisionFeatures) (visit next : Visit) → Follows visit next → snapshot.revision ≤ length visit.commands → snapshot_at snapshot.revision visit.commands ≡ snapshot
@@ -127,24 +103,25 @@ stays stay snapshot visit next follows made shows =
 module _ (laws : Laws) (snapshot : RevisionFeatures) (small : snapshot.revision < 10 ^ 18) (numbered : (c : Collection) → All (λ (x : Item). IsVersionNumber x.number) (features_at snapshot c)) where
   step : (visit next : Visit) (ask : Ask) → IsPart snapshot visit ask → Follows visit next → IsNext snapshot ask next
   step visit next ask part follows =
-      let link = links ask snapshot next.request.target (sym (linked snapshot visit ask part) ∙ follows.linked) in
-      let identifies = last_identifies ask snapshot (length (rows_in ask snapshot) - 1) link.last (numbered ask.collection) link.stands in
-      let after = asks_after laws visit.request next.request ask snapshot.revision link.last part.asks small identifies link.target_is in
-      let found = answered laws visit next ask snapshot.revision (numbers_of link.last) part.asks follows after in
+      let c = ask.collection in
+      let link = laws.next (query visit.request) ask snapshot next.request.target part.asks.asks (numbered c) small (sym (linked snapshot visit ask part) ∙ follows.linked) in
+      let read = page_read laws.faults c (pairs_of (query next.request)) next.replied.0 link.well (page_wanted laws.asked laws.paths next.request c next.replied.0 follows.get link.path_is next.replied.1) in
+      let again = read.0 in
+      let on = link.goes_on again read.2 in
       let here = stays laws.stay snapshot visit next follows part.made part.snapshot_is in
       record {
         more = link.more;
-        again = found.again;
+        again = again;
         part = record {
-          asks = found.asks;
-          wanted = found.wanted;
-          revision_is = ap (λ (n : Option ℕ). unwrap_or n (length next.commands)) found.on.revision_is;
+          asks = record { get = follows.get; path_is = link.path_is ∙ ap items_path (sym on.collection); asks = subst (λ (d : Collection). IsAsk d (pairs_of (query next.request)) again) (sym on.collection) read.2 };
+          wanted = read.1;
+          revision_is = ap (λ (n : Option ℕ). unwrap_or n (length next.commands)) on.revision_is;
           made = here.0;
           snapshot_is = here.1;
         };
-        same_limit = found.on.same_limit;
-        same_answer = found.on.same_answer snapshot;
-        begins = found.on.begins ∙ sym (ap (option_map identifier_of) link.stands);
+        same_limit = on.limit;
+        same_answer = one_answer laws.answer snapshot ask again snapshot.revision link.last on;
+        begins = begins_at again (Some (numbers_of link.last)) on.after_is ∙ sym (ap (option_map identifier_of) link.stands);
       }
 
   -- ---- the pages one after the other

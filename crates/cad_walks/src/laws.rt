@@ -16,10 +16,9 @@ ghost use Rattle.cad_walks.specs.Laws.{
 
 use crate::registers::{accepted_are_few, accepted_are_listed};
 use cad_answer::laws::walks_are_whole;
-use cad_ask::laws::{fault_or_asks, next_asks_the_same, pairs_ask_one_thing};
+use cad_ask::laws::{fault_or_asks, pairs_ask_one_thing};
 use cad_desk::laws::{connections_are_their_own, steps_are_a_run};
-use cad_page::laws::the_same_has_one_answer;
-use cad_query::laws::{next_is_read_back, pairs_are_texts};
+use cad_page::laws::{next_is_read_again, the_same_has_one_answer};
 use cad_resource::laws::{paths_are_read_back, resources_are_asked};
 use cad_responder::Server;
 use cad_stream::Responder;
@@ -41,11 +40,9 @@ pub fn walks_show_the_answer()
     resources_are_asked();
     paths_are_read_back();
     fault_or_asks();
-    next_asks_the_same();
     pairs_ask_one_thing();
     the_same_has_one_answer();
-    pairs_are_texts();
-    next_is_read_back();
+    next_is_read_again();
     revisions_stay();
     walks_are_whole();
     walks_have_that_many_pages();
