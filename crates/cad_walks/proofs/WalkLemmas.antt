@@ -12,7 +12,7 @@ use Rattle.cad_schema.specs.declared.collection.Collection.{Collection}
 use Rattle.cad_feature.specs.Features.{Item, identifier_of, by_identifier}
 use Rattle.cad_bodies.specs.Paths.{items_path}
 use Rattle.cad_head.specs.Request.{query}
-use Rattle.cad_query.specs.declared.identifier.Identifier.{Identifier}
+use Rattle.cad_versions.specs.declared.identifier.Identifier.{Identifier}
 use Rattle.cad_query.specs.Identifiers.{Numbers, numbers_of as named_numbers, IsVersionNumber}
 use Rattle.cad_query.specs.Pairs.{pairs_of}
 use Rattle.cad_ask.specs.declared.ask.Ask.{Ask}
