@@ -1,4 +1,4 @@
-use Rattle.std.proofs.Common.{◌≡◌, ◌∙◌, refl, sym}
+use Rattle.std.proofs.Common.{◌∙◌, refl, sym}
 use Rattle.cad_entry.proofs.TurnLemmas.{asking}
 use Rattle.cad_entry.proofs.entry.Entry.end_line.Goals as goal
 
