@@ -2,7 +2,7 @@
 
 use cad_query::{
     Continuation, Identifier, Pair, ParameterFault, Selection, filter_text, next_target,
-    read_pairs, self_target,
+    read_identifier, read_pairs, self_target,
 };
 use std::alloc::{AllocError, Global};
 
@@ -83,7 +83,7 @@ pub fn itself(alloc: Global, query: &str) -> Result<String, AllocError> {
 pub fn next(alloc: Global, query: &str, place: &str) -> Result<String, AllocError> {
     let pairs = read_pairs(alloc, query.as_bytes())?;
     let (revision, last) = place.split_once(' ').unwrap_or((place, ""));
-    match (revision.parse(), Identifier::read(last)) {
+    match (revision.parse(), read_identifier(last)) {
         (Ok(revision), Some(last)) => next_of(alloc, &pairs, revision, last),
         _ => String::from_str(alloc, "no place"),
     }
