@@ -65,7 +65,7 @@ impl Course {
     /// Begins anew over the ledger of the desk.
     fn restart(&mut self, alloc: Global) -> std::result::Result<(), AllocError> {
         let idle = desk_over(alloc, PlainLedger::new(alloc))?;
-        let ledger = mem::replace(&mut self.desk, idle).release();
+        let ledger = mem::replace(&mut self.desk, idle).release().release();
         self.begin(alloc, ledger)
     }
 
@@ -97,7 +97,7 @@ impl Course {
         }
         match line_of(alloc, line)? {
             None => String::from_str(alloc, "no case"),
-            Some(event) => answer(alloc, &mut self.desk.connections, event, self.memory),
+            Some(event) => answer(alloc, &mut self.desk, event, self.memory),
         }
     }
 }

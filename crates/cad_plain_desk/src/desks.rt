@@ -3,20 +3,21 @@
 ghost use Rattle.std.specs.Prelude.{[], IfOk};
 ghost use Rattle.cad_plain_desk.specs.Desks.{HasLedger, IsDeskOf, IsSampleDesk, IsSampleLedger};
 
-use cad_http::{Desk, Server};
+use cad_desk::Desk;
 use cad_plain::PlainLedger;
+use cad_responder::Server;
 use cad_sample::fill;
 use std::alloc::{AllocError, Global};
 
-/// A desk over a ledger in memory.
-pub type PlainDesk = Desk<PlainLedger>;
+/// A desk of the server over a ledger in memory.
+pub type PlainDesk = Desk<Server<PlainLedger>>;
 
 /// A desk over the ledger.
 pub fn desk_over(alloc: Global, ledger: PlainLedger) -> Result<PlainDesk, AllocError>
     ensures { IfOk result (λ desk. HasLedger desk ledger) }
 {
-    match Desk::new(alloc, ledger) {
-        Ok(desk) => Ok(desk),
+    match Server::new(alloc, ledger) {
+        Ok(server) => Ok(Desk::new(alloc, server)),
         Err(_) => Err(AllocError),
     }
 }
@@ -30,7 +31,7 @@ pub fn desk_with_changes(
     ensures { IfOk result (λ desk. HasLedger desk ledger) }
 {
     match Server::with_changes(alloc, ledger, most_changes) {
-        Ok(server) => Ok(Desk::over(alloc, server)),
+        Ok(server) => Ok(Desk::new(alloc, server)),
         Err(_) => Err(AllocError),
     }
 }

@@ -1,4 +1,4 @@
-//! Desks over a ledger in memory, to begin with.
+//! Desks of the server over a ledger in memory, to begin with.
 //!
 //! - `empty_desk`: over a register of no commands
 //! - `sample_desk`: over the sample register, which `sample_ledger` gives

@@ -21,7 +21,7 @@ fn serves_a_client_that_waits(rt: HostRuntime) -> Result<(), Fail> {
     let mut client = TcpStream::connect(&rt, listener.local_addr()?)?;
     client.write_all(REQUEST.as_bytes())?;
     let mut told = Vec::new(alloc);
-    let status = listen(alloc, &listener, &mut told, 1, &mut desk.connections);
+    let status = listen(alloc, &listener, &mut told, 1, &mut desk);
     let mut reply = Vec::new(alloc);
     client.read_to_end(&mut reply)?;
     assert_eq!(rt; status, 0);
@@ -38,7 +38,7 @@ fn tells_of_what_goes_wrong(rt: HostRuntime) -> Result<(), Fail> {
     let listener = TcpListener::bind(&rt, "127.0.0.1:0")?;
     listener.set_nonblocking(true)?;
     let mut told = Vec::new(alloc);
-    let status = listen(alloc, &listener, &mut told, 2, &mut desk.connections);
+    let status = listen(alloc, &listener, &mut told, 2, &mut desk);
     assert_eq!(rt; status, 1);
     assert_eq!(rt;
         told.as_slice(),

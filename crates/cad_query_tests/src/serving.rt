@@ -46,7 +46,7 @@ fn stops_where_reading_does(rt: HostRuntime) -> Result<(), Fail> {
         for (piece, stop) in READINGS {
             let mut reader = Counted::new(Peer::new(REQUEST.as_bytes(), piece, bytes, stop));
             let mut writer = Taker::new(512, 512, Stop::Fails);
-            let served = serve(alloc, &mut reader, &mut writer, &mut desk.connections, 1);
+            let served = serve(alloc, &mut reader, &mut writer, &mut desk, 1);
             let wanted = match stop {
                 Stop::Fails => Err(ServeFault::Read),
                 Stop::Ends => Ok(Ending::PeerEnded),
@@ -72,7 +72,7 @@ fn reads_nothing_behind_the_end(rt: HostRuntime) -> Result<(), Fail> {
     for (piece, stop) in READINGS {
         let mut reader = Counted::new(Peer::new(LAST.as_bytes(), piece, LAST.len(), stop));
         let mut writer = Taker::new(1, 512, Stop::Fails);
-        let served = serve(alloc, &mut reader, &mut writer, &mut desk.connections, 1);
+        let served = serve(alloc, &mut reader, &mut writer, &mut desk, 1);
         assert_eq!(rt; served, Ok(Ending::WeEnded), "{piece} a read");
         assert_eq!(rt;
             reader.reader().reads(),
@@ -98,7 +98,7 @@ fn stops_where_writing_does(rt: HostRuntime) -> Result<(), Fail> {
                 Stop::Ends,
             ));
             let mut writer = Taker::new(piece, most, stop);
-            let served = serve(alloc, &mut reader, &mut writer, &mut desk.connections, 1);
+            let served = serve(alloc, &mut reader, &mut writer, &mut desk, 1);
             let wanted = if most == REPLY.len() {
                 Ok(Ending::PeerEnded)
             } else {
@@ -126,7 +126,7 @@ fn replies_twice_on_one_desk(rt: HostRuntime) -> Result<(), Fail> {
             Stop::Ends,
         ));
         let mut writer = Taker::new(512, 512, Stop::Fails);
-        let served = serve(alloc, &mut reader, &mut writer, &mut desk.connections, 1);
+        let served = serve(alloc, &mut reader, &mut writer, &mut desk, 1);
         assert_eq!(rt; served, Ok(Ending::PeerEnded));
         assert!(rt; writer.has_taken(REPLY.as_bytes()));
     }
@@ -148,7 +148,7 @@ fn ends_where_the_turns_are_spent(rt: HostRuntime) -> Result<(), Fail> {
     let mut desk = sample_desk(alloc)?;
     let mut reader = Counted::new(Endless::new(SHORT.as_bytes()));
     let mut writer = Copies::new(SHORT_REPLY.as_bytes());
-    let served = serve(alloc, &mut reader, &mut writer, &mut desk.connections, 1);
+    let served = serve(alloc, &mut reader, &mut writer, &mut desk, 1);
     assert_eq!(rt; served, Err(ServeFault::TurnsSpent));
     assert_eq!(rt; reader.reader().reads(), 100_000);
     assert_eq!(rt; writer.count(), Some(3703));
