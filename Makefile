@@ -65,7 +65,7 @@ check:
 wrong-bodies: check
 	SAMPLE=$(SAMPLE) SEED=$(SEED) scripts/wrong_bodies
 
-# Has tests refuse the wrong bodies that no contract can refuse, those of folder wrong-for-tests/.
+# Has tests and cases refuse the wrong bodies that no contract can refuse, those of folder wrong-for-tests/.
 tests-refuse:
 	scripts/tests_refuse
 

@@ -199,13 +199,46 @@ def request_answer(target):
     return f"{told(best)} {counts} {given(listed[:limit])}{more}"
 
 
+def page_answer(target):
+    """The body of the page that is asked for, and the target of its link to the next one; or the body of the query's fault."""
+    name, _, query = target.partition(b"?")
+    collection = name.decode(errors="replace")
+    if collection not in model.SCHEMAS:
+        return "no case"
+    register, pairs = server.sample(), server.pairs_of(query)
+    try:
+        revision = server.asked(pairs, collection)[4]
+        if revision is not None and revision > register.revision:
+            return "no revision"
+        tree = server.items_tree(register, collection, pairs)
+    except server.Refused as refused:
+        return server.compact(refused.tree).decode()
+    return " ".join([server.compact(tree).decode(), *(it["href"] for it in tree["links"] if it["rel"] == "next")])
+
+
+def feature_answer(words):
+    """The body of a feature, or the one that tells that there is none."""
+    collection, space, name = words.decode().partition(" ")
+    if not space or collection not in model.SCHEMAS or server.identifier_of(name) is None:
+        return "no case"
+    try:
+        return server.compact(server.item_tree(server.sample(), collection, name)).decode()
+    except server.Refused as refused:
+        return server.compact(refused.tree).decode()
+
+
+SHOWN = {b"explain": request_answer, b"page": page_answer, b"grown": page_answer, b"feature": feature_answer}
+
+
 def answer(line):
     try:
         line.decode()
     except UnicodeDecodeError:
         return "no case"
-    target = line.removeprefix(b"explain ")
-    return filter_answer(line) if target == line else request_answer(target)
+    word, space, target = line.partition(b" ")
+    if not space:
+        return "no case"
+    return SHOWN[word](target) if word in SHOWN else filter_answer(line)
 
 
 ROW = re.compile(r"\| ([0-9]+) \| `([^`]+)` \| [^|]* \|")

@@ -34,9 +34,20 @@ MOST = 2147483647
 
 # ---- the register: versions are dicts, in the order of their entry; `entered` and `closed` are revisions
 
+class Wanting(Exception):
+    """Memory is wanting for a listing."""
+
+
 class Register:
+    """It may be listed so often, which is of no account where that is None: what is listed once is kept, and so is what a command
+    makes of the newest revision where that is kept."""
+
     def __init__(self):
         self.versions, self.revision = [], 0
+        self.listings, self.kept = None, set()
+
+    def begin(self, listings):
+        self.listings, self.kept = listings, set()
 
     def refusal(self, command):
         mine = [it for it in self.versions if it["object"] == command["object"]]
@@ -66,6 +77,8 @@ class Register:
         if why:
             return f"5 Register {why}"
         self.revision += 1
+        if self.revision - 1 in self.kept:
+            self.kept.add(self.revision)
         mine = [it for it in self.versions if it["object"] == command["object"]]
         if command["do"] == "retire":
             mine[-1].update(last=command["last"], closed=self.revision)
@@ -78,6 +91,11 @@ class Register:
         return f"Entered {self.revision}"
 
     def as_of(self, revision):
+        if self.listings is not None and revision not in self.kept:
+            if self.listings == 0:
+                raise Wanting
+            self.listings -= 1
+            self.kept.add(revision)
         shown = [dict(it) for it in self.versions if it["entered"] <= revision]
         for it in shown:
             if it["closed"] and it["closed"] > revision:
@@ -489,7 +507,10 @@ class Desk:
     def sent(self, number, data):
         if number not in self.lines:
             return "1 UnknownConnection"
-        out = self.fed(number, data)
+        try:
+            out = self.fed(number, data)
+        except Wanting:
+            return "4 Memory"
         return "Sent " + written_bytes(out) + ("" if number in self.lines else " ends")
 
     def step(self, line):
@@ -555,17 +576,18 @@ def written_bytes(data):
 
 def answers(lines, wanting=None):
     """Each event, and what it is answered. The one with the number `wanting` is refused for want of memory."""
-    desk, count = Desk(sample()), 0
+    desk, count, listings = Desk(sample()), 0, None
     for line in lines:
         line = line.rstrip("\n")
         if not line or line.startswith("#"):
             continue
         count += 1
-        if line in ("sample", "empty"):
-            desk = Desk(sample() if line == "sample" else Register())
+        if line in ("sample", "empty", "restart"):
+            desk = Desk({"sample": sample, "empty": Register, "restart": lambda: desk.register}[line]())
+            desk.register.begin(listings)
             yield line, line
-        elif line == "restart":
-            desk = Desk(desk.register)
+        elif line.startswith("listings "):
+            listings = int(line[9:])
             yield line, line
         elif line == "memory may be wanting" or line.startswith("changes "):
             yield line, line

@@ -1,13 +1,15 @@
 //! What the server answers to a list of events: each line of standard input is an event, and a line is printed for it.
 //!
 //! The server stands over a ledger in memory, which holds the sample register. The lines and what is printed for them are
-//! those of `desk_script`, and five more are answered by themselves, of which the first three begin anew, with a server and
+//! those of `desk_script`, and six more are answered by themselves, of which the first three begin anew, with a server and
 //! a desk of their own:
 //!
 //! - `sample`: the ledger holds the sample register, as at the first line;
 //! - `empty`: the ledger holds nothing;
 //! - `restart`: the ledger is the one that the desk before gives back;
 //! - `changes N`: from here on a server that begins anew gives a base of a collection at most N changes;
+//! - `listings N`: from here on a ledger that a server begins anew over is listed at most N times, and wants memory for each
+//!   listing after these: so what is answered then was not read of it;
 //! - `memory may be wanting`: from here on an event that the desk refuses for want of memory is answered by `4 Memory`, and
 //!   the events after it go on.
 //!
@@ -15,9 +17,13 @@
 //! is refused otherwise the program ends with status 7.
 #![tactic(auto)]
 
+ghost use Rattle.std.specs.Prelude.{◌≡◌, IfOk};
+ghost use Rattle.cad_http.specs.Desks.{register_of};
+
+use cad_http::{Desk, Server};
 use cad_plain::PlainLedger;
-use cad_plain_desk::{PlainDesk, desk_over, desk_with_changes, sample_ledger};
-use desk_script::{Memory, answer, line_of};
+use cad_plain_desk::{LimitedLedger, sample_ledger};
+use desk_script::{Line, Memory, answer_event, answer_served, line_of};
 use std::alloc::{AllocError, Global};
 use std::io::{Error, ErrorKind, Read, Result};
 use std::mem;
@@ -29,44 +35,68 @@ const NO_MEMORY: u8 = 7;
 /// A desk, and what holds from here on.
 #[derive(Drop)]
 struct Course {
-    desk: PlainDesk,
+    desk: Desk<LimitedLedger>,
     memory: Memory,
     most_changes: Option<usize>,
+    listings: u64,
 }
 
 /// A desk without connections, over the ledger.
 fn begun(
     alloc: Global,
-    ledger: PlainLedger,
+    ledger: LimitedLedger,
     most_changes: Option<usize>,
-) -> std::result::Result<PlainDesk, AllocError> {
-    match most_changes {
-        None => desk_over(alloc, ledger),
-        Some(most) => desk_with_changes(alloc, ledger, most),
+) -> std::result::Result<Desk<LimitedLedger>, AllocError>
+    ensures { IfOk result (λ desk. register_of desk ≡ ledger) }
+{
+    let Some(most_changes) = most_changes else {
+        return match Desk::new(alloc, ledger) {
+            Ok(desk) => Ok(desk),
+            Err(_) => Err(AllocError),
+        };
+    };
+    match Server::with_changes(alloc, ledger, most_changes) {
+        Ok(server) => Ok(Desk::over(alloc, server)),
+        Err(_) => Err(AllocError),
     }
+}
+
+/// A desk over a ledger that holds nothing.
+fn idle_desk(alloc: Global) -> std::result::Result<Desk<LimitedLedger>, AllocError> {
+    let ledger = LimitedLedger {
+        ledger: PlainLedger::new(alloc),
+        listings: 0,
+    };
+    begun(alloc, ledger, None)
 }
 
 impl Course {
     fn new(alloc: Global) -> std::result::Result<Course, AllocError> {
-        let desk = begun(alloc, sample_ledger(alloc)?, None)?;
-        Ok(Course {
-            desk,
+        let mut course = Course {
+            desk: idle_desk(alloc)?,
             memory: Memory::IsAmple,
             most_changes: None,
-        })
+            listings: u64::MAX,
+        };
+        course.begin(alloc, sample_ledger(alloc)?)?;
+        Ok(course)
     }
 
     /// Begins anew over the ledger.
     fn begin(&mut self, alloc: Global, ledger: PlainLedger) -> std::result::Result<(), AllocError> {
-        self.desk = begun(alloc, ledger, self.most_changes)?;
+        let limited = LimitedLedger {
+            ledger,
+            listings: self.listings,
+        };
+        self.desk = begun(alloc, limited, self.most_changes)?;
         Ok(())
     }
 
     /// Begins anew over the ledger of the desk.
     fn restart(&mut self, alloc: Global) -> std::result::Result<(), AllocError> {
-        let idle = desk_over(alloc, PlainLedger::new(alloc))?;
-        let ledger = mem::replace(&mut self.desk, idle).release().release();
-        self.begin(alloc, ledger)
+        let idle = idle_desk(alloc)?;
+        let limited = mem::replace(&mut self.desk, idle).release();
+        self.begin(alloc, limited.ledger)
     }
 
     /// What the line sets or begins, if it is a line of this program alone.
@@ -76,6 +106,13 @@ impl Course {
                 return Ok(false);
             };
             self.most_changes = Some(most);
+            return Ok(true);
+        }
+        if let Some(listings) = line.strip_prefix("listings ") {
+            let Ok(listings) = listings.parse() else {
+                return Ok(false);
+            };
+            self.listings = listings;
             return Ok(true);
         }
         match line {
@@ -97,7 +134,10 @@ impl Course {
         }
         match line_of(alloc, line)? {
             None => String::from_str(alloc, "no case"),
-            Some(event) => answer(alloc, &mut self.desk, event, self.memory),
+            Some(Line::Event(event)) => answer_event(alloc, self.desk.step(event), self.memory),
+            Some(Line::Serve(served)) => {
+                answer_served(alloc, &mut self.desk.connections, &served, self.memory)
+            }
         }
     }
 }

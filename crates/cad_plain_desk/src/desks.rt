@@ -1,7 +1,7 @@
 //! Desks to begin with.
 
-ghost use Rattle.std.specs.Prelude.{[], IfOk};
-ghost use Rattle.cad_plain_desk.specs.Desks.{HasLedger, IsDeskOf, IsSampleDesk, IsSampleLedger};
+ghost use Rattle.std.specs.Prelude.{IfOk};
+ghost use Rattle.cad_plain_desk.specs.Desks.{HasLedger, IsSampleDesk, IsSampleLedger};
 
 use cad_desk::Desk;
 use cad_plain::PlainLedger;
@@ -13,34 +13,13 @@ use std::alloc::{AllocError, Global};
 pub type PlainDesk = Desk<Server<PlainLedger>>;
 
 /// A desk over the ledger.
-pub fn desk_over(alloc: Global, ledger: PlainLedger) -> Result<PlainDesk, AllocError>
+fn desk_over(alloc: Global, ledger: PlainLedger) -> Result<PlainDesk, AllocError>
     ensures { IfOk result (λ desk. HasLedger desk ledger) }
 {
     match Server::new(alloc, ledger) {
         Ok(server) => Ok(Desk::new(alloc, server)),
         Err(_) => Err(AllocError),
     }
-}
-
-/// A desk over the ledger, whose server gives a base of a collection at most so many changes.
-pub fn desk_with_changes(
-    alloc: Global,
-    ledger: PlainLedger,
-    most_changes: usize,
-) -> Result<PlainDesk, AllocError>
-    ensures { IfOk result (λ desk. HasLedger desk ledger) }
-{
-    match Server::with_changes(alloc, ledger, most_changes) {
-        Ok(server) => Ok(Desk::new(alloc, server)),
-        Err(_) => Err(AllocError),
-    }
-}
-
-/// A desk over a register of no commands.
-pub fn empty_desk(alloc: Global) -> Result<PlainDesk, AllocError>
-    ensures { IfOk result (λ desk. IsDeskOf desk []) }
-{
-    desk_over(alloc, PlainLedger::new(alloc))
 }
 
 /// The sample register.

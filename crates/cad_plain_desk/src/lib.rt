@@ -1,8 +1,7 @@
-//! Desks of the server over a ledger in memory, to begin with.
+//! What the server's cases and tests begin with: the sample register in memory, a desk over it, and a ledger that is listed seldom.
 //!
-//! - `empty_desk`: over a register of no commands
-//! - `sample_desk`: over the sample register, which `sample_ledger` gives
-//! - `desk_over`, `desk_with_changes`: over any ledger, the second with a bound for the changes of a base
+//! - `sample_ledger`: the sample register; `sample_desk`: a desk over it, of type `PlainDesk`
+//! - `LimitedLedger`: a ledger in memory of which so many listings are to be had, to see what a server reads of it
 //!
 //! ```text
 //! let mut desk = sample_desk(alloc)?;
@@ -12,5 +11,7 @@
 #![tactic(auto)]
 
 mod desks;
+mod limited;
 
-pub use desks::{PlainDesk, desk_over, desk_with_changes, empty_desk, sample_desk, sample_ledger};
+pub use desks::{PlainDesk, sample_desk, sample_ledger};
+pub use limited::LimitedLedger;

@@ -3,7 +3,8 @@
 ghost use Rattle.cad_versions.specs.Listing.{IsListing};
 
 use crate::answers::plans_answer;
-use crate::reports::request_answer;
+use crate::bodies::feature_answer;
+use crate::reports::{Shown, request_answer};
 use cad_feature::flatten;
 use cad_run::Layer;
 use cad_schema::{Collection, find_property};
@@ -78,12 +79,14 @@ fn case_answer(
     }
 }
 
-fn filter_answer(alloc: Global, versions: &[Version], line: &str) -> Result<String, AllocError>
+fn filter_answer(
+    alloc: Global,
+    versions: &[Version],
+    target: &str,
+    text: &str,
+) -> Result<String, AllocError>
     requires { IsListing versions.now }
 {
-    let Some((target, text)) = line.split_once(' ') else {
-        return String::from_str(alloc, "no case");
-    };
     let (name, asked) = match target.split_once('/') {
         None => (target, None),
         Some((name, words)) => match window(words) {
@@ -104,8 +107,14 @@ pub fn answer(alloc: Global, versions: &[Version], line: &[u8]) -> Result<String
     let Ok(line) = str::from_utf8(line) else {
         return String::from_str(alloc, "no case");
     };
-    match line.strip_prefix("explain ") {
-        None => filter_answer(alloc, versions, line),
-        Some(target) => request_answer(alloc, target),
+    let Some((word, target)) = line.split_once(' ') else {
+        return String::from_str(alloc, "no case");
+    };
+    match word {
+        "explain" => request_answer(alloc, Shown::Finding, target),
+        "page" => request_answer(alloc, Shown::Page, target),
+        "grown" => request_answer(alloc, Shown::Grown, target),
+        "feature" => feature_answer(alloc, target),
+        _ => filter_answer(alloc, versions, word, target),
     }
 }

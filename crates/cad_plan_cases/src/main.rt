@@ -19,11 +19,21 @@
 //!   `range(object with 3 with 3) cost 1 candidates 1 examined 1 gives 3.1`,
 //! - `refused` and the fault's name, where the query is none, and `no revision`, where the register has none such.
 //!
+//! A page's case is `page `, and a request as that of `explain`; the answer is the body of its page as it is sent and, behind a
+//! space, the target of its link to the next page, if it has one; where the query is none, the body that tells its fault. That of
+//! `grown ` is the same page of the last revision, where each command of the sample register made the features of those before it:
+//! it is made once by these, as changes to bases, and once by the same with new bases; `bases otherwise` and `settled otherwise`
+//! tell that these have changes, or give another page.
+//!
+//! A feature's case is `feature `, the name of a collection, a space and an identifier, as `feature units 10.1`; the answer is the
+//! body of that feature of the sample register, or the body of the word `no-feature`.
+//!
 //! `refused` is answered where a text is no filter of that collection, and `no case` where the line is none. A line without
 //! bytes, or one that begins with `#`, is passed over.
 //!
 //! - `cases`: lines with cases
 //! - `answers`: what is answered of a filter's plans
+//! - `bodies`: bodies as they are sent
 //! - `pages`: pages by every plan
 //! - `plans`: plans as they are printed, and their candidates
 //! - `ranges`: ranges as they are printed
@@ -32,6 +42,7 @@
 #![tactic(auto)]
 
 mod answers;
+mod bodies;
 mod cases;
 mod pages;
 mod plans;

@@ -1,10 +1,22 @@
 //! What is answered of a request.
 
+use crate::bodies::{fault_answer, grown_answer, page_answer};
 use crate::plans::put_plan;
 use crate::sample::snapshot_at;
 use cad_page::{Ask, AskFault, Report, Snapshot, body, explain, next_link};
 use cad_schema::Collection;
 use std::alloc::{AllocError, Global};
+
+/// What is shown of a request.
+#[derive(Clone, Copy)]
+pub enum Shown {
+    /// How its page is found, and what that lists.
+    Finding,
+    /// The page, as it is sent.
+    Page,
+    /// The same, where the commands of the sample made its revision one by one.
+    Grown,
+}
 
 /// What stands before an identifier in a body. Within a text its quotes would have backslashes.
 const IDENTIFIER: &str = "\"id\":\"";
@@ -46,7 +58,7 @@ fn report_line(
     Ok(line)
 }
 
-fn asked_answer(alloc: Global, ask: &Ask, snapshot: &Snapshot) -> Result<String, AllocError> {
+fn finding_answer(alloc: Global, ask: &Ask, snapshot: &Snapshot) -> Result<String, AllocError> {
     let report = explain(alloc, ask, snapshot)?;
     let mut line = report_line(alloc, ask.collection, &report)?;
     put_identifiers(body(alloc, ask, snapshot)?.as_str(), &mut line)?;
@@ -56,25 +68,51 @@ fn asked_answer(alloc: Global, ask: &Ask, snapshot: &Snapshot) -> Result<String,
     Ok(line)
 }
 
-fn query_answer(alloc: Global, collection: Collection, query: &str) -> Result<String, AllocError> {
-    match Ask::read(alloc, collection, query) {
-        Ok(ask) => match snapshot_at(alloc, ask.continuation.revision)? {
-            None => String::from_str(alloc, "no revision"),
-            Some(snapshot) => asked_answer(alloc, &ask, &snapshot),
+fn shown_at_its_revision(alloc: Global, shown: Shown, ask: &Ask) -> Result<String, AllocError> {
+    match snapshot_at(alloc, ask.continuation.revision)? {
+        None => String::from_str(alloc, "no revision"),
+        Some(snapshot) => match shown {
+            Shown::Finding => finding_answer(alloc, ask, &snapshot),
+            Shown::Page | Shown::Grown => page_answer(alloc, ask, &snapshot),
         },
-        Err(AskFault::Memory) => Err(AllocError),
-        Err(fault) => format!(in alloc; "refused {}", fault.name()),
     }
 }
 
-/// How the page is found that is asked for by a collection and, behind `?`, a query, and what it gives.
-pub fn request_answer(alloc: Global, target: &str) -> Result<String, AllocError> {
+fn shown_answer(alloc: Global, shown: Shown, ask: &Ask) -> Result<String, AllocError> {
+    match shown {
+        Shown::Grown => grown_answer(alloc, ask),
+        Shown::Finding | Shown::Page => shown_at_its_revision(alloc, shown, ask),
+    }
+}
+
+fn refused_answer(alloc: Global, shown: Shown, fault: &AskFault) -> Result<String, AllocError> {
+    match shown {
+        Shown::Finding => format!(in alloc; "refused {}", fault.name()),
+        Shown::Page | Shown::Grown => fault_answer(alloc, fault),
+    }
+}
+
+fn query_answer(
+    alloc: Global,
+    shown: Shown,
+    collection: Collection,
+    query: &str,
+) -> Result<String, AllocError> {
+    match Ask::read(alloc, collection, query) {
+        Ok(ask) => shown_answer(alloc, shown, &ask),
+        Err(AskFault::Memory) => Err(AllocError),
+        Err(fault) => refused_answer(alloc, shown, &fault),
+    }
+}
+
+/// What is shown of a request, which is the name of a collection and, behind `?`, a query.
+pub fn request_answer(alloc: Global, shown: Shown, target: &str) -> Result<String, AllocError> {
     let (name, query) = match target.split_once('?') {
         None => (target, ""),
         Some((name, query)) => (name, query),
     };
     match Collection::read(name) {
         None => String::from_str(alloc, "no case"),
-        Some(collection) => query_answer(alloc, collection, query),
+        Some(collection) => query_answer(alloc, shown, collection, query),
     }
 }

@@ -5,7 +5,7 @@ ghost use Rattle.cad_versions.specs.Listing.{IsListing};
 
 use cad_page::Snapshot;
 use cad_plain::PlainLedger;
-use cad_sample::fill;
+use cad_sample::{fill, sample};
 use cad_versions::{Ledger, RegisterFault, Version};
 use std::alloc::{AllocError, Global};
 
@@ -38,4 +38,21 @@ pub fn snapshot_at(alloc: Global, asked: Option<u64>) -> Result<Option<Snapshot>
         Err(RegisterFault::UnknownRevision) => Ok(None),
         Err(_) => Err(AllocError),
     }
+}
+
+/// The features of an empty register.
+fn empty_snapshot(alloc: Global) -> Result<Snapshot, AllocError> {
+    let versions = Vec::new(alloc);
+    Snapshot::build(alloc, 0, versions)
+}
+
+/// The sample register at its last revision, each revision made of the one before.
+pub fn grown_snapshot(alloc: Global) -> Result<Snapshot, AllocError> {
+    let commands = sample(alloc)?;
+    let mut snapshot = empty_snapshot(alloc)?;
+    for command in &commands {
+        let revision = snapshot.revision().saturating_add(1);
+        snapshot = snapshot.next(alloc, command, revision)?;
+    }
+    Ok(snapshot)
 }

@@ -1,12 +1,9 @@
 //! Tests of what no case of data can say of the query side.
 //!
-//! - `bodies`: bodies as bytes
 //! - `listening`: a connection that is taken from a listener
 //! - `serving`: readers and writers that fail at each call, and one connection after another
 #![tactic(auto)]
 
-#[cfg(test)]
-mod bodies;
 #[cfg(test)]
 mod listening;
 #[cfg(test)]

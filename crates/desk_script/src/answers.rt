@@ -45,6 +45,18 @@ fn told(alloc: Global, reply: Reply) -> Result<String, AllocError> {
     }
 }
 
+/// What is printed for what a desk answered to an event.
+pub fn answer_event(
+    alloc: Global,
+    answer: Result<Reply, DeskFault>,
+    memory: Memory,
+) -> Result<String, AllocError> {
+    match answer {
+        Ok(reply) => told(alloc, reply),
+        Err(fault) => refusal(alloc, fault, memory),
+    }
+}
+
 /// Does what a line asks for, and answers what is printed for it.
 pub fn answer<R: Responder>(
     alloc: Global,
@@ -54,9 +66,6 @@ pub fn answer<R: Responder>(
 ) -> Result<String, AllocError> {
     match line {
         Line::Serve(served) => answer_served(alloc, desk, &served, memory),
-        Line::Event(event) => match desk.step(event) {
-            Ok(reply) => told(alloc, reply),
-            Err(fault) => refusal(alloc, fault, memory),
-        },
+        Line::Event(event) => answer_event(alloc, desk.step(event), memory),
     }
 }

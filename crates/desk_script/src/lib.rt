@@ -1,7 +1,7 @@
 //! Scripts of what happens to a desk: a line for each event, and what is printed for it.
 //!
 //! - `line_of`: what a line asks for
-//! - `answer`: what is printed for it
+//! - `answer`: what is printed for it; `answer_event` and `answer_served` are its parts, for a desk within something else
 //!
 //! The lines are
 //!
@@ -27,5 +27,6 @@ mod bytes;
 mod lines;
 mod served;
 
-pub use answers::{Memory, answer};
+pub use answers::{Memory, answer, answer_event};
 pub use lines::{Failure, Line, Served, line_of};
+pub use served::answer_served;

@@ -99,7 +99,7 @@ fn ending(
 }
 
 /// How serving the connection ended, and what was written.
-pub(crate) fn answer_served<R: Responder>(
+pub fn answer_served<R: Responder>(
     alloc: Global,
     desk: &mut Desk<R>,
     served: &Served,
