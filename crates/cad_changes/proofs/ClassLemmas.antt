@@ -1,5 +1,5 @@
 -- All versions of an object are of one class, and what is named as a unit or a party is one.
-use Rattle.std.proofs.Common.{◌≡◌, ℕ, pos, Bool, true, false, cond, not, ◌==◌, List, [], ◌∷◌, ◌++◌, map, find, fold, Option, Some, None, option_map, refl, sym, ap, ◌∙◌, subst, arith, int_eq, nat_lt, true≢false}
+use Rattle.std.proofs.Common.{◌≡◌, ℕ, pos, Bool, true, false, cond, not, ◌==◌, List, [], ◌∷◌, ◌++◌, map, find, fold, Option, Some, None, option_map, refl, sym, ap, ◌∙◌, subst, arith, int_eq, nat_lt, true≢false, eq-eqb}
 use Rattle.std.specs.List.{AllByRecursion}
 use Rattle.std.proofs.lemmas.Int.{ints}
 use Rattle.std.proofs.lemmas.Bool.Decides.{nat_tests}
@@ -31,9 +31,6 @@ same_by a b k h g = grind (arith, nat_tests)
 
 swapped : (a b : ℕ) → (a == b) ≡ true → (b == a) ≡ true
 swapped a b h = grind (arith, nat_tests)
-
-itself : (a : ℕ) → (a == a) ≡ true
-itself a = grind (arith, nat_tests)
 
 pub below : (c k most : ℕ) → (c == k) ≡ true → nat_lt k most ≡ true → nat_lt c most ≡ true
 below c k most h g = grind (arith, nat_tests)
@@ -135,7 +132,7 @@ of_the_class vs object first body e = go (class_at vs object) (neither _ _ e).0
 stands_then : (vs : List VersionedObject) (c : Command) → refusal vs c ≡ None → ClassesStand vs → ClassesStand (after vs c)
 stands_then vs (Enter object first body) e all =
     let n = begun object 1 first body in
-    pushed_stands n vs all (subst (λ (o : Option Class). is_class (class_of body) o ≡ true) (sym (found_last object n vs (own_object object) (never_entered vs object first body e))) (itself (class_number (class_of body))))
+    pushed_stands n vs all (subst (λ (o : Option Class). is_class (class_of body) o ≡ true) (sym (found_last object n vs (own_object object) (never_entered vs object first body e))) (eq-eqb (class_number (class_of body)) (class_number (class_of body)) refl))
 stands_then vs (Amend object first body) e all =
     let n = begun object (next_number object vs) first body in
     let ws = map (closed_if_open object (day_before first)) vs in

@@ -32,6 +32,7 @@ use Rattle.cad_merged.specs.Identifiers.{is_item_of, of_object}
 use Rattle.cad_merged.specs.ItemLemmas.{items_total}
 use Rattle.cad_merged.specs.Merging.{put, put_if}
 use Rattle.cad_merged.specs.MergeLemmas.{all_put, put_ascends}
+use Rattle.cad_merged.specs.SearchLemmas.{suc_plus}
 use Rattle.cad_changes.specs.Fitting.{IsTextIfAny, Fit}
 use Rattle.cad_changes.specs.Touching.{first_of, Edits, or_kept, span_to, edited_datum, edited_data, edited, renames, names_unit, names_party, touches, edits_by, item_left, items_left, has_day, name_of, name_among, names_joined}
 use Rattle.cad_changes.proofs.TouchedLemmas.{images_ascend}
@@ -86,9 +87,6 @@ edited_fits e collection x y is of fit = subst (IsFeatureOf collection) (sym is)
 })
 
 -- ---- one value more
-
-suc_plus : (k : ℕ) → suc k + 1 ≡ suc (k + 1)
-suc_plus k = omega arith
 
 edited_more : (e : Edits) (first : Option Day) (attributes : List Attribute) (ds : List Datum) (i : ℕ) (a : Attribute) → i < length attributes
     → edited_data e first (take (i + 1) attributes) ds ≡ edited_data e first (take i attributes) ds ++ edited_datum e first (get_or attributes i a) (get_or ds i null) ∷ []

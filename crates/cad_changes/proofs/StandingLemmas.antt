@@ -45,9 +45,6 @@ before_is_under first day before e h = grind (arith, ints)
 under_through : (begin first day : ℤ) → begin <ℤ first → int_le first day ≡ true → begin ≤ℤ day
 under_through begin first day b h = grind (arith, ints)
 
-less_is : (last day : ℤ) → int_lt last day ≡ true → last <ℤ day
-less_is last day h = grind (arith, ints)
-
 upto_through : (begin last day : ℤ) → begin ≤ℤ last → int_lt last day ≡ true → begin ≤ℤ day
 upto_through begin last day b h = grind (arith, ints)
 
@@ -136,8 +133,9 @@ all_over (Retire object last) vs e all =
     let a = retires object last vs e in
     let v = a.standing in
     let begun_by = lt_fails (number_of last) (number_of v.first) a.timely in
+    let ended_by : (day : Day) → renames_on (Retire object last) day ≡ true → number_of last <ℤ number_of day = λ day late. grind (arith, ints) in
     all_weaker (λ w. is_of object w ≡ true → EndsUnder v w) (IsOver (Retire object last))
-    (λ w under day own late. over object v last day w (less_is (number_of last) (number_of day) late) (upto_through (number_of v.first) (number_of last) (number_of day) begun_by late) own (under own))
+    (λ w under day own late. over object v last day w (ended_by day late) (upto_through (number_of v.first) (number_of last) (number_of day) begun_by late) own (under own))
     vs (all_under object v vs all a.found)
 
 -- ---- what the object is called from then on

@@ -24,7 +24,7 @@ use Rattle.cad_schema.specs.Schema.{schema_of, find as find_property}
 use Rattle.cad_feature.specs.Features.{Item, datum_at, by_identifier}
 use Rattle.cad_feature.specs.Flatten.{is_in, or_null, as_text, feature_in}
 use Rattle.cad_feature.specs.Lifespans.{is_up_to}
-use Rattle.cad_feature.specs.Values.{Datum, null, a_whole, a_day, a_span}
+use Rattle.cad_feature.specs.Values.{Datum, null, a_day, a_span}
 pub use Rattle.cad_feature.specs.Values.{day_in, whole_in}
 use Rattle.cad_merged.specs.Identifiers.{is_item_of, of_object}
 use Rattle.cad_merged.specs.Merging.{put_if}

@@ -42,15 +42,13 @@ module _ (change : Item) (base : List Item) (i : ℕ) where
 
 -- ---- one change after the other
 
-drop_next : {X : Type 0} (xs : List X) (i : ℕ) (x : X) → suc i ≤ length xs → x ≡ get_or xs i x → drop i xs ≡ x ∷ drop (i + 1) xs
-drop_next xs i x h e = rw (add-one, drop-cons xs i x h, ← e) refl
-
 pub one_looked_for : (base changes : List Item) (i : ℕ) (change : Item) (old new : List ℕ) → suc i ≤ length changes → change ≡ get_or changes i change
     → standing_at base new ≡ standing_at base old ++ map Some (twins by_identifier change base)
     → standing_at base old ++ map Some (replaced_in by_identifier base (drop i changes)) ≡ map Some (replaced_in by_identifier base changes)
     → standing_at base new ++ map Some (replaced_in by_identifier base (drop (i + 1) changes)) ≡ map Some (replaced_in by_identifier base changes)
 one_looked_for base changes i change old new h e more so_far =
-    one_more by_identifier items_total base old new change (drop i changes) (drop (i + 1) changes) (replaced_in by_identifier base changes) (drop_next changes i change h e) more so_far
+    let next : drop i changes ≡ change ∷ drop (i + 1) changes = rw (add-one, drop-cons changes i change h, ← e) refl in
+    one_more by_identifier items_total base old new change (drop i changes) (drop (i + 1) changes) (replaced_in by_identifier base changes) next more so_far
 
 pub all_looked_for : (base changes : List Item) (i : ℕ) (positions : List ℕ) → length changes ≤ i
     → standing_at base positions ++ map Some (replaced_in by_identifier base (drop i changes)) ≡ map Some (replaced_in by_identifier base changes)

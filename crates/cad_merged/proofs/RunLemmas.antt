@@ -1,8 +1,7 @@
 -- The features of one object are one run of a list that ascends by identifier.
-use Rattle.std.proofs.Common.{◌≡◌, ℕ, zero, suc, ◌-◌, ◌≤◌, ◌<◌, ℤ, pos, Bool, true, false, List, [], ◌∷◌, length, take, drop, refl, sym, ap, ◌∙◌, subst, arith, get_or, Ordering, Less, Equal, int_cmp, int_eq}
+use Rattle.std.proofs.Common.{◌≡◌, ℕ, zero, suc, ◌-◌, ◌≤◌, ◌<◌, ℤ, pos, Bool, true, false, List, [], ◌∷◌, length, take, drop, refl, sym, ap, ◌∙◌, subst, arith, get_or, Less, Equal, int_eq}
 use Rattle.std.specs.List.{AllByRecursion}
 use Rattle.std.specs.List.Sorted.{IsStrictlySortedBy, IsNonDecreasingBy, IsPartitionedBy, IsPartitionPoint}
-use Rattle.std.specs.Ordering.{ordering_then}
 use Rattle.std.proofs.lemmas.Int.{ints}
 use Rattle.std.proofs.lemmas.List.{take_all, length-drop}
 use Rattle.std.proofs.lemmas.List.Kept.{IsStrictlySortedBy-filter}
@@ -27,12 +26,9 @@ rest_is vs first = take_all (length vs - first) (drop first vs) (omega (arith, l
 
 -- ---- the numbers of objects do not fall
 
-less_then : (m n : ℕ) (o : Ordering) → ordering_then (int_cmp (pos m) (pos n)) o ≡ Less → m ≤ n
-less_then m n o e = grind (arith, ints)
-
 pub at_most : (v : Item) (vs : List Item) → AllByRecursion (λ w. by_identifier v w ≡ Less) vs → (j : ℕ) (d : Item) → j < length vs → number_in v ≤ number_in (get_or vs j d)
 at_most v [] all j d h = absurd (omega (arith, h))
-at_most v (w ∷ vs) all zero d h = less_then (number_in v) (number_in w) _ all.0
+at_most v (w ∷ vs) all zero d h = let e : by_identifier v w ≡ Less = all.0 in grind (arith, ints)
 at_most v (w ∷ vs) all (suc j) d h = at_most v vs all.1 j d (omega (arith, h))
 
 pub numbers_rise : (vs : List Item) → IsStrictlySortedBy by_identifier vs → IsNonDecreasingBy number_in vs

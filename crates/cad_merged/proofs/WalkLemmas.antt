@@ -4,8 +4,7 @@ use Rattle.std.specs.List.Sorted.{IsStrictlySortedBy}
 use Rattle.std.proofs.lemmas.List.{nil_from_length}
 use Rattle.cad_feature.specs.Features.{Item, by_identifier}
 use Rattle.cad_merged.specs.ItemLemmas.{items_total}
-use Rattle.cad_merged.specs.Merging.{merged}
-use Rattle.cad_merged.specs.MergeLemmas.{change_first, change_before, change_in_place, change_behind, merged_ascends, merged_merged}
+use Rattle.cad_merged.specs.MergeLemmas.{change_first, change_before, change_in_place, change_behind}
 use Rattle.cad_merged.specs.Walks.{all_in, IsInOrder}
 
 pub only_changes : (base changes : List Item) (c : Item) (cs : List Item) → length base ≡ 0 → changes ≡ c ∷ cs → IsInOrder base changes → all_in base changes ≡ c ∷ all_in base cs
@@ -23,16 +22,3 @@ module _ (base changes : List Item) (b c : Item) (bs cs : List Item) (is_base : 
 
   pub comes_behind : by_identifier c b ≡ Greater → all_in base changes ≡ b ∷ all_in bs changes
   comes_behind e = rw (is_base, is) (change_behind by_identifier items_total b bs c cs e rising)
-
--- ---- layers
-
-pub none_rise : IsStrictlySortedBy by_identifier []
-unfolding IsStrictlySortedBy
-none_rise = tt
-
-pub all_rise : (all base changes : List Item) → all ≡ merged by_identifier base changes → IsStrictlySortedBy by_identifier base → IsStrictlySortedBy by_identifier all
-all_rise all base changes is up = rw is (merged_ascends by_identifier items_total base changes up)
-
-pub stacked : (all base shared changes more touched : List Item) → all ≡ merged by_identifier base changes → shared ≡ base → more ≡ merged by_identifier changes touched
-    → merged by_identifier shared more ≡ merged by_identifier all touched
-stacked all base shared changes more touched is same added = rw (is, same, added) (merged_merged by_identifier items_total base changes touched)

@@ -48,7 +48,7 @@ is_equal a b e = subst (λ (i : ℤ × ℤ). identifier_cmp a i ≡ Equal) e (rw
 
 -- ---- lists that ascend
 
-suc_plus : (k : ℕ) → suc k + 1 ≡ suc (k + 1)
+pub suc_plus : (k : ℕ) → suc k + 1 ≡ suc (k + 1)
 suc_plus k = omega arith
 
 neighbours : (xs : List Item) → IsStrictlySortedBy by_identifier xs → (k : ℕ) (d : Item) → k + 1 < length xs → by_identifier (get_or xs k d) (get_or xs (k + 1) d) ≡ Less

@@ -22,8 +22,12 @@ use std::rc::Rc;
 /// The most features that a base holds: their positions are numbers of 32 bits.
 const MOST_FEATURES: usize = 4_294_967_295;
 
-/// The features of a collection at a revision: a base with its indexes, which other revisions share, the changes since, and where
-/// those of the base stand that the changes replace.
+/// How many features are merged into a base for each of the most changes that it may have. What revisions keep of the same few
+/// features, each its own, is bounded by this, where the changes stay few.
+const MERGED_FOR_A_CHANGE: usize = 64;
+
+/// The features of a collection at a revision: a base with its indexes, which other revisions share, the changes since, where those
+/// of the base stand that the changes replace, and how many features were merged since the base was made.
 ///
 /// Contracts see the collection and the features, with the changes merged.
 #[derive(Drop)]
@@ -31,6 +35,7 @@ pub struct Layer {
     base: Rc<Base>,
     changes: Rc<Vec<Change>>,
     replaced: Rc<Vec<u32>>,
+    merged: usize,
 }
 
 /// What is shared.
@@ -102,6 +107,7 @@ impl Layer {
             base,
             changes,
             replaced,
+            merged: 0,
         })
     }
 
@@ -141,6 +147,7 @@ impl Layer {
             base,
             changes,
             replaced,
+            merged: self.merged.saturating_add(touched.len()),
         })
     }
 
@@ -155,7 +162,14 @@ impl Layer {
             base,
             changes,
             replaced,
+            merged: self.merged,
         })
+    }
+
+    /// Whether no new base is due: there are no more changes than `most`, and few features were merged for so many.
+    pub fn is_settled(&self, most: usize) -> bool {
+        listed(&self.changes).len() <= most
+            && self.merged <= most.saturating_mul(MERGED_FOR_A_CHANGE)
     }
 
     /// The same features over a base of their own, where a base can hold them. An error is want of memory.

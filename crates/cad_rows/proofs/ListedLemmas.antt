@@ -1,5 +1,5 @@
 -- What is left of an ascending list of positions.
-use Rattle.std.proofs.Common.{◌≡◌, ◌∙◌, ⊎_elim, ℕ, zero, suc, ◌+◌, ◌<◌, ◌≤◌, Bool, true, false, ◌&&◌, ◌||◌, ◌==◌, List, length, get_or, drop, drop-cons, add-zero, ap, refl, arith}
+use Rattle.std.proofs.Common.{◌≡◌, ◌∙◌, ⊎_elim, ℕ, zero, suc, ◌+◌, ◌<◌, ◌≤◌, Bool, true, false, ◌&&◌, ◌==◌, List, length, get_or, drop, drop-cons, add-zero, ap, refl, arith, eq-eqb}
 use Rattle.std.specs.Prelude.{nat_le, Some}
 use Rattle.std.proofs.lemmas.List.{get_or-drop, get_or_default, length-drop}
 use Rattle.std.proofs.lemmas.List.Folds.{list_any_none}
@@ -16,9 +16,6 @@ at_least rows at (suc j) up h = omega (arith, up at (at + suc j) (omega arith) h
 apart : (a k : ℕ) → k < a → (a == k) ≡ false
 apart a k h = grind (arith, nat_tests)
 
-alike : (a : ℕ) → (a == a) ≡ true
-alike a = grind (arith, nat_tests)
-
 -- nothing below the front is left
 pub none_below : (rows : List ℕ) (at k : ℕ) → ((i j : ℕ) → i < j → j < length rows → get_or rows i 0 < get_or rows j 0) → (at < length rows → k < get_or rows at 0) → is_left rows at k ≡ false
 none_below rows at k up below = list_any_none (λ r. r == k) (drop at rows) (λ j d h.
@@ -27,15 +24,7 @@ none_below rows at k up below = list_any_none (λ r. r == k) (drop at rows) (λ 
     rw e (apart _ k (omega (arith, at_least rows at j up within, below (omega arith)))))
 
 pub front_is_left : (rows : List ℕ) (at : ℕ) → at < length rows → is_left rows at (get_or rows at 0) ≡ true
-front_is_left rows at h = rw (drop-cons rows at 0, alike (get_or rows at 0)) refl
-
-or_at : (a b t : Bool) → (a ≡ true → t ≡ false) → ((a || b) && t) ≡ (b && t)
-or_at a b t h = grind arith
-
--- one more position that is dropped
-pub one_dropped : (rows : List ℕ) (at from k : ℕ) → at < length rows → get_or rows at 0 < from → (is_left rows at k && nat_le from k) ≡ (is_left rows (suc at) k && nat_le from k)
-one_dropped rows at from k h low =
-    rw (drop-cons rows at 0) (or_at (get_or rows at 0 == k) (is_left rows (suc at) k) (nat_le from k) (λ e. grind (arith, nat_tests)))
+front_is_left rows at h = rw (drop-cons rows at 0, eq-eqb (get_or rows at 0) (get_or rows at 0) refl) refl
 
 above_or : (a t : Bool) → (t ≡ false → a ≡ false) → a ≡ (a && t)
 above_or a t h = grind arith

@@ -7,10 +7,6 @@ use Rattle.cad_rows.specs.Left.{IsFront, Settles}
 use Rattle.cad_rows.specs.AllRows.{most, most_is, rows_of}
 use Rattle.cad_positions.specs.KeptLemmas.{none_kept, same_from}
 
--- where nothing passes there is nothing
-none_step : (b : Bool) (x : ℕ) (ys : List ℕ) → b ≡ false → ys ≡ [] → cond b (x ∷ ys) ys ≡ []
-none_step b x ys h e = rw h e
-
 same_step : (a b t : Bool) (x : ℕ) (ys zs : List ℕ) (f : List ℕ → List ℕ) → a ≡ (b && t) → ys ≡ f zs → f (x ∷ zs) ≡ cond t (x ∷ f zs) (f zs) → cond a (x ∷ ys) ys ≡ f (cond b (x ∷ zs) zs)
 same_step a true true x ys zs f h e g = rw (h, e) (sym g)
 same_step a true false x ys zs f h e g = rw (h, e) (sym g)

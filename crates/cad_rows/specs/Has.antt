@@ -2,7 +2,6 @@
 use Rattle.std.specs.Prelude.{◌≡◌, ℕ, Bool, false, ◌&&◌, ◌||◌, nat_lt, nat_le, List}
 use Rattle.std.specs.List.{list_all, list_any}
 use Rattle.std.proofs.Common.{◌∙◌, ap, sym}
-use Rattle.cad_rows.specs.declared.listed.Listed.{Listed}
 use Rattle.cad_rows.specs.declared.source.Source.{Source}
 use Rattle.cad_rows.specs.declared.source.Source.TheVariants as source
 use Rattle.cad_rows.specs.declared.source.Source.TheOpen.{Source-F, Tested-F, Met-F, Joined-F}
@@ -68,12 +67,6 @@ has_all sources k = list_all (λ s. has s k) sources
 
 pub has_Empty : has source.Empty ≡ (λ k. false)
 has_Empty = ap has (sym source.rolls-Empty) ∙ fold-roll-Source Test Test Test Test has_step joined_step met_step tested_step Source-F.Empty
-
-pub has_Scan : (at end : ℕ) → has (source.Scan at end) ≡ scanned at end
-has_Scan at end = ap has (sym (source.rolls-Scan at end)) ∙ fold-roll-Source Test Test Test Test has_step joined_step met_step tested_step (Source-F.Scan at end)
-
-pub has_Listed : (l : Listed) → has (source.Listed l) ≡ is_left l.rows.items l.at
-has_Listed l = ap has (sym (source.rolls-Listed l)) ∙ fold-roll-Source Test Test Test Test has_step joined_step met_step tested_step (Source-F.Listed l)
 
 pub has_Tested : (t : Tested) → has (source.Tested t) ≡ has_tested t
 has_Tested t =

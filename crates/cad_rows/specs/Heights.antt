@@ -1,13 +1,11 @@
 -- How deep a tree of sources is.
-use Rattle.std.specs.Prelude.{◌≡◌, ℕ, ◌+◌, max}
-use Rattle.std.proofs.Common.{◌∙◌, ap, sym}
+use Rattle.std.specs.Prelude.{ℕ, ◌+◌, max}
 use Rattle.cad_rows.specs.declared.source.Source.{Source}
-use Rattle.cad_rows.specs.declared.source.Source.TheVariants as source
 use Rattle.cad_rows.specs.declared.source.Source.TheOpen.{Source-F, Tested-F, Met-F, Joined-F}
-use Rattle.cad_rows.specs.declared.source.Source.TheFolds.{fold-Source, fold-roll-Source}
-use Rattle.cad_rows.specs.declared.source.Tested.{Tested, fold_out-Tested}
-use Rattle.cad_rows.specs.declared.source.Met.{Met, fold_out-Met}
-use Rattle.cad_rows.specs.declared.source.Joined.{Joined, fold_out-Joined}
+use Rattle.cad_rows.specs.declared.source.Source.TheFolds.{fold-Source}
+use Rattle.cad_rows.specs.declared.source.Tested.{Tested}
+use Rattle.cad_rows.specs.declared.source.Met.{Met}
+use Rattle.cad_rows.specs.declared.source.Joined.{Joined}
 
 -- one more than what is inside
 abbrev pub tested_height : Tested-F ℕ ℕ ℕ ℕ → ℕ
@@ -41,20 +39,3 @@ height_met m = 1 + max (height m.first.value) (height m.second.value)
 
 abbrev pub height_joined : Joined → ℕ
 height_joined j = 1 + max (height j.first.value) (height j.second.value)
-
--- ---- how deep the tree of each shape is
-
-pub height_Tested : (t : Tested) → height (source.Tested t) ≡ height_tested t
-height_Tested t =
-    ap height (sym (source.rolls-Tested t)) ∙ fold-roll-Source ℕ ℕ ℕ ℕ height_step joined_height met_height tested_height (Source-F.Tested t)
-    ∙ fold_out-Tested ℕ ℕ ℕ ℕ height_step joined_height met_height tested_height t
-
-pub height_Met : (m : Met) → height (source.Met m) ≡ height_met m
-height_Met m =
-    ap height (sym (source.rolls-Met m)) ∙ fold-roll-Source ℕ ℕ ℕ ℕ height_step joined_height met_height tested_height (Source-F.Met m)
-    ∙ fold_out-Met ℕ ℕ ℕ ℕ height_step joined_height met_height tested_height m
-
-pub height_Joined : (j : Joined) → height (source.Joined j) ≡ height_joined j
-height_Joined j =
-    ap height (sym (source.rolls-Joined j)) ∙ fold-roll-Source ℕ ℕ ℕ ℕ height_step joined_height met_height tested_height (Source-F.Joined j)
-    ∙ fold_out-Joined ℕ ℕ ℕ ℕ height_step joined_height met_height tested_height j

@@ -1,47 +1,32 @@
 -- The positions of a plan's candidates.
-use Rattle.std.proofs.Common.{◌≡◌, ◌∙◌, ℕ, ◌<◌, Bool, false, ◌&&◌, List, [], ◌∷◌, length, get_or, ap, sym, refl, slice_get, Option, Some, None, Vec, ⊎_elim, nat_lt}
+use Rattle.std.proofs.Common.{◌≡◌, ◌∙◌, ℕ, ◌<◌, Bool, false, ◌&&◌, List, [], ◌∷◌, length, get_or, ap, sym, refl, slice_get, Option, Some, None, Vec, ⊎_elim, nat_lt, lt-ltb, le-ltb}
 use Rattle.std.specs.List.{list_all, list_any}
 use Rattle.std.specs.declared.alloc.Global.{Global}
 use Rattle.std.proofs.lemmas.Option.{slice_get_cases}
 use Rattle.cad_feature.specs.Features.{Item}
 use Rattle.cad_lookup.specs.declared.plan.Plan.{Plan}
 use Rattle.cad_lookup.specs.declared.plan.Plan.TheVariants as plan
-use Rattle.cad_lookup.specs.Candidates.{is_candidate, candidate_All, candidate_Empty, candidate_Meet, candidate_Join}
+use Rattle.cad_lookup.specs.Candidates.{is_candidate, candidate_All, candidate_Meet, candidate_Join}
 use Rattle.cad_run.specs.declared.parts.Part.{Part}
 use Rattle.cad_run.specs.Parts.{has_all_parts, has_any_part, all_hold, any_holds}
 use Rattle.cad_run.specs.Positions.{told_of, holds_at}
-use Rattle.cad_run.proofs.PositionLemmas.{is_below, not_below}
 
 none_of : {X : Type 0} (xs : List X) → list_any (λ x. false) xs ≡ false
 none_of [] = refl
 none_of (x ∷ xs) = none_of xs
 
-alike : (f g : Item → Bool) (o : Option Item) → ((x : Item) → f x ≡ g x) → told_of f o ≡ told_of g o
-alike f g None h = refl
-alike f g (Some x) h = h x
-
-pub same_has : (f g : Item → Bool) (xs : List Item) (k : ℕ) → ((x : Item) → f x ≡ g x) → holds_at f xs k ≡ holds_at g xs k
-same_has f g xs k h = alike f g (slice_get xs k) h
-
 pub all_has : (xs : List Item) (k : ℕ) → nat_lt k (length xs) ≡ holds_at (is_candidate plan.All) xs k
 all_has xs k = ⊎_elim
-    (λ (found : (x : Item) × (k < length xs) × (slice_get xs k ≡ Some x) × (get_or xs k x ≡ x)). is_below k (length xs) found.1 ∙ sym (ap (told_of (is_candidate plan.All)) found.2 ∙ candidate_All found.0))
-    (λ past. not_below k (length xs) past.0 ∙ sym (ap (told_of (is_candidate plan.All)) past.1))
+    (λ (found : (x : Item) × (k < length xs) × (slice_get xs k ≡ Some x) × (get_or xs k x ≡ x)). lt-ltb k (length xs) found.1 ∙ sym (ap (told_of (is_candidate plan.All)) found.2 ∙ candidate_All found.0))
+    (λ past. le-ltb k (length xs) past.0 ∙ sym (ap (told_of (is_candidate plan.All)) past.1))
     (slice_get_cases xs k).1
-
-none_told : (o : Option Item) → told_of (is_candidate plan.Empty) o ≡ false
-none_told None = refl
-none_told (Some x) = candidate_Empty x
-
-pub empty_has : (xs : List Item) (k : ℕ) → false ≡ holds_at (is_candidate plan.Empty) xs k
-empty_has xs k = sym (none_told (slice_get xs k))
 
 meet_has : (plans : Vec Plan Global) (xs : List Item) (k : ℕ) → (nat_lt k (length xs) && list_all (λ p. holds_at (is_candidate p) xs k) plans.items) ≡ holds_at (is_candidate (plan.Meet plans)) xs k
 meet_has plans xs k = ⊎_elim
-    (λ (found : (x : Item) × (k < length xs) × (slice_get xs k ≡ Some x) × (get_or xs k x ≡ x)). ap (λ b. b && list_all (λ p. holds_at (is_candidate p) xs k) plans.items) (is_below k (length xs) found.1)
+    (λ (found : (x : Item) × (k < length xs) × (slice_get xs k ≡ Some x) × (get_or xs k x ≡ x)). ap (λ b. b && list_all (λ p. holds_at (is_candidate p) xs k) plans.items) (lt-ltb k (length xs) found.1)
     ∙ ap (λ o. list_all (λ p. told_of (is_candidate p) o) plans.items) found.2
     ∙ sym (ap (told_of (is_candidate (plan.Meet plans))) found.2 ∙ candidate_Meet found.0 plans))
-    (λ past. ap (λ b. b && list_all (λ p. holds_at (is_candidate p) xs k) plans.items) (not_below k (length xs) past.0)
+    (λ past. ap (λ b. b && list_all (λ p. holds_at (is_candidate p) xs k) plans.items) (le-ltb k (length xs) past.0)
     ∙ sym (ap (told_of (is_candidate (plan.Meet plans))) past.1))
     (slice_get_cases xs k).1
 

@@ -1,5 +1,5 @@
 -- Positions of the features that pass.
-use Rattle.std.proofs.Common.{◌≡◌, ◌∙◌, ℕ, zero, suc, ◌+◌, ◌<◌, ◌≤◌, Bool, true, false, cond, ◌&&◌, ◌||◌, ◌==◌, List, ◌∷◌, length, filter, map, get_or, ap, sym, arith, slice_get, Some, ⊎_elim, nat_lt}
+use Rattle.std.proofs.Common.{◌≡◌, ◌∙◌, ℕ, zero, suc, ◌+◌, ◌<◌, Bool, true, false, cond, ◌&&◌, ◌||◌, ◌==◌, List, ◌∷◌, length, filter, map, get_or, ap, sym, arith, slice_get, Some, ⊎_elim, nat_lt, lt-ltb, le-ltb}
 use Rattle.std.specs.Prelude.{nat_le, slice_index}
 use Rattle.std.specs.List.{range_with_len}
 use Rattle.std.specs.List.Sorted.{IsStrictlyIncreasing}
@@ -39,12 +39,6 @@ among_below h n k = among_from h 0 n k ∙ below (h k) k n
 pub below_rises : (h : ℕ → Bool) (n : ℕ) → IsStrictlyIncreasing (filter h (range_with_len 0 n))
 below_rises h n = IsStrictlyIncreasing-filter h (range_with_len 0 n) (range_increases 0 n)
 
-pub is_below : (k n : ℕ) → k < n → nat_lt k n ≡ true
-is_below k n h = grind (arith, nat_tests)
-
-pub not_below : (k n : ℕ) → n ≤ k → nat_lt k n ≡ false
-not_below k n h = grind (arith, nat_tests)
-
 -- ---- ranks
 
 pub ranks_among : (ranks : List ℕ) (from to end k : ℕ) → end ≡ length ranks → has_rank end ranks from to k ≡ is_among (positions_between ranks from to) k
@@ -58,10 +52,10 @@ module _ {A : Type 0} (f : Item → A) (none : A) (test : A → Bool) (xs : List
   at_feature : (nat_lt k (length (map f xs)) && test (get_or (map f xs) k none)) ≡ holds_at (λ x. test (f x)) xs k
   at_feature = ap (λ n. nat_lt k n && test (get_or (map f xs) k none)) (length-map xs f) ∙ ⊎_elim
       (λ (found : (x : Item) × (k < length xs) × (slice_get xs k ≡ Some x) × (get_or xs k x ≡ x)).
-      ap (λ b. b && test (get_or (map f xs) k none)) (is_below k (length xs) found.1)
+      ap (λ b. b && test (get_or (map f xs) k none)) (lt-ltb k (length xs) found.1)
       ∙ ap test (get_or-map f xs k found.0 none found.1 ∙ ap f found.3)
       ∙ sym (ap (told_of (λ x. test (f x))) found.2))
-      (λ past. ap (λ b. b && test (get_or (map f xs) k none)) (not_below k (length xs) past.0) ∙ sym (ap (told_of (λ x. test (f x))) past.1))
+      (λ past. ap (λ b. b && test (get_or (map f xs) k none)) (le-ltb k (length xs) past.0) ∙ sym (ap (told_of (λ x. test (f x))) past.1))
       (slice_get_cases xs k).1
 
   pub among_features : is_among (filter (λ p. test (get_or (map f xs) p none)) (range_with_len 0 (length (map f xs)))) k ≡ holds_at (λ x. test (f x)) xs k

@@ -5,6 +5,7 @@
 //! - [`Candidates`], a [`FeatureSource`]: a plan's candidates, taken one after the other
 //! - [`candidate_count`]: how many candidates a plan has
 //! - [`FeatureTest`]: a test of features
+//! - [`RowSource`], [`Kept`]: positions one after the other, and those of them that a test keeps
 //! - [`Layer`], [`Plan`]: the features with their indexes, and which of them are looked at
 //!
 //! Of the parcels 1.1, 1.2, 2.1, 3.1 and 4.1 and the plan of the range of `object` up to 2, the page of one after 1.1 that has
@@ -28,6 +29,7 @@ mod rows;
 
 pub use cad_lookup::Plan;
 pub use cad_merged::Layer;
+pub use cad_rows::{Kept, RowSource};
 pub use candidates::Candidates;
 pub use counting::candidate_count;
 pub use feature_source::FeatureSource;

@@ -4,7 +4,7 @@ ghost use Rattle.std.specs.Prelude.{◌≡◌};
 
 use crate::building::features;
 use crate::following::layer_after;
-use crate::rebasing::{has_few_changes, settled_layer};
+use crate::rebasing::settled_layer;
 use cad_feature::Feature;
 use cad_merged::Layer;
 use cad_schema::Collection;
@@ -125,17 +125,17 @@ impl Snapshot {
         })
     }
 
-    /// Whether no collection has more changes to its base than `most`.
+    /// Whether no collection has more changes to its base than `most`, or was handed many features for so many.
     pub fn is_settled(&self, most: usize) -> bool {
-        has_few_changes(&self.parcels, most)
-            && has_few_changes(&self.rights, most)
-            && has_few_changes(&self.restrictions, most)
-            && has_few_changes(&self.units, most)
-            && has_few_changes(&self.parties, most)
-            && has_few_changes(&self.responsibilities, most)
+        self.parcels.is_settled(most)
+            && self.rights.is_settled(most)
+            && self.restrictions.is_settled(most)
+            && self.units.is_settled(most)
+            && self.parties.is_settled(most)
+            && self.responsibilities.is_settled(most)
     }
 
-    /// The same features, with a new base for each collection that has more changes than `most`. An error is want of memory.
+    /// The same features, with a new base for each collection that is not settled. An error is want of memory.
     pub fn settled(&self, alloc: Global, most: usize) -> Result<Snapshot, AllocError>
         ensures { IfOk result (λ settled. settled ≡ self.now) }
     {
