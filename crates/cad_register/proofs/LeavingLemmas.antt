@@ -1,5 +1,5 @@
 -- One question after another leaves what each leaves.
-use Rattle.std.proofs.Common.{◌≡◌, ℕ, Vec, Result, Ok, Err, OnOk, IfErr, IsErrAnd, refl, sym, subst, ◌∙◌, List, arith}
+use Rattle.std.proofs.Common.{◌≡◌, ◌≢◌, ℕ, Vec, Result, Ok, Err, OnOk, IfErr, IsErrAnd, refl, sym, subst, ◌∙◌, List, arith}
 use Rattle.std.proofs.Math.Nat.{le_refl, le_trans}
 use Rattle.sqlite.specs.State.{State, IsUnchanged, HasCleanDisk, Survives}
 use Rattle.cad_tables.specs.Asking.{OnlyReads}
@@ -97,6 +97,12 @@ pub not_as_none : (cause : RegisterFault) → IsStoreFault cause → ¬ (cause �
 not_as_none fault.Store is e = absurd cc
 not_as_none fault.Memory is e = absurd cc
 not_as_none cause is e = absurd is
+
+pub store_known : (cause : RegisterFault) → IsStoreFault cause → cause ≢ fault.UnknownRevision
+store_known cause is e = subst IsStoreFault e is
+
+pub reading_known : (cause : RegisterFault) → IsReadingFault cause → cause ≢ fault.UnknownRevision
+reading_known cause is e = subst IsReadingFault e is
 
 pub store_reading : (cause : RegisterFault) → IsStoreFault cause → IsReadingFault cause
 store_reading fault.Store is = tt

@@ -1,5 +1,5 @@
 -- The row that is named, from one question to the next.
-use Rattle.std.proofs.Common.{◌≡◌, ℕ, pos, [], ◌∷◌, List, Result, Ok, Err, IfErr, IsErrAnd, MatchResult, inl, inr, refl, sym, subst, Vec, Global}
+use Rattle.std.proofs.Common.{◌≡◌, ◌≢◌, ℕ, pos, [], ◌∷◌, List, Result, Ok, Err, IfErr, IsErrAnd, MatchResult, inl, inr, refl, sym, subst, Vec, Global}
 use Rattle.sqlite_trees.specs.declared.store.Store.{Ghosts}
 use Rattle.sqlite_value.specs.declared.value.Value.TheVariants.{Int}
 use Rattle.sqlite_value.specs.Order.{Row}
@@ -22,6 +22,10 @@ use Rattle.cad_register.proofs.LeavingLemmas.{before_then}
 
 before_here : (s : State) → IsAsBefore s s
 before_here s = record { now = refl; committed = refl; liveness = refl; mode = refl }
+
+-- a fault in the rows of an object tells of no revision
+pub rows_known : (object : ObjectId) (rows : List Row) (why : RegisterFault) → IsFaultIn object rows why → why ≢ fault.UnknownRevision
+rows_known object rows why bad e = subst (IsFaultIn object rows) e bad
 
 module _ {S : Type 0} (g : Ghosts S) where
   -- a fault in the rows of an object names one that was shown

@@ -91,9 +91,21 @@ never_foreign : (vs : List VersionedObject) (c : Command) → ¬ (refusal vs c �
 never_foreign vs c h =
     else_foreign fault.NotARegister _ _ (object_foreign fault.NotARegister (λ e. cc) (λ day e. cc) (λ e. cc) (λ e. cc) (λ e. cc) (class_at vs (object_named c)) (open_since vs (object_named c)) c) (body_foreign vs (body_added c)) h
 
--- what stands of an object is no cause to answer for the database
-pub object_answers_for_itself : (class : Option Class) (begun : Option Day) (c : Command) → ¬ (refuses_object class begun c ≡ Some fault.Store)
-object_answers_for_itself class begun c h = object_foreign fault.Store (λ e. cc) (λ day e. cc) (λ e. cc) (λ e. cc) (λ e. cc) class begun c h
+-- a cause that the register itself has against a command
+abbrev pub IsDecided : RegisterFault → Type 0
+IsDecided fault.Store = ⊥
+IsDecided fault.Memory = ⊥
+IsDecided fault.UnknownRevision = ⊥
+IsDecided (fault.Damaged object number) = ⊥
+IsDecided other = Unit {0}
+
+-- what stands of an object is such a cause
+pub object_decides : (class : Option Class) (begun : Option Day) (c : Command) (cause : RegisterFault) → refuses_object class begun c ≡ Some cause → IsDecided cause
+object_decides class begun c fault.Store h = object_foreign fault.Store (λ e. cc) (λ day e. cc) (λ e. cc) (λ e. cc) (λ e. cc) class begun c h
+object_decides class begun c fault.Memory h = object_foreign fault.Memory (λ e. cc) (λ day e. cc) (λ e. cc) (λ e. cc) (λ e. cc) class begun c h
+object_decides class begun c fault.UnknownRevision h = object_foreign fault.UnknownRevision (λ e. cc) (λ day e. cc) (λ e. cc) (λ e. cc) (λ e. cc) class begun c h
+object_decides class begun c (fault.Damaged object number) h = object_foreign (fault.Damaged object number) (λ e. cc) (λ day e. cc) (λ e. cc) (λ e. cc) (λ e. cc) class begun c h
+object_decides class begun c cause h = tt
 
 -- what decides never answers that there is no register
 pub refused_as : (cs : List Command) (c : Command) (f : RegisterFault) → IsRefusal (refusal (versions cs) c) f → IsRefused cs c f

@@ -11,6 +11,7 @@ pub mod Refusing
 pub mod Surviving
 pub mod Leaving
 pub mod Naming
+pub mod Inquiring
 pub mod Registers
 pub mod Opening
 pub mod Ledgers
