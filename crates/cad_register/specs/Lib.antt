@@ -15,5 +15,5 @@ pub mod Inquiring
 pub mod Registers
 pub mod Opening
 pub mod Ledgers
-pub mod SettledLemmas
+pub mod RemainingLemmas
 pub mod Laws

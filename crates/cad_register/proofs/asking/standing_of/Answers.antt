@@ -10,7 +10,7 @@ use Rattle.cad_register.specs.Refusing.{asking, register_fault_of, IsForObject}
 use Rattle.cad_register.proofs.OrderLemmas.{history_untied, history_rows}
 use Rattle.cad_register.proofs.StandingLemmas.{standing_told}
 use Rattle.cad_register.proofs.StandLemmas.{stands_kept, stands_same}
-use Rattle.cad_register.specs.SettledLemmas.{settled_here, settled_by}
+use Rattle.cad_tables.specs.SettledLemmas.{settled_here, settled_by}
 use Rattle.cad_register.proofs.RefusingLemmas.{not_for_memory}
 use Rattle.cad_register.proofs.LeavingLemmas.{asks_answered, asks_refused, store_known}
 use Rattle.cad_register.proofs.NamingLemmas.{rows_named, rows_known, store_named, faults_settle}
