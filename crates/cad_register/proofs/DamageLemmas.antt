@@ -4,15 +4,13 @@ use Rattle.std.proofs.Math.Seq.{drop-cons}
 use Rattle.sqlite_value.specs.Order.{Row}
 use Rattle.cad_versions.specs.VersionedObject.{VersionedObject}
 use Rattle.cad_versions.specs.Entries.{Entry, seen_at}
-use Rattle.cad_register.specs.Kept.{IsRowOf, AreRowsOf, entry_of}
+use Rattle.cad_register.specs.Kept.{IsRowOf, AreRowsOf}
 use Rattle.cad_register.specs.declared.place.Place.{Place}
 use Rattle.cad_versions.specs.declared.fault.RegisterFault.{RegisterFault}
 use Rattle.cad_versions.specs.declared.fault.RegisterFault.TheVariants as fault
 use Rattle.cad_register.specs.declared.found.FoundRow.{FoundRow}
-use Rattle.cad_register.specs.declared.found.FoundRow.TheVariants.{Version, Damaged}
-use Rattle.cad_register.specs.declared.kept.StoredVersion.{StoredVersion}
-use Rattle.cad_register.specs.Damage.{number_in, damage_of, KeepsRules, identifier_in, place_of, IsNext, AreInOrder, AreSound, AreSeenAt, IsFirstDamaged, IsCauseIn, ListsRows}
-use Rattle.cad_register.specs.Found.{IsReadOf, AreReadOf, IsJudged, damage_named}
+use Rattle.cad_register.specs.Damage.{identifier_in, place_of, IsNext, AreInOrder, AreSound, AreSeenAt, IsFirstDamaged, IsCauseIn, ListsRows}
+use Rattle.cad_register.specs.Found.{IsReadOf, AreReadOf}
 use Rattle.cad_register.proofs.KeptLemmas.{entry_same}
 
 drop_row : (rows : List Row) (at : ℕ) (row : Row) → at < length rows → row ≡ get_or rows at row → drop at rows ≡ row ∷ drop (at + 1) rows
@@ -28,10 +26,6 @@ damaged_step newest id rows at row before e h is next rest = subst (IsFirstDamag
 
 pub damaged_here : (newest : ℕ) (rows : List Row) (at : ℕ) (row : Row) (before : Option Place) → at < length rows → row ≡ get_or rows at row → ((e : Entry) → IsNext newest before at row e → ⊥) → IsFirstDamaged newest (identifier_in row) before at (drop at rows)
 damaged_here newest rows at row before h is bad = subst (IsFirstDamaged newest (identifier_in row) before at) (sym (drop_row rows at row h is)) (inl (refl, bad))
-
--- a row of one entry stands for no other that would break no rule
-pub never_next : (newest : ℕ) (before : Option Place) (count : ℕ) (row : Row) (e : Entry) → IsRowOf row e → (IsNext newest before count row e → ⊥) → (f : Entry) → IsNext newest before count row f → ⊥
-never_next newest before count row e is bad f next = bad (subst (IsNext newest before count row) (entry_same row f e next.shows is) next)
 
 take_all : {X : Type 0} (rows : List X) (n : ℕ) → length rows ≤ n → take n rows ≡ rows
 take_all [] zero h = refl
@@ -74,17 +68,6 @@ lists_rows revision newest shown rows (Ok vs) order sound seen cause = (rows, or
 lists_rows revision newest shown rows (Err (fault.Damaged object number)) order sound seen cause = (rows, order, cause)
 lists_rows revision newest shown rows (Err fault.Memory) order sound seen cause = tt
 lists_rows revision newest shown rows (Err other) order sound seen cause = absurd cause
-
--- the row is named by what was read of it
-damage_read : (row : Row) (x : FoundRow) → IsReadOf row x → damage_named x ≡ damage_of row
-damage_read row (Version kept) h = ap₂ (λ a b. fault.Damaged (number_in a) (number_in b)) (sym h.object) (sym h.number)
-damage_read row (Damaged object number) h = ap (λ (p : ℤ × ℤ). fault.Damaged p.0 p.1) (sym h.0)
-
-pub none_next : (newest : ℕ) (before : Option Place) (count : ℕ) (row : Row) (object number : ℤ) → IsReadOf row (Damaged object number) → IsJudged newest before count row (Err (damage_named (Damaged object number)))
-none_next newest before count row object number h = (damage_read row (Damaged object number) h, λ e next. h.1 e next.shows)
-
-pub not_next : (newest : ℕ) (before : Option Place) (count : ℕ) (row : Row) (kept : StoredVersion) → ¬ KeepsRules newest before count (entry_of kept) → IsReadOf row (Version kept) → IsJudged newest before count row (Err (damage_named (Version kept)))
-not_next newest before count row kept breaks h = (damage_read row (Version kept) h, never_next newest before count row (entry_of kept) h (λ next. breaks next.keeps))
 
 -- the row that is read at a place
 pub record RowAt (rows : List Row) (at : ℕ) (x : FoundRow) : Type 0 where

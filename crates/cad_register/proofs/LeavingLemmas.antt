@@ -1,18 +1,16 @@
 -- One question after another leaves what each leaves.
-use Rattle.std.proofs.Common.{◌≡◌, ℕ, Vec, Result, Ok, Err, OnOk, IfErr, IsErrAnd, refl, sym, subst, ◌∙◌, List, arith}
+use Rattle.std.proofs.Common.{◌≡◌, ◌≢◌, ℕ, Vec, Result, Ok, Err, OnOk, IfErr, refl, sym, subst, ◌∙◌, List, arith}
 use Rattle.std.proofs.Math.Nat.{le_refl, le_trans}
 use Rattle.sqlite.specs.State.{State, IsUnchanged, HasCleanDisk, Survives}
 use Rattle.cad_tables.specs.Asking.{OnlyReads}
-use Rattle.cad_versions.specs.declared.command.Command.{Command}
 use Rattle.cad_versions.specs.declared.fault.RegisterFault.{RegisterFault}
 use Rattle.cad_versions.specs.declared.fault.RegisterFault.TheVariants as fault
 use Rattle.cad_register.specs.Leaving.{IsLater, IsAsBefore, IsOfTheRegister, IsAnswered, AsksOnly}
-use Rattle.cad_register.specs.Stands.{StandsFor, IsStoreFault, IsReadingFault}
+use Rattle.cad_register.specs.Stands.{IsStoreFault, IsReadingFault}
 use Rattle.cad_register.specs.Damage.{AreShown, ListsRows, ReadsRows}
 use Rattle.cad_versions.specs.VersionedObject.{VersionedObject}
 use Rattle.std.specs.Global.{Global}
 use Rattle.sqlite_value.specs.Order.{Row}
-use Rattle.cad_register.proofs.StandLemmas.{stands_kept}
 use Rattle.cad_register.proofs.SurvivingLemmas.{leaves_no_more}
 
 pub later_here : (s : State) → IsLater s s
@@ -32,9 +30,6 @@ as_before old new same = record { now = same.0.now_is; committed = same.0.commit
 
 pub before_then : (a b c : State) → IsAsBefore a b → IsAsBefore b c → IsAsBefore a c
 before_then a b c p q = record { now = q.now ∙ p.now; committed = q.committed ∙ p.committed; liveness = q.liveness ∙ p.liveness; mode = q.mode ∙ p.mode }
-
-pub stands_before : (old new : State) (cs : List Command) → IsAsBefore old new → StandsFor old cs → StandsFor new cs
-stands_before old new cs same stands = stands_kept old new cs (same.now, same.committed) (same.liveness ∙ stands.live) stands
 
 -- whatever is told
 pub on_ok_anyway : {X E P : Type 0} (r : Result X E) → P → OnOk r P
@@ -77,10 +72,6 @@ asks_refused old new e cause is reads = record {
 pub asks_as : {X Y : Type 0} (old new : State) (r : Result X RegisterFault) (s : Result Y RegisterFault) → (IsAnswered s → IsAnswered r) → AsksOnly old new r → AsksOnly old new s
 asks_as old new r s same asks = record { same = λ clean answered. asks.same clean (same answered); kept = asks.kept; later = asks.later; left = asks.left }
 
-pub asks_on : {X Y : Type 0} (old new : State) (e : RegisterFault) (s : Result Y RegisterFault) → IsErrAnd s (λ x. x ≡ e) → AsksOnly {X = X} old new (Err e) → AsksOnly old new s
-asks_on old new e (Ok y) is asks = absurd is
-asks_on old new e (Err x) is asks = asks_as old new (Err e) (Err x) (subst IsOfTheRegister is) asks
-
 pub asks_then : {X Y : Type 0} (a b c : State) (x : X) (r : Result Y RegisterFault) → AsksOnly {X = X} a b (Ok x) → AsksOnly b c r → AsksOnly a c r
 asks_then a b c x r first second = record {
   same = λ clean answered. before_then a b c (first.same (second.later.clean clean) tt) (second.same clean answered);
@@ -97,6 +88,12 @@ pub not_as_none : (cause : RegisterFault) → IsStoreFault cause → ¬ (cause �
 not_as_none fault.Store is e = absurd cc
 not_as_none fault.Memory is e = absurd cc
 not_as_none cause is e = absurd is
+
+pub store_known : (cause : RegisterFault) → IsStoreFault cause → cause ≢ fault.UnknownRevision
+store_known cause is e = subst IsStoreFault e is
+
+pub reading_known : (cause : RegisterFault) → IsReadingFault cause → cause ≢ fault.UnknownRevision
+reading_known cause is e = subst IsReadingFault e is
 
 pub store_reading : (cause : RegisterFault) → IsStoreFault cause → IsReadingFault cause
 store_reading fault.Store is = tt

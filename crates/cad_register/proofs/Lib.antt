@@ -20,4 +20,5 @@ pub mod SurvivingLemmas
 pub mod LeavingLemmas
 pub mod RefusingLemmas
 pub mod NamingLemmas
+pub mod InquiringLemmas
 pub mod OpeningLemmas

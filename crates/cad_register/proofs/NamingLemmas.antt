@@ -1,5 +1,5 @@
 -- The row that is named, from one question to the next.
-use Rattle.std.proofs.Common.{◌≡◌, ℕ, pos, [], ◌∷◌, List, Result, Ok, Err, IfErr, IsErrAnd, MatchResult, inl, inr, refl, sym, subst, Vec, Global}
+use Rattle.std.proofs.Common.{◌≡◌, ◌≢◌, ℕ, pos, [], ◌∷◌, List, Result, Ok, Err, IfErr, MatchResult, inl, inr, refl, subst, Vec, Global}
 use Rattle.sqlite_trees.specs.declared.store.Store.{Ghosts}
 use Rattle.sqlite_value.specs.declared.value.Value.TheVariants.{Int}
 use Rattle.sqlite_value.specs.Order.{Row}
@@ -22,6 +22,10 @@ use Rattle.cad_register.proofs.LeavingLemmas.{before_then}
 
 before_here : (s : State) → IsAsBefore s s
 before_here s = record { now = refl; committed = refl; liveness = refl; mode = refl }
+
+-- a fault in the rows of an object tells of no revision
+pub rows_known : (object : ObjectId) (rows : List Row) (why : RegisterFault) → IsFaultIn object rows why → why ≢ fault.UnknownRevision
+rows_known object rows why bad e = subst (IsFaultIn object rows) e bad
 
 module _ {S : Type 0} (g : Ghosts S) where
   -- a fault in the rows of an object names one that was shown
@@ -66,8 +70,3 @@ module _ {S : Type 0} (g : Ghosts S) where
   named_then old mid new P x r first second (fault.Damaged named number) h =
       (h.0, h.1, h.2, λ clean. let shown = h.3 clean in (shown.0, before_then (state g old) (state g mid) (state g shown.0) (first.same (second.later.clean clean) tt) shown.1, shown.2), h.4)
   named_then old mid new P x r first second why h = tt
-
-  -- the same cause, told to the caller
-  pub named_on : {Y : Type 0} (old new : Held S) (P : Statement → Type 0) (e : RegisterFault) (s : Result Y RegisterFault) → IsErrAnd s (λ x. x ≡ e) → NamesShown g old new P e → IfErr s (NamesShown g old new P)
-  named_on old new P e (Ok y) is h = tt
-  named_on old new P e (Err x) is h = subst (NamesShown g old new P) (sym is) h

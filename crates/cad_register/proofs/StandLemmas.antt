@@ -3,9 +3,6 @@ use Rattle.std.proofs.Common.{◌≡◌, ◌≤◌, ℕ, Vec, Global, Result, Ok
 use Rattle.sqlite_value.specs.Order.{Row}
 use Rattle.sqlite.specs.Effect.{IsDatabase}
 use Rattle.sqlite.specs.State.{State, IsUnchanged}
-use Rattle.sqlite.specs.Held.{Held, state}
-use Rattle.sqlite_trees.specs.declared.store.Store.{Ghosts}
-use Rattle.cad_tables.specs.Opening.{TellsRegister}
 use Rattle.cad_tables.specs.Steps.{KeepsAll}
 use Rattle.cad_versions.specs.declared.fault.RegisterFault.{RegisterFault}
 use Rattle.cad_versions.specs.declared.fault.RegisterFault.TheVariants as fault
@@ -39,11 +36,6 @@ stands_kept old new cs keeps still stands = record {
 
 pub stands_same : (old new : State) (cs : List Command) → IsUnchanged old new → StandsFor old cs → StandsFor new cs
 stands_same old new cs same stands = stands_kept old new cs (same.0.now_is, same.0.committed_is) same.0.is_open stands
-
--- a database that tells a revision was open
-pub told_while_open : {S : Type 0} (g : Ghosts S) (old new : Held S) (revision : ℕ) → TellsRegister g old new (Some revision) → IsTrue (state g old).is_open
-told_while_open g old new revision (inl lacking) = absurd (cc lacking.1)
-told_while_open g old new revision (inr told) = told.2.same.0.was_open
 
 -- what the rows of a revision show is the register at the revision
 pub listing_told : (revision newest : ℕ) (cs : List Command) (shown : List Row) (new : State) (r : Result (Vec VersionedObject Global) RegisterFault) → ((rows : List Row) → AreInOrder shown rows → AreRowsOf rows (entries_listed revision (entries_of cs))) → StandsFor new cs
@@ -91,9 +83,21 @@ never_foreign : (vs : List VersionedObject) (c : Command) → ¬ (refusal vs c �
 never_foreign vs c h =
     else_foreign fault.NotARegister _ _ (object_foreign fault.NotARegister (λ e. cc) (λ day e. cc) (λ e. cc) (λ e. cc) (λ e. cc) (class_at vs (object_named c)) (open_since vs (object_named c)) c) (body_foreign vs (body_added c)) h
 
--- what stands of an object is no cause to answer for the database
-pub object_answers_for_itself : (class : Option Class) (begun : Option Day) (c : Command) → ¬ (refuses_object class begun c ≡ Some fault.Store)
-object_answers_for_itself class begun c h = object_foreign fault.Store (λ e. cc) (λ day e. cc) (λ e. cc) (λ e. cc) (λ e. cc) class begun c h
+-- a cause that the register itself has against a command
+abbrev pub IsDecided : RegisterFault → Type 0
+IsDecided fault.Store = ⊥
+IsDecided fault.Memory = ⊥
+IsDecided fault.UnknownRevision = ⊥
+IsDecided (fault.Damaged object number) = ⊥
+IsDecided other = Unit {0}
+
+-- what stands of an object is such a cause
+pub object_decides : (class : Option Class) (begun : Option Day) (c : Command) (cause : RegisterFault) → refuses_object class begun c ≡ Some cause → IsDecided cause
+object_decides class begun c fault.Store h = object_foreign fault.Store (λ e. cc) (λ day e. cc) (λ e. cc) (λ e. cc) (λ e. cc) class begun c h
+object_decides class begun c fault.Memory h = object_foreign fault.Memory (λ e. cc) (λ day e. cc) (λ e. cc) (λ e. cc) (λ e. cc) class begun c h
+object_decides class begun c fault.UnknownRevision h = object_foreign fault.UnknownRevision (λ e. cc) (λ day e. cc) (λ e. cc) (λ e. cc) (λ e. cc) class begun c h
+object_decides class begun c (fault.Damaged object number) h = object_foreign (fault.Damaged object number) (λ e. cc) (λ day e. cc) (λ e. cc) (λ e. cc) (λ e. cc) class begun c h
+object_decides class begun c cause h = tt
 
 -- what decides never answers that there is no register
 pub refused_as : (cs : List Command) (c : Command) (f : RegisterFault) → IsRefusal (refusal (versions cs) c) f → IsRefused cs c f

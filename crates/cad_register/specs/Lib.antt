@@ -11,8 +11,9 @@ pub mod Refusing
 pub mod Surviving
 pub mod Leaving
 pub mod Naming
+pub mod Inquiring
 pub mod Registers
 pub mod Opening
 pub mod Ledgers
-pub mod SettledLemmas
+pub mod RemainingLemmas
 pub mod Laws

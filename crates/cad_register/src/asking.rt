@@ -1,6 +1,6 @@
 //! What the tables tell of a register.
 
-ghost use Rattle.std.specs.Prelude.{◌≡◌, ◌≢◌, ◌≤◌, ◌∷◌, [], List, length, pos, IfOk, IfErr, OnOk};
+ghost use Rattle.std.specs.Prelude.{◌≡◌, ◌≤◌, ◌∷◌, [], List, length, pos, IfOk, IfErr, OnOk};
 ghost use Rattle.sqlite.specs.State.{HasCleanDisk, FailsToQuery};
 ghost use Rattle.sqlite.specs.declared.error.Error.{Error};
 ghost use Rattle.sqlite_value.specs.declared.value.Value.TheVariants.{Int};
@@ -15,8 +15,8 @@ ghost use Rattle.cad_register.specs.Outlines.{IsStanding};
 ghost use Rattle.cad_register.specs.Stands.{Tells, IsStoreFault, IsReadingFault};
 ghost use Rattle.cad_register.specs.Damage.{ReadsRows};
 ghost use Rattle.cad_register.specs.Leaving.{AsksOnly};
-ghost use Rattle.cad_register.specs.Naming.{NamesShown};
 ghost use Rattle.cad_register.specs.Refusing.{Asks, IsForObject, IsForLines, IsNotForMemory, register_fault_of};
+ghost use Rattle.cad_register.specs.Inquiring.{Inquires};
 
 use crate::listing::listed;
 use crate::standing::ObjectState;
@@ -40,16 +40,9 @@ pub(crate) fn standing_of<S: Alter>(
     connection: &mut Connection<S>,
     object: ObjectId,
 ) -> Result<ObjectState, RegisterFault>
-    ensures told { HasCleanDisk (state S.Store connection.new) →
-        Tells (state S.Store connection.old) (state S.Store connection.new) result
-        (λ commands standing. IsStanding (versions commands) object standing) (λ commands fault.
-        IsStoreFault fault) }
-    ensures asked { HasCleanDisk (state S.Store connection.new) →
-        Asks S.Store connection.old connection.new (IsForObject object) result }
-    ensures leaves { AsksOnly (state S.Store connection.old) (state S.Store connection.new) result }
-    ensures known { IfErr result (λ fault. fault ≢ RegisterFault.UnknownRevision) }
-    ensures damaged { IfErr result
-        (NamesShown S.Store connection.old connection.new (IsForObject object)) }
+    ensures { Inquires S.Store connection.old connection.new (IsForObject object)
+        (λ commands standing. IsStanding (versions commands) object standing)
+        (λ commands fault. IsStoreFault fault) result }
 {
     match cad_tables::history(connection, object.number()) {
         Ok(rows) => ObjectState::read(object, &rows),

@@ -1,16 +1,13 @@
 //! Whether a command is accepted, by the rows of the objects that it names.
 
-ghost use Rattle.std.specs.Prelude.{IfErr, ◌≢◌, ◌≡◌, ◌≤◌, ◌<◌, ◌+◌, List, length, Some, None};
-ghost use Rattle.sqlite.specs.State.{HasCleanDisk};
-ghost use Rattle.sqlite.specs.Held.{state};
+ghost use Rattle.std.specs.Prelude.{◌≡◌, ◌≤◌, ◌<◌, ◌+◌, List, length, Some, None};
 ghost use Rattle.cad_versions.specs.declared.command.Command.{Command as CommandOf};
 ghost use Rattle.cad_versions.specs.Command.{object_named};
 ghost use Rattle.cad_versions.specs.Versions.{history, versions};
 ghost use Rattle.cad_versions.specs.Refusals.{is_entered as entered, are_entered as all_entered, is_full as filled, refuses_body, refusal};
-ghost use Rattle.cad_register.specs.Stands.{Tells, IsStoreFault, IsRefusal};
-ghost use Rattle.cad_register.specs.Leaving.{AsksOnly};
-ghost use Rattle.cad_register.specs.Naming.{NamesShown};
-ghost use Rattle.cad_register.specs.Refusing.{Asks, IsForNamed, IsForBody, IsForRoom, IsForAddition, IsForCommand};
+ghost use Rattle.cad_register.specs.Stands.{IsStoreFault, IsRefusal};
+ghost use Rattle.cad_register.specs.Refusing.{IsForNamed, IsForBody, IsForRoom, IsForAddition, IsForCommand};
+ghost use Rattle.cad_register.specs.Inquiring.{Inquires};
 
 use crate::asking::{standing_of, versions_of};
 use cad_versions::{Body, Class, Command, MOST_VERSIONS, ObjectId, RegisterFault};
@@ -23,15 +20,9 @@ fn is_entered<S: Alter>(
     class: Class,
     object: Option<ObjectId>,
 ) -> Result<bool, RegisterFault>
-    ensures told { HasCleanDisk (state S.Store connection.new) →
-        Tells (state S.Store connection.old) (state S.Store connection.new) result
-        (λ commands known. known ≡ entered (versions commands) class object) (λ commands fault.
-        IsStoreFault fault) }
-    ensures asked { HasCleanDisk (state S.Store connection.new) →
-        Asks S.Store connection.old connection.new (IsForNamed object) result }
-    ensures leaves { AsksOnly (state S.Store connection.old) (state S.Store connection.new) result }
-    ensures known { IfErr result (λ fault. fault ≢ RegisterFault.UnknownRevision) }
-    ensures damaged { IfErr result (NamesShown S.Store connection.old connection.new (IsForNamed object)) }
+    ensures { Inquires S.Store connection.old connection.new (IsForNamed object)
+        (λ commands known. known ≡ entered (versions commands) class object)
+        (λ commands fault. IsStoreFault fault) result }
 {
     match object {
         None => Ok(true),
@@ -47,15 +38,9 @@ fn is_entered<S: Alter>(
 
 /// Whether all that the body names was entered.
 fn are_entered<S: Alter>(connection: &mut Connection<S>, body: &Body) -> Result<bool, RegisterFault>
-    ensures told { HasCleanDisk (state S.Store connection.new) →
-        Tells (state S.Store connection.old) (state S.Store connection.new) result
-        (λ commands known. known ≡ all_entered (versions commands) body.now) (λ commands fault.
-        IsStoreFault fault) }
-    ensures asked { HasCleanDisk (state S.Store connection.new) →
-        Asks S.Store connection.old connection.new (IsForBody body.now) result }
-    ensures leaves { AsksOnly (state S.Store connection.old) (state S.Store connection.new) result }
-    ensures known { IfErr result (λ fault. fault ≢ RegisterFault.UnknownRevision) }
-    ensures damaged { IfErr result (NamesShown S.Store connection.old connection.new (IsForBody body.now)) }
+    ensures { Inquires S.Store connection.old connection.new (IsForBody body.now)
+        (λ commands known. known ≡ all_entered (versions commands) body.now)
+        (λ commands fault. IsStoreFault fault) result }
 {
     if is_entered(connection, Class::Unit, body.unit())? {
         let known = is_entered(connection, Class::Party, body.party())?;
@@ -71,15 +56,9 @@ fn is_full<S: Alter>(
     connection: &mut Connection<S>,
     revision: u32,
 ) -> Result<bool, RegisterFault>
-    ensures told { HasCleanDisk (state S.Store connection.new) →
-        Tells (state S.Store connection.old) (state S.Store connection.new) result (λ commands full.
-        revision ≡ length commands → full ≡ filled (versions commands)) (λ commands fault.
-        revision ≡ length commands → IsStoreFault fault) }
-    ensures asked { HasCleanDisk (state S.Store connection.new) →
-        Asks S.Store connection.old connection.new (IsForRoom revision) result }
-    ensures leaves { AsksOnly (state S.Store connection.old) (state S.Store connection.new) result }
-    ensures known { IfErr result (λ fault. fault ≢ RegisterFault.UnknownRevision) }
-    ensures damaged { IfErr result (NamesShown S.Store connection.old connection.new (IsForRoom revision)) }
+    ensures { Inquires S.Store connection.old connection.new (IsForRoom revision)
+        (λ commands full. revision ≡ length commands → full ≡ filled (versions commands))
+        (λ commands fault. revision ≡ length commands → IsStoreFault fault) result }
 {
     if revision < MOST_VERSIONS {
         return Ok(false);
@@ -95,16 +74,11 @@ fn check_addition<S: Alter>(
     revision: u32,
     body: &Body,
 ) -> Result<(), RegisterFault>
-    ensures told { HasCleanDisk (state S.Store connection.new) →
-        Tells (state S.Store connection.old) (state S.Store connection.new) result (λ commands _.
-        revision ≡ length commands → refuses_body (versions commands) (Some body.now) ≡ None)
+    ensures { Inquires S.Store connection.old connection.new (IsForAddition (Some body.now) revision)
+        (λ commands _. revision ≡ length commands →
+        refuses_body (versions commands) (Some body.now) ≡ None)
         (λ commands fault. revision ≡ length commands →
-        IsRefusal (refuses_body (versions commands) (Some body.now)) fault) }
-    ensures asked { HasCleanDisk (state S.Store connection.new) →
-        Asks S.Store connection.old connection.new (IsForAddition (Some body.now) revision) result }
-    ensures leaves { AsksOnly (state S.Store connection.old) (state S.Store connection.new) result }
-    ensures known { IfErr result (λ fault. fault ≢ RegisterFault.UnknownRevision) }
-    ensures damaged { IfErr result (NamesShown S.Store connection.old connection.new (IsForAddition (Some body.now) revision)) }
+        IsRefusal (refuses_body (versions commands) (Some body.now)) fault) result }
 {
     if !are_entered(connection, body)? {
         return Err(RegisterFault::UnknownReference);
@@ -122,18 +96,12 @@ pub(crate) fn decide<S: Alter>(
     revision: u32,
     command: &Command,
 ) -> Result<usize, RegisterFault>
-    ensures told { HasCleanDisk (state S.Store connection.new) →
-        Tells (state S.Store connection.old) (state S.Store connection.new) result
+    ensures { Inquires S.Store connection.old connection.new (IsForCommand command.now revision)
         (λ commands count. revision ≡ length commands →
         (refusal (versions commands) command.now ≡ None) ×
         (count ≡ length (history (object_named command.now) (versions commands))))
         (λ commands fault. revision ≡ length commands →
-        IsRefusal (refusal (versions commands) command.now) fault) }
-    ensures asked { HasCleanDisk (state S.Store connection.new) →
-        Asks S.Store connection.old connection.new (IsForCommand command.now revision) result }
-    ensures leaves { AsksOnly (state S.Store connection.old) (state S.Store connection.new) result }
-    ensures known { IfErr result (λ fault. fault ≢ RegisterFault.UnknownRevision) }
-    ensures damaged { IfErr result (NamesShown S.Store connection.old connection.new (IsForCommand command.now revision)) }
+        IsRefusal (refusal (versions commands) command.now) fault) result }
 {
     let standing = standing_of(connection, command.object())?;
     if let Some(fault) = command.refused_by_object(standing.class, standing.open_since) {

@@ -1,7 +1,7 @@
 //! A land register as a ledger.
 
 ghost use Rattle.cad_register.specs.Ledgers.{register_as_ledger, cut_keeps, store_keeps};
-ghost use Rattle.cad_register.specs.SettledLemmas.{remains_here, remains_then};
+ghost use Rattle.cad_register.specs.RemainingLemmas.{remains_here, remains_then};
 
 use crate::register::Register;
 use cad_versions::{Command, Ledger, RegisterFault, Version};

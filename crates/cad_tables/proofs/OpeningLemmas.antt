@@ -8,11 +8,7 @@ use Rattle.sqlite_schema.specs.declared.command.Command.{Command}
 use Rattle.sqlite_schema.specs.declared.command.Command.TheVariants.{Select, Rows}
 use Rattle.sqlite_schema.specs.declared.program.Program.{Program}
 use Rattle.sqlite_resolve.specs.declared.error.CompileError.{CompileError}
-use Rattle.sqlite_resolve.specs.declared.compiled.Compiled.{Compiled}
 use Rattle.sqlite_resolve.specs.declared.error.CompileError.TheVariants.{Exists}
-use Rattle.sqlite_schema.specs.declared.schema.Schema.{Schema}
-use Rattle.sqlite.specs.Steps.{Outlines}
-use Rattle.sqlite.specs.Outline.{Outline}
 use Rattle.cad_tables.specs.Faults.{is_name_taken}
 use Rattle.cad_tables.specs.Opening.{Finds}
 use Rattle.sqlite.specs.declared.error.Error.{Error}
@@ -31,9 +27,6 @@ use Rattle.cad_tables.specs.Steps.{KeepsAll}
 use Rattle.cad_tables.specs.Opening.{most_revision, revision_in, is_lacking, TellsRevision, LacksColumns}
 use Rattle.cad_tables.proofs.Parse.{revision_is, listing_is}
 use Rattle.cad_tables.proofs.QueryTexts.{revision_asks, query_plain}
-use Rattle.sqlite_trees.specs.declared.store.Store.{Ghosts}
-use Rattle.sqlite.specs.Held.{Held, state}
-use Rattle.cad_tables.specs.Opening.{IsSettled}
 use Rattle.cad_tables.specs.Asking.{OnlyReads}
 use Rattle.cad_tables.proofs.Quiet.{shown_same, keeps_shown, keeps_failed, survives_quiet, failed_open}
 use Rattle.cad_tables.proofs.Statements.{reads_revision, shows_revision}
@@ -224,28 +217,10 @@ exists_found old new sql e (inl (inr (c, known, inr (inl h)), same)) taken = abs
 exists_found old new sql e (inl (inr (c, known, inr (inr h)), same)) taken = absurd (let no = rw h.1 at taken in cc)
 exists_found old new sql e (inr h) taken = absurd (let told = taken_told e taken in let stands = store_untold h.0 in let no = rw h.1 at told in cc)
 
-pub outline_found : (schema : Schema) (sql : List ℕ) (s : Outline) → Outlines (understood schema sql) s → Finds (understood schema sql) false
-outline_found schema sql s h = go (understood schema sql) h
-  where
-    go : (r : Result Compiled CompileError) → Outlines r s → Finds r false
-    go (Ok c) h = refl
-    go (Err fault) h = absurd h
-
 -- ---- one question after another
 on_ok_then : {X F : Type 0} (P Q : Type 0) (r : Result X F) → (P → Q) → OnOk r P → OnOk r Q
 on_ok_then P Q (Ok x) f h = f h
 on_ok_then P Q (Err e) f h = tt
-
--- the same, where the first is a step on the way
-pub settled_by : {S X F : Type 0} (g : Ghosts S) (old new : Held S) (x : X) → OnlyReads {X = X} {F = F} (state g old) (state g new) (Ok x) → HasCleanDisk (state g new) → IsSettled g old new
-settled_by g old new x reads clean = record { same = reads.same clean; limit = reads.survives.limit; faults = reads.survives.counts }
-
-pub settled_start : {S : Type 0} (g : Ghosts S) (old : Held S) → IsTrue (state g old).is_open → IsSettled g old old
-settled_start g old live = record {
-  same = (record { was_open = live; is_open = live; now_is = refl; committed_is = refl; mode = refl }, record { changes = refl; last_rowid = refl }, refl);
-  limit = refl;
-  faults = omega arith;
-}
 
 pub reads_then : {X Y F G : Type 0} (old mid new : State) (x : X) (r : Result Y G) → OnlyReads {X = X} {F = F} old mid (Ok x) → OnlyReads mid new r → OnlyReads old new r
 reads_then old mid new x r first second = record {

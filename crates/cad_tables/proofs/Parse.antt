@@ -26,10 +26,6 @@ pub version_plain : IsPlain (understood state_schema version_text)
 unfolding understood everything
 version_plain = (refl, refl)
 
-pub state_schema_is : created no_schema state_table ≡ state_schema
-unfolding everything
-state_schema_is = refl
-
 pub register_schema_is : created state_schema (version_made 0) ≡ register_schema
 unfolding everything
 register_schema_is = refl

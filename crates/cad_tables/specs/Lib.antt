@@ -13,3 +13,4 @@ pub mod Listing
 pub mod Reading
 pub mod Opening
 pub mod SchemaLemmas
+pub mod SettledLemmas

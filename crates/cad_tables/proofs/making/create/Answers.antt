@@ -5,7 +5,7 @@ use Rattle.sqlite.specs.declared.error.Error.TheVariants.{SqliteFailure}
 use Rattle.sqlite.specs.declared.error.ErrorCode.TheVariants.{TransactionState}
 use Rattle.cad_tables.specs.Faults.{fault_of}
 use Rattle.cad_tables.proofs.RefusalLemmas.{told}
-use Rattle.cad_tables.proofs.OpeningLemmas.{settled_by}
+use Rattle.cad_tables.specs.SettledLemmas.{settled_by}
 use Rattle.cad_tables.proofs.making.create.Goals as goal
 
 pub returns-then-not-is_autocommit-clause-refused : goal.returns-then-not-is_autocommit-clause-refused
@@ -20,4 +20,4 @@ returns-in_err-make-clause-refused g c clean =
     let no : c.in_ok-is_standing.field-0 ≡ false = search rules in
     let e = c.in_err-make.field-0.0 in
     told _ c.from_residual-in_err-make.result (fault_of e) c.from_residual-in_err-make.ensures.1
-    (e, refl, inr (inr (mid, sym (c.in_ok-is_standing.ensures.known before) ∙ no, settled_by g.S.Store c.args.conn.now mid _ c.in_ok-is_standing.ensures.reads before, c.in_err-make.ensures.refused clean)))
+    (e, refl, inr (inr (mid, sym (c.in_ok-is_standing.ensures.known before) ∙ no, settled_by g.S.Store c.args.conn.now mid _ (c.in_ok-is_standing.ensures.reads.same before) c.in_ok-is_standing.ensures.reads.survives, c.in_err-make.ensures.refused clean)))

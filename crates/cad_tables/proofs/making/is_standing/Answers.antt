@@ -6,7 +6,7 @@ use Rattle.cad_tables.specs.Texts.{state_text, version_text}
 use Rattle.cad_tables.proofs.NameLemmas.{state_makes, version_makes}
 use Rattle.cad_tables.proofs.StandingLemmas.{found_used, standing_first, standing_second}
 use Rattle.cad_tables.proofs.RefusalLemmas.{told}
-use Rattle.cad_tables.proofs.OpeningLemmas.{settled_by}
+use Rattle.cad_tables.specs.SettledLemmas.{settled_by}
 use Rattle.cad_tables.proofs.making.is_standing.Goals as goal
 
 pub returns-in_err-is_in_use-clause-refused : goal.returns-in_err-is_in_use-clause-refused
@@ -26,7 +26,7 @@ returns-in_err-used-clause-refused g c clean =
     let early = c.is_in_use-2.ensures.reads.clean clean in
     let no = c.in_err-used.ensures.refused clean in
     told _ c.from_residual-in_err-used.result c.in_err-used.field-0.0 c.from_residual-in_err-used.ensures.1
-    (no.0, inr (c.is_in_use.new.conn, settled_by g.S.Store c.args.conn.now c.is_in_use.new.conn _ c.in_ok-is_in_use.ensures.reads early, rw c.version_table.ensures at no.1))
+    (no.0, inr (c.is_in_use.new.conn, settled_by g.S.Store c.args.conn.now c.is_in_use.new.conn _ (c.in_ok-is_in_use.ensures.reads.same early) c.in_ok-is_in_use.ensures.reads.survives, rw c.version_table.ensures at no.1))
 
 pub returns-clause-known : goal.returns-clause-known
 returns-clause-known g c clean =

@@ -1,14 +1,12 @@
--- A database that is as it was, one question after another, and the register in it.
-use Rattle.std.proofs.Common.{refl, ◌∙◌, sym, subst, IsTrue, inl, inr}
+-- A database that is as it was, one question after another.
+use Rattle.std.proofs.Common.{refl, ◌∙◌, IsTrue}
 use Rattle.std.proofs.Math.Nat.{le_refl, le_trans}
 use Rattle.sqlite_trees.specs.declared.store.Store.{Ghosts}
 use Rattle.sqlite.specs.State.{IsUnchanged, Survives}
 use Rattle.sqlite.specs.Held.{Held, state}
-use Rattle.cad_tables.specs.Opening.{IsSettled}
-use Rattle.cad_register.specs.declared.register.Register.{Register}
-use Rattle.cad_register.specs.Registers.{connection_of, IsStillSettled, Remains}
 use Rattle.sqlite.proofs.StateLemmas.{unchanged}
 use Rattle.sqlite.proofs.Callers.{unchanged_then}
+use Rattle.cad_tables.specs.Opening.{IsSettled}
 
 module _ {S : Type 0} (g : Ghosts S) where
   pub settled_here : (old : Held S) → IsTrue (state g old).is_open → IsSettled g old old
@@ -23,11 +21,3 @@ module _ {S : Type 0} (g : Ghosts S) where
     limit = q.limit ∙ p.limit;
     faults = le_trans p.faults q.faults;
   }
-
-  pub remains_here : (register : Register S) → Remains g register register
-  remains_here register = inl refl
-
-  pub remains_then : (old mid new : Register S) → Remains g old mid → Remains g mid new → Remains g old new
-  remains_then old mid new (inl p) q = subst (λ (register : Register S). Remains g register new) p q
-  remains_then old mid new (inr p) (inl q) = inr (subst (λ (register : Register S). IsStillSettled g old register) (sym q) p)
-  remains_then old mid new (inr p) (inr q) = inr (settled_then (connection_of old) (connection_of mid) (connection_of new) p.0 q.0, q.1 ∙ p.1)
