@@ -1,7 +1,6 @@
 -- What goes out to a connection is its own, by recursion on the events of a run.
-use Rattle.std.proofs.Common.{◌≡◌, ◌≢◌, ℕ, Bool, true, false, cond, nat_eq, List, [], ◌∷◌, ◌++◌, Option, Some, None, Result, Ok, Err, refl, sym, ap, ap₂, ◌∙◌, subst, arith, append_assoc, append-nil, inl, inr}
-use Rattle.std.proofs.lemmas.Bool.Decides.{nat_tests}
-use Rattle.std.proofs.lemmas.Bool.{eq-eqb}
+use Rattle.std.proofs.Common.{◌≡◌, ◌≢◌, ℕ, Bool, true, false, cond, nat_eq, List, [], ◌∷◌, ◌++◌, Option, Some, None, Result, Ok, Err, refl, sym, ap, ap₂, ◌∙◌, subst, append_assoc, append-nil, inl, inr}
+use Rattle.std.proofs.lemmas.Bool.{eq-eqb, eqb-true}
 use Rattle.httparse.specs.Grammar.{RequestHead}
 use Rattle.cad_versions.specs.declared.command.Command.{Command}
 use Rattle.cad_head.specs.Request.{Request, request_of}
@@ -20,9 +19,6 @@ use Rattle.cad_desk.specs.Connections.{Connections, rest_at, Changes, Keeps}
 use Rattle.cad_desk.specs.Events.{Rules, IsOpened, IsTaken, IsClosed, IsEntered, StepOf, commands_after}
 use Rattle.cad_desk.specs.Runs.{RunOf, Exchange, out_of, exchange, exchanges_of, pieces_of, outs_of}
 use Rattle.cad_desk.specs.Laws.{IsOfAnother, AreSameReplies, ConnectionsAreTheirOwn, CutsMakeNoDifference}
-
-same_number : (d c : ℕ) → nat_eq d c ≡ true → d ≡ c
-same_number d c h = grind (arith, nat_tests)
 
 -- ---- an event of another connection leaves this one
 
@@ -85,7 +81,7 @@ module _ (rules : Rules) (InForce : (List Command → Type 0) → Type 0) (old n
   apart_from d c other = go (nat_eq d c) refl
     where
       go : (same : Bool) → nat_eq d c ≡ same → nat_eq d c ≡ false
-      go true e = absurd (other (same_number d c e))
+      go true e = absurd (other (eqb-true d c e))
       go false e = e
 
   -- an event of another connection or of the office
@@ -174,10 +170,10 @@ module _ (rules : Rules) (c : ℕ) (commands : List Command) (old new : Connecti
   -- what is the same connection's
   at_own : (d : ℕ) (piece : List ℕ) (answer : Result Reply DeskFault) → nat_eq d c ≡ true → IsTaken rules (λ Holds. Holds commands) old d piece answer new
       → IsTaken rules (λ Holds. Holds commands) old c piece answer new
-  at_own d piece answer e s = subst (λ n. IsTaken rules (λ Holds. Holds commands) old n piece answer new) (same_number d c e) s
+  at_own d piece answer e s = subst (λ n. IsTaken rules (λ Holds. Holds commands) old n piece answer new) (eqb-true d c e) s
 
   here : (d : ℕ) → nat_eq d c ≡ true → nat_eq c c ≡ true
-  here d e = subst (λ n. nat_eq n c ≡ true) (same_number d c e) e
+  here d e = subst (λ n. nat_eq n c ≡ true) (eqb-true d c e) e
 
   cut_off : (d : ℕ) (piece : List ℕ) (answer : Result Reply DeskFault) → IsTaken rules (λ Holds. Holds commands) old d piece answer new → (same : Bool) → nat_eq d c ≡ same
       → Told rules (rest_at old c) (cond same [] own)

@@ -1,5 +1,5 @@
 -- A grid of one feature after the other, and its entries sorted.
-use Rattle.std.proofs.Common.{◌≡◌, ◌∙◌, ℕ, zero, suc, ◌+◌, ◌<◌, ◌≤◌, Bool, false, cond, List, [], ◌∷◌, ◌++◌, length, map, take, get_or, ap, sym, arith, ◌==◌, Option, None}
+use Rattle.std.proofs.Common.{◌≡◌, ◌∙◌, ℕ, zero, suc, ◌+◌, ◌<◌, ◌≤◌, Bool, false, List, [], ◌∷◌, ◌++◌, length, map, take, get_or, ap, sym, arith, ◌==◌, Option, None}
 use Rattle.std.specs.Prelude.{option_map}
 use Rattle.std.specs.List.Sorted.{IsPermutation}
 use Rattle.std.proofs.lemmas.Bool.Decides.{nat_tests}
@@ -27,9 +27,6 @@ not_last n = grind (arith, nat_tests)
 
 both_after : (m n : ℕ) → (suc m == suc n) ≡ (m == n)
 both_after m n = grind (arith, nat_tests)
-
-abbrev for_test : Bool → ℕ → ℕ
-for_test b n = cond b n 0
 
 none_for : (m : ℕ) → m ≡ m + 0
 none_for m = omega arith

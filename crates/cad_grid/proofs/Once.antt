@@ -1,6 +1,7 @@
 -- Each shape counts in one cell, where it shares one with the asked cells, and else in none.
 use Rattle.std.proofs.Common.{◌≡◌, ◌≢◌, ◌∙◌, ℕ, zero, suc, ◌+◌, ◌-◌, ◌<◌, ◌≤◌, max, Bool, true, false, ap, sym, refl, arith, ◌⊎◌, inl, inr, ◌==◌}
 use Rattle.std.specs.Prelude.{◌&&◌, nat_le}
+use Rattle.std.proofs.lemmas.Bool.{eq-eqb}
 use Rattle.std.proofs.lemmas.Bool.Decides.{nat_tests}
 use Rattle.cad_cells.specs.declared.cells.Cells.{Cells}
 use Rattle.cad_cells.specs.Blocks.{share_a_cell}
@@ -51,9 +52,6 @@ greater_within a b c h = elim (below a b) [
   | inr l ↦ let e : max a b ≡ a = omega arith in rw e refl
 ]
 
-itself : (m : ℕ) → (m == m) ≡ true
-itself m = grind (arith, nat_tests)
-
 under : (a b c : ℕ) → max a b ≤ c → nat_le b c ≡ true
 under a b c h = let l : b ≤ c = omega arith in grind (arith, nat_tests)
 
@@ -65,8 +63,8 @@ exchanged a b = grind arith
 
 here : (own asked : Cells) → max own.left asked.left ≤ own.right → max own.low asked.low ≤ own.high → once (counts_first own asked (max own.low asked.low) (max own.left asked.left)) ≡ once (share own asked)
 here own asked h k = rw (
-  itself (max own.low asked.low),
-  itself (max own.left asked.left),
+  eq-eqb (max own.low asked.low) (max own.low asked.low) refl,
+  eq-eqb (max own.left asked.left) (max own.left asked.left) refl,
   greater_within own.low asked.low asked.high asked.tall,
   greater_within own.left asked.left asked.right asked.wide,
   under own.left asked.left own.right h,

@@ -245,11 +245,6 @@ module _ (collection : Collection) (xs : List Item) (listed : AreFeaturesOf coll
       let all : IsColumnOf (ordered_in (index_at (indexes_of collection xs) place)) place xs = rw start at (column_from (schema_of collection) 0 place xs) in
       subst (λ c. IsColumnOf c place xs) (sym (e ∙ ap (λ is. ordered_in (index_at is place)) made.properties)) all
 
-  cells_of : (g : Option (List (Option Block))) → g ≡ grid_in (index_at indexes.properties.items place) → IsGridOf g place xs
-  cells_of g e =
-      let all : IsGridOf (grid_in (index_at (indexes_of collection xs) place)) place xs = rw start at (grid_from (schema_of collection) 0 place xs) in
-      subst (λ c. IsGridOf c place xs) (sym (e ∙ ap (λ is. grid_in (index_at is place)) made.properties)) all
-
   pub without_order : (low high : Limit) → None ≡ ordered_in (index_at indexes.properties.items place) → [] ≡ range_positions (column place xs) low high
   without_order low high e = no_positions place xs low high (λ k d h. unordered low high _ (order_of None e k d h))
 
@@ -264,6 +259,3 @@ module _ (collection : Collection) (xs : List Item) (listed : AreFeaturesOf coll
 
   pub without_grid : (asked : Block) → None ≡ grid_in (index_at indexes.properties.items place) → [] ≡ near_positions (blocks_at place xs) asked
   without_grid asked e = no_near place xs asked (shape_of None e)
-
-  pub with_grid : (g : List (Option Block)) (asked : Block) → Some g ≡ grid_in (index_at indexes.properties.items place) → near_positions g asked ≡ near_positions (blocks_at place xs) asked
-  with_grid g asked e = ap (λ bs. near_positions bs asked) (cells_of (Some g) e)

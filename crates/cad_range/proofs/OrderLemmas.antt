@@ -1,6 +1,7 @@
 -- The order of a value against two scalars, by the order of these.
 use Rattle.std.proofs.Common.{◌≡◌, ◌∙◌, sym, ap, refl, ℕ, List, Bool, true, false, not, ◌&&◌, ◌||◌, Option, Some, None, arith}
 use Rattle.std.specs.Prelude.{ℤ}
+use Rattle.std.proofs.Math.Bool.{or_comm}
 use Rattle.std.proofs.lemmas.Cmp.{int_cmp_total, nat_list_cmp_total}
 use Rattle.std.specs.Cmp.{IsTotalOrder, alike_right}
 use Rattle.std.specs.Ordering.{int_cmp, is_lt, is_gt, is_le, is_ge, ordering_reverse}
@@ -24,9 +25,6 @@ Fits p q Less = (is_gt p || is_lt q) ≡ true
 Fits p q Equal = p ≡ q
 Fits p q Greater = (is_lt p || is_gt q) ≡ true
 
-or_turned : (a b : Bool) → (a || b) ≡ (b || a)
-or_turned a b = grind arith
-
 module _ {K : Type 0} {R : K → K → Ordering} (o : IsTotalOrder R) where
   less_fits : (a b v : K) (q : Ordering) → R v b ≡ q → R a b ≡ Less → (is_gt (R v a) || is_lt (R v b)) ≡ true
   less_fits a b v Less e h = or_right (is_gt (R v a)) (is_lt (R v b)) (ap is_lt e)
@@ -36,7 +34,7 @@ module _ {K : Type 0} {R : K → K → Ordering} (o : IsTotalOrder R) where
   pub total_fits : (a b v : K) (r : Ordering) → R a b ≡ r → Fits (R v a) (R v b) r
   total_fits a b v Less h = less_fits a b v (R v b) refl h
   total_fits a b v Equal h = alike_right o a b v h
-  total_fits a b v Greater h = or_turned (is_lt (R v a)) (is_gt (R v b)) ∙ less_fits b a v (R v a) refl (o.antisymm b a ∙ ap ordering_reverse h)
+  total_fits a b v Greater h = or_comm (is_lt (R v a)) (is_gt (R v b)) ∙ less_fits b a v (R v a) refl (o.antisymm b a ∙ ap ordering_reverse h)
 
 some_is : (r s : Ordering) → Some r ≡ Some s → r ≡ s
 some_is r s h = cc

@@ -81,9 +81,6 @@ Taken = List (List ℕ × List ℕ)
 abbrev taken_by : RouteOf Route → List ℕ → Taken
 taken_by key path = walk key.pattern key.text path key.names 0 0
 
-abbrev collection_text : List ℕ
-collection_text = codes "/collections/{c}"
-
 behind_front : (rest : List ℕ) → 13 ≤ length (codes "/collections/" ++ rest)
 behind_front rest = let long : length (codes "/collections/" ++ rest) ≡ 13 + length rest = length-append (codes "/collections/") rest in omega (arith, long)
 

@@ -2,6 +2,7 @@
 use Rattle.std.proofs.Common.{◌≡◌, ◌≢◌, ℕ, ◌<◌, ◌==◌, cond, List, [], ◌∷◌, ◌++◌, Bool, true, false, All, Option, Some, None, length, codes, refl, sym, ap, subst, ◌∙◌, arith}
 use Rattle.std.specs.List.{onto_first}
 use Rattle.std.specs.Str.{bytes_eq}
+use Rattle.std.proofs.lemmas.Bool.{eqb-false}
 use Rattle.std.proofs.lemmas.Bool.Decides.{nat_tests}
 use Rattle.std.proofs.lemmas.List.{append_assoc}
 use Rattle.std.proofs.lemmas.List.Elements.{All-nil, All-cons, All-head, All-tail}
@@ -21,9 +22,6 @@ slash_is b e = grind (arith, nat_tests)
 
 other_byte : (b : ℕ) → b ≢ 47 → (b == 47) ≡ false
 other_byte b other = grind (arith, nat_tests)
-
-no_slash_byte : (b : ℕ) → (b == 47) ≡ false → b ≢ 47
-no_slash_byte b e = grind (arith, nat_tests)
 
 -- whatever holds of one segment, and of a segment with a slash and more behind it, holds of every path
 pub by_cut : (P : List ℕ → Type 0) → ((s : List ℕ) → has_slash s ≡ false → P s)
@@ -66,7 +64,7 @@ all_of : (s : List ℕ) → has_slash s ≡ false → All (λ b. b ≢ 47) s
 all_of [] h = All-nil (λ (b : ℕ). b ≢ 47)
 all_of (b ∷ s) h =
     let p = no_slash_parts (b == 47) (has_slash s) h in
-    All-cons (λ (b : ℕ). b ≢ 47) b s (no_slash_byte b p.0) (all_of s p.1)
+    All-cons (λ (b : ℕ). b ≢ 47) b s (eqb-false b 47 p.0) (all_of s p.1)
 
 some_byte : (b : ℕ) (s : List ℕ) → 0 < length (b ∷ s)
 some_byte b s = omega arith
@@ -111,9 +109,6 @@ some_is a b e = ap (got a) e
 none_is : {A : Type 0} (place : Place (List ℕ)) → None ≡ Some place → A
 none_is place e = absurd (let told : None ≡ Some place = e in cc)
 
-same_text : (a b : List ℕ) → bytes_eq a b ≡ true → a ≡ b
-same_text a b = (bytes_eq-Decides a b).0
-
 in_items : (c q : List ℕ) (place : Place (List ℕ)) → below_items c (segments q) ≡ Some place → (item c q ≡ place) × IsSegment q
 in_items c q place = by_cut (λ (q : List ℕ). below_items c (segments q) ≡ Some place → (item c q ≡ place) × IsSegment q) one more q
   where
@@ -144,14 +139,14 @@ in_collection c q place is =
     last_queryables : (s : List ℕ) (t : Bool) → bytes_eq s (codes "queryables") ≡ t → cond t (Some (queryables c)) None ≡ Some place
         → Names (codes "/collections/" ++ (c ++ 47 ∷ s)) place
     last_queryables s true same e =
-        subst (Names (codes "/collections/" ++ (c ++ 47 ∷ s))) (some_is (queryables c) place e) (ap (λ (s : List ℕ). codes "/collections/" ++ (c ++ 47 ∷ s)) (same_text s (codes "queryables") same), is)
+        subst (Names (codes "/collections/" ++ (c ++ 47 ∷ s))) (some_is (queryables c) place e) (ap (λ (s : List ℕ). codes "/collections/" ++ (c ++ 47 ∷ s)) ((bytes_eq-Decides s (codes "queryables")).0 same), is)
     last_queryables s false same e = none_is place e
 
     last : (s : List ℕ) (t : Bool) → bytes_eq s (codes "items") ≡ t
         → cond t (Some (items c)) (cond (bytes_eq s (codes "queryables")) (Some (queryables c)) None) ≡ Some place
         → Names (codes "/collections/" ++ (c ++ 47 ∷ s)) place
     last s true same e =
-        subst (Names (codes "/collections/" ++ (c ++ 47 ∷ s))) (some_is (items c) place e) (ap (λ (s : List ℕ). codes "/collections/" ++ (c ++ 47 ∷ s)) (same_text s (codes "items") same), is)
+        subst (Names (codes "/collections/" ++ (c ++ 47 ∷ s))) (some_is (items c) place e) (ap (λ (s : List ℕ). codes "/collections/" ++ (c ++ 47 ∷ s)) ((bytes_eq-Decides s (codes "items")).0 same), is)
     last s false same e = last_queryables s (bytes_eq s (codes "queryables")) refl e
 
     one : (s : List ℕ) → has_slash s ≡ false → below_collection c (segments s) ≡ Some place → Names (codes "/collections/" ++ (c ++ 47 ∷ s)) place
@@ -167,7 +162,7 @@ in_collection c q place is =
     deeper s rest true same e =
         let found = in_items c rest place e in
         subst (Names (codes "/collections/" ++ (c ++ 47 ∷ (s ++ 47 ∷ rest)))) found.0 (
-          ap (λ (s : List ℕ). codes "/collections/" ++ (c ++ 47 ∷ (s ++ 47 ∷ rest))) (same_text s (codes "items") same)
+          ap (λ (s : List ℕ). codes "/collections/" ++ (c ++ 47 ∷ (s ++ 47 ∷ rest))) ((bytes_eq-Decides s (codes "items")).0 same)
               ∙ ap (λ (q : List ℕ). codes "/collections/" ++ q) (sym (append_assoc c (codes "/items/") rest)),
           (is, found.1),
         )
@@ -195,7 +190,7 @@ in_root q place = by_cut (λ (q : List ℕ). below_root (segments q) ≡ Some pl
   where
     last : (s : List ℕ) (t : Bool) → bytes_eq s (codes "collections") ≡ t → cond t (Some collections) None ≡ Some place → Names (47 ∷ s) place
     last s true same e =
-        subst (Names (47 ∷ s)) (some_is collections place e) (ap (λ (s : List ℕ). 47 ∷ s) (same_text s (codes "collections") same), tt)
+        subst (Names (47 ∷ s)) (some_is collections place e) (ap (λ (s : List ℕ). 47 ∷ s) ((bytes_eq-Decides s (codes "collections")).0 same), tt)
     last s false same e = none_is place e
 
     one : (s : List ℕ) → has_slash s ≡ false → below_root (segments s) ≡ Some place → Names (47 ∷ s) place
@@ -206,7 +201,7 @@ in_root q place = by_cut (λ (q : List ℕ). below_root (segments q) ≡ Some pl
         → Names (47 ∷ (s ++ 47 ∷ rest)) place
     deeper s rest true same e =
         let found = in_collections rest place e in
-        (ap (λ (s : List ℕ). 47 ∷ (s ++ 47 ∷ rest)) (same_text s (codes "collections") same) ∙ found.0, found.1)
+        (ap (λ (s : List ℕ). 47 ∷ (s ++ 47 ∷ rest)) ((bytes_eq-Decides s (codes "collections")).0 same) ∙ found.0, found.1)
     deeper s rest false same e = none_is place e
 
     more : (s rest : List ℕ) → has_slash s ≡ false → below_root (segments (s ++ 47 ∷ rest)) ≡ Some place → Names (47 ∷ (s ++ 47 ∷ rest)) place

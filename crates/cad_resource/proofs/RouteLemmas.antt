@@ -210,9 +210,6 @@ slash_boundary rs key b path e = seek-with_end (pre 47 rs) key b path ∙ seek_o
 
 -- ---- parameters
 
-cond_true : {A : Type 0} (b : Bool) (x y : A) → b ≡ true → cond b x y ≡ x
-cond_true b x y e = rw e refl
-
 cond_false : {A : Type 0} (b : Bool) (x y : A) → b ≡ false → cond b x y ≡ y
 cond_false b x y e = rw e refl
 

@@ -26,9 +26,6 @@ and_false false = refl
 above_no : (t p q : Point) → q.y ≤ℤ t.y → rises t p q ≡ false
 above_no t p q h = let e : false ≡ int_lt t.y q.y = omega (arith, ints) in sym (ap (λ b. int_le p.y t.y && b) e) ∙ and_false (int_le p.y t.y)
 
-chosen : (a b c d : Bool) → Bool
-chosen a b c d = if a then c else (if b then d else false)
-
 pub passes_up : (t p q : Point) → p.y ≤ℤ t.y → t.y <ℤ q.y → passes t p q ≡ int_lt (pos 0) (turn p q t)
 passes_up t p q h k = ap (λ b. if b then int_lt (pos 0) (turn p q t) else (if rises t q p then int_lt (pos 0) (turn q p t) else false)) (rises_yes t p q h k)
 

@@ -1,7 +1,6 @@
 -- Least boxes.
-use Rattle.std.proofs.Common.{◌≡◌, ℕ, ◌+◌, ◌<◌, ℤ, ◌≤ℤ◌, List, [], ◌∷◌, length, get_or, take, inl, inr, sym, subst, arith}
-use Rattle.std.specs.List.{All}
-use Rattle.std.proofs.lemmas.List.Elements.{All-cons, All-nil, All-head, All-more, All-weaker}
+use Rattle.std.proofs.Common.{◌≡◌, ℤ, ◌≤ℤ◌, [], ◌∷◌, inl, inr, sym, subst, arith}
+use Rattle.std.proofs.lemmas.List.Elements.{All-cons, All-nil, All-head}
 use Rattle.cad_shape.specs.Coordinates.{IsCoordinate}
 use Rattle.cad_shape.specs.Boxes.{IsExtent, IsLower, IsUpper}
 use Rattle.cad_shape.specs.Frames.{IsHeld, Covers, IsLeastBounds, IsStretched}
@@ -41,10 +40,3 @@ is_stretched old p new a b c d = record {
 
 pub held_more : (old new : Bounds) (p : Point) → Covers new old → IsHeld old p → IsHeld new p
 held_more old new p h k = ((omega (arith, sums), omega (arith, sums)), (omega (arith, sums), omega (arith, sums)))
-
--- the first point is one of all
-pub first_held : (b : Bounds) (p : Point) (points : List Point) → 0 < length points → p ≡ get_or points 0 p → IsLeastBounds b (p ∷ []) → (other : Bounds) → All (IsHeld other) points → Covers other b
-first_held b p points h e l other k = l.least other (All-cons (IsHeld other) p [] (subst (IsHeld other) (sym e) (k 0 p h)) (All-nil (IsHeld other)))
-
-pub held_step : (old new : Bounds) (p : Point) (points : List Point) (i : ℕ) → IsStretched old p new → i < length points → p ≡ get_or points i p → All (IsHeld old) (take i points) → All (IsHeld new) (take (i + 1) points)
-held_step old new p points i s h e k = All-more (IsHeld new) points i p h (All-weaker (IsHeld old) (IsHeld new) (λ q l. held_more old new q s.keeps l) (take i points) k) (subst (IsHeld new) e s.holds)

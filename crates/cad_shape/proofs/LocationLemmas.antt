@@ -5,7 +5,7 @@ use Rattle.cad_shape.specs.declared.point.Point.{Point}
 use Rattle.cad_shape.specs.declared.location.Location.{Location}
 use Rattle.cad_shape.specs.declared.location.Location.TheVariants.{Boundary, Interior, Exterior}
 use Rattle.cad_shape.specs.Edges.{Edge}
-use Rattle.cad_shape.specs.Locations.{IsLocation, location_of, is_taken_in, is_interior}
+use Rattle.cad_shape.specs.Locations.{IsLocation, location_of, is_taken_in}
 use Rattle.cad_shape.specs.Regions.{IsOnEdge, IsOnSome, crossings, IsInRegion}
 use Rattle.cad_shape.proofs.Walks.{any_pushed, any_unpushed, crossings-push}
 
@@ -27,11 +27,6 @@ pub taken_in : (t : Point) (es : List Edge) (l : Location) → IsLocation t es l
 taken_in t es Boundary h = (λ k. inl h, λ k. refl)
 taken_in t es Interior h = (λ k. inr h.1, λ k. refl)
 taken_in t es Exterior h = (λ k. absurd (false≢true k), λ k. ⊎_elim (λ m. absurd (h.0 m)) (λ m. absurd (omega arith)) k)
-
-pub in_interior : (t : Point) (es : List Edge) (l : Location) → IsLocation t es l → IsTrue (is_interior l) ↔ (IsInRegion t es × ¬ (IsOnSome t es))
-in_interior t es Boundary h = (λ k. absurd (false≢true k), λ k. absurd (k.1 h))
-in_interior t es Interior h = (λ k. (inr h.1, h.0), λ k. refl)
-in_interior t es Exterior h = (λ k. absurd (false≢true k), λ k. ⊎_elim (λ m. absurd (h.0 m)) (λ m. absurd (omega arith)) k.0)
 
 -- an edge at the end instead of at the front
 pub location_pushed : (t : Point) (l : Location) (es : List Edge) (e : Edge) → IsLocation t (e ∷ es) l → IsLocation t (es ++ e ∷ []) l

@@ -1,6 +1,6 @@
 -- What the test for rings that are written out shows.
 use Rattle.std.proofs.Common.{◌≡◌, ℕ, zero, suc, ◌+◌, ◌<◌, ◌≤◌, ◌⊎◌, Bool, true, false, ◌&&◌, ◌||◌, inl, inr, ⊎_elim, ℤ, pos, ◌+ℤ◌, ◌-ℤ◌, ◌*ℤ◌, ◌<ℤ◌, int_lt, nat_le, List, [], ◌∷◌, ◌++◌, length, map, refl, sym, ap, ◌∙◌, subst, arith}
-use Rattle.std.proofs.lemmas.Bool.{false≢true, leb-true}
+use Rattle.std.proofs.lemmas.Bool.{and_parts, leb-true}
 use Rattle.std.proofs.lemmas.Int.{ints}
 use Rattle.cad_shape.specs.Segments.{Straddle, turn}
 use Rattle.cad_shape.specs.Edges.{Edge, walk, edges_of}
@@ -43,9 +43,6 @@ length-places [] = refl
 length-places (c ∷ cs) = ap suc (length-places cs)
 
 -- ---- tests
-both : (b c : Bool) → (b && c) ≡ true → (b ≡ true) × (c ≡ true)
-both true c e = (refl, e)
-both false c e = absurd (false≢true e)
 
 either : (b c : Bool) → (b || c) ≡ true → (b ≡ true) ⊎ (c ≡ true)
 either true c e = inl refl
@@ -62,9 +59,9 @@ not_equal f g h e = ⊎_elim
 
 not_straddled : (f g : ℤ) → agree f g ≡ true → ¬ (Straddle f g)
 not_straddled f g h s = ⊎_elim
-    (λ k. let d = both (int_lt (pos 0) f) (int_lt (pos 0) g) k in let l = below (pos 0) f d.0 in let m = below (pos 0) g d.1 in
+    (λ k. let d = and_parts (int_lt (pos 0) f) (int_lt (pos 0) g) k in let l = below (pos 0) f d.0 in let m = below (pos 0) g d.1 in
     ⊎_elim (λ t. absurd (omega (arith, sums))) (λ t. absurd (omega (arith, sums))) s)
-    (λ k. let d = both (int_lt f (pos 0)) (int_lt g (pos 0)) k in let l = below f (pos 0) d.0 in let m = below g (pos 0) d.1 in
+    (λ k. let d = and_parts (int_lt f (pos 0)) (int_lt g (pos 0)) k in let l = below f (pos 0) d.0 in let m = below g (pos 0) d.1 in
     ⊎_elim (λ t. absurd (omega (arith, sums))) (λ t. absurd (omega (arith, sums))) s)
     (either (int_lt (pos 0) f && int_lt (pos 0) g) (int_lt f (pos 0) && int_lt g (pos 0)) h)
 
@@ -81,11 +78,11 @@ row_shown : (n i : ℕ) (e : Edge) (j : ℕ) (fs : List Edge) → is_clear_of n 
 unfolding ends
 row_shown n i e j [] h l m = absurd (omega arith)
 row_shown n i e j (f ∷ fs) h zero m =
-    let d = both (is_clear (pair_of n i j) (coordinates e.from) (coordinates e.to) (coordinates f.from) (coordinates f.to)) (is_clear_of n i (ends e) (j + 1) (map ends fs)) h in
+    let d = and_parts (is_clear (pair_of n i j) (coordinates e.from) (coordinates e.to) (coordinates f.from) (coordinates f.to)) (is_clear_of n i (ends e) (j + 1) (map ends fs)) h in
     let same : j ≡ j + 0 = omega arith in
     subst (λ k. ¬ (Cross (pair_of n i k) e.from e.to f.from f.to)) same (clear_shown (pair_of n i j) e.from e.to f.from f.to d.0)
 row_shown n i e j (f ∷ fs) h (suc l) m =
-    let d = both (is_clear (pair_of n i j) (coordinates e.from) (coordinates e.to) (coordinates f.from) (coordinates f.to)) (is_clear_of n i (ends e) (j + 1) (map ends fs)) h in
+    let d = and_parts (is_clear (pair_of n i j) (coordinates e.from) (coordinates e.to) (coordinates f.from) (coordinates f.to)) (is_clear_of n i (ends e) (j + 1) (map ends fs)) h in
     let same : j + 1 + l ≡ j + suc l = omega arith in
     subst (λ k. ¬ (Cross (pair_of n i k) e.from e.to (edge_at fs l).from (edge_at fs l).to)) same (row_shown n i e (j + 1) fs d.1 l (omega arith))
 
@@ -93,12 +90,12 @@ rows_shown : (n i : ℕ) (es : List Edge) → are_clear n i (map ends es) ≡ tr
 unfolding ends
 rows_shown n i [] h k l o m = absurd (omega arith)
 rows_shown n i (e ∷ es) h zero l o m =
-    let d = both (is_clear_of n i (ends e) i (map ends (e ∷ es))) (are_clear n (i + 1) (map ends es)) h in
+    let d = and_parts (is_clear_of n i (ends e) i (map ends (e ∷ es))) (are_clear n (i + 1) (map ends es)) h in
     let same : i ≡ i + 0 = omega arith in
     subst (λ k. ¬ (Cross (pair_of n k (i + l)) e.from e.to (edge_at (e ∷ es) l).from (edge_at (e ∷ es) l).to)) same (row_shown n i e i (e ∷ es) d.0 l m)
 rows_shown n i (e ∷ es) h (suc k) zero o m = absurd (omega arith)
 rows_shown n i (e ∷ es) h (suc k) (suc l) o m =
-    let d = both (is_clear_of n i (ends e) i (map ends (e ∷ es))) (are_clear n (i + 1) (map ends es)) h in
+    let d = and_parts (is_clear_of n i (ends e) i (map ends (e ∷ es))) (are_clear n (i + 1) (map ends es)) h in
     let first : i + 1 + k ≡ i + suc k = omega arith in
     let second : i + 1 + l ≡ i + suc l = omega arith in
     subst (λ a. ¬ (Cross (pair_of n a (i + suc l)) (edge_at es k).from (edge_at es k).to (edge_at es l).from (edge_at es l).to)) first
@@ -108,9 +105,9 @@ rows_shown n i (e ∷ es) h (suc k) (suc l) o m =
 pub ring_shown : (corners : List Point) → is_plain_ring (map coordinates corners) ≡ true → IsRing corners
 ring_shown corners h =
     let places = map coordinates corners in
-    let a = both (nat_le 3 (length places) && nat_le (length places) 1000 && differ (lines_area (ring_lines places)) (pos 0)) (are_clear (length places) 0 (ring_lines places)) h in
-    let b = both (nat_le 3 (length places) && nat_le (length places) 1000) (differ (lines_area (ring_lines places)) (pos 0)) a.0 in
-    let c = both (nat_le 3 (length places)) (nat_le (length places) 1000) b.0 in
+    let a = and_parts (nat_le 3 (length places) && nat_le (length places) 1000 && differ (lines_area (ring_lines places)) (pos 0)) (are_clear (length places) 0 (ring_lines places)) h in
+    let b = and_parts (nat_le 3 (length places) && nat_le (length places) 1000) (differ (lines_area (ring_lines places)) (pos 0)) a.0 in
+    let c = and_parts (nat_le 3 (length places)) (nat_le (length places) 1000) b.0 in
     let few = leb-true 3 (length places) c.0 in
     let most = leb-true (length places) 1000 c.1 in
     let count = length-places corners in

@@ -167,16 +167,4 @@ impl Bounds {
     {
         Bounds::at(p).stretched(q)
     }
-
-    /// The least box that holds all these points.
-    pub fn around(points: &[Point]) -> Bounds
-        requires { 0 < length points.now }
-        ensures { IsLeastBounds result points.now }
-    {
-        let mut bounds = Bounds::at(points[0]);
-        for point in points {
-            bounds = bounds.stretched(*point);
-        }
-        bounds
-    }
 }

@@ -98,17 +98,6 @@ module _ {R : Type 0} (g : Ghosts R) where
     pub still : g.counts now → g.remains old now
     pub clean : g.counts now → g.counts old
 
-  pub replied_nothing : RemainsHere → (bytes : List ℕ) (old : R) (out : List ℕ) → out ≡ [] → HasReplied bytes old 0 out old
-  replied_nothing here bytes old out e = record {
-    heads = [];
-    passed = refl;
-    told = λ counts commands stands. e;
-    plain = e;
-    stands = λ counts commands stands. stands;
-    still = λ counts. here old;
-    clean = λ counts. counts;
-  }
-
   -- a fault of the next request
   pub fails_later : (bytes : List ℕ) (old now new : R) (used : ℕ) (out : List ℕ) (fault : RegisterFault) → HasReplied bytes old used out now
       → IsNext g (drop used bytes) now (Err fault) new → Under g old new (λ commands. (fault ≡ Memory) ⊎ Fails g.closes g.fails_to_answer bytes fault commands)

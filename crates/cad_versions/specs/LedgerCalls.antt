@@ -1,17 +1,11 @@
 -- The calls of a ledger, by what it says of itself.
-use Rattle.std.specs.Prelude.{ℕ, Vec, Result}
-use Rattle.std.specs.Global.{Global}
+use Rattle.std.specs.Prelude.{ℕ, Result}
 use Rattle.cad_versions.specs.declared.command.Command.{Command}
 use Rattle.cad_versions.specs.declared.fault.RegisterFault.{RegisterFault}
 use Rattle.cad_versions.specs.declared.ledger.Ledger.{Ghosts}
-use Rattle.cad_versions.specs.VersionedObject.{VersionedObject}
-use Rattle.cad_versions.specs.Ledgers.{Applied, Listed}
+use Rattle.cad_versions.specs.Ledgers.{Applied}
 
 module _ {L : Type 0} (g : Ghosts L) where
   -- a call of `apply` on the ledger
   abbrev pub Applies : L → Command → Result ℕ RegisterFault → L → Type 0
   Applies = Applied g.stands_for g.counts g.lives g.fails_to_apply g.refuses_command
-
-  -- a call of `as_of` on the ledger
-  abbrev pub Lists : L → ℕ → Result (Vec VersionedObject Global) RegisterFault → L → Type 0
-  Lists = Listed g.stands_for g.counts g.lives g.fails_to_list g.refuses_listing g.remains

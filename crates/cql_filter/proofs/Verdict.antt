@@ -1,12 +1,12 @@
 -- A text is a filter or has one first fault.
-use Rattle.std.proofs.Common.{◌≡◌, ◌⊎◌, inl, inr, refl, ap, subst, ℕ, ◌+◌, List, [], ◌∷◌, length}
+use Rattle.std.proofs.Common.{◌≡◌, ◌⊎◌, inl, inr, refl, ap, subst, ℕ, List, length}
 use Rattle.std.specs.Prelude.{Result, Ok, Err, IsOk}
 use Rattle.cad_schema.specs.Attributes.{Named}
 use Rattle.cql_lexer.specs.Laws as lexer
-use Rattle.cql_lexer.specs.Laws.{AscendWithin}
+use Rattle.cql_lexer.specs.OrderLemmas.{ascends}
 use Rattle.cql_lexer.specs.Lexed as lexed
 use Rattle.cql_lexer.specs.Lexed.{IsSpelt}
-use Rattle.cql_lexer.specs.Mark.{Mark, at}
+use Rattle.cql_lexer.specs.Mark.{Mark}
 use Rattle.cql_lexer.specs.declared.fault.SpellingFault.{SpellingFault}
 use Rattle.cql_lexer.specs.declared.fault.LexFault.{LexFault}
 use Rattle.cql_lexer.specs.declared.fault.LexFault.TheVariants as lex
@@ -14,7 +14,7 @@ use Rattle.cql_parser.specs.Answer as parsed
 use Rattle.cql_parser.specs.Answer.{IsParsed}
 use Rattle.cql_parser.specs.Faults.{HasFault}
 use Rattle.cql_parser.specs.Laws as parser
-use Rattle.cql_tree.specs.Order.{Ascend, IsOrdered}
+use Rattle.cql_tree.specs.Order.{IsOrdered}
 use Rattle.cql_tree.specs.Syntax.{Syntax}
 use Rattle.cql_parser.specs.declared.fault.GrammarFault.{GrammarFault}
 use Rattle.cql_parser.specs.declared.fault.ParseFault.{ParseFault}
@@ -47,13 +47,9 @@ same_tree one_spelling one_tree {text} {this} {that} a b =
     (subst (λ (ts : List Mark). IsParsed ts this) (same_tokens one_spelling a.spelt b.spelt) a.parsed).reads b.parsed.reads
 
 -- whose places ascend
-pub ascend : (first end : ℕ) (tokens : List Mark) → AscendWithin first end tokens → Ascend first tokens
-ascend first end [] h = tt
-ascend first end (at place sort ∷ tokens) h = (h.0, ascend (place + 1) end tokens h.2)
-
 pub ordered : lexer.HasPlacesInOrder → parser.HasPlacesInOrder → {text : List ℕ} {tree : Syntax} → IsRead text tree → IsOrdered tree
 ordered tokens_ascend trees_ascend {text} {tree} r =
-    trees_ascend r.tokens tree r.parsed.reads (ascend 0 (length text) r.tokens (tokens_ascend text r.tokens r.spelt.spells))
+    trees_ascend r.tokens tree r.parsed.reads (ascends 0 (length text) r.tokens (tokens_ascend text r.tokens r.spelt.spells))
 
 -- ---- a filter has no fault
 

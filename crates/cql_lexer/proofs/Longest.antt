@@ -58,9 +58,6 @@ no_kind kind = elim kind [ ]
 start_ascii : (x : ℕ) → is_name_start x ≡ true → x < 128
 start_ascii x begins = grind (arith, nat_tests)
 
-empty_not : {x : ℕ} {xs : List ℕ} → [] ≡ x ∷ xs → ⊥
-empty_not is = cc
-
 -- ---- each token has a byte at least, and is the front of the bytes
 
 number_leaves_less : {xs spelling ys : List ℕ} → IsNumber xs spelling ys → length ys < length xs

@@ -8,6 +8,7 @@ use Rattle.cql_lexer.specs.Runs.{Run, stop, more}
 use Rattle.cql_lexer.specs.Spelling.{Leads, here, blank, token_first, is_blank}
 use Rattle.cql_lexer.specs.Laws.{HasOneSpelling, AscendWithin, HasPlacesInOrder, StandAtPlaces, HasTokensAtPlaces}
 use Rattle.cql_lexer.specs.Order.{Ascend}
+use Rattle.cql_lexer.specs.OrderLemmas.{ascends}
 use Rattle.cql_lexer.proofs.Longest.{token_no_blank, token_shorter, token_splits, longest_same}
 use Rattle.cql_lexer.proofs.Utf8.{cut}
 
@@ -93,10 +94,6 @@ places size {xs} within (token_first {ys} {marks} longest leads) =
 
 pub places_in_order : HasPlacesInOrder
 places_in_order bytes tokens spells = later (length bytes - length bytes) 0 (length bytes) tokens (omega arith) (places (length bytes) (omega arith) spells)
-
-ascends : (first end : ℕ) (tokens : List Mark) → AscendWithin first end tokens → Ascend first tokens
-ascends first end [] h = tt
-ascends first end (at place s ∷ tokens) h = (h.0, ascends (place + 1) end tokens h.2)
 
 -- the places of the tokens that were read so far
 pub leads_ascend : (bytes : List ℕ) {ys : List ℕ} {tokens : List Mark} → Leads (length bytes) bytes tokens ys → Ascend 0 tokens

@@ -5,6 +5,7 @@ use Rattle.cql_tree.specs.Syntax.{Syntax, Parts, part, parts_of, joined, node, O
 use Rattle.cql_parser.specs.Grammar.{IsWhole, number_rule, plus_rule, minus_rule, IsBound, text_bound, name_bound, IsCornersRest, corners_end, corners_more, IsRing, ring_rule, IsRingsRest, rings_end, rings_more, IsNegation, plain, negated, IsOr, or_rule, IsOrRest, or_end, or_more, IsAnd, and_rule, IsAndRest, and_end, and_more, IsNot, not_rule, plain_rule, IsPredicate, predicate_rule, IsTail, no_tail, compare_tail, like_tail, between_tail, in_tail, null_tail, IsItemsRest, items_end, items_more, IsSum, sum_rule, IsSumRest, sum_end, sum_more, IsProduct, product_rule, IsProductRest, product_end, product_more, IsPrimary, paren_rule, name_rule, text_rule, whole_rule, true_rule, false_rule, casei_rule, date_rule, interval_rule, point_rule, polygon_rule, bbox_rule, spatial_rule, temporal_rule}
 use Rattle.cql_tree.specs.declared.expression.Operation.{Operation}
 use Rattle.cql_tree.specs.Order.{Ascend, InOrder, leaf_in_order, node_in_order, AreInOrder, no_part, one_part, IsOrdered}
+use Rattle.cql_tree.specs.OrderLemmas.{are_not_beyond}
 
 -- ---- orders
 
@@ -36,22 +37,18 @@ mutual
   all_later last e (no_part h) = no_part (omega (arith, e, h))
   all_later last e (one_part t ts) = one_part t (all_later last e ts)
 
-ends : {from to : ℕ} {ts : Parts} → AreInOrder from ts to → from ≤ to
-ends (no_part h) = h
-ends (one_part t ts) = let a = above t in let b = below t in let c = ends ts in omega (arith, a, b, c)
-
 -- a node at its first part's place
 node_orders : {from middle to : ℕ} {f : Syntax} {ts : Parts} (op : Op) → ((n : ℕ) → keyed op n ≡ n) →
     InOrder from f middle → AreInOrder middle ts to → InOrder from (node op (part f ts)) to
 node_orders {f} op e t ts =
-    let a = above t in let b = below t in let c = ends ts in
+    let a = above t in let b = below t in let c = are_not_beyond ts in
     node_in_order (rw (e (place_of f)) a) (rw (e (place_of f)) (omega (arith))) (omega (arith, b, c)) (one_part (tight t) ts)
 
 -- a node at its keyword's place
 keyed_orders : {from middle to : ℕ} {f : Syntax} {ts : Parts} (op : Op) (p : ℕ) → ((n : ℕ) → keyed op n ≡ p) → from ≤ p →
     InOrder (p + 1) f middle → AreInOrder middle ts to → InOrder from (node op (part f ts)) to
 keyed_orders {f} op p e h t ts =
-    let a = above t in let b = below t in let c = ends ts in
+    let a = above t in let b = below t in let c = are_not_beyond ts in
     node_in_order (rw (e (place_of f)) h) (rw (e (place_of f)) (omega (arith, a))) (omega (arith, b, c))
     (one_part (tight t) ts)
 

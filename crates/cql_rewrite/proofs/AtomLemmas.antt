@@ -3,16 +3,12 @@ use Rattle.std.proofs.Common.{◌≡◌, ◌∙◌, ap, sym, refl, ℕ, List, []
 use Rattle.std.proofs.lemmas.Bool.{and_parts}
 use Rattle.std.specs.List.{list_all, remove}
 use Rattle.std.specs.declared.alloc.Global.{Global}
-use Rattle.cad_day.specs.declared.relation.Relation.{Relation}
 use Rattle.cad_feature.specs.declared.range.Range.{Range as RangeOf}
 use Rattle.cad_shape.specs.declared.shape.Shape.{Shape}
 use Rattle.cql_lexer.specs.declared.token.Comparison.{Comparison}
 use Rattle.cql_lexer.specs.declared.token.SpatialRelation.{SpatialRelation}
-use Rattle.cql_types.specs.declared.filter.AnyTerm.{AnyTerm}
 use Rattle.cql_types.specs.declared.filter.DayTerm.{DayTerm}
-use Rattle.cql_types.specs.declared.filter.FlagTerm.{FlagTerm}
 use Rattle.cql_types.specs.declared.filter.ShapeTerm.{ShapeTerm}
-use Rattle.cql_types.specs.declared.filter.SpanTerm.{SpanTerm}
 use Rattle.cql_types.specs.declared.filter.TextTerm.{TextTerm}
 use Rattle.cql_types.specs.declared.filter.WholeTerm.{WholeTerm}
 use Rattle.cql_types.specs.declared.filter.Filter.{Filter}
@@ -37,9 +33,6 @@ atom_CompareText by a b = ap is_atom (sym (filter.rolls-CompareText by a b)) ∙
 pub atom_CompareDay : (by : Comparison) (a b : DayTerm) → IsAtom (filter.CompareDay by a b)
 atom_CompareDay by a b = ap is_atom (sym (filter.rolls-CompareDay by a b)) ∙ fold-roll-Filter Bool atom_step (Filter-F.CompareDay by a b)
 
-pub atom_CompareFlag : (by : Comparison) (a b : FlagTerm) → IsAtom (filter.CompareFlag by a b)
-atom_CompareFlag by a b = ap is_atom (sym (filter.rolls-CompareFlag by a b)) ∙ fold-roll-Filter Bool atom_step (Filter-F.CompareFlag by a b)
-
 pub atom_Like : (a pattern : TextTerm) → IsAtom (filter.Like a pattern)
 atom_Like a pattern = ap is_atom (sym (filter.rolls-Like a pattern)) ∙ fold-roll-Filter Bool atom_step (Filter-F.Like a pattern)
 
@@ -55,17 +48,8 @@ atom_InText a items = ap is_atom (sym (filter.rolls-InText a items)) ∙ fold-ro
 pub atom_InDay : (a : DayTerm) (items : Vec DayTerm Global) → IsAtom (filter.InDay a items)
 atom_InDay a items = ap is_atom (sym (filter.rolls-InDay a items)) ∙ fold-roll-Filter Bool atom_step (Filter-F.InDay a items)
 
-pub atom_InFlag : (a : FlagTerm) (items : Vec FlagTerm Global) → IsAtom (filter.InFlag a items)
-atom_InFlag a items = ap is_atom (sym (filter.rolls-InFlag a items)) ∙ fold-roll-Filter Bool atom_step (Filter-F.InFlag a items)
-
-pub atom_IsNull : (a : AnyTerm) → IsAtom (filter.IsNull a)
-atom_IsNull a = ap is_atom (sym (filter.rolls-IsNull a)) ∙ fold-roll-Filter Bool atom_step (Filter-F.IsNull a)
-
 pub atom_Spatial : (by : SpatialRelation) (a b : ShapeTerm) → IsAtom (filter.Spatial by a b)
 atom_Spatial by a b = ap is_atom (sym (filter.rolls-Spatial by a b)) ∙ fold-roll-Filter Bool atom_step (Filter-F.Spatial by a b)
-
-pub atom_Temporal : (by : Relation) (a b : SpanTerm) → IsAtom (filter.Temporal by a b)
-atom_Temporal by a b = ap is_atom (sym (filter.rolls-Temporal by a b)) ∙ fold-roll-Filter Bool atom_step (Filter-F.Temporal by a b)
 
 -- ---- forms
 

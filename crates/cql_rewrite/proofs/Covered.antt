@@ -83,10 +83,6 @@ parts_all counts x [] h = refl
 parts_all counts x (k ∷ ns) h =
     pair_has x (chosen counts (menu counts k.0)) _ (chosen_has counts x (menu counts k.0) (k.1 (first_so _ _ h))) (parts_all counts x ns (second_so (meets x k.0) _ h))
 
-any_next : (a b c : Bool) → (a || b) ≡ true → (b ≡ true → c ≡ true) → (a ≡ true → (a || c) ≡ true) → (a || c) ≡ true
-any_next true b c h k l = l refl
-any_next false b c h k l = k h
-
 from_either : (a b c d : Bool) → (a || b) ≡ true → (a ≡ true → c ≡ true) → (b ≡ true → d ≡ true) → (c || d) ≡ true
 from_either true b c d h k l = rw (k refl) refl
 from_either false b c d h k l = rw (l h) (any_true c)

@@ -9,13 +9,13 @@ use Rattle.cql_types.specs.declared.filter.Filter.{Filter}
 use Rattle.cad_feature.specs.declared.range.Range.{Range as RangeOf}
 use Rattle.cad_range.specs.Ranges.{lies_in, lies_in_if_any}
 use Rattle.cql_rewrite.specs.declared.form.Normal.{Normal}
-use Rattle.cql_rewrite.specs.declared.form.Normal.TheVariants.{Constant, Range, Like, And, Or, rolls-Constant, rolls-Range, rolls-Like, rolls-And, rolls-Or}
+use Rattle.cql_rewrite.specs.declared.form.Normal.TheVariants.{Constant, Range, Like, And, Or, rolls-Constant, rolls-Range, rolls-Like, rolls-And}
 use Rattle.cql_rewrite.specs.declared.form.Normal.TheFolds.{fold-roll-Normal, fold_out-Normal}
 use Rattle.cql_rewrite.specs.declared.form.Normal.TheOpen.{Normal-F}
 use Rattle.cql_rewrite.specs.Meets.{Written, meets}
 use Rattle.cql_rewrite.specs.Costs.{bound_on, every, how_many, least, least_of_all, least_of_some, least_or, least_step, min_of, range_count, total}
 use Rattle.cql_rewrite.specs.Choices.{min_of_under}
-use Rattle.cql_rewrite.proofs.Forms.{meets_Constant, meets_Range}
+use Rattle.cql_rewrite.proofs.Forms.{meets_Constant}
 
 pub least_Constant : (t : List Written) (b : Bool) → least t (Constant b) ≡ cond b (every t) 0
 least_Constant t true = ap (least t) (sym (rolls-Constant true)) ∙ fold-roll-Normal ℕ (least_step t) (Normal-F.Constant true)
@@ -29,9 +29,6 @@ least_Like t pattern r = ap (least t) (sym (rolls-Like pattern r)) ∙ fold-roll
 
 pub least_And : (t : List Written) (v : Vec Normal Global) → least t (And v) ≡ least_of_all t v.items
 least_And t v = ap (least t) (sym (rolls-And v)) ∙ fold-roll-Normal ℕ (least_step t) (Normal-F.And v)
-
-pub least_Or : (t : List Written) (v : Vec Normal Global) → least t (Or v) ≡ least_of_some t v.items
-least_Or t v = ap (least t) (sym (rolls-Or v)) ∙ fold-roll-Normal ℕ (least_step t) (Normal-F.Or v)
 
 -- ---- counting
 
@@ -73,9 +70,6 @@ constant_count t false = sym (none_pass t)
 -- a constant and a range cost what meets them
 pub counted_Constant : (t : List Written) (b : Bool) → least t (Constant b) ≡ how_many (λ x. meets x.item (Constant b)) t
 counted_Constant t b = least_Constant t b ∙ constant_count t b ∙ sym (count_alike (λ x. meets x.item (Constant b)) (λ x. b) t (λ x. meets_Constant x.item b))
-
-pub counted_Range : (t : List Written) (r : RangeOf) → least t (Range r) ≡ how_many (λ x. meets x.item (Range r)) t
-counted_Range t r = least_Range t r ∙ sym (count_alike (λ x. meets x.item (Range r)) (λ x. lies_in x.item r) t (λ x. meets_Range x.item r))
 
 pub nothing_counted : (t : List Written) → least t (Constant false) ≡ range_count t None
 nothing_counted t = least_Constant t false ∙ sym (none_pass t)

@@ -1,5 +1,5 @@
 -- The equalities of an IN, one after the other.
-use Rattle.std.proofs.Common.{◌≡◌, ◌∙◌, ap, sym, refl, ℕ, suc, ◌+◌, ◌≤◌, List, ◌∷◌, map, length, get_or, drop, add-one, drop-cons, Bool, true, false, ◌||◌, arith}
+use Rattle.std.proofs.Common.{◌≡◌, ◌∙◌, ap, sym, refl, ℕ, suc, ◌+◌, ◌≤◌, List, map, length, get_or, drop, add-one, drop-cons, Bool, true, false, ◌||◌, arith}
 use Rattle.std.specs.List.{list_any}
 use Rattle.std.proofs.lemmas.List.{drop_all}
 use Rattle.cad_feature.specs.Features.{Item}
@@ -11,14 +11,11 @@ use Rattle.cql_rewrite.specs.Meets.{Written, meets}
 use Rattle.cql_rewrite.proofs.Forms.{or_assoc, or_false}
 use Rattle.cql_rewrite.proofs.Least.{count_alike, least_under}
 
-drop_next : {X : Type 0} (xs : List X) (i : ℕ) (x : X) → suc i ≤ length xs → x ≡ get_or xs i x → drop i xs ≡ x ∷ drop (i + 1) xs
-drop_next xs i x h e = rw (add-one, drop-cons xs i x, ← e) refl
-
 module _ {T : Type 0} (equal : Item → T → T → Sides) (a : T) where
   pub any_next : (x : Item) (forms new : List Normal) (n : Normal) (item : T) (items : List T) (i : ℕ) {whole : Bool} → suc i ≤ length items → item ≡ get_or items i item → list_any (meets x) new ≡ (list_any (meets x) forms || meets x n) → meets x n ≡ (equal x a item).yes →
       (list_any (meets x) forms || any_equal equal x a (drop i items)) ≡ whole → (list_any (meets x) new || any_equal equal x a (drop (i + 1) items)) ≡ whole
   any_next x forms new n item items i h at added same so_far =
-      let left : any_equal equal x a (drop i items) ≡ ((equal x a item).yes || any_equal equal x a (drop (i + 1) items)) = ap (any_equal equal x a) (drop_next items i item h at) in
+      let left : any_equal equal x a (drop i items) ≡ ((equal x a item).yes || any_equal equal x a (drop (i + 1) items)) = rw (add-one, drop-cons items i item, ← at) refl in
       let more : list_any (meets x) new ≡ (list_any (meets x) forms || (equal x a item).yes) = added ∙ ap (λ b. list_any (meets x) forms || b) same in
       ap (λ b. b || any_equal equal x a (drop (i + 1) items)) more
       ∙ or_assoc (list_any (meets x) forms) (equal x a item).yes (any_equal equal x a (drop (i + 1) items))
@@ -38,7 +35,7 @@ module _ {T : Type 0} (equal : Item → T → T → Sides) (a : T) where
   pub sum_next : (t : List Written) (forms new : List Normal) (n : Normal) (item : T) (items : List T) (i : ℕ) {whole : ℕ} → suc i ≤ length items → item ≡ get_or items i item → total (map (least t) new) ≤ total (map (least t) forms) + least t n → least t n ≤ count_of t equal a item →
       total (map (least t) forms) + total (map (count_of t equal a) (drop i items)) ≤ whole → total (map (least t) new) + total (map (count_of t equal a) (drop (i + 1) items)) ≤ whole
   sum_next t forms new n item items i h at added part so_far =
-      let left : total (map (count_of t equal a) (drop i items)) ≡ count_of t equal a item + total (map (count_of t equal a) (drop (i + 1) items)) = ap (λ l. total (map (count_of t equal a) l)) (drop_next items i item h at) in
+      let left : total (map (count_of t equal a) (drop i items)) ≡ count_of t equal a item + total (map (count_of t equal a) (drop (i + 1) items)) = rw (add-one, drop-cons items i item, ← at) refl in
       omega (arith, left, added, part, so_far)
 
   pub sum_done : (t : List Written) (forms : List Normal) (n : Normal) (items : List T) (i : ℕ) → length items ≤ i → least t n ≤ least_of_some t forms →

@@ -3,7 +3,6 @@ use Rattle.std.proofs.Common.{◌≡◌, ◌∙◌, ap, refl, subst, ℕ, suc, �
 use Rattle.cad_cells.specs.Blocks.{block_around}
 use Rattle.cad_cells.specs.Near.{is_near}
 use Rattle.cad_shape.specs.Shapes.{shape_corners}
-use Rattle.cad_feature.specs.Features.{Item}
 use Rattle.cad_range.specs.Ranges.{lies_in}
 use Rattle.cad_feature.specs.declared.range.Range.{Range}
 use Rattle.cad_feature.specs.Limits.{limit_of}
@@ -16,9 +15,6 @@ use Rattle.cql_rewrite.specs.Choices.{cheaper_cost, first_cost}
 use Rattle.cql_rewrite.specs.Costs.{every, least, least_step, near_count}
 use Rattle.cql_rewrite.specs.Meets.{Written}
 use Rattle.cql_rewrite.specs.Menus.{chosen, is_narrow, meets_of, and_menu, menu_step, menu}
-
-items_of : List Written → List Item
-items_of t = map (λ x. x.item) t
 
 -- the features of the list, counted
 abbrev counted : List Written → Counts

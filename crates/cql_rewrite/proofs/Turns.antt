@@ -100,11 +100,6 @@ known_text by (a_span days) n = refl
 known_text by (a_spot p) n = refl
 known_text by (an_area region) n = refl
 
--- a null operand
-pub null_right : {A : Type 0} (test : A → A → Bool) (a : Option A) → told None ≡ compared test a None
-null_right test None = refl
-null_right test (Some a) = refl
-
 -- ---- bounds
 
 pub bound_And : (t : List Written) (fs : Vec Filter Global) → bound t (And fs) ≡ bounds_joined true true t fs.items

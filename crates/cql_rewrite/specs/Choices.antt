@@ -1,5 +1,6 @@
 -- What a choice costs, and when it is other than all.
 use Rattle.std.specs.Prelude.{◌≡◌, ◌≤◌, ◌<◌, ℕ, min, nat_lt, Bool, true, false, if◌then◌else◌, List, [], ◌∷◌, ◌++◌, map, filter, ⊤}
+use Rattle.std.proofs.lemmas.Bool.{le-ltb}
 use Rattle.std.proofs.Common.{◌∙◌, ap, refl, sym, arith, cond}
 use Rattle.cad_lookup.specs.Ways.{Way, all_features, no_feature, in_range, near_block, meet_of, join_of, ways_in, Counts, cost, min_of}
 use Rattle.cad_lookup.specs.WayLaws.{cost_all, cost_meet}
@@ -69,9 +70,6 @@ less_told m n h = grind arith
 less_tells : (m n : ℕ) → m < n → true ≡ nat_lt m n
 less_tells m n h = grind arith
 
-not_less_tells : (m n : ℕ) → n ≤ m → nat_lt m n ≡ false
-not_less_tells m n h = grind arith
-
 cheaper_if : (counts : Counts) (w v : Way) (b : Bool) → b ≡ nat_lt (cost counts v) (cost counts w) → Costs counts w → Costs counts (if b then v else w)
 cheaper_if counts w v true e h =
     let less : cost counts v < counts.every = omega (arith, less_told (cost counts v) (cost counts w) e, at_most_all counts w h) in
@@ -85,7 +83,7 @@ first_costs counts w (v ∷ vs) h = first_costs counts (cheaper counts w v) vs (
 -- ---- when the first stays
 
 pub cheaper_stays : (counts : Counts) (w v : Way) → cost counts w ≤ cost counts v → cheaper counts w v ≡ w
-cheaper_stays counts w v h = ap (λ b. if b then v else w) (not_less_tells (cost counts v) (cost counts w) h)
+cheaper_stays counts w v h = ap (λ b. if b then v else w) (le-ltb (cost counts v) (cost counts w) h)
 
 pub cheaper_goes : (counts : Counts) (w v : Way) → cost counts v < cost counts w → cheaper counts w v ≡ v
 cheaper_goes counts w v h = ap (λ b. if b then v else w) (sym (less_tells (cost counts v) (cost counts w) h))

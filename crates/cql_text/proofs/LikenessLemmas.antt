@@ -1,10 +1,11 @@
 -- The relation by derivations, and the one by parts.
 use Rattle.std.proofs.Common.{◌≡◌, ◌↔◌, ◌≢◌, ℕ, Bool, true, false, ◌==◌, List, [], ◌∷◌, refl, arith}
 use Rattle.std.specs.Bool.{IsTrue}
+use Rattle.std.proofs.lemmas.Bool.{eqb-true}
 use Rattle.std.proofs.lemmas.Bool.Decides.{nat_tests}
 use Rattle.cql_text.specs.Patterns.{is_like, Matches, exactly, pieces, escaped as rest_escaped}
 use Rattle.cql_text.specs.Likeness.{IsLike, nothing, any_number, just_one, escaped, last_escape, itself}
-use Rattle.cql_text.proofs.MatchLemmas.{matches_iff, same_char}
+use Rattle.cql_text.proofs.MatchLemmas.{matches_iff}
 
 pub by_bool : {G : Type 0} (b : Bool) → (b ≡ true → G) → (b ≡ false → G) → G
 by_bool true f g = f refl
@@ -31,11 +32,11 @@ mutual
   out_of : (pattern text : List ℕ) → Matches (pieces pattern) text → IsLike pattern text
   out_of [] text m = rw m nothing
   out_of (c ∷ pattern) text m = by_bool (c == 92)
-      (λ e. let k = same_char c 92 e in rw k (out_of_escaped pattern text (rw k at m)))
+      (λ e. let k = eqb-true c 92 e in rw k (out_of_escaped pattern text (rw k at m)))
       (λ e. by_bool (c == 37)
-      (λ f. let k = same_char c 37 f in let n = rw k at m in rw (k, n.2) (any_number pattern n.0 n.1 (out_of pattern n.1 n.3)))
+      (λ f. let k = eqb-true c 37 f in let n = rw k at m in rw (k, n.2) (any_number pattern n.0 n.1 (out_of pattern n.1 n.3)))
       (λ f. by_bool (c == 95)
-      (λ g. let k = same_char c 95 g in let n = rw k at m in rw (k, n.2) (just_one n.0 pattern n.1 (out_of pattern n.1 n.3)))
+      (λ g. let k = eqb-true c 95 g in let n = rw k at m in rw (k, n.2) (just_one n.0 pattern n.1 (out_of pattern n.1 n.3)))
       (λ g. let n = rw (e, f, g) at m in rw n.1 (itself c pattern n.0 (other_than c 37 f) (other_than c 95 g) (other_than c 92 e) (out_of pattern n.0 n.2)))))
 
   out_of_escaped : (pattern text : List ℕ) → Matches (rest_escaped pattern) text → IsLike (92 ∷ pattern) text

@@ -1,16 +1,9 @@
 -- The test and the relation say the same.
-use Rattle.std.proofs.Common.{◌≡◌, ◌↔◌, ◌∙◌, ℕ, Bool, true, false, ◌==◌, ◌||◌, ◌&&◌, List, [], ◌∷◌, ◌++◌, ap, sym, refl, arith}
+use Rattle.std.proofs.Common.{◌≡◌, ◌↔◌, ◌∙◌, ℕ, Bool, true, false, ◌==◌, ◌||◌, List, [], ◌∷◌, ◌++◌, ap, sym, refl}
 use Rattle.std.specs.Bool.{IsTrue}
-use Rattle.std.proofs.lemmas.Bool.Decides.{nat_tests}
 use Rattle.std.specs.Cmp.{first_so, second_so}
-use Rattle.std.proofs.lemmas.Bool.{or_right, or_left}
+use Rattle.std.proofs.lemmas.Bool.{or_right, or_left, eqb-true, eq-eqb}
 use Rattle.cql_text.specs.Patterns.{Matches, Piece, any, one, exactly, is_like, some_end}
-
-pub same_char : (c d : ℕ) → (c == d) ≡ true → c ≡ d
-same_char c d h = grind (arith, nat_tests)
-
-itself : (c : ℕ) → (c == c) ≡ true
-itself c = grind (arith, nat_tests)
 
 end_from : (test : List ℕ → Bool) (text : List ℕ) → some_end test text ≡ true → (u : List ℕ) × (v : List ℕ) × (text ≡ u ++ v) × (test v ≡ true)
 end_from test [] h = ([], [], refl, h)
@@ -35,13 +28,13 @@ matches_from (one ∷ p) [] h = cc
 matches_from (one ∷ p) (c ∷ text) h = (c, text, refl, matches_from p text h)
 matches_from (exactly d ∷ p) [] h = cc
 matches_from (exactly d ∷ p) (c ∷ text) h =
-    (text, ap (λ (x : ℕ). x ∷ text) (same_char c d (first_so (c == d) (is_like p text) h)), matches_from p text (second_so (c == d) (is_like p text) h))
+    (text, ap (λ (x : ℕ). x ∷ text) (eqb-true c d (first_so (c == d) (is_like p text) h)), matches_from p text (second_so (c == d) (is_like p text) h))
 
 pub matches_to : (p : List Piece) (text : List ℕ) → Matches p text → is_like p text ≡ true
 matches_to [] text m = rw m refl
 matches_to (any ∷ p) text m = rw m.2 (end_at (is_like p) m.0 m.1 (matches_to p m.1 m.3))
 matches_to (one ∷ p) text m = rw m.2 (matches_to p m.1 m.3)
-matches_to (exactly d ∷ p) text m = rw (m.1, itself d) (matches_to p m.0 m.2)
+matches_to (exactly d ∷ p) text m = rw (m.1, eq-eqb d d refl) (matches_to p m.0 m.2)
 
 pub matches_iff : (p : List Piece) (text : List ℕ) (r : Bool) → r ≡ is_like p text → IsTrue r ↔ Matches p text
 matches_iff p text r e = (λ h. matches_from p text (sym e ∙ h), λ m. e ∙ matches_to p text m)

@@ -3,9 +3,8 @@ use Rattle.std.proofs.Common.{◌≡◌, ◌∙◌, ℕ, Bool, true, List, [], �
 use Rattle.cql_text.specs.Patterns.{Matches, Piece, any, one, exactly, pieces}
 use Rattle.cql_text.specs.Fronts.{begins_with, IsFrontOf, IsFrontRange, IsLikeRange, after_front, front_of, is_all_any, is_open}
 use Rattle.std.specs.Cmp.{first_so, second_so}
-use Rattle.std.proofs.Common.{arith}
-use Rattle.std.proofs.lemmas.Bool.Decides.{nat_tests}
-use Rattle.cql_text.proofs.MatchLemmas.{matches_from, matches_to, same_char}
+use Rattle.std.proofs.lemmas.Bool.{eqb-true, eq-eqb}
+use Rattle.cql_text.proofs.MatchLemmas.{matches_from, matches_to}
 
 pub front_start : (text front : List ℕ) → text ≡ [] → front ≡ text ++ front
 front_start text front e = rw e refl
@@ -13,11 +12,8 @@ front_start text front e = rw e refl
 pub front_step : (front text more : List ℕ) (left q : List Piece) (c : ℕ) → front ≡ text ++ front_of left → left ≡ exactly c ∷ q → more ≡ text ++ (c ∷ []) → front ≡ more ++ front_of q
 front_step front text more left q c h e m = h ∙ rw (e, m) (sym (append_assoc text (c ∷ []) (front_of q)))
 
-itself : (c : ℕ) → (c == c) ≡ true
-itself c = grind (arith, nat_tests)
-
 begins_more : (front text : List ℕ) (c : ℕ) → begins_with front text ≡ true → begins_with (c ∷ front) (c ∷ text) ≡ true
-begins_more front text c h = rw (itself c) h
+begins_more front text c h = rw (eq-eqb c c refl) h
 
 begins_from : (p : List Piece) (text : List ℕ) → Matches p text → begins_with (front_of p) text ≡ true
 begins_from [] text m = refl
@@ -41,7 +37,7 @@ matches_open (any ∷ p) text h b = (text, [], append_nil text, all_any_matches 
 matches_open (one ∷ p) text h b = cc
 matches_open (exactly c ∷ p) [] h b = cc
 matches_open (exactly c ∷ p) (d ∷ text) h b =
-    let e : c ≡ d = same_char c d (first_so (c == d) (begins_with (front_of p) text) b) in
+    let e : c ≡ d = eqb-true c d (first_so (c == d) (begins_with (front_of p) text) b) in
     (text, ap (λ (x : ℕ). x ∷ text) (sym e), matches_open p text h (second_so (c == d) (begins_with (front_of p) text) b))
 
 pub like_range_is : (pattern low : List ℕ) (end : Option (List ℕ)) (alone : Bool) → IsFrontOf (pieces pattern) low alone → IsFrontRange low end → IsLikeRange pattern low end alone

@@ -1,9 +1,9 @@
 -- A walk with a place to come back to.
-use Rattle.std.proofs.Common.{◌≡◌, ℕ, zero, suc, ◌+◌, Bool, true, false, ◌&&◌, ◌||◌, List, [], ◌∷◌, ◌++◌, drop, length, sym, refl, add-zero, add-suc}
+use Rattle.std.proofs.Common.{◌≡◌, ℕ, zero, suc, ◌+◌, Bool, true, false, ◌||◌, List, [], ◌∷◌, ◌++◌, drop, length, sym, refl, add-zero, add-suc}
 use Rattle.std.proofs.Math.Seq.{drop-append-add}
 use Rattle.std.specs.Cmp.{second_so}
 use Rattle.std.proofs.lemmas.Bool.{or_right}
-use Rattle.cql_text.specs.Patterns.{Piece, any, one, exactly, first_taken, is_like, piece_takes, some_end}
+use Rattle.cql_text.specs.Patterns.{Piece, any, one, exactly, is_like, some_end}
 
 -- no part for any number
 abbrev pub IsPlain : List Piece → Type 0
@@ -17,10 +17,6 @@ pub some_drop : (test : List ℕ → Bool) (k : ℕ) (text : List ℕ) → some_
 some_drop test zero text h = h
 some_drop test (suc k) [] h = h
 some_drop test (suc k) (c ∷ text) h = or_right (test (c ∷ text)) (some_end test text) (some_drop test k text h)
-
-taken_then : (piece : Piece) (test : List ℕ → Bool) (text : List ℕ) → first_taken piece test text ≡ true → test (drop 1 text) ≡ true
-taken_then piece test [] h = cc
-taken_then piece test (c ∷ text) h = second_so (piece_takes piece c) (test text) h
 
 -- plain parts take one character each
 pub plain_then : (m q : List Piece) (text : List ℕ) → IsPlain m → is_like (m ++ q) text ≡ true → is_like q (drop (length m) text) ≡ true

@@ -1,8 +1,9 @@
 -- Bytes of UTF-8 are ordered as code points are.
-use Rattle.std.proofs.Common.{◌≡◌, ◌∙◌, ℕ, ◌+◌, ◌/◌, ◌%◌, ◌<◌, ◌≤◌, true, false, List, [], ◌∷◌, ◌++◌, chars, ap, refl, ◌⊎◌, inl, inr, arith}
+use Rattle.std.proofs.Common.{◌≡◌, ◌∙◌, ℕ, ◌+◌, ◌/◌, ◌%◌, ◌<◌, ◌≤◌, true, false, List, [], ◌∷◌, ◌++◌, chars, ap, refl, inl, inr, arith}
 use Rattle.std.specs.Str.{IsUtf8}
 use Rattle.std.specs.declared.cmp.Ordering.TheVariants.{Less, Equal, Greater}
 use Rattle.std.specs.Ordering.{nat_cmp, ordering_reverse, ordering_then}
+use Rattle.std.proofs.lemmas.Bool.{cases_lt}
 use Rattle.std.proofs.lemmas.Bool.Decides.{nat_tests}
 use Rattle.std.proofs.lemmas.Cmp.{by_ranked, nat_list_cmp_total, ranked}
 use Rattle.std.proofs.lemmas.Str.{encode_ascii, encodes-chars}
@@ -18,9 +19,6 @@ cmp_equal x y h = grind (arith, nat_tests)
 
 pub cmp_greater : (x y : ℕ) → y < x → nat_cmp x y ≡ Greater
 cmp_greater x y h = grind (arith, nat_tests)
-
-pub below : (c n : ℕ) → (c < n) ⊎ (n ≤ c)
-below c n = by_ranked (c < n) (c ≡ n) (n < c) (nat_cmp c n) (ranked c n (nat_cmp c n) refl) (λ e h. inl h) (λ e h. inr (omega arith)) (λ e h. inr (omega arith))
 
 -- closed, so that `_` is found in it
 IsLess : List ℕ → List ℕ → Type 0
@@ -71,27 +69,27 @@ four_less c d r t h = step_less (240 + c / 262144) (240 + d / 262144) _ _ (omega
 -- a first byte tells how many there are
 encode_less : (c d : ℕ) (r t : List ℕ) → c < d → IsLess (encode c ++ r) (encode d ++ t)
 encode_less c d r t h =
-    elim (below c 128) [
-      | inl c1 ↦ elim (below d 128) [
+    elim (cases_lt c 128) [
+      | inl c1 ↦ elim (cases_lt d 128) [
         | inl d1 ↦ rw (encode_ascii c c1, encode_ascii d d1) (first_less c d r t h)
-        | inr d1 ↦ rw (encode_ascii c c1) (elim (below d 2048) [
+        | inr d1 ↦ rw (encode_ascii c c1) (elim (cases_lt d 2048) [
           | inl d2 ↦ rw (two d d1 d2) (first_less c (192 + d / 64) _ _ (omega arith))
-          | inr d2 ↦ elim (below d 65536) [
+          | inr d2 ↦ elim (cases_lt d 65536) [
             | inl d3 ↦ rw (three d d2 d3) (first_less c (224 + d / 4096) _ _ (omega arith))
             | inr d3 ↦ rw (four d d3) (first_less c (240 + d / 262144) _ _ (omega arith))
           ]
         ])
       ]
-      | inr c1 ↦ elim (below c 2048) [
-        | inl c2 ↦ rw (two c c1 c2) (elim (below d 2048) [
+      | inr c1 ↦ elim (cases_lt c 2048) [
+        | inl c2 ↦ rw (two c c1 c2) (elim (cases_lt d 2048) [
           | inl d2 ↦ rw (two d (omega arith) d2) (two_less c d r t h)
-          | inr d2 ↦ elim (below d 65536) [
+          | inr d2 ↦ elim (cases_lt d 65536) [
             | inl d3 ↦ rw (three d d2 d3) (first_less (192 + c / 64) (224 + d / 4096) _ _ (omega arith))
             | inr d3 ↦ rw (four d d3) (first_less (192 + c / 64) (240 + d / 262144) _ _ (omega arith))
           ]
         ])
-        | inr c2 ↦ elim (below c 65536) [
-          | inl c3 ↦ rw (three c c2 c3) (elim (below d 65536) [
+        | inr c2 ↦ elim (cases_lt c 65536) [
+          | inl c3 ↦ rw (three c c2 c3) (elim (cases_lt d 65536) [
             | inl d3 ↦ rw (three d (omega arith) d3) (three_less c d r t h)
             | inr d3 ↦ rw (four d d3) (first_less (224 + c / 4096) (240 + d / 262144) _ _ (omega arith))
           ])
@@ -112,11 +110,11 @@ encode_cmp c d r t = by_ranked (c < d) (c ≡ d) (d < c) (nat_cmp c d) (ranked c
 
 encode_some : (c : ℕ) (r : List ℕ) → (b : ℕ) × (bs : List ℕ) × (encode c ++ r ≡ b ∷ bs)
 encode_some c r =
-    elim (below c 128) [
+    elim (cases_lt c 128) [
       | inl c1 ↦ rw (encode_ascii c c1) (_, _, refl)
-      | inr c1 ↦ elim (below c 2048) [
+      | inr c1 ↦ elim (cases_lt c 2048) [
         | inl c2 ↦ rw (two c c1 c2) (_, _, refl)
-        | inr c2 ↦ elim (below c 65536) [
+        | inr c2 ↦ elim (cases_lt c 65536) [
           | inl c3 ↦ rw (three c c2 c3) (_, _, refl)
           | inr c3 ↦ rw (four c c3) (_, _, refl)
         ]

@@ -6,12 +6,13 @@ use Rattle.cql_types.specs.declared.fault.Misuse.{Misuse}
 use Rattle.cql_types.specs.declared.fault.Fault.{Fault}
 use Rattle.cql_types.specs.Kinds.{Kind, Mark, first_not, first_unlike, misfit, made, leaf_kind, wrong_kind, unsound, Has, Have, leaf_has, node_has, no_more, one_more, IsWrong, IsWrongIn, leaf_wrong, node_wrong, node_unsound, inside, here, later}
 use Rattle.cql_tree.specs.Order.{InOrder, AreInOrder, leaf_in_order, node_in_order, no_part, one_part}
+use Rattle.cql_tree.specs.OrderLemmas.{not_beyond, are_not_beyond}
 use Rattle.cql_types.specs.Contract.{IsFirst, IsFirstIn, leaf_first, node_first, unsound_first, inside_first, here_first, later_first}
 
 one_result : {A B : Type 0} {r : Result A B} {x : A} {y : B} → r ≡ Ok x → r ≡ Err y → ⊥
 one_result e f = let g = sym e ∙ f in cc
 
-same_ok : {A B : Type 0} {r : Result A B} {x y : A} → r ≡ Ok x → r ≡ Ok y → x ≡ y
+pub same_ok : {A B : Type 0} {r : Result A B} {x y : A} → r ≡ Ok x → r ≡ Ok y → x ≡ y
 same_ok e f = cc
 
 same_err : {A B : Type 0} {r : Result A B} {x y : B} → r ≡ Err x → r ≡ Err y → x ≡ y
@@ -114,19 +115,10 @@ lower : {from middle to : ℕ} {ms : List Mark} → from ≤ middle → AreBetwe
 lower a none_between = none_between
 lower a (more_between b bs) = more_between (omega arith, b.1) (lower a bs)
 
--- places ascend
-not_beyond : {from to : ℕ} {t : Syntax} → InOrder from t to → from ≤ to
-not_beyond (leaf_in_order a b) = omega arith
-not_beyond (node_in_order a b c os) = omega arith
-
-not_beyond_in : {from to : ℕ} {ps : Parts} → AreInOrder from ps to → from ≤ to
-not_beyond_in (no_part a) = a
-not_beyond_in (one_part o os) = let a = not_beyond o in let b = not_beyond_in os in omega arith
-
 marks_between : {s : List Named} {ps : Parts} {ms : List Mark} {from to : ℕ} → Have s ps ms → AreInOrder from ps to → AreBetween from ms to
 marks_between no_more os = none_between
 marks_between (one_more h m) (one_part o os) =
-    let a = place_between o in let b = not_beyond_in os in let c = not_beyond o in
+    let a = place_between o in let b = are_not_beyond os in let c = not_beyond o in
     more_between (a.0, omega arith) (lower c (marks_between m os))
 
 pick : {from to p : ℕ} (test : Bool) {o : Option Fault} {f : Fault} → Between from p to → (o ≡ Some f → Between from f.place to) →
@@ -174,7 +166,7 @@ mutual
 
   fault_between_in : {s : List Named} {ps : Parts} {f : Fault} {from to : ℕ} → AreInOrder from ps to → IsWrongIn s ps f → Between from f.place to
   fault_between_in (no_part a) w = elim w [ ]
-  fault_between_in (one_part o os) (here w) = let a = fault_between o w in let b = not_beyond_in os in (a.0, omega arith)
+  fault_between_in (one_part o os) (here w) = let a = fault_between o w in let b = are_not_beyond os in (a.0, omega arith)
   fault_between_in (one_part o os) (later w) = widen (not_beyond o) (fault_between_in os w)
 
 same_place : {f g : Fault} → f ≡ g → f.place ≤ g.place

@@ -54,6 +54,7 @@ use Rattle.cql_types.proofs.LiteralLemmas.{numbers_once, outline_once, two_equal
 use Rattle.cad_shape.specs.SameLemmas.{same_point}
 use Rattle.cad_shape.specs.SameLemmas.{same_bounds}
 use Rattle.cad_day.specs.SameLemmas.{same_day}
+use Rattle.cql_types.proofs.Faults.{same_ok}
 use Rattle.cql_types.proofs.Terms.{is_true}
 
 -- ---- what a node is, without where it lies in memory
@@ -92,9 +93,6 @@ other_way e = record { senses = sym e.senses }
 
 same_some : {A : Type 0} {a b : A} → Some a ≡ Some b → a ≡ b
 same_some e = cc
-
-same_ok : {A B : Type 0} {r : Result A B} {a b : A} → r ≡ Ok a → r ≡ Ok b → a ≡ b
-same_ok e f = cc
 
 -- what two nodes are as a term of one kind
 seen : {A V : Type 0} (view : A → V) {o p : Option A} {a b : A} → option_map view o ≡ option_map view p → o ≡ Some a → p ≡ Some b → view a ≡ view b
@@ -192,8 +190,6 @@ no_day_flag {x} {y} e f g =
     absurd cc
 
 -- ---- the conditions of filters, by their parts
-in_truth : (b : Bool) → condition_in (filter.Truth b) ≡ c.truth b
-in_truth b = ap condition_in (sym (filter.rolls-Truth b)) ∙ fold-roll-Filter Condition condition_step (Filter-F.Truth b)
 
 in_compare_whole : (by : Comparison) (a : WholeTerm) (b : WholeTerm) → condition_in (filter.CompareWhole by a b) ≡ c.compare_numbers by (numeric a) (numeric b)
 in_compare_whole by a b = ap condition_in (sym (filter.rolls-CompareWhole by a b)) ∙ fold-roll-Filter Condition condition_step (Filter-F.CompareWhole by a b)

@@ -4,14 +4,10 @@ use Rattle.cad_schema.specs.Attributes.{Named}
 use Rattle.cql_tree.specs.Order.{IsOrdered}
 use Rattle.cql_tree.specs.Syntax.{Syntax}
 use Rattle.cql_types.specs.Conditions.{condition_in}
-use Rattle.cql_types.specs.Kinds.{Kind, Has, IsCondition, IsFault, IsLeast}
+use Rattle.cql_types.specs.Kinds.{IsCondition, IsFault, IsLeast}
 use Rattle.cql_types.specs.Means.{IsFilter}
 use Rattle.cql_types.specs.declared.fault.Fault.{Fault}
 use Rattle.cql_types.specs.declared.filter.Filter.{Filter}
-
--- a tree has at most one kind
-abbrev pub HasOneKind : Type 0
-HasOneKind = (s : List Named) (t : Syntax) (k l : Kind) → Has s t k → Has s t l → k ≡ l
 
 -- a condition has no fault
 abbrev pub HasFaultOrCondition : Type 0
