@@ -1,14 +1,7 @@
-use Rattle.std.proofs.Common.{◌≡◌, ℕ, List, Err, sym, ap, ◌∙◌, refl, subst}
-use Rattle.cad_office.specs.declared.line.LineState.{LineState}
-use Rattle.cad_office.specs.declared.line.LineState.TheVariants.{Buffered, TooLong, OutOfMemory}
+use Rattle.std.proofs.Common.{ℕ, List, Err, sym, ap, ◌∙◌, refl, subst}
 use Rattle.cad_commands.specs.Commands.{Says}
-use Rattle.cad_office.specs.Lines.{Buffers}
+use Rattle.cad_office.specs.BufferLemmas.{buffered_text}
 use Rattle.cad_office.proofs.turns.answer_line.Goals as goal
-
-buffered_text : (text held : List ℕ) (state : LineState) → Buffers text held state → state ≡ Buffered → held ≡ text
-buffered_text text held Buffered s e = s.0
-buffered_text text held TooLong s e = cc
-buffered_text text held (OutOfMemory count) s e = cc
 
 pub returns-in-Err-NotACommand : goal.returns-in-Err-NotACommand
 returns-in-Err-NotACommand g c = λ text stands.
