@@ -71,9 +71,6 @@ has_order_from (a_spot x) o e = cc
 has_order_from (an_area x) o e = cc
 
 module _ {K : Type 0} (f : K → Datum) where
-  both : K × ℕ → Datum × ℕ
-  both e = (f e.0, e.1)
-
   pub read_some : (pairs : List (K × ℕ)) (vs : List Datum) (p : ℕ) (k : K) (all : List (Datum × ℕ)) → p < length vs → f k ≡ get_or vs p null → has_order (get_or vs p null) ≡ true → map (λ (e : K × ℕ). (f e.0, e.1)) pairs ++ keyed_from p (drop p vs) ≡ all → map (λ (e : K × ℕ). (f e.0, e.1)) (pairs ++ (k, p) ∷ []) ++ keyed_from (p + 1) (drop (p + 1) vs) ≡ all
   read_some pairs vs p k all h e t i =
       let d : keyed_from p (drop p vs) ≡ (f k, p) ∷ keyed_from (p + 1) (drop (p + 1) vs) = rw (drop-cons vs p null, t, e, add-one) refl in

@@ -13,9 +13,6 @@ use Rattle.cad_positions.specs.Rankings.{AreInverse}
 use Rattle.cad_range.specs.Ranges.{has_order}
 use Rattle.cad_ordered.specs.Columns.{IsOrderOf, keyed_from, by_rank, AreOrdered}
 
-places_in : List (Datum × ℕ) → List ℕ
-places_in es = map (λ e. e.1) es
-
 zip_places : (ds : List Datum) (ps : List ℕ) → length ds ≡ length ps → map (λ (e : Datum × ℕ). e.1) (zip ds ps) ≡ ps
 zip_places [] [] h = refl
 zip_places [] (p ∷ ps) h = absurd (omega arith)
@@ -87,10 +84,6 @@ zip_length (d ∷ ds) (p ∷ ps) h = ap suc (zip_length ds ps (omega arith))
 
 pub no_more : (ds : List Datum) (ps : List ℕ) (vs : List Datum) → IsOrderOf ds ps vs → length ps ≤ length vs
 no_more ds ps vs o = omega (arith, zip_length ds ps o.beside, length_permutation _ _ o.same, keyed_fewer 0 vs)
-
--- each entry has the value of its position
-Fits : ℕ → List Datum → Datum × ℕ → Type 0
-Fits a vs e = (k : ℕ) × (e.1 ≡ a + k) × (get_or vs k null ≡ e.0)
 
 fits_cons : (b : Bool) (P : Datum × ℕ → Type 0) (x : Datum × ℕ) (es : List (Datum × ℕ)) → P x → All P es → All P (cond b (x ∷ es) es)
 fits_cons true P x es h k = All-cons P x es h k

@@ -9,7 +9,7 @@ use Rattle.std.proofs.lemmas.Bool.{false≢true}
 use Rattle.cad_day.specs.Days.{number_of}
 use Rattle.cad_feature.specs.Values.{Datum, null, a_text, a_whole, a_day}
 use Rattle.cad_range.specs.Ranges.{compared}
-use Rattle.cad_ordered.specs.Columns.{AtMost, IsAscending, IsSplit, is_before}
+use Rattle.cad_ordered.specs.Columns.{AtMost, IsAscending, is_before}
 
 module _ {K : Type 0} {R : K → K → Ordering} (o : IsTotalOrder R) where
   leads_by : (x y z : K) (r s : Ordering) (upto : Bool) → R x y ≡ r → R y z ≡ s → is_le r ≡ true → is_before upto (Some s) ≡ true → is_before upto (Some (R x z)) ≡ true
@@ -41,9 +41,6 @@ pub record IsSought (upto : Bool) (ds : List Datum) (s : Datum) (low high : ℕ)
   pub before : (i : ℕ) → i < low → is_before upto (compared (get_or ds i null) s) ≡ true
   pub after : (i : ℕ) → high ≤ i → i < length ds → is_before upto (compared (get_or ds i null) s) ≡ false
 
-pub sought_all : (upto : Bool) (ds : List Datum) (s : Datum) (n : ℕ) → n ≡ length ds → IsSought upto ds s 0 n
-sought_all upto ds s n e = record { ordered = omega arith; within = omega arith; before = λ i h. absurd (omega arith); after = λ i h k. absurd (omega arith) }
-
 pub sought_up : (upto : Bool) (ds : List Datum) (s : Datum) (low high m : ℕ) → IsAscending ds → low ≤ m → m < high → is_before upto (compared (get_or ds m null) s) ≡ true → IsSought upto ds s low high → IsSought upto ds s (m + 1) high
 sought_up upto ds s low high m up a b h g = record {
   ordered = omega arith;
@@ -61,11 +58,4 @@ sought_down upto ds s low high m up a b h g = record {
   within = omega (arith, g.within);
   before = g.before;
   after = λ i k l. not_before (is_before upto (compared (get_or ds m null) s)) (is_before upto (compared (get_or ds i null) s)) (before_down upto (get_or ds m null) (get_or ds i null) s (up m i k l)) h;
-}
-
-pub split_found : (upto : Bool) (ds : List Datum) (s : Datum) (low high : ℕ) → high ≤ low → IsSought upto ds s low high → IsSplit upto ds s low
-split_found upto ds s low high h g = record {
-  within = omega (arith, g.ordered, g.within);
-  before = g.before;
-  after = λ i k l. g.after i (omega (arith, g.ordered)) l;
 }

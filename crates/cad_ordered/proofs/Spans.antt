@@ -73,9 +73,6 @@ low_with ks s r e sp i h = from_with _ (nat_lt i r) (split_low (data_of ks) (sca
 pub low_without : (ks : Keys) (s : Scalar) (r : ℕ) → scalar_kind s ≡ kind_of ks → IsSplit true (data_of ks) (scalar_datum s) r → (i : ℕ) → i < length (data_of ks) → holds_of is_gt (compared (get_or (data_of ks) i null) (scalar_datum s)) ≡ nat_le r i
 low_without ks s r e sp i h = from_without _ (nat_lt i r) (split_low (data_of ks) (scalar_datum s) r i true sp h) (are_compared ks s i h e) ∙ not_lt i r
 
-pub high_split : (ds : List Datum) (s : Datum) (r : ℕ) (upto : Bool) → IsSplit upto ds s r → (i : ℕ) → i < length ds → is_before upto (compared (get_or ds i null) s) ≡ nat_lt i r
-high_split ds s r upto sp i h = split_low ds s r i upto sp h
-
 between_max : (lo hi r : ℕ) → is_between lo (max hi lo) r ≡ (nat_le lo r && nat_lt r hi)
 between_max lo hi r = elim (below hi lo) [
   | inl h ↦ let e : max hi lo ≡ lo = omega arith in rw e (grind (arith, nat_tests))
@@ -84,9 +81,6 @@ between_max lo hi r = elim (below hi lo) [
 
 none_there : (lo hi r n : ℕ) → lo ≤ n → hi ≤ n → n ≤ r → (nat_le lo r && nat_lt r hi) ≡ false
 none_there lo hi r n h k l = grind (arith, nat_tests)
-
-all_three : (a b c : Bool) → a ≡ true → (a && (b && c)) ≡ (b && c)
-all_three a b c h = grind arith
 
 at_rank : (ks : Keys) (low high : Edge) (lo hi r : ℕ) → IsLowRank (data_of ks) low lo → IsHighRank (data_of ks) high hi → lies_between (limit_of low) (limit_of high) (get_or (data_of ks) r null) ≡ (nat_le lo r && nat_lt r hi)
 at_rank ks low high lo hi r l h = elim (below r (length (data_of ks))) [

@@ -1,9 +1,8 @@
 -- Whether a filter folds the case of some text: what takes memory (own profile).
-use Rattle.std.specs.Prelude.{◌≡◌, Bool, true, false, ◌||◌, List, map, Box, Vec}
+use Rattle.std.specs.Prelude.{◌≡◌, Bool, true, false, ◌||◌, List, map, Vec}
 use Rattle.std.specs.List.{list_any}
 use Rattle.std.proofs.Common.{◌∙◌, ap, sym}
 use Rattle.std.specs.declared.alloc.Global.{Global}
-use Rattle.cql_lexer.specs.declared.token.Comparison.{Comparison}
 use Rattle.cql_types.specs.declared.filter.TextTerm.{TextTerm}
 use Rattle.cql_types.specs.declared.filter.TextTerm.TheOpen.{TextTerm-F}
 use Rattle.cql_types.specs.declared.filter.TextTerm.TheFolds.{fold-TextTerm}
@@ -58,21 +57,6 @@ abbrev pub folds_case : Filter → Bool
 folds_case = fold-Filter Bool filter_step
 
 -- ---- each kind of condition that may fold case
-
-pub folds_CompareText : (by : Comparison) (a b : TextTerm) → folds_case (filter.CompareText by a b) ≡ (folds_text a || folds_text b)
-folds_CompareText by a b = ap folds_case (sym (filter.rolls-CompareText by a b)) ∙ fold-roll-Filter Bool filter_step (Filter-F.CompareText by a b)
-
-pub folds_Like : (a pattern : TextTerm) → folds_case (filter.Like a pattern) ≡ (folds_text a || folds_text pattern)
-folds_Like a pattern = ap folds_case (sym (filter.rolls-Like a pattern)) ∙ fold-roll-Filter Bool filter_step (Filter-F.Like a pattern)
-
-pub folds_InText : (a : TextTerm) (items : Vec TextTerm Global) → folds_case (filter.InText a items) ≡ (folds_text a || list_any folds_text items.items)
-folds_InText a items = ap folds_case (sym (filter.rolls-InText a items)) ∙ fold-roll-Filter Bool filter_step (Filter-F.InText a items)
-
-pub folds_IsNull : (a : AnyTerm) → folds_case (filter.IsNull a) ≡ folds_term a
-folds_IsNull a = ap folds_case (sym (filter.rolls-IsNull a)) ∙ fold-roll-Filter Bool filter_step (Filter-F.IsNull a)
-
-pub folds_Not : (f : Box Filter Global) → folds_case (filter.Not f) ≡ folds_case f.value
-folds_Not f = ap folds_case (sym (filter.rolls-Not f)) ∙ fold-roll-Filter Bool filter_step (Filter-F.Not f)
 
 pub folds_And : (fs : Vec Filter Global) → folds_case (filter.And fs) ≡ some (map folds_case fs.items)
 folds_And fs = ap folds_case (sym (filter.rolls-And fs)) ∙ fold-roll-Filter Bool filter_step (Filter-F.And fs)

@@ -1,5 +1,5 @@
 -- The sides of each kind of condition, by those of its parts.
-use Rattle.std.specs.Prelude.{◌≡◌, Bool, map, Some, Box, Vec}
+use Rattle.std.specs.Prelude.{◌≡◌, map, Some, Box, Vec}
 use Rattle.std.proofs.Common.{◌∙◌, ap, sym}
 use Rattle.std.specs.declared.alloc.Global.{Global}
 use Rattle.cad_day.specs.declared.relation.Relation.{Relation}
@@ -22,10 +22,6 @@ use Rattle.cql_types.specs.declared.filter.Filter.TheFolds.{fold-roll-Filter}
 use Rattle.cql_truth.specs.Arithmetic.{whole_value}
 use Rattle.cql_truth.specs.Sides.{Sides, told, compared, wholes, texts, days, flags, is_like, spatial, is_null, negation, conjunction, disjunction, between, among, side_step, sides}
 use Rattle.cql_truth.specs.Values.{both, day_value, flag_value, shape_value, span_value, text_value}
-
-pub sides_Truth : (x : Item) (b : Bool) →
-    sides x (filter.Truth b) ≡ told (Some b)
-sides_Truth x b = ap (sides x) (sym (filter.rolls-Truth b)) ∙ fold-roll-Filter Sides (side_step x) (Filter-F.Truth b)
 
 pub sides_CompareWhole : (x : Item) (by : Comparison) (a b : WholeTerm) →
     sides x (filter.CompareWhole by a b) ≡ compared (wholes by) (whole_value x a) (whole_value x b)

@@ -12,16 +12,10 @@ use Rattle.cql_types.specs.declared.filter.TextTerm.{TextTerm}
 use Rattle.cql_types.specs.declared.filter.TextTerm.TheVariants as text
 use Rattle.cql_types.specs.declared.filter.TextTerm.TheOpen.{TextTerm-F}
 use Rattle.cql_types.specs.declared.filter.TextTerm.TheFolds.{fold-roll-TextTerm}
-use Rattle.cql_truth.specs.Arithmetic.{made, part_step, stepped, whole_in, whole_step, whole_value}
+use Rattle.cql_truth.specs.Arithmetic.{made, part_step, stepped, whole_step, whole_value}
 use Rattle.cql_truth.specs.Values.{folded_content, text_in, text_step, text_value}
 
 -- ---- whole numbers
-
-pub whole_Constant : (x : Item) (n : ℤ) → whole_value x (whole.Constant n) ≡ Some n
-whole_Constant x n = ap (whole_value x) (sym (whole.rolls-Constant n)) ∙ fold-roll-WholeTerm (Option ℤ) (Option ℤ → Option ℤ) (whole_step x) part_step (WholeTerm-F.Constant n)
-
-pub whole_Property : (x : Item) (i : ℕ) → whole_value x (whole.Property i) ≡ whole_in (datum_at x i)
-whole_Property x i = ap (whole_value x) (sym (whole.rolls-Property i)) ∙ fold-roll-WholeTerm (Option ℤ) (Option ℤ → Option ℤ) (whole_step x) part_step (WholeTerm-F.Property i)
 
 -- what a part behind the first makes of the value before it
 abbrev pub part_of : Item → Step → Option ℤ → Option ℤ
