@@ -106,11 +106,8 @@ got (y ∷ ys) i zero d lt h = absurd (omega (arith, lt))
 got (y ∷ ys) zero (suc n) d lt h = refl
 got (y ∷ ys) (suc i) (suc n) d lt h = got ys i n d (omega (arith, lt)) (omega (arith, h))
 
-less_one : (k : ℕ) → suc k - 1 ≡ k
-less_one k = omega arith
-
 last_is : (ys : List Item) (k : ℕ) (d : Item) → suc k ≤ length ys → last_of (take (suc k) ys) ≡ Some (identifier_of (get_or ys k d))
-last_is ys k d h = rw (length-take-le (suc k) ys h, less_one k, got ys k (suc k) d (omega arith) (omega arith)) refl
+last_is ys k d h = let less : suc k - 1 ≡ k = omega arith in rw (length-take-le (suc k) ys h, less, got ys k (suc k) d (omega arith) (omega arith)) refl
 
 default_of : {X : Type 0} (ys : List X) (k : ℕ) → k < length ys → X
 default_of [] k h = absurd (omega (arith, h))

@@ -30,7 +30,7 @@ pub struct Channel {
 }
 
 impl Channel {
-    ghost use Rattle.std.specs.Prelude.{◌≡◌, ◌<◌, ◌&&◌, nat_eq, false, []};
+    ghost use Rattle.std.specs.Prelude.{◌≡◌, ◌<◌, false, []};
     ghost use Rattle.std.specs.Io.KnownBytes.{IsAtEnd};
     ghost use Rattle.cad_io.specs.Known.{ReadsAndWrites, Writes};
     ghost use Rattle.cad_serve.specs.Serving.{IsPiece};
@@ -57,13 +57,6 @@ impl Channel {
         ensures { result.now ≡ unsent self.now }
     {
         after(&self.output, self.output_at)
-    }
-
-    /// Whether the desk has taken all that was read, and all that it sent was written.
-    pub fn is_at_rest(&self) -> bool
-        ensures { result ≡ (nat_eq (length (unfed self.now)) 0 && nat_eq (length (unsent self.now)) 0) }
-    {
-        self.input_at == self.input.len() && self.output_at == self.output.len()
     }
 
     /// The bytes that the desk took last.

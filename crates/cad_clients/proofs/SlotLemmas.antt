@@ -1,13 +1,11 @@
 -- A slot that is filled, and all others.
 use Rattle.std.proofs.Common.{◌≡◌, ℕ, zero, suc, ◌<◌, Bool, true, false, nat_eq, if◌then◌else◌, List, [], ◌∷◌, ◌++◌, length, set, Option, None, Some, refl, ap, subst, ◌∙◌, arith}
+use Rattle.std.proofs.lemmas.Bool.{eqb-true}
 use Rattle.std.proofs.lemmas.Bool.Decides.{nat_tests}
 use Rattle.std.specs.List.{slice_get}
 use Rattle.cad_clients.specs.declared.client.Client.{Client}
 use Rattle.cad_clients.specs.declared.clients.Clients.{Clients}
 use Rattle.cad_clients.specs.Slots.{client_in, client_at, Changes}
-
-same_number : (c d : ℕ) → nat_eq c d ≡ true → c ≡ d
-same_number c d h = grind (arith, nat_tests)
 
 other_number : (c d : ℕ) → nat_eq c d ≡ false → (c ≡ d → ⊥)
 other_number c d h e = grind (arith, nat_tests)
@@ -30,7 +28,7 @@ pub slot_set : (xs : List (Option Client)) (c d : ℕ) (y : Option Client) → c
 slot_set xs c d y within = go (nat_eq c d) refl
   where
     go : (same : Bool) → nat_eq c d ≡ same → client_in (slice_get (set xs c y) d) ≡ (if same then client_in (Some y) else client_in (slice_get xs d))
-    go true e = ap client_in (subst (λ (at : ℕ). slice_get (set xs c y) at ≡ Some y) (same_number c d e) (set_here xs c y within))
+    go true e = ap client_in (subst (λ (at : ℕ). slice_get (set xs c y) at ≡ Some y) (eqb-true c d e) (set_here xs c y within))
     go false e = ap client_in (set_apart xs c d y (other_number c d e))
 
 chosen_twice : {X : Type 0} (same : Bool) (v x y w u : X) → v ≡ (if same then x else w) → w ≡ (if same then y else u) → v ≡ (if same then x else u)

@@ -7,7 +7,7 @@ use Rattle.std.proofs.lemmas.Bool.{eq-eqb}
 use Rattle.cad_stream.specs.declared.responder.Responder.{Ghosts}
 use Rattle.cad_stream.specs.Streams.{rest_of}
 use Rattle.cad_desk.specs.declared.desk.Desk.{Desk}
-use Rattle.cad_desk.specs.declared.event.Event.TheVariants.{Open, Bytes, Close}
+use Rattle.cad_desk.specs.declared.event.Event.TheVariants.{Open, Bytes}
 use Rattle.cad_desk.specs.declared.event.Reply.{Reply}
 use Rattle.cad_desk.specs.declared.event.Reply.TheVariants.{Opened, Closed, Sent, Entered}
 use Rattle.cad_desk.specs.declared.fault.DeskFault.{DeskFault}
@@ -31,17 +31,6 @@ is_some_unless_none None h = absurd cc
 is_some_unless_none (Some x) h = refl
 
 module _ {R : Type 0} (g : Ghosts R) (c : ℕ) where
-  -- an open connection is closed
-  pub closes_open : (old new : Desk R) (result : Result Reply DeskFault) → IsOpen c old → Steps g old (Close c) result new → Closes g c old new
-  closes_open old new (Ok Closed) known s = s
-  closes_open old new (Ok Opened) known s = absurd s.stepped
-  closes_open old new (Ok (Sent out ends)) known s = absurd s.stepped
-  closes_open old new (Ok (Entered revision)) known s = absurd s.stepped
-  closes_open old new (Err UnknownConnection) known s = absurd (open_or_none (rest_at (connections_of old) c) known s.stepped.0)
-  closes_open old new (Err KnownConnection) known s = absurd s.stepped
-  closes_open old new (Err TooManyConnections) known s = absurd s.stepped
-  closes_open old new (Err Memory) known s = absurd s.stepped
-  closes_open old new (Err (Register fault)) known s = absurd s.stepped
 
   -- a connection that opened is open
   pub opens_open : (old new : Desk R) (reply : Reply) → Steps g old (Open c) (Ok reply) new → (reply ≡ Opened) × IsOpen c new

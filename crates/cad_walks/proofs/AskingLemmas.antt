@@ -3,6 +3,7 @@ use Rattle.std.proofs.Common.{◌≡◌, ◌≢◌, ℕ, ◌≤◌, ◌<◌, ◌
 use Rattle.std.specs.Prelude.{codes, min, unwrap_or}
 use Rattle.std.specs.Option.{option_and_then}
 use Rattle.std.specs.List.{list_any}
+use Rattle.std.proofs.lemmas.Bool.{eqb-false}
 use Rattle.std.proofs.lemmas.Bool.Decides.{nat_tests}
 use Rattle.std.proofs.lemmas.List.Elements.{All-from_recursion}
 use Rattle.cad_versions.specs.ListLemmas.{all_weaker}
@@ -30,9 +31,6 @@ use Rattle.cad_wanted.specs.Wants.{IsPageWanted, IsWanted}
 
 -- ---- paths
 
-other_byte : (b : ℕ) → (b == 47) ≡ false → b ≢ 47
-other_byte b e = grind (arith, nat_tests)
-
 is_longer : (xs : List ℕ) → not (length xs == 0) ≡ true → 0 < length xs
 is_longer [] h = absurd (true≢false (sym h))
 is_longer (x ∷ xs) h = omega arith
@@ -40,7 +38,7 @@ is_longer (x ∷ xs) h = omega arith
 named : (c : Collection) → IsSegment (name_of c)
 named c = record {
   some = is_longer (name_of c) (each_passes (λ c. not (length (name_of c) == 0)) refl c);
-  no_slash = All-from_recursion (λ b. b ≢ 47) (name_of c) (all_weaker (λ b. (b == 47) ≡ false) (λ b. b ≢ 47) other_byte (name_of c) (lacks_not 47 (name_of c) (each_passes (λ c. not (list_any (is_byte 47) (name_of c))) refl c)));
+  no_slash = All-from_recursion (λ b. b ≢ 47) (name_of c) (all_weaker (λ b. (b == 47) ≡ false) (λ b. b ≢ 47) (λ b e. eqb-false b 47 e) (name_of c) (lacks_not 47 (name_of c) (each_passes (λ c. not (list_any (is_byte 47) (name_of c))) refl c)));
 }
 
 -- ---- what is wanted
