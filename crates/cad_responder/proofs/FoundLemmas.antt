@@ -1,8 +1,7 @@
 -- A feature that is found by its numbers.
 use Rattle.std.proofs.Common.{◌≡◌, ℕ, ℤ, pos, zero, ◌==◌, ◌&&◌, Bool, true, false, cond, List, [], ◌∷◌, Contains, Option, Some, None, refl, sym, ap, ap₂, ◌∙◌, arith, true≢false}
 use Rattle.std.specs.List.Sorted.{IsStrictlySortedBy}
-use Rattle.std.proofs.lemmas.Bool.{and_parts}
-use Rattle.std.proofs.lemmas.Bool.Decides.{nat_tests}
+use Rattle.std.proofs.lemmas.Bool.{and_parts, eq-eqb, eqb-true}
 use Rattle.std.proofs.lemmas.List.Elements.{All-nil, All-cons, Contains-append_right}
 use Rattle.cad_versions.specs.Objects.{object_number}
 use Rattle.cad_feature.specs.Features.{Item, identifier_of, by_identifier}
@@ -14,16 +13,10 @@ use Rattle.cad_responder.specs.Contents.{has_numbers, feature_with}
 abbrev wanted : Numbers → ℤ × ℤ
 wanted n = (pos n.0, pos n.1)
 
-same_number : (a b : ℕ) → (a == b) ≡ true → a ≡ b
-same_number a b h = grind (arith, nat_tests)
-
-number_itself : (a : ℕ) → (a == a) ≡ true
-number_itself a = grind (arith, nat_tests)
-
 named : (n : Numbers) (x : Item) → has_numbers n x ≡ true → identifier_of x ≡ wanted n
 named n x e =
     let both = and_parts (object_number x.object == n.0) (x.number == n.1) e in
-    ap₂ (λ (a b : ℕ). (pos a, pos b)) (same_number _ _ both.0) (same_number _ _ both.1)
+    ap₂ (λ (a b : ℕ). (pos a, pos b)) (eqb-true _ _ both.0) (eqb-true _ _ both.1)
 
 pos_same : (a b : ℕ) → pos a ≡ pos b → a ≡ b
 pos_same a b e = cc
@@ -32,7 +25,7 @@ names : (n : Numbers) (x : Item) → identifier_of x ≡ wanted n → has_number
 names n x e =
     let o : object_number x.object ≡ n.0 = pos_same _ _ (ap (λ i. i.0) e) in
     let v : x.number ≡ n.1 = pos_same _ _ (ap (λ i. i.1) e) in
-    ap₂ (λ (a b : ℕ). (a == n.0) && (b == n.1)) o v ∙ ap₂ ◌&&◌ (number_itself n.0) (number_itself n.1)
+    ap₂ (λ (a b : ℕ). (a == n.0) && (b == n.1)) o v ∙ ap₂ ◌&&◌ (eq-eqb n.0 n.0 refl) (eq-eqb n.1 n.1 refl)
 
 later : (n : Numbers) (x : Item) (xs : List Item) (one : Option Item) → has_numbers n x ≡ false → IsTheOne (wanted n) xs one → IsTheOne (wanted n) (x ∷ xs) one
 later n x xs None other none = All-cons (λ y. ¬ (identifier_of y ≡ wanted n)) x xs (λ e. true≢false (sym (names n x e) ∙ other)) none

@@ -1,7 +1,7 @@
 -- What is kept stays right.
 use Rattle.std.proofs.Common.{◌≡◌, ◌≤◌, ℕ, ◌+◌, Bool, true, List, [], ◌∷◌, ◌++◌, length, Contains, Option, Some, None, Result, Ok, Err, OnOk, OnErr, refl, sym, ap, ap₂, ◌∙◌, subst, inl, inr, take, arith, nat_eq}
+use Rattle.std.proofs.lemmas.Bool.{eqb-true}
 use Rattle.std.proofs.lemmas.List.{length-append}
-use Rattle.std.proofs.lemmas.Bool.Decides.{nat_tests}
 use Rattle.std.specs.Option.{IfSome}
 use Rattle.std.specs.Result.{IfOk, result_ok}
 use Rattle.std.specs.Map.{lookup}
@@ -64,9 +64,6 @@ turned_kept old new t commands all = record {
   read = subst (AreKept commands) (sym t.read) all.read;
 }
 
-same_number : (a b : ℕ) → nat_eq a b ≡ true → a ≡ b
-same_number a b h = grind (arith, nat_tests)
-
 kept_under : (commands : List Command) (revision : ℕ) (snapshot : RevisionFeatures) (entry : ℕ × RevisionFeatures) → entry.1 ≡ snapshot → entry.0 ≡ revision → IsKept commands (revision, snapshot) → IsKept commands entry
 kept_under commands revision snapshot entry s r kept =
     (subst (λ n. n ≤ length commands) (sym r) kept.0, s ∙ kept.1 ∙ ap (λ n. snapshot_at n commands) (sym r))
@@ -76,7 +73,7 @@ put_kept commands old revision snapshot all kept entry among = elim (Contains-pu
   | inl was ↦ all entry was
   | inr put ↦ elim put.1 [
     | inl same ↦ kept_under commands revision snapshot entry put.0 same kept
-    | inr found ↦ kept_under commands revision snapshot entry put.0 (sym (same_number revision entry.0 found.2)) kept
+    | inr found ↦ kept_under commands revision snapshot entry put.0 (sym (eqb-true revision entry.0 found.2)) kept
   ]
 ]
 
@@ -93,7 +90,7 @@ kept_put commands old new revision snapshot (Err e) put err all kept entry among
 pub kept_found : (commands : List Command) (entries : List (ℕ × RevisionFeatures)) (revision : ℕ) (snapshot : RevisionFeatures) → AreKept commands entries → lookup (nat_eq revision) entries ≡ Some snapshot → IsKept commands (revision, snapshot)
 kept_found commands entries revision snapshot all found =
     let at = Contains-lookup (nat_eq revision) entries snapshot found in
-    let r : revision ≡ at.0 = same_number revision at.0 at.2 in
+    let r : revision ≡ at.0 = eqb-true revision at.0 at.2 in
     subst (λ n. IsKept commands (n, snapshot)) (sym r) (all (at.0, snapshot) at.1)
 
 -- what is found among all that is kept is that of the revision

@@ -31,7 +31,6 @@ is_some_unless_none None h = absurd cc
 is_some_unless_none (Some x) h = refl
 
 module _ {R : Type 0} (g : Ghosts R) (c : ℕ) where
-
   -- a connection that opened is open
   pub opens_open : (old new : Desk R) (reply : Reply) → Steps g old (Open c) (Ok reply) new → (reply ≡ Opened) × IsOpen c new
   opens_open old new Opened s =
