@@ -54,7 +54,7 @@ asks_answered old new x r reads = record {
   left = λ clean. leaves_no_more old new clean reads.survives;
 }
 
-not_answered : (cause : RegisterFault) → IsStoreFault cause → ¬ IsOfTheRegister cause
+pub not_answered : (cause : RegisterFault) → IsStoreFault cause → ¬ IsOfTheRegister cause
 not_answered fault.Store is h = h
 not_answered fault.Memory is h = h
 not_answered cause is h = absurd is

@@ -18,6 +18,7 @@ pub mod DecisionLemmas
 pub mod WriteLemmas
 pub mod SurvivingLemmas
 pub mod LeavingLemmas
+pub mod KeepingLemmas
 pub mod RefusingLemmas
 pub mod NamingLemmas
 pub mod InquiringLemmas

@@ -39,11 +39,11 @@ leaves_no_more old new clean survives trees h = elim (survives.crash clean trees
 pub leaves_then : (old new : State) (cs : List Command) → LeavesNoMore old new → Leaves old cs → Leaves new cs
 leaves_then old new cs no_more leaves trees h = leaves trees (no_more trees h)
 
-pub leaves_or : (s : State) (cs : List Command) (c : Command) → Leaves s cs → LeavesEither s cs c
+pub leaves_or : (s : State) (cs : List Command) (c : Command) → Leaves s cs → LeavesEither c s cs
 leaves_or s cs c leaves trees h = inl (leaves trees h)
 
 pub leaves_written : (old new : State) (cs : List Command) (c : Command) (number revision : ℕ) (ch : Change NewEntry) → HasCleanDisk new → Survives old new (CommitsTo line_written ch revision old) → StandsFor old cs → Leaves old cs
-    → refusal (versions cs) c ≡ None → IsNumbered cs c number → revision ≡ length cs + 1 → length cs < most_revision → IsChangeOf c number revision ch → revision < 2 ^ 32 → LeavesEither new cs c
+    → refusal (versions cs) c ≡ None → IsNumbered cs c number → revision ≡ length cs + 1 → length cs < most_revision → IsChangeOf c number revision ch → revision < 2 ^ 32 → LeavesEither c new cs
 leaves_written old new cs c number revision ch clean survives stands leaves fine count next room h small trees left = elim (survives.crash clean trees left) [
   | inl was ↦ inl (leaves trees was)
   | inr made ↦ inr (fine, room, subst (IsDiskOf (cs ++ c ∷ [])) (sym made.2) (disk_of made.0 (cs ++ c ∷ []) (accepted_then [] cs c stands.accepted fine) (holds_then old made.0 cs c number revision ch stands fine count next h small made.1)))

@@ -13,6 +13,7 @@ pub mod Leaving
 pub mod Naming
 pub mod Inquiring
 pub mod Registers
+pub mod Keeping
 pub mod Opening
 pub mod Ledgers
 pub mod RemainingLemmas

@@ -46,7 +46,7 @@ module _ {S : Type 0} (g : Ghosts S) (lent : Held S) (result : Outcome S) where
     pub free : IsClean → IfOk result (λ register. is_standing lent.schema ≡ false)
     pub taken : IsClean → IfErr result (λ refused. refused.0 ≡ NotARegister → (is_standing lent.schema ≡ true) × IsSettled g lent refused.1)
     pub cause : IfErr result (λ refused. refused.0 ≢ NotARegister → IsStoreFault refused.0)
-    pub store : IsClean → IfErr result (λ refused. refused.0 ≢ NotARegister → (e : Error) × (refused.0 ≡ register_fault_of (fault_of e)) × RefusesTables g lent refused.1 e)
+    pub store : IsClean → IfErr result (λ refused. refused.0 ≢ NotARegister → (e : Error) × (refused.0 ≡ register_fault_of (fault_of e)) × RefusesTables g e lent refused.1)
     pub unchanged : IsClean → IfErr result (λ refused. IsTrue (state g refused.1).is_open → KeepsAll (state g lent) (state g refused.1))
     pub later : IsLater (state g lent) (state g (connection_in result))
     pub crash : IsClean → LeavesOrMakes (state g lent) (state g (connection_in result))
@@ -73,7 +73,7 @@ module _ {S : Type 0} (g : Ghosts S) (lent : Held S) (result : Outcome S) where
     pub missing : IsClean → IfErr result (λ refused. refused.0 ≡ NotARegister → IsOpenedLater (λ mid. TellsRegister g mid refused.1 None))
     pub cause : IfErr result (λ refused. refused.0 ≢ NotARegister → IsStoreFault refused.0)
     pub store : IsClean → IfErr result (λ refused. refused.0 ≢ NotARegister →
-        ((e : Error) × (refused.0 ≡ register_fault_of (fault_of e)) × RefusesTables g lent refused.1 e) ⊎ IsOpenedLater (λ mid. (fault : TableFault) × (refused.0 ≡ register_fault_of fault) × RefusesRegister g mid refused.1 fault))
+        ((e : Error) × (refused.0 ≡ register_fault_of (fault_of e)) × RefusesTables g e lent refused.1) ⊎ IsOpenedLater (λ mid. (fault : TableFault) × (refused.0 ≡ register_fault_of fault) × RefusesRegister g mid refused.1 fault))
     pub stands : IsClean → (commands : List Command) → StandsFor (state g lent) commands → length commands ≤ most_revision → IsFoundAs g commands result
     pub recovered : IsClean → (commands : List Command) → IsOpenedOn commands (state g lent) → length commands ≤ most_revision → IsFoundAs g commands result
     pub same : IsClean → IfErr result (λ refused. refused.0 ≡ NotARegister → IsAsBefore (state g lent) (state g refused.1))

@@ -36,8 +36,8 @@ abbrev pub Leaves : State → List Command → Type 0
 Leaves s commands = (trees : Trees) → s.may_leave trees → IsDiskOf commands trees
 
 -- a crash leaves the register of the commands, or of them and the new one, where that is accepted and its revision may be stored
-abbrev pub LeavesEither : State → List Command → Command → Type 0
-LeavesEither s commands command =
+abbrev pub LeavesEither : Command → State → List Command → Type 0
+LeavesEither command s commands =
     (trees : Trees) → s.may_leave trees → IsDiskOf commands trees ⊎ ((refusal (versions commands) command ≡ None) × (length commands < most_revision) × IsDiskOf (commands ++ command ∷ []) trees)
 
 -- a crash leaves what it left before, or the register of no commands, where the database was empty
@@ -47,4 +47,4 @@ LeavesOrMakes old new = (trees : Trees) → new.may_leave trees → old.may_leav
 -- so a change leaves it, whose command is accepted, whose number is the next and whose revision counts it and may be stored
 abbrev pub EnactsOrNot : State → State → Command → ℕ → ℕ → Type 0
 EnactsOrNot old new command number revision =
-    (commands : List Command) → StandsFor old commands → Leaves old commands → refusal (versions commands) command ≡ None → IsNumbered commands command number → revision ≡ length commands + 1 → length commands < most_revision → LeavesEither new commands command
+    (commands : List Command) → StandsFor old commands → Leaves old commands → refusal (versions commands) command ≡ None → IsNumbered commands command number → revision ≡ length commands + 1 → length commands < most_revision → LeavesEither command new commands

@@ -29,7 +29,7 @@ impl<S: Alter + Drop> Drop for Register<S> {
 }
 
 impl<S: Alter> Register<S> {
-    ghost use Rattle.std.specs.Prelude.{◌≡◌, ◌≢◌, ◌≤◌, ◌<◌, ◌+◌, ◌++◌, Err, None, ◌∷◌, [], List, length, pos, IfOk, IfErr, OnErr, OnOk, IsTrue};
+    ghost use Rattle.std.specs.Prelude.{◌≡◌, ◌≢◌, ◌≤◌, ◌<◌, ◌+◌, ◌++◌, Err, None, ◌∷◌, [], List, length, pos, IfOk, IfErr, OnOk};
     ghost use Rattle.sqlite.specs.State.{HasCleanDisk, FailsToQuery};
     ghost use Rattle.sqlite.specs.declared.error.Error.{Error};
     ghost use Rattle.sqlite_value.specs.declared.value.Value.TheVariants.{Int};
@@ -40,13 +40,13 @@ impl<S: Alter> Register<S> {
     ghost use Rattle.cad_versions.specs.AsOf.{as_of as register_as_of};
     ghost use Rattle.cad_versions.specs.Listing.{IsListing};
     ghost use Rattle.cad_register.specs.Damage.{ReadsRows};
-    ghost use Rattle.cad_register.specs.Leaving.{IsAnswered, IsLater, IsOfTheRegister};
+    ghost use Rattle.cad_register.specs.Keeping.{Keeps};
     ghost use Rattle.cad_register.specs.Opening.{Created, Opened, OpenedOrCreated};
     ghost use Rattle.cad_register.specs.Stands.{IsStoreFault, IsReadingFault};
     ghost use Rattle.cad_register.specs.Naming.{NamesShown};
     ghost use Rattle.cad_register.specs.Refusing.{IsNotForMemory, RefusesToApply, IsForCommand};
     ghost use Rattle.cad_register.specs.Surviving.{Leaves, LeavesEither};
-    ghost use Rattle.cad_register.specs.Registers.{connection_of, state_of, revision_of, IsRegisterOf, IsStill, Remains, IsRefused};
+    ghost use Rattle.cad_register.specs.Registers.{connection_of, state_of, revision_of, IsRegisterOf, Remains, IsRefused};
 
     /// Gives the connection back.
     pub fn release(self) -> Connection<S>
@@ -140,10 +140,7 @@ impl<S: Alter> Register<S> {
             IsReadingFault fault) }
         // Whatever the disk returns, only sound rows are listed, and the damaged row is the first that breaks a rule.
         ensures read { ReadsRows (state_of S.Store self.old) (state_of S.Store self.new) revision (revision_of self.old) result }
-        // Answered, or refused by neither the database nor want of memory.
-        ensures same { HasCleanDisk (state_of S.Store self.new) → IsAnswered result →
-            IsStill S.Store self.old self.new }
-        // With the same limit of steps, and no fault of the disk forgotten.
+        // It shows what it showed, with the same limit of steps, and no fault of the disk forgotten.
         ensures still { HasCleanDisk (state_of S.Store self.new) →
             OnOk result (Remains S.Store self.old self.new) }
         ensures store { HasCleanDisk (state_of S.Store self.new) →
@@ -152,15 +149,7 @@ impl<S: Alter> Register<S> {
         ensures kept { HasCleanDisk (state_of S.Store self.new) →
             OnOk result ((commands : List CommandOf) → IsRegisterOf S.Store self.old commands →
             IsRegisterOf S.Store self.new commands) }
-        ensures unchanged { HasCleanDisk (state_of S.Store self.new) →
-            IsTrue (state_of S.Store self.new).is_open → OnErr result ((commands : List CommandOf) →
-            IsRegisterOf S.Store self.old commands → IsRegisterOf S.Store self.new commands) }
-        // What an open after a crash may find, at every exit.
-        ensures crash { HasCleanDisk (state_of S.Store self.new) → (commands : List CommandOf) →
-            IsRegisterOf S.Store self.old commands →
-            Leaves (state_of S.Store self.new) commands }
-        // Whatever is answered, the limit of steps is the same, and no fault of the disk is forgotten.
-        ensures later { IsLater (state_of S.Store self.old) (state_of S.Store self.new) }
+        ensures keeps { Keeps S.Store Leaves self.old self.new result }
     {
         if u64::from(self.revision) < revision {
             return Err(RegisterFault::UnknownRevision);
@@ -183,26 +172,16 @@ impl<S: Alter> Register<S> {
         // Whatever the disk returns, a row that is named is one that was asked for, and breaks a rule.
         ensures damaged { IfErr result
             (NamesShown S.Store (connection_of self.old) (connection_of self.new) (IsForCommand command (revision_of self.old))) }
-        // Refused by neither the database nor want of memory.
-        ensures same { HasCleanDisk (state_of S.Store self.new) → IfErr result (λ fault.
-            IsOfTheRegister fault → IsStill S.Store self.old self.new) }
         // What the database itself refused, a question for what stands, a statement of the change or its commit.
         ensures store { HasCleanDisk (state_of S.Store self.new) →
             result ≡ Err RegisterFault.Store → (commands : List CommandOf) →
             IsRegisterOf S.Store self.old commands →
             RefusesToApply S.Store (connection_of self.old) (connection_of self.new) command (length commands) }
-        ensures unchanged { HasCleanDisk (state_of S.Store self.new) →
-            IsTrue (state_of S.Store self.new).is_open → OnErr result ((commands : List CommandOf) →
-            IsRegisterOf S.Store self.old commands → IsRegisterOf S.Store self.new commands) }
-        // What an open after a crash may find, at every exit, and once the revision is told.
-        ensures crash { HasCleanDisk (state_of S.Store self.new) → (commands : List CommandOf) →
-            IsRegisterOf S.Store self.old commands →
-            LeavesEither (state_of S.Store self.new) commands command }
+        ensures keeps { Keeps S.Store (LeavesEither command) self.old self.new result }
+        // What an open after a crash may find once the revision is told.
         ensures durable { HasCleanDisk (state_of S.Store self.new) →
             OnOk result ((commands : List CommandOf) → IsRegisterOf S.Store self.old commands →
             Leaves (state_of S.Store self.new) (commands ++ command ∷ [])) }
-        // Whatever is answered, the limit of steps is the same, and no fault of the disk is forgotten.
-        ensures later { IsLater (state_of S.Store self.old) (state_of S.Store self.new) }
     {
         let count = decide(self.alloc, &mut self.connection, self.revision, &command)?;
         if self.revision >= MOST_REVISION {

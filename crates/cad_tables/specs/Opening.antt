@@ -101,7 +101,7 @@ RefusesNames g old new e =
     × (IsNotRun (state g old) (state g new) state_text [] e ⊎ ((mid : Held _) × IsSettled g old mid × IsNotRun (state g mid) (state g new) version_text [] e))
 
 -- own profile: a transaction was open already, or the database refuses a text that makes the tables, or, since neither name is in use, a statement that makes them or the commit
-abbrev pub RefusesTables : {S : Type 0} → Ghosts S → Held S → Held S → Error → Type 0
-RefusesTables g old new e =
+abbrev pub RefusesTables : {S : Type 0} → Ghosts S → Error → Held S → Held S → Type 0
+RefusesTables g e old new =
     (IsTrue old.in_transaction × (e ≡ SqliteFailure TransactionState))
     ⊎ (RefusesNames g old new e ⊎ ((mid : Held _) × (is_standing old.schema ≡ false) × IsSettled g old mid × RefusesTransaction g creating e mid new))

@@ -1,18 +1,17 @@
 //! Making the tables of an empty register.
 
-ghost use Rattle.std.specs.Prelude.{◌≡◌, [], ℕ, true, false, IsTrue, Ok, IfErr, IfOk, OnOk, OnErr};
-ghost use Rattle.sqlite.specs.State.{HasCleanDisk, Survives, IsNotRun, IsUnchanged};
+ghost use Rattle.std.specs.Prelude.{◌≡◌, [], true, false, IsTrue, Ok, IfErr, IfOk, OnOk};
+ghost use Rattle.sqlite.specs.State.{HasCleanDisk, IsNotRun, IsUnchanged};
 ghost use Rattle.sqlite.specs.Listing.{understood};
 ghost use Rattle.sqlite.specs.Held.{state};
-ghost use Rattle.sqlite.specs.declared.error.Error.{Error};
 ghost use Rattle.cad_tables.specs.Asking.{OnlyReads};
-ghost use Rattle.cad_tables.specs.Faults.{fault_of, is_name_taken as is_taken};
+ghost use Rattle.cad_tables.specs.Faults.{is_name_taken as is_taken};
 ghost use Rattle.cad_tables.specs.Opening.{Finds, RefusesNames, RefusesTables};
 ghost use Rattle.cad_tables.specs.Refusals.{creating, RefusesTransaction};
-ghost use Rattle.cad_tables.specs.Transactions.{TakesStep};
+ghost use Rattle.cad_tables.specs.Transactions.{TakesStep, CommitsOrKeeps};
 ghost use Rattle.cad_tables.specs.Tables.{is_standing as stands};
 ghost use Rattle.cad_tables.specs.Texts.{state_text, version_text};
-ghost use Rattle.cad_tables.specs.Steps.{MakesTables, KeepsAll, Creates, CreatesTo};
+ghost use Rattle.cad_tables.specs.Steps.{MakesTables, Creates, CreatesTo};
 
 use crate::faults::TableFault;
 use crate::taken::is_name_taken;
@@ -90,17 +89,13 @@ fn make_tables<S: Alter>(tx: &mut Transaction<'_, S>) -> Result<(), Error>
 }
 
 /// Makes the tables in one transaction, or changes nothing.
-fn make<S: Alter>(conn: &mut Connection<S>) -> Result<(), Error>
-    requires { (state S.Store conn.old).in_transaction ≡ false }
+fn make<S: Alter>(conn: &mut Connection<S>) -> Result<(), TableFault>
+    requires begins { (state S.Store conn.old).in_transaction ≡ false }
+    requires settled { HasCleanDisk (state S.Store conn.old) → IsTrue (state S.Store conn.old).is_open
+        → (state S.Store conn.old).now ≡ (state S.Store conn.old).committed }
     ensures made { HasCleanDisk (state S.Store conn.new)
         → OnOk result (Creates (state S.Store conn.old) (state S.Store conn.new)) }
-    ensures neither { HasCleanDisk (state S.Store conn.new) → IsTrue (state S.Store conn.new).is_open
-        → OnErr result ((state S.Store conn.old).now ≡ (state S.Store conn.old).committed
-        → KeepsAll (state S.Store conn.old) (state S.Store conn.new)) }
-    ensures refused { HasCleanDisk (state S.Store conn.new) → IfErr result (λ e.
-        RefusesTransaction S.Store creating e conn.old conn.new) }
-    ensures mode { (state S.Store conn.new).in_transaction ≡ false }
-    ensures crash { Survives (state S.Store conn.old) (state S.Store conn.new) (CreatesTo (state S.Store conn.old)) }
+    ensures keeps { CommitsOrKeeps S.Store (RefusesTransaction S.Store creating) CreatesTo conn.old conn.new result }
 {
     let mut tx = conn.transaction();
     make_tables(&mut tx)?;
@@ -115,12 +110,7 @@ pub fn create<S: Alter>(conn: &mut Connection<S>) -> Result<Creation, TableFault
     ensures standing { HasCleanDisk (state S.Store conn.new) → result ≡ Ok Creation.AlreadyExists
         → (stands (state S.Store conn.old).now.schema ≡ true)
         × IsUnchanged (state S.Store conn.old) (state S.Store conn.new) }
-    ensures neither { HasCleanDisk (state S.Store conn.new) → IsTrue (state S.Store conn.new).is_open
-        → OnErr result (KeepsAll (state S.Store conn.old) (state S.Store conn.new)) }
-    ensures refused { HasCleanDisk (state S.Store conn.new) → IfErr result (λ fault. (e : Error) × (fault ≡ fault_of e)
-        × RefusesTables S.Store conn.old conn.new e) }
-    ensures mode { (state S.Store conn.old).in_transaction ≡ false → (state S.Store conn.new).in_transaction ≡ false }
-    ensures crash { Survives (state S.Store conn.old) (state S.Store conn.new) (CreatesTo (state S.Store conn.old)) }
+    ensures keeps { CommitsOrKeeps S.Store (RefusesTables S.Store) CreatesTo conn.old conn.new result }
 {
     if !conn.is_autocommit() {
         return Err(TableFault::Store(Error::SqliteFailure(ErrorCode::TransactionState)));

@@ -1,14 +1,12 @@
 //! One command's change, in one transaction.
 
-ghost use Rattle.std.specs.Prelude.{◌≡◌, [], ◌∷◌, false, IsTrue, OnOk, OnErr, IfErr};
-ghost use Rattle.sqlite.specs.State.{HasCleanDisk, Survives};
+ghost use Rattle.std.specs.Prelude.{◌≡◌, [], ◌∷◌, OnOk};
+ghost use Rattle.sqlite.specs.State.{HasCleanDisk};
 ghost use Rattle.sqlite.specs.Held.{state};
-ghost use Rattle.sqlite.specs.declared.error.Error.{Error};
-ghost use Rattle.cad_tables.specs.Faults.{fault_of};
 ghost use Rattle.cad_tables.specs.Refusals.{entering, closing as the_closing, counting, statements_of, all_statements_of};
 ghost use Rattle.cad_tables.specs.Refusals.{RefusesTransaction};
-ghost use Rattle.cad_tables.specs.Transactions.{TakesStep};
-ghost use Rattle.cad_tables.specs.Steps.{Adds, Counts, Closes, Changes, Commands, Commits, CommitsTo, KeepsAll};
+ghost use Rattle.cad_tables.specs.Transactions.{TakesStep, CommitsOrKeeps};
+ghost use Rattle.cad_tables.specs.Steps.{Adds, Counts, Closes, Changes, Commands, Commits, CommitsTo};
 
 use crate::cells::{Stored, closing_cells, one_cell};
 use crate::changes::{Change, Closing};
@@ -96,15 +94,8 @@ pub fn write<S: Alter, L: Stored>(
 ) -> Result<(), TableFault>
     ensures wrote { HasCleanDisk (state S.Store conn.new)
         → OnOk result (Commits L.line change.now revision (state S.Store conn.old) (state S.Store conn.new)) }
-    ensures neither { HasCleanDisk (state S.Store conn.new) → IsTrue (state S.Store conn.new).is_open
-        → OnErr result (KeepsAll (state S.Store conn.old) (state S.Store conn.new)) }
-    ensures refused { HasCleanDisk (state S.Store conn.new)
-        → IfErr result (λ fault. (e : Error) × (fault ≡ fault_of e)
-        × RefusesTransaction S.Store (all_statements_of L.line change.now revision) e conn.old conn.new) }
-    ensures mode { (state S.Store conn.old).in_transaction ≡ false → (state S.Store conn.new).in_transaction ≡ false }
-    // What an open after a crash may find: the tables as before, or with the whole change.
-    ensures crash { Survives (state S.Store conn.old) (state S.Store conn.new)
-        (CommitsTo L.line change.now revision (state S.Store conn.old)) }
+    ensures keeps { CommitsOrKeeps S.Store (RefusesTransaction S.Store (all_statements_of L.line change.now revision))
+        (CommitsTo L.line change.now revision) conn.old conn.new result }
 {
     if !conn.is_autocommit() {
         return Err(TableFault::Store(Error::SqliteFailure(ErrorCode::TransactionState)));

@@ -23,41 +23,63 @@ returns-clause-wrote g c clean =
     subst (λ h. Commits g.L.Stored.line c.args.change.now c.args.revision (state g.S.Store c.args.conn.now) (state g.S.Store h)) same
     (commits g.S.Store g.L.Stored.line c.args.conn.now c.transaction-tx.result.conn.now c.change_all.new.tx.conn.now c.commit.new.self.0 c.args.change.now c.args.revision begun made (c.in_ok-commit.ensures.ok late).1)
 
-pub returns-clause-crash : goal.returns-clause-crash
-returns-clause-crash g c =
+pub returns-clause-keeps : goal.returns-clause-keeps
+returns-clause-keeps g c =
     let begun = c.transaction-tx.ensures.begun in
-    let same : c.commit.new.self.0 ≡ c.conn-2-1.given.0 = search rules in
-    subst (λ h. Survives (state g.S.Store c.args.conn.now) (state g.S.Store h) (CommitsTo g.L.Stored.line c.args.change.now c.args.revision (state g.S.Store c.args.conn.now))) same
-    (crashes g.S.Store g.L.Stored.line c.args.conn.now c.transaction-tx.result.conn.now c.change_all.new.tx.conn.now c.commit.new.self.0 c.args.change.now c.args.revision begun
-    (λ clean. c.in_ok-change_all.ensures.step.does clean (rw begun)) c.change_all.ensures.step.survives c.commit.ensures.survives)
+    record {
+      neither = search rules;
+      refused = search rules;
+      mode = search rules;
+      crash =
+          let same : c.commit.new.self.0 ≡ c.conn-2-1.given.0 = search rules in
+          subst (λ h. Survives (state g.S.Store c.args.conn.now) (state g.S.Store h) (CommitsTo g.L.Stored.line c.args.change.now c.args.revision (state g.S.Store c.args.conn.now))) same
+          (crashes g.S.Store g.L.Stored.line c.args.conn.now c.transaction-tx.result.conn.now c.change_all.new.tx.conn.now c.commit.new.self.0 c.args.change.now c.args.revision begun
+          (λ clean. c.in_ok-change_all.ensures.step.does clean (rw begun)) c.change_all.ensures.step.survives c.commit.ensures.survives);
+    }
 
-pub returns-in_err-commit-clause-crash : goal.returns-in_err-commit-clause-crash
-returns-in_err-commit-clause-crash g c =
+pub returns-in_err-commit-clause-keeps : goal.returns-in_err-commit-clause-keeps
+returns-in_err-commit-clause-keeps g c =
     let begun = c.transaction-tx.ensures.begun in
-    let same : c.commit.new.self.0 ≡ c.conn-2-1.given.0 = search rules in
-    subst (λ h. Survives (state g.S.Store c.args.conn.now) (state g.S.Store h) (CommitsTo g.L.Stored.line c.args.change.now c.args.revision (state g.S.Store c.args.conn.now))) same
-    (crashes g.S.Store g.L.Stored.line c.args.conn.now c.transaction-tx.result.conn.now c.change_all.new.tx.conn.now c.commit.new.self.0 c.args.change.now c.args.revision begun
-    (λ clean. c.in_ok-change_all.ensures.step.does clean (rw begun)) c.change_all.ensures.step.survives c.commit.ensures.survives)
+    let last = c.change_all.new.tx.conn.now in
+    let e = c.in_err-commit.field-0.0 in
+    record {
+      neither = search rules;
+      refused = λ clean.
+          let early : HasCleanDisk (state g.S.Store last) = search rules in
+          let fails : FailsToCommit (state g.S.Store last) (state g.S.Store c.conn-2-1.given.0) e = search rules in
+          let statements = all_statements_of g.L.Stored.line c.args.change.now c.args.revision in
+          told _ c.from_residual-in_err-commit.result (fault_of e) c.from_residual-in_err-commit.ensures.1
+          (e, refl, commit_refused g.S.Store c.args.conn.now c.transaction-tx.result.conn.now last c.conn-2-1.given.0 begun _ statements (c.in_ok-change_all.ensures.step.ran early (rw begun)) fails);
+      mode = search rules;
+      crash =
+          let same : c.commit.new.self.0 ≡ c.conn-2-1.given.0 = search rules in
+          subst (λ h. Survives (state g.S.Store c.args.conn.now) (state g.S.Store h) (CommitsTo g.L.Stored.line c.args.change.now c.args.revision (state g.S.Store c.args.conn.now))) same
+          (crashes g.S.Store g.L.Stored.line c.args.conn.now c.transaction-tx.result.conn.now last c.commit.new.self.0 c.args.change.now c.args.revision begun
+          (λ clean. c.in_ok-change_all.ensures.step.does clean (rw begun)) c.change_all.ensures.step.survives c.commit.ensures.survives);
+    }
 
-pub returns-in_err-change_all-clause-refused : goal.returns-in_err-change_all-clause-refused
-returns-in_err-change_all-clause-refused g c clean =
-    let begun = c.transaction-tx.ensures.begun in
-    let early : HasCleanDisk (state g.S.Store c.change_all.new.tx.conn.now) = search rules in
-    let up : (state g.S.Store c.change_all.new.tx.conn.now).faults ≤ (state g.S.Store c.conn-1.given.0).faults = search rules in
-    let statements = all_statements_of g.L.Stored.line c.args.change.now c.args.revision in
-    told _ c.from_residual.result (fault_of c.in_err-change_all.field-0.0) c.from_residual.ensures.1
-    (c.in_err-change_all.field-0.0, refl, statement_refused g.S.Store c.args.conn.now c.transaction-tx.result.conn.now c.change_all.new.tx.conn.now c.conn-1.given.0 begun _ statements (c.in_err-change_all.ensures.step.refused early (rw begun)) up)
+pub returns-in_err-change_all-clause-keeps : goal.returns-in_err-change_all-clause-keeps
+returns-in_err-change_all-clause-keeps g c = record {
+  neither = search rules;
+  refused = λ clean.
+      let begun = c.transaction-tx.ensures.begun in
+      let last = c.change_all.new.tx.conn.now in
+      let e = c.in_err-change_all.field-0.0 in
+      let early : HasCleanDisk (state g.S.Store last) = search rules in
+      let up : (state g.S.Store last).faults ≤ (state g.S.Store c.conn-1.given.0).faults = search rules in
+      let statements = all_statements_of g.L.Stored.line c.args.change.now c.args.revision in
+      told _ c.from_residual.result (fault_of e) c.from_residual.ensures.1
+      (e, refl, statement_refused g.S.Store c.args.conn.now c.transaction-tx.result.conn.now last c.conn-1.given.0 begun _ statements (c.in_err-change_all.ensures.step.refused early (rw begun)) up);
+  mode = search rules;
+  crash = search rules;
+}
 
-pub returns-in_err-commit-clause-refused : goal.returns-in_err-commit-clause-refused
-returns-in_err-commit-clause-refused g c clean =
-    let begun = c.transaction-tx.ensures.begun in
-    let early : HasCleanDisk (state g.S.Store c.change_all.new.tx.conn.now) = search rules in
-    let fails : FailsToCommit (state g.S.Store c.change_all.new.tx.conn.now) (state g.S.Store c.conn-2-1.given.0) c.in_err-commit.field-0.0 = search rules in
-    let statements = all_statements_of g.L.Stored.line c.args.change.now c.args.revision in
-    told _ c.from_residual-in_err-commit.result (fault_of c.in_err-commit.field-0.0) c.from_residual-in_err-commit.ensures.1
-    (c.in_err-commit.field-0.0, refl, commit_refused g.S.Store c.args.conn.now c.transaction-tx.result.conn.now c.change_all.new.tx.conn.now c.conn-2-1.given.0 begun _ statements (c.in_ok-change_all.ensures.step.ran early (rw begun)) fails)
-
-pub returns-then-not-is_autocommit-clause-refused : goal.returns-then-not-is_autocommit-clause-refused
-returns-then-not-is_autocommit-clause-refused g c clean =
-    let within : IsTrue c.args.conn.now.in_transaction = search rules in
-    (SqliteFailure TransactionState, refl, inl (within, refl))
+pub returns-then-not-is_autocommit-clause-keeps : goal.returns-then-not-is_autocommit-clause-keeps
+returns-then-not-is_autocommit-clause-keeps g c = record {
+  neither = search rules;
+  refused = λ clean.
+      let within : IsTrue c.args.conn.now.in_transaction = search rules in
+      (SqliteFailure TransactionState, refl, inl (within, refl));
+  mode = search rules;
+  crash = search rules;
+}

@@ -6,7 +6,10 @@ use Rattle.cad_versions.specs.declared.fault.RegisterFault.TheVariants as fault
 use Rattle.cad_register.specs.Refusing.{RefusesChange}
 use Rattle.cad_tables.specs.Opening.{most_revision}
 use Rattle.sqlite.specs.Held.{state}
-use Rattle.cad_register.proofs.SurvivingLemmas.{leaves_standing, leaves_then, leaves_or}
+use Rattle.cad_register.specs.Surviving.{LeavesEither}
+use Rattle.cad_register.proofs.LeavingLemmas.{asks_as, later_then}
+use Rattle.cad_register.proofs.KeepingLemmas.{keeps_asked, keeps_refused, keeps_either}
+use Rattle.cad_register.proofs.SurvivingLemmas.{leaves_standing, leaves_then}
 use Rattle.cad_register.proofs.register.Register.apply.Goals as goal
 
 pub returns-in_err-count-clause-refused : goal.returns-in_err-count-clause-refused
@@ -37,37 +40,53 @@ returns-in_err-enact-clause-store g c clean e cs register =
     let next : c.args.self.now.revision + 1 ≡ length cs + 1 = ap (λ n. n + 1) register.counted in
     inr (c.decide.new.connection, same, subst (RefusesChange g.S.Store c.decide.new.connection c.enact.new.connection c.args.command) next (c.in_err-enact.ensures.store clean (ap Err is)))
 
-pub returns-in_err-count-clause-crash : goal.returns-in_err-count-clause-crash
-returns-in_err-count-clause-crash g c clean cs register =
-    let old = state g.S.Store c.args.self.now.connection in
-    let new = state g.S.Store c.decide.new.connection in
-    leaves_or new cs c.args.command (leaves_then old new cs (c.in_err-count.ensures.leaves.left clean) (leaves_standing old cs (g.met.S.Store.settled c.args.self.now.connection.store) register.stands))
+pub returns-in_err-count-clause-keeps : goal.returns-in_err-count-clause-keeps
+returns-in_err-count-clause-keeps g c =
+    let settled = g.met.S.Store.settled c.args.self.now.connection.store in
+    let cause = c.in_err-count.field-0.0 in
+    let p = err_from_is_err_and c.from_residual.result c.from_residual.ensures.1 in
+    rw (p.1, p.2) (keeps_either g.S.Store c.args.self.now _ c.args.command (Err cause) (keeps_asked g.S.Store c.args.self.now c.decide.new.connection (Err cause) settled c.in_err-count.ensures.leaves))
 
-pub returns-in_err-enact-clause-crash : goal.returns-in_err-enact-clause-crash
-returns-in_err-enact-clause-crash g c clean cs register =
+pub returns-then-self-ge-MOST_REVISION-clause-keeps : goal.returns-then-self-ge-MOST_REVISION-clause-keeps
+returns-then-self-ge-MOST_REVISION-clause-keeps g c =
+    let settled = g.met.S.Store.settled c.args.self.now.connection.store in
+    let asks = asks_as (state g.S.Store c.args.self.now.connection) (state g.S.Store c.decide.new.connection) _ (Err fault.NotARegister) (λ own. tt) c.in_ok-count.ensures.leaves in
+    keeps_either g.S.Store c.args.self.now _ c.args.command (Err fault.NotARegister) (keeps_asked g.S.Store c.args.self.now c.decide.new.connection (Err fault.NotARegister) settled asks)
+
+pub returns-in_err-enact-clause-keeps : goal.returns-in_err-enact-clause-keeps
+returns-in_err-enact-clause-keeps g c =
     let old = state g.S.Store c.args.self.now.connection in
     let mid = state g.S.Store c.decide.new.connection in
+    let settled = g.met.S.Store.settled c.args.self.now.connection.store in
+    let p = err_from_is_err_and c.from_residual-in_err-enact.result c.from_residual-in_err-enact.ensures.1 in
+    rw (p.1, p.2) (keeps_refused g.S.Store c.args.self.now c.enact.new.connection mid c.in_ok-count.count c.in_err-enact.field-0.0 c.in_err-enact.ensures.cause c.in_ok-count.ensures.leaves c.in_err-enact.ensures.later c.in_err-enact.ensures.unchanged (LeavesEither c.args.command) (λ clean cs register.
     let early = c.in_err-enact.ensures.later.clean clean in
     let told = c.in_ok-count.ensures.told early cs register.stands in
     let decided = told.0 register.counted in
     let next : c.args.self.now.revision + 1 ≡ length cs + 1 = ap (λ n. n + 1) register.counted in
     let fits = numbered cs c.args.command c.in_ok-count.count c.next_number.result decided.0 decided.1 c.next_number.ensures.next in
-    let leaves = leaves_then old mid cs (c.in_ok-count.ensures.leaves.left early) (leaves_standing old cs (g.met.S.Store.settled c.args.self.now.connection.store) register.stands) in
+    let leaves = leaves_then old mid cs (c.in_ok-count.ensures.leaves.left early) (leaves_standing old cs settled register.stands) in
     let room : length cs < most_revision = omega (arith, register.counted) in
-    c.in_err-enact.ensures.crash clean cs told.1 leaves decided.0 fits next room
+    c.in_err-enact.ensures.crash clean cs told.1 leaves decided.0 fits next room))
 
-pub returns-clause-crash : goal.returns-clause-crash
-returns-clause-crash g c clean cs register =
+pub returns-clause-keeps : goal.returns-clause-keeps
+returns-clause-keeps g c =
     let old = state g.S.Store c.args.self.now.connection in
     let mid = state g.S.Store c.decide.new.connection in
-    let early = c.in_ok-enact.ensures.later.clean clean in
-    let told = c.in_ok-count.ensures.told early cs register.stands in
-    let decided = told.0 register.counted in
-    let next : c.args.self.now.revision + 1 ≡ length cs + 1 = ap (λ n. n + 1) register.counted in
-    let fits = numbered cs c.args.command c.in_ok-count.count c.next_number.result decided.0 decided.1 c.next_number.ensures.next in
-    let leaves = leaves_then old mid cs (c.in_ok-count.ensures.leaves.left early) (leaves_standing old cs (g.met.S.Store.settled c.args.self.now.connection.store) register.stands) in
-    let room : length cs < most_revision = omega (arith, register.counted) in
-    c.in_ok-enact.ensures.crash clean cs told.1 leaves decided.0 fits next room
+    record {
+      same = λ clean. tt;
+      unchanged = λ clean live. tt;
+      crash = λ clean cs register.
+          let early = c.in_ok-enact.ensures.later.clean clean in
+          let told = c.in_ok-count.ensures.told early cs register.stands in
+          let decided = told.0 register.counted in
+          let next : c.args.self.now.revision + 1 ≡ length cs + 1 = ap (λ n. n + 1) register.counted in
+          let fits = numbered cs c.args.command c.in_ok-count.count c.next_number.result decided.0 decided.1 c.next_number.ensures.next in
+          let leaves = leaves_then old mid cs (c.in_ok-count.ensures.leaves.left early) (leaves_standing old cs (g.met.S.Store.settled c.args.self.now.connection.store) register.stands) in
+          let room : length cs < most_revision = omega (arith, register.counted) in
+          c.in_ok-enact.ensures.crash clean cs told.1 leaves decided.0 fits next room;
+      later = later_then old mid (state g.S.Store c.enact.new.connection) c.in_ok-count.ensures.leaves.later c.in_ok-enact.ensures.later;
+    }
 
 pub returns-clause-durable : goal.returns-clause-durable
 returns-clause-durable g c clean cs register =

@@ -23,8 +23,8 @@ returns-in-Ok-Made g c =
       cause = tt;
       store = λ clean. tt;
       unchanged = λ clean. tt;
-      later = later_by old new _ c.create.ensures.crash;
-      crash = λ clean. leaves_made old new clean c.create.ensures.crash;
+      later = later_by old new _ c.create.ensures.keeps.crash;
+      crash = λ clean. leaves_made old new clean c.create.ensures.keeps.crash;
     }
 
 pub returns-in-Ok-AlreadyExists : goal.returns-in-Ok-AlreadyExists
@@ -32,7 +32,7 @@ returns-in-Ok-AlreadyExists g c =
     let old = state g.S.Store c.args.connection in
     let new = state g.S.Store c.create.new.conn in
     let standing = λ (clean : HasCleanDisk new). c.in-Ok-AlreadyExists.ensures.standing clean (ap Ok c.in-Ok-AlreadyExists.field-0-is) in
-    let survives = c.create.ensures.crash in
+    let survives = c.create.ensures.keeps.crash in
     record {
       made = λ clean. tt;
       free = λ clean. tt;
@@ -48,14 +48,14 @@ pub returns-in-Err : goal.returns-in-Err
 returns-in-Err g c =
     let old = state g.S.Store c.args.connection in
     let new = state g.S.Store c.create.new.conn in
-    let survives = c.create.ensures.crash in
+    let survives = c.create.ensures.keeps.crash in
     record {
       made = λ clean. tt;
       free = λ clean. tt;
       taken = λ clean is. absurd (not_as_none c.store_fault.result c.store_fault.ensures.cause is);
       cause = λ other. c.store_fault.ensures.cause;
-      store = λ clean other. let told = c.in-Err.ensures.refused clean in (told.0, rw told.1 at c.store_fault.ensures.told, told.2);
-      unchanged = λ clean still. c.in-Err.ensures.neither clean still;
+      store = λ clean other. let told = c.in-Err.ensures.keeps.refused clean in (told.0, rw told.1 at c.store_fault.ensures.told, told.2);
+      unchanged = λ clean still. c.in-Err.ensures.keeps.neither clean still;
       later = later_by old new _ survives;
       crash = λ clean. leaves_made old new clean survives;
     }
