@@ -13,7 +13,7 @@ use Rattle.cad_register.specs.Registers.{state_of, IsRegisterOf}
 use Rattle.cad_register.specs.Keeping.{Keeps}
 use Rattle.cad_register.specs.Stands.{IsStoreFault}
 use Rattle.cad_register.specs.Surviving.{Leaves, LeavesEither}
-use Rattle.cad_register.proofs.LeavingLemmas.{later_then, not_answered}
+use Rattle.cad_register.proofs.LeavingLemmas.{not_answered}
 use Rattle.cad_register.proofs.StandLemmas.{stands_kept}
 use Rattle.cad_register.proofs.SurvivingLemmas.{leaves_standing, leaves_then, leaves_or}
 
@@ -36,13 +36,11 @@ module _ {S : Type 0} (g : Ghosts S) (old : Register S) (held : Held S) where
     same = λ clean. tt;
     unchanged = λ clean live. tt;
     crash = λ clean cs register. leaves_then (state_of g old) (state_of g new) cs (asks.left clean) (leaves_standing (state_of g old) cs settled register.stands);
-    later = asks.later;
   }
   keeps_asked (Err cause) settled asks = record {
     same = λ clean own. (asks.same clean own, refl);
     unchanged = λ clean live cs register. register_kept (asks.kept clean live register.stands.settled) live cs register;
     crash = λ clean cs register. leaves_then (state_of g old) (state_of g new) cs (asks.left clean) (leaves_standing (state_of g old) cs settled register.stands);
-    later = asks.later;
   }
 
   -- so are the tables refused a change, once what it needs was answered
@@ -56,7 +54,6 @@ module _ {S : Type 0} (g : Ghosts S) (old : Register S) (held : Held S) where
         let all = keeps clean live in
         register_kept (all.0 ∙ same.now, all.1 ∙ same.committed) live;
     crash = left;
-    later = later_then (state_of g old) mid (state_of g new) asks.later later;
   }
 
 -- the commands alone are among what may be found
@@ -65,5 +62,4 @@ keeps_either g old new command r keeps = record {
   same = keeps.same;
   unchanged = keeps.unchanged;
   crash = λ clean cs register. leaves_or (state_of g new) cs command (keeps.crash clean cs register);
-  later = keeps.later;
 }

@@ -41,6 +41,7 @@ impl<S: Alter> Register<S> {
     ghost use Rattle.cad_versions.specs.Listing.{IsListing};
     ghost use Rattle.cad_register.specs.Damage.{ReadsRows};
     ghost use Rattle.cad_register.specs.Keeping.{Keeps};
+    ghost use Rattle.cad_register.specs.Leaving.{IsLater};
     ghost use Rattle.cad_register.specs.Opening.{Created, Opened, OpenedOrCreated};
     ghost use Rattle.cad_register.specs.Stands.{IsStoreFault, IsReadingFault};
     ghost use Rattle.cad_register.specs.Naming.{NamesShown};
@@ -150,6 +151,8 @@ impl<S: Alter> Register<S> {
             OnOk result ((commands : List CommandOf) → IsRegisterOf S.Store self.old commands →
             IsRegisterOf S.Store self.new commands) }
         ensures keeps { Keeps S.Store Leaves self.old self.new result }
+        // Whatever is answered, the limit of steps is the same, and no fault of the disk is forgotten.
+        ensures later { IsLater (state_of S.Store self.old) (state_of S.Store self.new) }
     {
         if u64::from(self.revision) < revision {
             return Err(RegisterFault::UnknownRevision);
@@ -182,6 +185,8 @@ impl<S: Alter> Register<S> {
         ensures durable { HasCleanDisk (state_of S.Store self.new) →
             OnOk result ((commands : List CommandOf) → IsRegisterOf S.Store self.old commands →
             Leaves (state_of S.Store self.new) (commands ++ command ∷ [])) }
+        // Whatever is answered, the limit of steps is the same, and no fault of the disk is forgotten.
+        ensures later { IsLater (state_of S.Store self.old) (state_of S.Store self.new) }
     {
         let count = decide(self.alloc, &mut self.connection, self.revision, &command)?;
         if self.revision >= MOST_REVISION {

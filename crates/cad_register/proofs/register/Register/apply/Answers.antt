@@ -7,7 +7,7 @@ use Rattle.cad_register.specs.Refusing.{RefusesChange}
 use Rattle.cad_tables.specs.Opening.{most_revision}
 use Rattle.sqlite.specs.Held.{state}
 use Rattle.cad_register.specs.Surviving.{LeavesEither}
-use Rattle.cad_register.proofs.LeavingLemmas.{asks_as, later_then}
+use Rattle.cad_register.proofs.LeavingLemmas.{asks_as}
 use Rattle.cad_register.proofs.KeepingLemmas.{keeps_asked, keeps_refused, keeps_either}
 use Rattle.cad_register.proofs.SurvivingLemmas.{leaves_standing, leaves_then}
 use Rattle.cad_register.proofs.register.Register.apply.Goals as goal
@@ -85,7 +85,6 @@ returns-clause-keeps g c =
           let leaves = leaves_then old mid cs (c.in_ok-count.ensures.leaves.left early) (leaves_standing old cs (g.met.S.Store.settled c.args.self.now.connection.store) register.stands) in
           let room : length cs < most_revision = omega (arith, register.counted) in
           c.in_ok-enact.ensures.crash clean cs told.1 leaves decided.0 fits next room;
-      later = later_then old mid (state g.S.Store c.enact.new.connection) c.in_ok-count.ensures.leaves.later c.in_ok-enact.ensures.later;
     }
 
 pub returns-clause-durable : goal.returns-clause-durable
