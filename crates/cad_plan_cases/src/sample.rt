@@ -42,8 +42,11 @@ pub fn snapshot_at(alloc: Global, asked: Option<u64>) -> Result<Option<Snapshot>
 
 /// The features of an empty register.
 fn empty_snapshot(alloc: Global) -> Result<Snapshot, AllocError> {
-    let versions = Vec::new(alloc);
-    Snapshot::build(alloc, 0, versions)
+    let mut ledger = PlainLedger::new(alloc);
+    match ledger.as_of(0) {
+        Ok(versions) => Snapshot::build(alloc, 0, versions),
+        Err(_) => Err(AllocError),
+    }
 }
 
 /// The sample register at its last revision, each revision made of the one before.
