@@ -156,7 +156,38 @@ def ranges(random):
     yield range_case("object", list(range(1, 151)), ("without", 3), ("with", 120))
 
 
+# How many parcels are merged for each of the most changes before a new base is due, however few are changed.
+MERGED_FOR_A_CHANGE = 64
+
+
+def layer_case(labels, times, most, changed):
+    after = [*changed, *labels[len(changed) :]] if times else labels
+    changes = len(changed) if times else 0
+    is_settled = changes <= most and times * len(changed) <= MERGED_FOR_A_CHANGE * most
+    told = f"{' '.join(after)} count {len(after)}"
+    return f"layer {' '.join(labels)} ? {times} {most} {' '.join(changed)}", f"{told} {'settled' if is_settled else 'due'} then {told} settled"
+
+
+def layers():
+    five = ["a", "b", "c", "d", "e"]
+    # changes beyond the bound, and as many as it
+    for changed in [["x"], ["x", "y"], ["x", "y", "z"], ["v", "w", "x", "y", "z", "new"]]:
+        for times in [0, 1, 2]:
+            for most in [0, 1, 2, 3]:
+                yield layer_case(five, times, most, changed)
+    # few changes, which stand for many that were merged
+    for times, most, changed in [(64, 1, ["x"]), (65, 1, ["x"]), (128, 2, ["x"]), (129, 2, ["x"]), (64, 2, ["x", "y"]), (65, 2, ["x", "y"]), (192, 3, ["x"]), (193, 3, ["x"])]:
+        yield layer_case(five, times, most, changed)
+    # what is merged stands before all of the base, or behind it
+    yield layer_case(["a"], 65, 1, ["x"])
+    yield layer_case(["a"], 1, 1, ["x", "y"])
+
+
 UNREAD = [
+    "layer a b ? 1 1",
+    "layer a b ? 1",
+    "layer a b ? 65536 1 x",
+    "layer a b ? 1 -1 x",
     "lifespan 1 ? free free",
     "area 1 2 ? free",
     "area 1 2 ? with:x free",
@@ -170,10 +201,10 @@ UNREAD = [
 
 def main():
     random = Random(65_536)
-    cases = [*named_boxes(), *drawn_boxes(random), *ranges(random), *((line, "unread") for line in UNREAD)]
+    cases = [*named_boxes(), *drawn_boxes(random), *ranges(random), ("# Layers", None), *layers(), ("# Lines that are no cases", None), *((line, "unread") for line in UNREAD)]
     here = Path(__file__).parent
     (here / "stdin").write_text("".join(f"{asked}\n" for asked, _ in cases), encoding="utf-8")
-    (here / "stdout").write_text("".join(f"{answer}\n" for _, answer in cases), encoding="utf-8")
+    (here / "stdout").write_text("".join(f"{answer}\n" for _, answer in cases if answer is not None), encoding="utf-8")
 
 
 main()

@@ -2,6 +2,7 @@
 
 ghost use Rattle.cad_ordered.specs.Edges.{IsEdgeOf};
 
+use crate::layers::layer_answer;
 use crate::parcels::{Parcel, bare, features};
 use crate::values::{bounds, edge, point, rectangle};
 use anyhow::Result;
@@ -30,7 +31,8 @@ fn parcel(alloc: Global, property: &str, word: &str) -> Result<Parcel> {
     Ok(parcel)
 }
 
-fn parcels(alloc: Global, property: &str, words: &str) -> Result<Vec<Parcel>> {
+/// The parcels with these values of the property, one after another.
+pub(crate) fn parcels(alloc: Global, property: &str, words: &str) -> Result<Vec<Parcel>> {
     let mut parcels = Vec::new(alloc);
     for word in words.split_whitespace() {
         parcels.push(parcel(alloc, property, word)?)?;
@@ -154,6 +156,9 @@ fn read_answer(alloc: Global, line: &str) -> Result<Option<String>> {
     let Some((property, words)) = values.split_once(' ') else {
         return Ok(None);
     };
+    if property == "layer" {
+        return layer_answer(alloc, words, asked);
+    }
     let Some((place, _)) = find_property(Collection::Parcels, property) else {
         return Ok(None);
     };

@@ -21,8 +21,8 @@ use Rattle.cad_feature.specs.declared.range.Scalar.{Scalar}
 use Rattle.cad_feature.specs.declared.range.Scalar.TheVariants as scalar
 use Rattle.cad_ordered.specs.declared.keys.Keys.{Keys}
 use Rattle.cad_ordered.specs.declared.keys.Keys.TheVariants as keys
+use Rattle.std.specs.Rc.{rc_value}
 use Rattle.cad_positions.specs.KeptLemmas.{same_from}
-use Rattle.cad_ordered.specs.declared.text_key.TextKey.{TextKey}
 
 at_place : {X : Type 0} (f : X → Datum) (P : Datum → Type 0) → ((x : X) → P (f x)) → (xs : List X) (i : ℕ) → i < length (map f xs) → P (get_or (map f xs) i null)
 at_place f P h [] i l = absurd (omega arith)
@@ -30,12 +30,12 @@ at_place f P h (x ∷ xs) zero l = h x
 at_place f P h (x ∷ xs) (suc i) l = at_place f P h xs i (omega arith)
 
 pub have_order : (ks : Keys) (i : ℕ) → i < length (data_of ks) → has_order (get_or (data_of ks) i null) ≡ true
-have_order (keys.Texts v) i h = at_place (λ (t : TextKey). a_text (chars (string_bytes t.text.value))) (λ d. has_order d ≡ true) (λ x. refl) v.items i h
+have_order (keys.Texts v) i h = at_place (λ t. a_text (chars (string_bytes (rc_value t)))) (λ d. has_order d ≡ true) (λ x. refl) v.items i h
 have_order (keys.Wholes v) i h = at_place a_whole (λ d. has_order d ≡ true) (λ x. refl) v.items i h
 have_order (keys.Days v) i h = at_place a_day (λ d. has_order d ≡ true) (λ x. refl) v.items i h
 
 pub are_compared : (ks : Keys) (s : Scalar) (i : ℕ) → i < length (data_of ks) → scalar_kind s ≡ kind_of ks → is_some (compared (get_or (data_of ks) i null) (scalar_datum s)) ≡ true
-are_compared (keys.Texts v) (scalar.Text t) i h e = at_place (λ (t : TextKey). a_text (chars (string_bytes t.text.value))) (λ d. is_some (compared d (scalar_datum (scalar.Text t))) ≡ true) (λ x. refl) v.items i h
+are_compared (keys.Texts v) (scalar.Text t) i h e = at_place (λ t. a_text (chars (string_bytes (rc_value t)))) (λ d. is_some (compared d (scalar_datum (scalar.Text t))) ≡ true) (λ x. refl) v.items i h
 are_compared (keys.Wholes v) (scalar.Whole n) i h e = at_place a_whole (λ d. is_some (compared d (a_whole n)) ≡ true) (λ x. refl) v.items i h
 are_compared (keys.Days v) (scalar.Day n) i h e = at_place a_day (λ d. is_some (compared d (a_day n)) ≡ true) (λ x. refl) v.items i h
 are_compared (keys.Texts v) (scalar.Whole n) i h e = cc

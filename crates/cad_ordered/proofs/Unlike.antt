@@ -7,17 +7,16 @@ use Rattle.cad_range.specs.Ranges.{compared}
 use Rattle.cad_feature.specs.Limits.{scalar_datum}
 use Rattle.cad_feature.specs.declared.range.Scalar.{Scalar}
 use Rattle.cad_feature.specs.declared.range.Scalar.TheVariants as scalar
-use Rattle.cad_ordered.specs.declared.text_key.TextKey.{TextKey}
 
 pub at_map : {X : Type 0} (f : X → Datum) (P : Datum → Type 0) → ((x : X) → P (f x)) → P null → (xs : List X) (i : ℕ) → P (get_or (map f xs) i null)
 at_map f P h n [] i = n
 at_map f P h n (x ∷ xs) zero = h x
 at_map f P h n (x ∷ xs) (suc i) = at_map f P h n xs i
 
-pub texts : (xs : List TextKey) (i : ℕ) (s : Scalar) → ((x : String Global) → s ≡ scalar.Text x → ⊥) → compared (get_or (map (λ t. a_text (chars (string_bytes t.text.value))) xs) i null) (scalar_datum s) ≡ None
-texts xs i (scalar.Text x) unlike = absurd (unlike x refl)
-texts xs i (scalar.Whole n) unlike = at_map (λ (t : TextKey). a_text (chars (string_bytes t.text.value))) (λ d. compared d (a_whole n) ≡ None) (λ x. refl) refl xs i
-texts xs i (scalar.Day n) unlike = at_map (λ (t : TextKey). a_text (chars (string_bytes t.text.value))) (λ d. compared d (a_day n) ≡ None) (λ x. refl) refl xs i
+pub texts : {X : Type 0} (bytes : X → List ℕ) (xs : List X) (i : ℕ) (s : Scalar) → ((x : String Global) → s ≡ scalar.Text x → ⊥) → compared (get_or (map (λ t. a_text (chars (bytes t))) xs) i null) (scalar_datum s) ≡ None
+texts bytes xs i (scalar.Text x) unlike = absurd (unlike x refl)
+texts bytes xs i (scalar.Whole n) unlike = at_map (λ t. a_text (chars (bytes t))) (λ d. compared d (a_whole n) ≡ None) (λ x. refl) refl xs i
+texts bytes xs i (scalar.Day n) unlike = at_map (λ t. a_text (chars (bytes t))) (λ d. compared d (a_day n) ≡ None) (λ x. refl) refl xs i
 
 pub wholes : (xs : List ℤ) (i : ℕ) (s : Scalar) → ((x : ℤ) → s ≡ scalar.Whole x → ⊥) → compared (get_or (map a_whole xs) i null) (scalar_datum s) ≡ None
 wholes xs i (scalar.Whole x) unlike = absurd (unlike x refl)

@@ -1,5 +1,5 @@
 -- Texts with other fronts are in the order of these.
-use Rattle.std.proofs.Common.{◌≡◌, ℕ, zero, suc, ◌+◌, ◌*◌, ◌^◌, ◌<◌, ◌≤◌, List, [], ◌∷◌, refl, sym, ap, ap₂, subst, ◌∙◌, arith, inl, inr, ◌⊎◌, get_or, Fits, w8}
+use Rattle.std.proofs.Common.{◌≡◌, ℕ, zero, suc, ◌+◌, ◌*◌, ◌^◌, ◌<◌, ◌≤◌, List, [], ◌∷◌, refl, sym, ap, ap₂, subst, ◌∙◌, arith, inl, inr, ◌⊎◌, drop, get_or, Fits, w8}
 use Rattle.std.specs.Ordering.{nat_cmp, ordering_then}
 use Rattle.std.specs.declared.cmp.Ordering.{Ordering}
 use Rattle.std.specs.declared.cmp.Ordering.TheVariants.{Less, Equal, Greater}
@@ -64,6 +64,37 @@ front_first (suc n) (x ∷ xs) (y ∷ ys) a b = by (one_of x y) (front_first n x
     by (inl h) behind = ap₂ (λ o p. ordering_then o (ordering_then p rest)) (cmp_less _ _ (digit_less (256 ^ n) x y f g h (front_small n xs (λ i. a (suc i))))) (cmp_less x y h) ∙ sym (ap (λ p. ordering_then p rest) (cmp_less x y h))
     by (inr (inl h)) behind = ap₂ (λ o p. ordering_then o (ordering_then p rest)) (same_digit (256 ^ n) x y f g h) (cmp_equal x y h) ∙ behind ∙ sym (ap (λ p. ordering_then p rest) (cmp_equal x y h))
     by (inr (inr h)) behind = ap₂ (λ o p. ordering_then o (ordering_then p rest)) (cmp_greater _ _ (digit_less (256 ^ n) y x g f h (front_small n ys (λ i. b (suc i))))) (cmp_greater x y h) ∙ sym (ap (λ p. ordering_then p rest) (cmp_greater x y h))
+
+front_none : (m : ℕ) → front_of m [] ≡ 0
+front_none zero = refl
+front_none (suc m) = refl
+
+-- so is that of their fronts and of the fronts behind these
+pub fronts_first : (n m : ℕ) (xs ys : List ℕ) → AreBytes xs → AreBytes ys → ordering_then (nat_cmp (front_of n xs) (front_of n ys)) (ordering_then (nat_cmp (front_of m (drop n xs)) (front_of m (drop n ys))) (slice_cmp nat_cmp xs ys)) ≡ slice_cmp nat_cmp xs ys
+fronts_first zero m xs ys a b = ap (λ o. ordering_then o (ordering_then (nat_cmp (front_of m xs) (front_of m ys)) (slice_cmp nat_cmp xs ys))) (cmp_equal 0 0 refl) ∙ front_first m xs ys a b
+fronts_first (suc n) m [] [] a b = ap (λ o. ordering_then o (ordering_then (nat_cmp (front_of m []) (front_of m [])) Equal)) (cmp_equal 0 0 refl) ∙ ap (λ o. ordering_then o Equal) (cmp_equal (front_of m []) (front_of m []) refl)
+fronts_first (suc n) m [] (y ∷ ys) a b =
+    ap (ordering_then (nat_cmp 0 (y * 256 ^ n + front_of n ys))) (ap (λ k. ordering_then (nat_cmp k (front_of m (drop n ys))) Less) (front_none m) ∙ none_first (front_of m (drop n ys))) ∙ none_first (y * 256 ^ n + front_of n ys)
+fronts_first (suc n) m (x ∷ xs) [] a b =
+    ap (ordering_then (nat_cmp (x * 256 ^ n + front_of n xs) 0)) (ap (λ k. ordering_then (nat_cmp (front_of m (drop n xs)) k) Greater) (front_none m) ∙ none_last (front_of m (drop n xs))) ∙ none_last (x * 256 ^ n + front_of n xs)
+fronts_first (suc n) m (x ∷ xs) (y ∷ ys) a b = by (one_of x y) (fronts_first n m xs ys (λ i. a (suc i)) (λ i. b (suc i)))
+  where
+    f : ℕ
+    f = front_of n xs
+
+    g : ℕ
+    g = front_of n ys
+
+    then : Ordering
+    then = nat_cmp (front_of m (drop n xs)) (front_of m (drop n ys))
+
+    rest : Ordering
+    rest = slice_cmp nat_cmp xs ys
+
+    by : (x < y) ⊎ ((x ≡ y) ⊎ (y < x)) → ordering_then (nat_cmp f g) (ordering_then then rest) ≡ rest → ordering_then (nat_cmp (x * 256 ^ n + f) (y * 256 ^ n + g)) (ordering_then then (ordering_then (nat_cmp x y) rest)) ≡ ordering_then (nat_cmp x y) rest
+    by (inl h) behind = ap (λ o. ordering_then o (ordering_then then (ordering_then (nat_cmp x y) rest))) (cmp_less _ _ (digit_less (256 ^ n) x y f g h (front_small n xs (λ i. a (suc i))))) ∙ sym (ap (λ p. ordering_then p rest) (cmp_less x y h))
+    by (inr (inl h)) behind = ap₂ (λ o p. ordering_then o (ordering_then then (ordering_then p rest))) (same_digit (256 ^ n) x y f g h) (cmp_equal x y h) ∙ behind ∙ sym (ap (λ p. ordering_then p rest) (cmp_equal x y h))
+    by (inr (inr h)) behind = ap (λ o. ordering_then o (ordering_then then (ordering_then (nat_cmp x y) rest))) (cmp_greater _ _ (digit_less (256 ^ n) y x g f h (front_small n ys (λ i. b (suc i))))) ∙ sym (ap (λ p. ordering_then p rest) (cmp_greater x y h))
 
 -- the room of a front
 pub power_small : (n : ℕ) → n < 8 → 256 ^ n ≤ 72057594037927936

@@ -7,16 +7,16 @@ ghost use Rattle.cad_feature.specs.Limits.{scalar_datum};
 ghost use Rattle.cad_ordered.specs.Edges.{IsEdgeOf, scalar_kind};
 ghost use Rattle.cad_ordered.specs.Columns.{data_of, kind_of, is_before, IsAscending, IsSplit, IsLowRank, IsHighRank};
 
-use crate::text_key::TextKey;
 use cad_day::Day;
 use cad_feature::{Edge, Scalar};
 use cad_schema::PropertyKind;
 use cql_text::compare;
 use std::cmp::Ordering;
+use std::rc::Rc;
 
 #[derive(Drop)]
 pub(crate) enum Keys {
-    Texts(Vec<TextKey>),
+    Texts(Vec<Rc<String>>),
     Wholes(Vec<i64>),
     Days(Vec<Day>),
 }
@@ -59,7 +59,7 @@ impl Keys {
     {
         match (self, scalar) {
             (Keys::Texts(keys), Scalar::Text(text)) => says_before(
-                compare(keys[rank].as_str(), text.as_str()),
+                compare(keys[rank].as_ref().as_str(), text.as_str()),
                 upto,
             ),
             (Keys::Wholes(keys), Scalar::Whole(number)) => says_before(

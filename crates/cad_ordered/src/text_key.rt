@@ -1,9 +1,10 @@
 //! Texts as keys.
 
-ghost use Rattle.std.specs.Prelude.{◌≡◌, ◌≤◌, string_bytes};
+ghost use Rattle.std.specs.Prelude.{◌≡◌, ◌≤◌, IfOk, chars, drop, map, string_bytes};
+ghost use Rattle.cad_feature.specs.Values.{a_text};
 ghost use Rattle.cad_ordered.specs.Fronts.{front_of, AreBytes};
 
-use std::alloc::AllocError;
+use std::alloc::{AllocError, Global};
 use std::rc::Rc;
 
 /// The number that the first `count` bytes are the digits of, to the base of 256; where there are fewer, zeros stand for the others.
@@ -21,12 +22,25 @@ fn leading(bytes: &[u8], count: u32) -> u64
     }
 }
 
-/// A text, behind the number of its first bytes: two texts with other numbers are in the order of these, which are soon compared.
+/// The bytes behind the first eight.
+fn behind_front(bytes: &[u8]) -> &[u8]
+    ensures { result.now ≡ drop 8 bytes.now }
+{
+    match bytes.get(8..) {
+        Some(behind) => behind,
+        None => &[],
+    }
+}
+
+/// A text, behind the numbers of its first eight bytes and of the eight behind them: two texts with other numbers are in the order of
+/// these, which are soon compared. Keys are sorted with their numbers, and kept without.
 #[derive(PartialEq, Eq, PartialOrd, Ord, Drop)]
 pub(crate) struct TextKey {
     front: u64,
+    second: u64,
     text: Rc<String>,
     pub ghost fronted: { front ≡ front_of 8 (string_bytes text.value) },
+    pub ghost followed: { second ≡ front_of 8 (drop 8 (string_bytes text.value)) },
     pub ghost bytes: { AreBytes (string_bytes text.value) },
 }
 
@@ -38,13 +52,25 @@ impl TextKey {
         ensures { IfOk result (λ key. string_bytes key.text.value ≡ string_bytes text.now.value) }
     {
         let text = text.clone()?;
-        let front = leading(text.as_ref().as_bytes(), 8);
-        Ok(TextKey { front, text })
+        let bytes = text.as_ref().as_bytes();
+        let front = leading(bytes, 8);
+        let second = leading(behind_front(bytes), 8);
+        Ok(TextKey {
+            front,
+            second,
+            text,
+        })
     }
+}
 
-    pub(crate) fn as_str(&self) -> &str
-        ensures { result.now ≡ string_bytes self.now.text.value }
-    {
-        self.text.as_ref().as_str()
+/// The texts of the keys, which are shared. An error is want of memory.
+pub(crate) fn texts_of(alloc: Global, keys: Vec<TextKey>) -> Result<Vec<Rc<String>>, AllocError>
+    ensures { IfOk result (λ texts. map (λ text. a_text (chars (string_bytes text.value))) texts.items ≡ map (λ key. a_text (chars (string_bytes key.text.value))) keys.items) }
+{
+    let mut texts = Vec::with_capacity(alloc, keys.len())?;
+    for key in keys {
+        let TextKey { text, .. } = key;
+        texts.push(text)?;
     }
+    Ok(texts)
 }

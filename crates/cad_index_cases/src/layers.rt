@@ -1,0 +1,99 @@
+//! Lines about layers: parcels into which others are merged, as changes and over a new base.
+
+ghost use Rattle.std.specs.Prelude.{◌≡◌, IfOk};
+ghost use Rattle.cad_schema.specs.declared.collection.Collection.TheVariants.{Parcels};
+
+use crate::cases::parcels;
+use crate::parcels::features;
+use anyhow::Result;
+use cad_feature::{Feature, Value};
+use cad_merged::{Layer, merge};
+use cad_schema::{Collection, find_property};
+use std::alloc::{AllocError, Global};
+
+/// The parcels with these labels, as a base.
+fn base(alloc: Global, labels: &str) -> Result<Layer>
+    ensures { IfOk result (λ layer. layer.collection ≡ Parcels) }
+{
+    let features = features(alloc, parcels(alloc, "label", labels)?)?;
+    Ok(Layer::build(alloc, features, Collection::Parcels)?)
+}
+
+/// The layer with the parcels of these labels merged into it.
+fn merged(alloc: Global, layer: &Layer, labels: &str) -> Result<Layer>
+    requires { layer.now.collection ≡ Parcels }
+    ensures { IfOk result (λ merged. merged.collection ≡ Parcels) }
+{
+    let touched = features(alloc, parcels(alloc, "label", labels)?)?;
+    Ok(layer.with(alloc, touched)?)
+}
+
+/// The same so many times, each time anew.
+fn merged_times(alloc: Global, layer: Layer, labels: &str, times: u16) -> Result<Layer>
+    requires { layer.collection ≡ Parcels }
+    ensures { IfOk result (λ merged. merged.collection ≡ Parcels) }
+{
+    let mut layer = layer;
+    for _ in 0..times {
+        layer = merged(alloc, &layer, labels)?;
+    }
+    Ok(layer)
+}
+
+fn label(feature: &Feature, place: usize) -> &str {
+    match feature.values.get(place) {
+        Some(Value::Text(text)) => text.as_str(),
+        _ => "-",
+    }
+}
+
+fn put_labels(told: &mut String, features: &[Feature], place: usize) -> Result<(), AllocError> {
+    for feature in features {
+        told.push_str(label(feature, place))?;
+        told.push(' ')?;
+    }
+    Ok(())
+}
+
+/// The labels of the layer's parcels, how many it counts, and whether a new base is due.
+fn told(alloc: Global, layer: &Layer, place: usize, most: usize) -> Result<String, AllocError> {
+    let (base, changes) = layer.parts();
+    let all = merge(alloc, base.features(), changes)?;
+    let mut told = String::new(alloc);
+    put_labels(&mut told, &all, place)?;
+    let state = if layer.is_settled(most) {
+        "settled"
+    } else {
+        "due"
+    };
+    told.push_str(&format!(in alloc; "count {} {state}", layer.count())?)?;
+    Ok(told)
+}
+
+/// What is told of the layer, and of the same over a new base.
+fn told_twice(alloc: Global, layer: &Layer, place: usize, most: usize) -> Result<String, AllocError> {
+    let mut answer = told(alloc, layer, place, most)?;
+    let rebased = layer.rebased(alloc)?;
+    let again = told(alloc, &rebased, place, most)?;
+    answer.push_str(" then ")?;
+    answer.push_str(again.as_str())?;
+    Ok(answer)
+}
+
+/// What a line with these labels and this question is answered: see the head of the program.
+pub fn layer_answer(alloc: Global, labels: &str, asked: &str) -> Result<Option<String>> {
+    let Some((times, rest)) = asked.trim().split_once(' ') else {
+        return Ok(None);
+    };
+    let Some((most, changed)) = rest.split_once(' ') else {
+        return Ok(None);
+    };
+    let (Ok(times), Ok(most)) = (times.parse::<u16>(), most.parse::<usize>()) else {
+        return Ok(None);
+    };
+    let Some((place, _)) = find_property(Collection::Parcels, "label") else {
+        return Ok(None);
+    };
+    let layer = merged_times(alloc, base(alloc, labels)?, changed, times)?;
+    Ok(Some(told_twice(alloc, &layer, place, most)?))
+}
