@@ -71,7 +71,12 @@ fn told(alloc: Global, layer: &Layer, place: usize, most: usize) -> Result<Strin
 }
 
 /// What is told of the layer, and of the same over a new base.
-fn told_twice(alloc: Global, layer: &Layer, place: usize, most: usize) -> Result<String, AllocError> {
+fn told_twice(
+    alloc: Global,
+    layer: &Layer,
+    place: usize,
+    most: usize,
+) -> Result<String, AllocError> {
     let mut answer = told(alloc, layer, place, most)?;
     let rebased = layer.rebased(alloc)?;
     let again = told(alloc, &rebased, place, most)?;

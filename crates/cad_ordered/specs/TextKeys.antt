@@ -16,4 +16,4 @@ text_keys x y = ap Some (
     sym (bytes_cmp (string_bytes x.text.value) (string_bytes y.text.value) (IsUtf8-string_bytes x.text.value) (IsUtf8-string_bytes y.text.value))
     ∙ sym (fronts_first 8 8 (string_bytes x.text.value) (string_bytes y.text.value) x.bytes y.bytes)
     ∙ sym (ap₂ (λ m n. ordering_then (nat_cmp m n) (ordering_then (nat_cmp x.second y.second) (slice_cmp nat_cmp (string_bytes x.text.value) (string_bytes y.text.value)))) x.fronted y.fronted
-      ∙ ap₂ (λ m n. ordering_then (nat_cmp (front_of 8 (string_bytes x.text.value)) (front_of 8 (string_bytes y.text.value))) (ordering_then (nat_cmp m n) (slice_cmp nat_cmp (string_bytes x.text.value) (string_bytes y.text.value)))) x.followed y.followed))
+    ∙ ap₂ (λ m n. ordering_then (nat_cmp (front_of 8 (string_bytes x.text.value)) (front_of 8 (string_bytes y.text.value))) (ordering_then (nat_cmp m n) (slice_cmp nat_cmp (string_bytes x.text.value) (string_bytes y.text.value)))) x.followed y.followed))
