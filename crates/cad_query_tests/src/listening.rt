@@ -1,7 +1,8 @@
 //! A connection that is taken from a listener.
 
+use cad_desk::Desk;
 use cad_listen::listen;
-use cad_plain_desk::sample_desk;
+use desk_echo::Echo;
 use std::io::{Read, Write};
 use std::net::{TcpListener, TcpStream};
 use std::test::Fail;
@@ -9,14 +10,13 @@ use std::test::Fail;
 const REQUEST: &str =
     "GET /collections/parcels/items?filter=area+%3E+400 HTTP/1.1\r\nHost: x\r\nConnection: close\r\n\r\n";
 
-const REPLY: &str =
-    "HTTP/1.1 200 OK\r\nContent-Type: application/json\r\nContent-Length: 447\r\nConnection: close\r\n\r\n{\"features\":[{\"geometry\":{\"coordinates\":[[[0,30000],[30000,30000],[0,60000],[0,30000]]],\"type\":\"Polygon\"},\"id\":\"3.1\",\"properties\":{\"area\":900,\"begin\":\"2003-01-01\",\"end\":null,\"label\":\"b-7\",\"number\":1,\"object\":3,\"reference_point\":null,\"unit\":11,\"unit_name\":null},\"type\":\"Feature\"}],\"links\":[{\"href\":\"/collections/parcels/items?filter=area+%3E+400\",\"rel\":\"self\",\"type\":\"application/json\"}],\"numberReturned\":1,\"revision\":10,\"type\":\"FeatureCollection\"}";
+const REPLY: &str = "GET /collections/parcels/items?filter=area+%3E+400 at revision 0\n";
 
 /// A client that connected before gets its reply, and the connection ends with it.
 #[test]
 fn serves_a_client_that_waits(rt: HostRuntime) -> Result<(), Fail> {
     let alloc = rt.alloc();
-    let mut desk = sample_desk(alloc)?;
+    let mut desk = Desk::new(alloc, Echo::new(alloc));
     let listener = TcpListener::bind(&rt, "127.0.0.1:0")?;
     let mut client = TcpStream::connect(&rt, listener.local_addr()?)?;
     client.write_all(REQUEST.as_bytes())?;
@@ -34,7 +34,7 @@ fn serves_a_client_that_waits(rt: HostRuntime) -> Result<(), Fail> {
 #[test]
 fn tells_of_what_goes_wrong(rt: HostRuntime) -> Result<(), Fail> {
     let alloc = rt.alloc();
-    let mut desk = sample_desk(alloc)?;
+    let mut desk = Desk::new(alloc, Echo::new(alloc));
     let listener = TcpListener::bind(&rt, "127.0.0.1:0")?;
     listener.set_nonblocking(true)?;
     let mut told = Vec::new(alloc);

@@ -1,24 +1,23 @@
-//! Connections served over readers and writers that fail, and one after another.
+//! Connections served over readers and writers that fail, and one after another. What answers their requests tells each back, for
+//! what serving does is the same over any.
 
-use cad_desk::Event;
+use cad_desk::{Desk, Event};
 use cad_io::Counted;
-use cad_plain_desk::sample_desk;
 use cad_serve::{Ending, ServeFault, serve};
+use desk_echo::Echo;
 use std::test::Fail;
 use test_streams::{Copies, Endless, Peer, Stop, Taker};
 
 /// A request after which the connection goes on.
 const REQUEST: &str = "GET /collections/parcels/items?filter=5+%3C+3 HTTP/1.1\r\nHost: x\r\n\r\n";
 
-const REPLY: &str =
-    "HTTP/1.1 200 OK\r\nContent-Type: application/json\r\nContent-Length: 177\r\n\r\n{\"features\":[],\"links\":[{\"href\":\"/collections/parcels/items?filter=5+%3C+3\",\"rel\":\"self\",\"type\":\"application/json\"}],\"numberReturned\":0,\"revision\":10,\"type\":\"FeatureCollection\"}";
+const REPLY: &str = "GET /collections/parcels/items?filter=5+%3C+3 at revision 0\n";
 
 /// A request that ends the connection.
 const LAST: &str =
     "GET /collections/units/items/12.1 HTTP/1.1\r\nConnection: close\r\nHost: x\r\n\r\n";
 
-const LAST_REPLY: &str =
-    "HTTP/1.1 404 Not Found\r\nContent-Type: application/json\r\nContent-Length: 22\r\nConnection: close\r\n\r\n{\"fault\":\"no-feature\"}";
+const LAST_REPLY: &str = "GET /collections/units/items/12.1 at revision 0\n";
 
 /// How reading may go: the most bytes a read gives, and what comes behind the last byte.
 const READINGS: [(usize, Stop); 4] = [
@@ -41,7 +40,7 @@ fn reads_of(bytes: usize, piece: usize) -> usize {
 #[test]
 fn stops_where_reading_does(rt: HostRuntime) -> Result<(), Fail> {
     let alloc = rt.alloc();
-    let mut desk = sample_desk(alloc)?;
+    let mut desk = Desk::new(alloc, Echo::new(alloc));
     for bytes in 0..=REQUEST.len() {
         for (piece, stop) in READINGS {
             let mut reader = Counted::new(Peer::new(REQUEST.as_bytes(), piece, bytes, stop));
@@ -68,7 +67,7 @@ fn stops_where_reading_does(rt: HostRuntime) -> Result<(), Fail> {
 #[test]
 fn reads_nothing_behind_the_end(rt: HostRuntime) -> Result<(), Fail> {
     let alloc = rt.alloc();
-    let mut desk = sample_desk(alloc)?;
+    let mut desk = Desk::new(alloc, Echo::new(alloc));
     for (piece, stop) in READINGS {
         let mut reader = Counted::new(Peer::new(LAST.as_bytes(), piece, LAST.len(), stop));
         let mut writer = Taker::new(1, 512, Stop::Fails);
@@ -88,7 +87,7 @@ fn reads_nothing_behind_the_end(rt: HostRuntime) -> Result<(), Fail> {
 #[test]
 fn stops_where_writing_does(rt: HostRuntime) -> Result<(), Fail> {
     let alloc = rt.alloc();
-    let mut desk = sample_desk(alloc)?;
+    let mut desk = Desk::new(alloc, Echo::new(alloc));
     for most in 0..=REPLY.len() {
         for (piece, stop) in [(1, Stop::Ends), (1, Stop::Fails), (100, Stop::Fails)] {
             let mut reader = Counted::new(Peer::new(
@@ -116,7 +115,7 @@ fn stops_where_writing_does(rt: HostRuntime) -> Result<(), Fail> {
 #[test]
 fn replies_twice_on_one_desk(rt: HostRuntime) -> Result<(), Fail> {
     let alloc = rt.alloc();
-    let mut desk = sample_desk(alloc)?;
+    let mut desk = Desk::new(alloc, Echo::new(alloc));
     assert!(rt; desk.step(Event::Open(2)).is_ok());
     for _ in 0..2 {
         let mut reader = Counted::new(Peer::new(
@@ -137,15 +136,14 @@ fn replies_twice_on_one_desk(rt: HostRuntime) -> Result<(), Fail> {
 /// A request of 27 bytes, and its reply.
 const SHORT: &str = "GET / HTTP/1.1\r\nHost: x\r\n\r\n";
 
-const SHORT_REPLY: &str =
-    "HTTP/1.1 200 OK\r\nContent-Type: application/json\r\nContent-Length: 145\r\n\r\n{\"links\":[{\"href\":\"/\",\"rel\":\"self\",\"type\":\"application/json\"},{\"href\":\"/collections\",\"rel\":\"data\",\"type\":\"application/json\"}],\"title\":\"Cadastre\"}";
+const SHORT_REPLY: &str = "GET / at revision 0\n";
 
 /// A peer that sends a byte a read and never ends is served for 100,000 reads: 3,703 requests of 27 bytes are whole then, each
 /// is replied to, and the connection is closed.
 #[test]
 fn ends_where_the_turns_are_spent(rt: HostRuntime) -> Result<(), Fail> {
     let alloc = rt.alloc();
-    let mut desk = sample_desk(alloc)?;
+    let mut desk = Desk::new(alloc, Echo::new(alloc));
     let mut reader = Counted::new(Endless::new(SHORT.as_bytes()));
     let mut writer = Copies::new(SHORT_REPLY.as_bytes());
     let served = serve(alloc, &mut reader, &mut writer, &mut desk, 1);
