@@ -1,5 +1,8 @@
 //! Lines with cases, and their answers.
 
+ghost use Rattle.std.specs.Prelude.{◌≤◌, length};
+ghost use Rattle.cad_schema.specs.declared.collection.Collection.TheVariants.{Parcels};
+ghost use Rattle.cad_feature.specs.Features.{AreFeaturesOf};
 ghost use Rattle.cad_ordered.specs.Edges.{IsEdgeOf};
 
 use crate::layers::layer_answer;
@@ -7,14 +10,13 @@ use crate::parcels::{Parcel, bare, features};
 use crate::values::{bounds, edge, point, rectangle};
 use anyhow::Result;
 use cad_day::Day;
-use cad_feature::Edge;
+use cad_feature::{Edge, Feature};
 use cad_index::{Found, Grid, Indexes, Ordered};
 use cad_schema::{Collection, find_property};
 use std::alloc::{AllocError, Global};
 
-// A parcel with this value of the property, or without one.
-fn parcel(alloc: Global, property: &str, word: &str) -> Result<Parcel> {
-    let mut parcel = bare(alloc)?;
+/// Gives the parcel this value of the property, or none.
+fn put(alloc: Global, parcel: &mut Parcel, property: &str, word: &str) -> Result<()> {
     match property {
         "begin" => {
             if let Some(day) = Day::read(word) {
@@ -28,6 +30,13 @@ fn parcel(alloc: Global, property: &str, word: &str) -> Result<Parcel> {
         "reference_point" => parcel.spot = point(word),
         _ => {}
     }
+    Ok(())
+}
+
+// A parcel with this value of the property, or without one.
+fn parcel(alloc: Global, property: &str, word: &str) -> Result<Parcel> {
+    let mut parcel = bare(alloc)?;
+    put(alloc, &mut parcel, property, word)?;
     Ok(parcel)
 }
 
@@ -40,17 +49,19 @@ pub(crate) fn parcels(alloc: Global, property: &str, words: &str) -> Result<Vec<
     Ok(parcels)
 }
 
-fn put_positions(
-    alloc: Global,
-    answer: &mut String,
-    name: &str,
-    positions: &[u32],
-) -> Result<(), AllocError> {
+fn put_positions(answer: &mut String, name: &str, positions: &[u32]) -> Result<(), AllocError> {
     answer.push_str(name)?;
     for position in positions {
-        answer.push_str(&format!(in alloc; " {position}")?)?;
+        write!(answer, " {position}")?;
     }
     Ok(())
+}
+
+fn near_line(alloc: Global, near: &[u32], count: u64) -> Result<String, AllocError> {
+    let mut line = String::new(alloc);
+    put_positions(&mut line, "near", near)?;
+    write!(line, " count {count}")?;
+    Ok(line)
 }
 
 fn near_answer(alloc: Global, grid: &Grid, asked: &str) -> Result<Option<String>, AllocError> {
@@ -58,10 +69,7 @@ fn near_answer(alloc: Global, grid: &Grid, asked: &str) -> Result<Option<String>
         return Ok(None);
     };
     let near = grid.near(alloc, bounds)?;
-    let mut answer = String::new(alloc);
-    put_positions(alloc, &mut answer, "near", &near)?;
-    answer.push_str(&format!(in alloc; " count {}", grid.count(bounds))?)?;
-    Ok(Some(answer))
+    Ok(Some(near_line(alloc, &near, grid.count(bounds))?))
 }
 
 // The positions that the walk stops at.
@@ -86,7 +94,24 @@ fn held(alloc: Global, range: &Found, count: u32) -> Result<Vec<u32>, AllocError
     Ok(held)
 }
 
-fn put_range(
+/// The positions of the range as they are listed, walked and tested.
+fn put_found(
+    alloc: Global,
+    answer: &mut String,
+    range: &Found,
+    features: u32,
+) -> Result<(), AllocError> {
+    let list = range.list(alloc)?;
+    put_positions(answer, "range", &list)?;
+    drop(list);
+    let walked = walked(alloc, range, features)?;
+    put_positions(answer, " walked", &walked)?;
+    drop(walked);
+    let held = held(alloc, range, features)?;
+    put_positions(answer, " held", &held)
+}
+
+fn range_line(
     alloc: Global,
     ordered: &Ordered,
     low: &Edge,
@@ -97,16 +122,37 @@ fn put_range(
     requires high { IsEdgeOf ordered.now.kind high.now }
 {
     let count = ordered.count(low, high);
-    let range = ordered.range(low, high);
-    let list = range.list(alloc)?;
-    let walked = walked(alloc, &range, features)?;
-    let held = held(alloc, &range, features)?;
-    let mut answer = String::new(alloc);
-    put_positions(alloc, &mut answer, "range", &list)?;
-    put_positions(alloc, &mut answer, " walked", &walked)?;
-    put_positions(alloc, &mut answer, " held", &held)?;
-    answer.push_str(&format!(in alloc; " count {count}")?)?;
-    Ok(answer)
+    let mut line = String::new(alloc);
+    put_found(alloc, &mut line, &ordered.range(low, high), features)?;
+    write!(line, " count {count}")?;
+    Ok(line)
+}
+
+fn between_answer(
+    alloc: Global,
+    ordered: &Ordered,
+    low: &Edge,
+    high: &Edge,
+    features: u32,
+) -> Result<Option<String>, AllocError> {
+    if ordered.takes(low) && ordered.takes(high) {
+        Ok(Some(range_line(alloc, ordered, low, high, features)?))
+    } else {
+        Ok(None)
+    }
+}
+
+fn from_low_answer(
+    alloc: Global,
+    ordered: &Ordered,
+    low: &Edge,
+    high: &str,
+    features: u32,
+) -> Result<Option<String>, AllocError> {
+    match edge(alloc, ordered.kind(), high)? {
+        Some(high) => between_answer(alloc, ordered, low, &high, features),
+        None => Ok(None),
+    }
 }
 
 fn range_answer(
@@ -118,17 +164,9 @@ fn range_answer(
     let Some((low, high)) = asked.trim().split_once(' ') else {
         return Ok(None);
     };
-    let Some(low) = edge(alloc, ordered.kind(), low)? else {
-        return Ok(None);
-    };
-    let Some(high) = edge(alloc, ordered.kind(), high)? else {
-        return Ok(None);
-    };
-    if ordered.takes(&low) && ordered.takes(&high) {
-        let answer = put_range(alloc, ordered, &low, &high, features)?;
-        Ok(Some(answer))
-    } else {
-        Ok(None)
+    match edge(alloc, ordered.kind(), low)? {
+        Some(low) => from_low_answer(alloc, ordered, &low, high, features),
+        None => Ok(None),
     }
 }
 
@@ -149,6 +187,20 @@ fn index_answer(
     }
 }
 
+/// What the index of the property at that place answers of the features.
+fn indexed_answer(
+    alloc: Global,
+    features: &[Feature],
+    place: usize,
+    asked: &str,
+) -> Result<Option<String>, AllocError>
+    requires listed { AreFeaturesOf Parcels features.now }
+    requires few { length features.now ≤ 4294967295 }
+{
+    let indexes = Indexes::build(alloc, features, Collection::Parcels)?;
+    index_answer(alloc, &indexes, place, asked)
+}
+
 fn read_answer(alloc: Global, line: &str) -> Result<Option<String>> {
     let Some((values, asked)) = line.split_once('?') else {
         return Ok(None);
@@ -163,8 +215,7 @@ fn read_answer(alloc: Global, line: &str) -> Result<Option<String>> {
         return Ok(None);
     };
     let features = features(alloc, parcels(alloc, property, words)?)?;
-    let indexes = Indexes::build(alloc, &features, Collection::Parcels)?;
-    Ok(index_answer(alloc, &indexes, place, asked)?)
+    Ok(indexed_answer(alloc, &features, place, asked)?)
 }
 
 /// What a line is answered: see the head of the program.

@@ -56,33 +56,43 @@ fn put_labels(told: &mut String, features: &[Feature], place: usize) -> Result<(
 }
 
 /// The labels of the layer's parcels, how many it counts, and whether a new base is due.
-fn told(alloc: Global, layer: &Layer, place: usize, most: usize) -> Result<String, AllocError> {
+fn put_layer(
+    alloc: Global,
+    told: &mut String,
+    layer: &Layer,
+    place: usize,
+    most: usize,
+) -> Result<(), AllocError> {
     let (base, changes) = layer.parts();
     let all = merge(alloc, base.features(), changes)?;
-    let mut told = String::new(alloc);
-    put_labels(&mut told, &all, place)?;
+    put_labels(told, &all, place)?;
+    drop(all);
     let state = if layer.is_settled(most) {
         "settled"
     } else {
         "due"
     };
-    told.push_str(&format!(in alloc; "count {} {state}", layer.count())?)?;
-    Ok(told)
+    write!(told, "count {} {state}", layer.count())
 }
 
 /// What is told of the layer, and of the same over a new base.
-fn told_twice(
+fn put_both(
     alloc: Global,
+    told: &mut String,
     layer: &Layer,
     place: usize,
     most: usize,
-) -> Result<String, AllocError> {
-    let mut answer = told(alloc, layer, place, most)?;
+) -> Result<(), AllocError> {
+    put_layer(alloc, told, layer, place, most)?;
+    told.push_str(" then ")?;
     let rebased = layer.rebased(alloc)?;
-    let again = told(alloc, &rebased, place, most)?;
-    answer.push_str(" then ")?;
-    answer.push_str(again.as_str())?;
-    Ok(answer)
+    put_layer(alloc, told, &rebased, place, most)
+}
+
+fn told(alloc: Global, layer: &Layer, place: usize, most: usize) -> Result<String, AllocError> {
+    let mut told = String::new(alloc);
+    put_both(alloc, &mut told, layer, place, most)?;
+    Ok(told)
 }
 
 /// What a line with these labels and this question is answered: see the head of the program.
@@ -100,5 +110,5 @@ pub fn layer_answer(alloc: Global, labels: &str, asked: &str) -> Result<Option<S
         return Ok(None);
     };
     let layer = merged_times(alloc, base(alloc, labels)?, changed, times)?;
-    Ok(Some(told_twice(alloc, &layer, place, most)?))
+    Ok(Some(told(alloc, &layer, place, most)?))
 }

@@ -20,14 +20,20 @@ mod values;
 
 use anyhow::Result;
 
+/// Prints what the line is answered, if it is a case.
+fn tell(rt: &HostRuntime, line: &str) -> Result<()> {
+    if line.is_empty() || line.starts_with('#') {
+        return Ok(());
+    }
+    let answer = cases::answer(rt.alloc(), line)?;
+    println!(rt; "{answer}")?;
+    Ok(())
+}
+
 fn main(rt: HostRuntime) -> Result<()> {
     for line in rt.lines(rt.alloc()) {
         let line = line?;
-        if line.is_empty() || line.as_str().starts_with('#') {
-            continue;
-        }
-        let answer = cases::answer(rt.alloc(), line.as_str())?;
-        println!(rt; "{answer}")?;
+        tell(&rt, line.as_str())?;
     }
     Ok(())
 }

@@ -61,13 +61,19 @@ fn closed(first: Day, last: Option<Day>) -> Option<Day>
     }
 }
 
+fn words(alloc: Global, text: String) -> Result<Words> {
+    let text = Rc::new(alloc, text)?;
+    Words::new(text).ok().context("words")
+}
+
 // The version 1 of the parcel with that number.
 fn version(alloc: Global, number: u32, parcel: Parcel) -> Result<Version>
     ensures number { IfOk result (λ version. object_number version.object ≡ number) }
     ensures version { IfOk result IsVersion }
 {
-    let object = ObjectId::new(number).context("an object")?;
-    let unit = ObjectId::new(1).context("a unit")?;
+    let (Some(object), Some(unit)) = (ObjectId::new(number), ObjectId::new(1)) else {
+        bail!("no object");
+    };
     let Parcel {
         first,
         last,
@@ -76,9 +82,7 @@ fn version(alloc: Global, number: u32, parcel: Parcel) -> Result<Version>
         shape,
         spot,
     } = parcel;
-    let Ok(label) = Words::new(Rc::new(alloc, label)?) else {
-        bail!("no words");
-    };
+    let label = words(alloc, label)?;
     let last = closed(first, last);
     Ok(Version {
         object,

@@ -6,10 +6,14 @@ use cad_schema::PropertyKind;
 use cad_shape::{Bounds, Point, Region, Ring};
 use std::alloc::{AllocError, Global};
 
+fn number(word: &str) -> Option<i64> {
+    word.parse().ok()
+}
+
 /// A point, `X,Y`.
 pub fn point(word: &str) -> Option<Point> {
     let (x, y) = word.split_once(',')?;
-    Point::new(x.parse().ok()?, y.parse().ok()?)
+    Point::new(number(x)?, number(y)?)
 }
 
 /// A box, `X,Y,X,Y` by its least and greatest corner.
@@ -18,10 +22,10 @@ pub fn bounds(word: &str) -> Option<Bounds> {
     let (y_min, rest) = rest.split_once(',')?;
     let (x_max, y_max) = rest.split_once(',')?;
     Bounds::new(
-        x_min.parse().ok()?,
-        y_min.parse().ok()?,
-        x_max.parse().ok()?,
-        y_max.parse().ok()?,
+        number(x_min)?,
+        number(y_min)?,
+        number(x_max)?,
+        number(y_max)?,
     )
 }
 

@@ -6,20 +6,15 @@ use cad_feature::Feature;
 use cad_lookup::Plan;
 use cad_plan::{choose, estimate, menu};
 use cad_run::Layer;
-use cql_rewrite::normal;
+use cql_rewrite::{Normal, normal};
 use cql_truth::{Truth, truth};
 use cql_types::Filter;
 use std::alloc::{AllocError, Global};
 
-fn put_priced(
-    alloc: Global,
-    plan: &Plan,
-    layer: &Layer,
-    line: &mut String,
-) -> Result<(), AllocError> {
-    put_plan(alloc, layer.collection(), plan, line)?;
+fn put_priced(plan: &Plan, layer: &Layer, line: &mut String) -> Result<(), AllocError> {
+    put_plan(layer.collection(), plan, line)?;
     let cost = estimate(plan, layer);
-    line.push_str(&format!(in alloc; " {cost}")?)
+    write!(line, " {cost}")
 }
 
 // Those of the features of which the filter is true.
@@ -49,15 +44,14 @@ fn uncovered<'a>(plans: &[Plan], taken: &[&'a Feature]) -> Option<&'a Feature> {
     None
 }
 
-fn menu_line(alloc: Global, plans: &[Plan], layer: &Layer) -> Result<String, AllocError> {
-    let mut line = String::new(alloc);
+fn put_menu(plans: &[Plan], layer: &Layer, line: &mut String) -> Result<(), AllocError> {
     for (place, plan) in plans.iter().enumerate() {
         if place > 0 {
             line.push_str(", ")?;
         }
-        put_priced(alloc, plan, layer, &mut line)?;
+        put_priced(plan, layer, line)?;
     }
-    Ok(line)
+    Ok(())
 }
 
 /// Appends the identifier.
@@ -82,43 +76,129 @@ fn put_taken(alloc: Global, taken: &[&Feature], line: &mut String) -> Result<(),
     Ok(())
 }
 
+/// What is asked of a filter's plans: the plans of the menu, and the features of which the filter is true.
+#[derive(Clone, Copy)]
+struct Menu<'a, 'f> {
+    form: &'a Normal<'f>,
+    layer: &'a Layer,
+    features: &'a [Feature],
+    plans: &'a [Plan],
+    taken: &'a [&'a Feature],
+}
+
 // The menu, and the choice with its candidates and the features of its page.
-fn choice_line(
+fn put_choice(
     alloc: Global,
-    layer: &Layer,
-    plans: &[Plan],
+    menu: Menu,
     chosen: &Plan,
-    count: u64,
-    taken: &[&Feature],
-) -> Result<String, AllocError> {
-    let mut line = menu_line(alloc, plans, layer)?;
+    line: &mut String,
+) -> Result<(), AllocError> {
+    put_menu(menu.plans, menu.layer, line)?;
     line.push_str(" -> ")?;
-    put_priced(alloc, chosen, layer, &mut line)?;
-    line.push_str(&format!(in alloc; " has {count}")?)?;
-    put_taken(alloc, taken, &mut line)?;
-    Ok(line)
+    put_priced(chosen, menu.layer, line)?;
+    let count = count(chosen, menu.features);
+    write!(line, " has {count}")?;
+    put_taken(alloc, menu.taken, line)
+}
+
+fn put_chosen(alloc: Global, menu: Menu, line: &mut String) -> Result<(), AllocError> {
+    let chosen = choose(alloc, menu.form, menu.layer)?;
+    put_choice(alloc, menu, &chosen, line)
+}
+
+// The first plan whose page is wrong, and how.
+fn wrong_plan<'a>(
+    alloc: Global,
+    menu: Menu<'a, '_>,
+) -> Result<Option<(&'static str, &'a Plan)>, AllocError> {
+    let meeting = Meeting {
+        alloc,
+        form: menu.form,
+    };
+    for plan in menu.plans {
+        if let Some(fault) = fault_of(
+            alloc,
+            plan,
+            menu.layer,
+            menu.features,
+            &meeting,
+            menu.taken,
+        )? {
+            return Ok(Some((fault, plan)));
+        }
+    }
+    Ok(None)
+}
+
+fn put_menu_answer(alloc: Global, menu: Menu, line: &mut String) -> Result<(), AllocError> {
+    if let Some(feature) = uncovered(menu.plans, menu.taken) {
+        line.push_str("uncovered")?;
+        return put_identifier(alloc, feature, line);
+    }
+    match wrong_plan(alloc, menu)? {
+        Some((fault, plan)) => {
+            line.push_str(fault)?;
+            put_plan(menu.layer.collection(), plan, line)
+        }
+        None => put_chosen(alloc, menu, line),
+    }
+}
+
+fn put_form_answer(
+    alloc: Global,
+    form: &Normal,
+    layer: &Layer,
+    features: &[Feature],
+    taken: &[&Feature],
+    line: &mut String,
+) -> Result<(), AllocError> {
+    let plans = menu(alloc, form, layer)?;
+    let menu = Menu {
+        form,
+        layer,
+        features,
+        plans: &plans,
+        taken,
+    };
+    put_menu_answer(alloc, menu, line)
+}
+
+fn put_taken_answer(
+    alloc: Global,
+    filter: &Filter,
+    layer: &Layer,
+    features: &[Feature],
+    taken: &[&Feature],
+    line: &mut String,
+) -> Result<(), AllocError> {
+    let form = normal(alloc, filter)?;
+    put_form_answer(alloc, &form, layer, features, taken, line)
+}
+
+fn put_features_answer(
+    alloc: Global,
+    filter: &Filter,
+    layer: &Layer,
+    features: &[Feature],
+    line: &mut String,
+) -> Result<(), AllocError> {
+    let taken = taken(alloc, filter, features)?;
+    put_taken_answer(alloc, filter, layer, features, &taken, line)
+}
+
+fn put_answer(
+    alloc: Global,
+    filter: &Filter,
+    layer: &Layer,
+    line: &mut String,
+) -> Result<(), AllocError> {
+    let features = features_of(alloc, layer)?;
+    put_features_answer(alloc, filter, layer, &features, line)
 }
 
 /// The menu, and the choice with its candidates and the features of its page, which each plan of the menu has to give.
 pub fn plans_answer(alloc: Global, filter: &Filter, layer: &Layer) -> Result<String, AllocError> {
-    let form = normal(alloc, filter)?;
-    let plans = menu(alloc, &form, layer)?;
-    let chosen = choose(alloc, &form, layer)?;
-    let features = features_of(alloc, layer)?;
-    let taken = taken(alloc, filter, &features)?;
-    if let Some(feature) = uncovered(&plans, &taken) {
-        let mut line = String::from_str(alloc, "uncovered")?;
-        put_identifier(alloc, feature, &mut line)?;
-        return Ok(line);
-    }
-    let meeting = Meeting { alloc, form: &form };
-    for plan in &plans {
-        if let Some(fault) = fault_of(alloc, plan, layer, &features, &meeting, &taken)? {
-            let mut line = String::from_str(alloc, fault)?;
-            put_plan(alloc, layer.collection(), plan, &mut line)?;
-            return Ok(line);
-        }
-    }
-    let count = count(&chosen, &features);
-    choice_line(alloc, layer, &plans, &chosen, count, &taken)
+    let mut line = String::new(alloc);
+    put_answer(alloc, filter, layer, &mut line)?;
+    Ok(line)
 }

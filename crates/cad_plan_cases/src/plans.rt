@@ -7,10 +7,9 @@ use cad_lookup::Plan;
 use cad_range::lies_in;
 use cad_schema::{Collection, schema};
 use cad_shape::Bounds;
-use std::alloc::{AllocError, Global};
+use std::alloc::AllocError;
 
 fn put_near(
-    alloc: Global,
     collection: Collection,
     property: usize,
     bounds: Bounds,
@@ -28,49 +27,39 @@ fn put_near(
         y_max,
         ..
     } = bounds;
-    line.push_str(&format!(in alloc; " {x_min},{y_min},{x_max},{y_max})")?)
+    write!(line, " {x_min},{y_min},{x_max},{y_max})")
 }
 
 /// Appends the plan.
 #[cycle(printed)]
-pub fn put_plan(
-    alloc: Global,
-    collection: Collection,
-    plan: &Plan,
-    line: &mut String,
-) -> Result<(), AllocError> {
+pub fn put_plan(collection: Collection, plan: &Plan, line: &mut String) -> Result<(), AllocError> {
     match plan {
         Plan::All => line.push_str("all"),
         Plan::Empty => line.push_str("empty"),
         Plan::Range(range) => {
             line.push_str("range(")?;
-            put_range(alloc, collection, range, line)?;
+            put_range(collection, range, line)?;
             line.push_str(")")
         }
-        Plan::Near { property, bounds } => put_near(alloc, collection, *property, *bounds, line),
+        Plan::Near { property, bounds } => put_near(collection, *property, *bounds, line),
         Plan::Meet(plans) => {
             line.push_str("meet(")?;
-            put_plans(alloc, collection, plans, line)
+            put_plans(collection, plans, line)
         }
         Plan::Join(plans) => {
             line.push_str("join(")?;
-            put_plans(alloc, collection, plans, line)
+            put_plans(collection, plans, line)
         }
     }
 }
 
 #[cycle(printed)]
-fn put_plans(
-    alloc: Global,
-    collection: Collection,
-    plans: &[Plan],
-    line: &mut String,
-) -> Result<(), AllocError> {
+fn put_plans(collection: Collection, plans: &[Plan], line: &mut String) -> Result<(), AllocError> {
     for (place, plan) in plans.iter().enumerate() {
         if place > 0 {
             line.push_str("; ")?;
         }
-        put_plan(alloc, collection, plan, line)?;
+        put_plan(collection, plan, line)?;
     }
     line.push_str(")")
 }

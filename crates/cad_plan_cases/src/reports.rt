@@ -39,32 +39,61 @@ fn put_identifiers(body: &str, line: &mut String) -> Result<(), AllocError> {
     Ok(())
 }
 
-fn report_line(
-    alloc: Global,
+fn put_report(
     collection: Collection,
     report: &Report,
-) -> Result<String, AllocError> {
-    let mut line = String::new(alloc);
-    put_plan(alloc, collection, &report.plan, &mut line)?;
+    line: &mut String,
+) -> Result<(), AllocError> {
+    put_plan(collection, &report.plan, line)?;
     let Report {
         cost,
         candidates,
         examined,
         ..
     } = report;
-    line.push_str(&format!(in alloc;
+    write!(
+        line,
         " cost {cost} candidates {candidates} examined {examined} gives"
-    )?)?;
-    Ok(line)
+    )
 }
 
-fn finding_answer(alloc: Global, ask: &Ask, snapshot: &Snapshot) -> Result<String, AllocError> {
+fn put_explained(
+    alloc: Global,
+    ask: &Ask,
+    snapshot: &Snapshot,
+    line: &mut String,
+) -> Result<(), AllocError> {
     let report = explain(alloc, ask, snapshot)?;
-    let mut line = report_line(alloc, ask.collection, &report)?;
-    put_identifiers(body(alloc, ask, snapshot)?.as_str(), &mut line)?;
+    put_report(ask.collection, &report, line)
+}
+
+fn put_page(
+    alloc: Global,
+    ask: &Ask,
+    snapshot: &Snapshot,
+    line: &mut String,
+) -> Result<(), AllocError> {
+    let body = body(alloc, ask, snapshot)?;
+    put_identifiers(body.as_str(), line)
+}
+
+fn put_finding(
+    alloc: Global,
+    ask: &Ask,
+    snapshot: &Snapshot,
+    line: &mut String,
+) -> Result<(), AllocError> {
+    put_explained(alloc, ask, snapshot, line)?;
+    put_page(alloc, ask, snapshot, line)?;
     if next_link(alloc, ask, snapshot)?.is_some() {
         line.push_str(" and more")?;
     }
+    Ok(())
+}
+
+fn finding_answer(alloc: Global, ask: &Ask, snapshot: &Snapshot) -> Result<String, AllocError> {
+    let mut line = String::new(alloc);
+    put_finding(alloc, ask, snapshot, &mut line)?;
     Ok(line)
 }
 
