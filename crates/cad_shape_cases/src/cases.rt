@@ -4,54 +4,61 @@ use cad_shape::{
     Bounds, Point, Region, RegionFault, Ring, RingFault, Shape, bounds, in_region, meets,
     segments_meet, within,
 };
-use std::alloc::{AllocError, Global};
+use std::alloc::{AllocError, AllocFailed, Global};
 use std::rc::Rc;
+
+// Why a case has no answer.
+#[derive(Clone, Copy)]
+enum NoAnswer {
+    // A part of it is none.
+    Unread,
+    // Memory was refused.
+    Memory,
+}
+
+impl<T: Drop> From<AllocFailed<T>> for NoAnswer {
+    fn from(_refused: AllocFailed<T>) -> NoAnswer {
+        NoAnswer::Memory
+    }
+}
 
 fn point(text: &str) -> Option<Point> {
     let (x, y) = text.split_once(',')?;
     Point::new(x.parse().ok()?, y.parse().ok()?)
 }
 
-// The points of these words, if each is one.
-fn points(alloc: Global, text: &str) -> Result<Option<Vec<Point>>, AllocError> {
+// The points of these words.
+fn points(alloc: Global, text: &str) -> Result<Vec<Point>, NoAnswer> {
     let mut points = Vec::new(alloc);
     for word in text.split_whitespace() {
         let Some(point) = point(word) else {
-            return Ok(None);
+            return Err(NoAnswer::Unread);
         };
         points.push(point)?;
     }
-    Ok(Some(points))
+    Ok(points)
 }
 
-fn ring(alloc: Global, text: &str) -> Result<Option<Ring>, AllocError> {
-    let Some(corners) = points(alloc, text)? else {
-        return Ok(None);
-    };
-    Ok(Ring::new(corners).ok())
+fn ring(alloc: Global, text: &str) -> Result<Ring, NoAnswer> {
+    let corners = points(alloc, text)?;
+    Ring::new(corners).ok().ok_or(NoAnswer::Unread)
 }
 
-// The rings of these parts, if each is one; no part at all is no ring.
-fn rings(alloc: Global, text: &str) -> Result<Option<Vec<Ring>>, AllocError> {
+// The rings of these parts; no part at all is no ring.
+fn rings(alloc: Global, text: &str) -> Result<Rc<Vec<Ring>>, NoAnswer> {
     let mut rings = Vec::new(alloc);
-    if text.is_empty() {
-        return Ok(Some(rings));
+    if !text.is_empty() {
+        for part in text.split(';') {
+            let ring = ring(alloc, part)?;
+            rings.push(ring)?;
+        }
     }
-    for part in text.split(';') {
-        let Some(ring) = ring(alloc, part)? else {
-            return Ok(None);
-        };
-        rings.push(ring)?;
-    }
-    Ok(Some(rings))
+    Ok(Rc::new(alloc, rings)?)
 }
 
-fn region(alloc: Global, text: &str) -> Result<Option<Region>, AllocError> {
-    let Some(rings) = rings(alloc, text)? else {
-        return Ok(None);
-    };
-    let rings = Rc::new(alloc, rings)?;
-    Ok(Region::new(rings).ok())
+fn region(alloc: Global, text: &str) -> Result<Region, NoAnswer> {
+    let rings = rings(alloc, text)?;
+    Region::new(rings).ok().ok_or(NoAnswer::Unread)
 }
 
 fn frame(text: &str) -> Option<Shape> {
@@ -62,20 +69,26 @@ fn frame(text: &str) -> Option<Shape> {
     Some(Shape::Frame(bounds))
 }
 
-fn shape(alloc: Global, text: &str) -> Result<Option<Shape>, AllocError> {
-    let Some((kind, rest)) = text.trim().split_once(' ') else {
-        return Ok(None);
-    };
+fn shape(alloc: Global, text: &str) -> Result<Shape, NoAnswer> {
+    let (kind, rest) = text.trim().split_once(' ').ok_or(NoAnswer::Unread)?;
     match kind {
-        "spot" => Ok(point(rest).map(Shape::Spot)),
-        "frame" => Ok(frame(rest)),
-        "area" => Ok(region(alloc, rest)?.map(Shape::Area)),
-        _ => Ok(None),
+        "spot" => point(rest).map(Shape::Spot).ok_or(NoAnswer::Unread),
+        "frame" => frame(rest).ok_or(NoAnswer::Unread),
+        "area" => region(alloc, rest).map(Shape::Area),
+        _ => Err(NoAnswer::Unread),
     }
 }
 
 fn put_unread(answer: &mut String) -> Result<(), AllocError> {
     answer.push_str("unread")
+}
+
+// What is answered where there is no answer.
+fn put_none(answer: &mut String, none: NoAnswer) -> Result<(), AllocError> {
+    match none {
+        NoAnswer::Unread => put_unread(answer),
+        NoAnswer::Memory => Err(AllocError),
+    }
 }
 
 fn put_fault(answer: &mut String, number: u8, name: &str) -> Result<(), AllocError> {
@@ -102,12 +115,12 @@ fn put_ring(alloc: Global, answer: &mut String, ring: &Ring) -> Result<(), Alloc
 }
 
 fn put_ring_answer(alloc: Global, answer: &mut String, text: &str) -> Result<(), AllocError> {
-    let Some(corners) = points(alloc, text)? else {
-        return put_unread(answer);
-    };
-    match Ring::new(corners) {
-        Ok(ring) => put_ring(alloc, answer, &ring),
-        Err((fault, _corners)) => put_ring_fault(answer, fault),
+    match points(alloc, text) {
+        Ok(corners) => match Ring::new(corners) {
+            Ok(ring) => put_ring(alloc, answer, &ring),
+            Err((fault, _corners)) => put_ring_fault(answer, fault),
+        },
+        Err(none) => put_none(answer, none),
     }
 }
 
@@ -133,13 +146,12 @@ fn put_region(answer: &mut String, region: &Region) -> Result<(), AllocError> {
 }
 
 fn put_region_answer(alloc: Global, answer: &mut String, text: &str) -> Result<(), AllocError> {
-    let Some(rings) = rings(alloc, text)? else {
-        return put_unread(answer);
-    };
-    let rings = Rc::new(alloc, rings)?;
-    match Region::new(rings) {
-        Ok(region) => put_region(answer, &region),
-        Err((fault, _rings)) => put_region_fault(answer, fault),
+    match rings(alloc, text) {
+        Ok(rings) => match Region::new(rings) {
+            Ok(region) => put_region(answer, &region),
+            Err((fault, _rings)) => put_region_fault(answer, fault),
+        },
+        Err(none) => put_none(answer, none),
     }
 }
 
@@ -147,13 +159,17 @@ fn put_flag(answer: &mut String, flag: bool) -> Result<(), AllocError> {
     answer.push_str(if flag { "true" } else { "false" })
 }
 
-fn put_segments_answer(alloc: Global, answer: &mut String, text: &str) -> Result<(), AllocError> {
-    let Some(ends) = points(alloc, text)? else {
-        return put_unread(answer);
-    };
-    match ends.as_slice() {
+fn put_segments(answer: &mut String, ends: &[Point]) -> Result<(), AllocError> {
+    match ends {
         [p, q, r, s] => put_flag(answer, segments_meet(*p, *q, *r, *s)),
         _ => put_unread(answer),
+    }
+}
+
+fn put_segments_answer(alloc: Global, answer: &mut String, text: &str) -> Result<(), AllocError> {
+    match points(alloc, text) {
+        Ok(ends) => put_segments(answer, &ends),
+        Err(none) => put_none(answer, none),
     }
 }
 
@@ -164,9 +180,9 @@ fn put_inside_answer(alloc: Global, answer: &mut String, text: &str) -> Result<(
     let Some(point) = point(first) else {
         return put_unread(answer);
     };
-    match region(alloc, rest)? {
-        Some(region) => put_flag(answer, in_region(point, &region)),
-        None => put_unread(answer),
+    match region(alloc, rest) {
+        Ok(region) => put_flag(answer, in_region(point, &region)),
+        Err(none) => put_none(answer, none),
     }
 }
 
@@ -179,9 +195,9 @@ fn put_bounds(answer: &mut String, bounds: Bounds) -> Result<(), AllocError> {
 }
 
 fn put_bounds_answer(alloc: Global, answer: &mut String, text: &str) -> Result<(), AllocError> {
-    match shape(alloc, text)? {
-        Some(shape) => put_bounds(answer, bounds(&shape)),
-        None => put_unread(answer),
+    match shape(alloc, text) {
+        Ok(shape) => put_bounds(answer, bounds(&shape)),
+        Err(none) => put_none(answer, none),
     }
 }
 
@@ -200,9 +216,9 @@ fn put_shape_answer(
     first: &Shape,
     text: &str,
 ) -> Result<(), AllocError> {
-    match shape(alloc, text)? {
-        Some(second) => put_shapes(answer, first, &second),
-        None => put_unread(answer),
+    match shape(alloc, text) {
+        Ok(second) => put_shapes(answer, first, &second),
+        Err(none) => put_none(answer, none),
     }
 }
 
@@ -210,9 +226,9 @@ fn put_shapes_answer(alloc: Global, answer: &mut String, text: &str) -> Result<(
     let Some((first, second)) = text.split_once('/') else {
         return put_unread(answer);
     };
-    match shape(alloc, first)? {
-        Some(first) => put_shape_answer(alloc, answer, &first, second),
-        None => put_unread(answer),
+    match shape(alloc, first) {
+        Ok(first) => put_shape_answer(alloc, answer, &first, second),
+        Err(none) => put_none(answer, none),
     }
 }
 
