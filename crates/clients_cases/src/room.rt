@@ -93,9 +93,7 @@ impl Room {
         self.clients
             .open(self.alloc, c, self.now, &mut self.desk)
             .ok()?;
-        if let Some(slot) = self.sockets.get_mut(c as usize) {
-            *slot = Some(Socket::new(self.alloc));
-        }
+        self.set_socket(c, Some(Socket::new(self.alloc)));
         Some(c)
     }
 
@@ -107,9 +105,10 @@ impl Room {
         }
     }
 
-    fn drop_socket(&mut self, c: u32) {
+    /// Keeps this socket of a client from now on, or none.
+    fn set_socket(&mut self, c: u32, socket: Option<Socket>) {
         if let Some(slot) = self.sockets.get_mut(c as usize) {
-            *slot = None;
+            *slot = socket;
         }
     }
 
@@ -131,7 +130,7 @@ impl Room {
             self.now,
         );
         if served != Served::Stays {
-            self.drop_socket(c);
+            self.set_socket(c, None);
         }
         (served, taken)
     }
@@ -142,7 +141,7 @@ impl Room {
             return false;
         }
         self.clients.close(c, &mut self.desk);
-        self.drop_socket(c);
+        self.set_socket(c, None);
         true
     }
 
