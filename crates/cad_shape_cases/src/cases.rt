@@ -4,54 +4,61 @@ use cad_shape::{
     Bounds, Point, Region, RegionFault, Ring, RingFault, Shape, bounds, in_region, meets,
     segments_meet, within,
 };
-use std::alloc::{AllocError, Global};
+use std::alloc::{AllocError, AllocFailed, Global};
 use std::rc::Rc;
+
+// Why a case has no answer.
+#[derive(Clone, Copy)]
+enum NoAnswer {
+    // A part of it is none.
+    Unread,
+    // Memory was refused.
+    Memory,
+}
+
+impl<T: Drop> From<AllocFailed<T>> for NoAnswer {
+    fn from(_refused: AllocFailed<T>) -> NoAnswer {
+        NoAnswer::Memory
+    }
+}
 
 fn point(text: &str) -> Option<Point> {
     let (x, y) = text.split_once(',')?;
     Point::new(x.parse().ok()?, y.parse().ok()?)
 }
 
-// The points of these words, if each is one.
-fn points(alloc: Global, text: &str) -> Result<Option<Vec<Point>>, AllocError> {
+// The points of these words.
+fn points(alloc: Global, text: &str) -> Result<Vec<Point>, NoAnswer> {
     let mut points = Vec::new(alloc);
     for word in text.split_whitespace() {
         let Some(point) = point(word) else {
-            return Ok(None);
+            return Err(NoAnswer::Unread);
         };
         points.push(point)?;
     }
-    Ok(Some(points))
+    Ok(points)
 }
 
-fn ring(alloc: Global, text: &str) -> Result<Option<Ring>, AllocError> {
-    let Some(corners) = points(alloc, text)? else {
-        return Ok(None);
-    };
-    Ok(Ring::new(corners).ok())
+fn ring(alloc: Global, text: &str) -> Result<Ring, NoAnswer> {
+    let corners = points(alloc, text)?;
+    Ring::new(corners).ok().ok_or(NoAnswer::Unread)
 }
 
-// The rings of these parts, if each is one; no part at all is no ring.
-fn rings(alloc: Global, text: &str) -> Result<Option<Vec<Ring>>, AllocError> {
+// The rings of these parts; no part at all is no ring.
+fn rings(alloc: Global, text: &str) -> Result<Rc<Vec<Ring>>, NoAnswer> {
     let mut rings = Vec::new(alloc);
-    if text.is_empty() {
-        return Ok(Some(rings));
+    if !text.is_empty() {
+        for part in text.split(';') {
+            let ring = ring(alloc, part)?;
+            rings.push(ring)?;
+        }
     }
-    for part in text.split(';') {
-        let Some(ring) = ring(alloc, part)? else {
-            return Ok(None);
-        };
-        rings.push(ring)?;
-    }
-    Ok(Some(rings))
+    Ok(Rc::new(alloc, rings)?)
 }
 
-fn region(alloc: Global, text: &str) -> Result<Option<Region>, AllocError> {
-    let Some(rings) = rings(alloc, text)? else {
-        return Ok(None);
-    };
-    let rings = Rc::new(alloc, rings)?;
-    Ok(Region::new(rings).ok())
+fn region(alloc: Global, text: &str) -> Result<Region, NoAnswer> {
+    let rings = rings(alloc, text)?;
+    Region::new(rings).ok().ok_or(NoAnswer::Unread)
 }
 
 fn frame(text: &str) -> Option<Shape> {
@@ -62,38 +69,58 @@ fn frame(text: &str) -> Option<Shape> {
     Some(Shape::Frame(bounds))
 }
 
-fn shape(alloc: Global, text: &str) -> Result<Option<Shape>, AllocError> {
-    let Some((kind, rest)) = text.trim().split_once(' ') else {
-        return Ok(None);
-    };
+fn shape(alloc: Global, text: &str) -> Result<Shape, NoAnswer> {
+    let (kind, rest) = text.trim().split_once(' ').ok_or(NoAnswer::Unread)?;
     match kind {
-        "spot" => Ok(point(rest).map(Shape::Spot)),
-        "frame" => Ok(frame(rest)),
-        "area" => Ok(region(alloc, rest)?.map(Shape::Area)),
-        _ => Ok(None),
+        "spot" => point(rest).map(Shape::Spot).ok_or(NoAnswer::Unread),
+        "frame" => frame(rest).ok_or(NoAnswer::Unread),
+        "area" => region(alloc, rest).map(Shape::Area),
+        _ => Err(NoAnswer::Unread),
     }
 }
 
-fn fault_text(alloc: Global, fault: RingFault) -> Result<String, AllocError> {
+fn put_unread(answer: &mut String) -> Result<(), AllocError> {
+    answer.push_str("unread")
+}
+
+// What is answered where there is no answer.
+fn put_none(answer: &mut String, none: NoAnswer) -> Result<(), AllocError> {
+    match none {
+        NoAnswer::Unread => put_unread(answer),
+        NoAnswer::Memory => Err(AllocError),
+    }
+}
+
+fn put_fault(answer: &mut String, number: u8, name: &str) -> Result<(), AllocError> {
+    write!(answer, "{number} {name}")
+}
+
+fn put_ring_fault(answer: &mut String, fault: RingFault) -> Result<(), AllocError> {
+    let (number, name) = (fault.number(), fault.name());
     match fault {
         RingFault::Crosses { first, second } => {
-            format!(in alloc; "{} {} {first} {second}", fault.number(), fault.name())
+            write!(answer, "{number} {name} {first} {second}")
         }
-        _ => format!(in alloc; "{} {}", fault.number(), fault.name()),
+        _ => put_fault(answer, number, name),
     }
 }
 
-fn ring_answer(alloc: Global, text: &str) -> Result<Option<String>, AllocError> {
-    let Some(corners) = points(alloc, text)? else {
-        return Ok(None);
-    };
-    match Ring::new(corners) {
-        Ok(ring) => {
-            let copy = ring.copy(alloc)?;
-            let same = copy.corners() == ring.corners();
-            Ok(Some(String::from_str(alloc, if same { "ok" } else { "copied wrongly" })?))
-        }
-        Err((fault, _corners)) => Ok(Some(fault_text(alloc, fault)?)),
+fn put_copied(answer: &mut String, same: bool) -> Result<(), AllocError> {
+    answer.push_str(if same { "ok" } else { "copied wrongly" })
+}
+
+fn put_ring(alloc: Global, answer: &mut String, ring: &Ring) -> Result<(), AllocError> {
+    let copy = ring.copy(alloc)?;
+    put_copied(answer, copy.corners() == ring.corners())
+}
+
+fn put_ring_answer(alloc: Global, answer: &mut String, text: &str) -> Result<(), AllocError> {
+    match points(alloc, text) {
+        Ok(corners) => match Ring::new(corners) {
+            Ok(ring) => put_ring(alloc, answer, &ring),
+            Err((fault, _corners)) => put_ring_fault(answer, fault),
+        },
+        Err(none) => put_none(answer, none),
     }
 }
 
@@ -105,99 +132,116 @@ fn same_rings(first: &[Ring], second: &[Ring]) -> bool {
             .all(|(a, b)| a.corners() == b.corners())
 }
 
-fn region_fault_text(alloc: Global, fault: RegionFault) -> Result<String, AllocError> {
+fn put_region_fault(answer: &mut String, fault: RegionFault) -> Result<(), AllocError> {
+    let (number, name) = (fault.number(), fault.name());
     match fault {
-        RegionFault::Outside { ring } => {
-            format!(in alloc; "{} {} {ring}", fault.number(), fault.name())
-        }
-        _ => format!(in alloc; "{} {}", fault.number(), fault.name()),
+        RegionFault::Outside { ring } => write!(answer, "{number} {name} {ring}"),
+        _ => put_fault(answer, number, name),
     }
 }
 
-fn region_answer(alloc: Global, text: &str) -> Result<Option<String>, AllocError> {
-    let Some(rings) = rings(alloc, text)? else {
-        return Ok(None);
-    };
-    let rings = Rc::new(alloc, rings)?;
-    match Region::new(rings) {
-        Ok(region) => {
-            let copy = region.copy()?;
-            let same = same_rings(copy.rings(), region.rings());
-            Ok(Some(String::from_str(alloc, if same { "ok" } else { "copied wrongly" })?))
-        }
-        Err((fault, _rings)) => Ok(Some(region_fault_text(alloc, fault)?)),
+fn put_region(answer: &mut String, region: &Region) -> Result<(), AllocError> {
+    let copy = region.copy()?;
+    put_copied(answer, same_rings(copy.rings(), region.rings()))
+}
+
+fn put_region_answer(alloc: Global, answer: &mut String, text: &str) -> Result<(), AllocError> {
+    match rings(alloc, text) {
+        Ok(rings) => match Region::new(rings) {
+            Ok(region) => put_region(answer, &region),
+            Err((fault, _rings)) => put_region_fault(answer, fault),
+        },
+        Err(none) => put_none(answer, none),
     }
 }
 
-fn segments_answer(alloc: Global, text: &str) -> Result<Option<String>, AllocError> {
-    let Some(ends) = points(alloc, text)? else {
-        return Ok(None);
-    };
-    let [p, q, r, s] = ends.as_slice() else {
-        return Ok(None);
-    };
-    let answer = format!(in alloc; "{}", segments_meet(*p, *q, *r, *s))?;
-    Ok(Some(answer))
+fn put_flag(answer: &mut String, flag: bool) -> Result<(), AllocError> {
+    answer.push_str(if flag { "true" } else { "false" })
 }
 
-fn inside_answer(alloc: Global, text: &str) -> Result<Option<String>, AllocError> {
+fn put_segments(answer: &mut String, ends: &[Point]) -> Result<(), AllocError> {
+    match ends {
+        [p, q, r, s] => put_flag(answer, segments_meet(*p, *q, *r, *s)),
+        _ => put_unread(answer),
+    }
+}
+
+fn put_segments_answer(alloc: Global, answer: &mut String, text: &str) -> Result<(), AllocError> {
+    match points(alloc, text) {
+        Ok(ends) => put_segments(answer, &ends),
+        Err(none) => put_none(answer, none),
+    }
+}
+
+fn put_inside_answer(alloc: Global, answer: &mut String, text: &str) -> Result<(), AllocError> {
     let Some((first, rest)) = text.split_once(' ') else {
-        return Ok(None);
+        return put_unread(answer);
     };
     let Some(point) = point(first) else {
-        return Ok(None);
+        return put_unread(answer);
     };
-    let Some(region) = region(alloc, rest)? else {
-        return Ok(None);
-    };
-    let answer = format!(in alloc; "{}", in_region(point, &region))?;
-    Ok(Some(answer))
+    match region(alloc, rest) {
+        Ok(region) => put_flag(answer, in_region(point, &region)),
+        Err(none) => put_none(answer, none),
+    }
 }
 
-fn bounds_answer(alloc: Global, text: &str) -> Result<Option<String>, AllocError> {
-    let Some(shape) = shape(alloc, text)? else {
-        return Ok(None);
-    };
-    let found = bounds(&shape);
-    let answer = format!(in alloc;
+fn put_bounds(answer: &mut String, bounds: Bounds) -> Result<(), AllocError> {
+    write!(
+        answer,
         "{},{} {},{}",
-        found.x_min, found.y_min, found.x_max, found.y_max
-    )?;
-    Ok(Some(answer))
+        bounds.x_min, bounds.y_min, bounds.x_max, bounds.y_max
+    )
 }
 
-fn shapes_answer(alloc: Global, text: &str) -> Result<Option<String>, AllocError> {
+fn put_bounds_answer(alloc: Global, answer: &mut String, text: &str) -> Result<(), AllocError> {
+    match shape(alloc, text) {
+        Ok(shape) => put_bounds(answer, bounds(&shape)),
+        Err(none) => put_none(answer, none),
+    }
+}
+
+fn put_shapes(answer: &mut String, first: &Shape, second: &Shape) -> Result<(), AllocError> {
+    let meet = meets(first, second);
+    match within(first, second) {
+        Some(inside) => write!(answer, "meets {meet} within {inside}"),
+        None => write!(answer, "meets {meet} within none"),
+    }
+}
+
+// The answer to a shape and the shape of a text.
+fn put_shape_answer(
+    alloc: Global,
+    answer: &mut String,
+    first: &Shape,
+    text: &str,
+) -> Result<(), AllocError> {
+    match shape(alloc, text) {
+        Ok(second) => put_shapes(answer, first, &second),
+        Err(none) => put_none(answer, none),
+    }
+}
+
+fn put_shapes_answer(alloc: Global, answer: &mut String, text: &str) -> Result<(), AllocError> {
     let Some((first, second)) = text.split_once('/') else {
-        return Ok(None);
+        return put_unread(answer);
     };
-    let Some(first) = shape(alloc, first)? else {
-        return Ok(None);
-    };
-    let Some(second) = shape(alloc, second)? else {
-        return Ok(None);
-    };
-    let meet = meets(&first, &second);
-    let answer = match within(&first, &second) {
-        Some(inside) => format!(in alloc; "meets {meet} within {inside}")?,
-        None => format!(in alloc; "meets {meet} within none")?,
-    };
-    Ok(Some(answer))
+    match shape(alloc, first) {
+        Ok(first) => put_shape_answer(alloc, answer, &first, second),
+        Err(none) => put_none(answer, none),
+    }
 }
 
 /// Appends the answer to the case of this line.
 pub(crate) fn put_answer(alloc: Global, line: &str, answer: &mut String) -> Result<(), AllocError> {
     let (question, rest) = line.split_once(' ').unwrap_or((line, ""));
-    let found = match question {
-        "ring" => ring_answer(alloc, rest)?,
-        "region" => region_answer(alloc, rest)?,
-        "segments" => segments_answer(alloc, rest)?,
-        "inside" => inside_answer(alloc, rest)?,
-        "bounds" => bounds_answer(alloc, rest)?,
-        "shapes" => shapes_answer(alloc, rest)?,
-        _ => None,
-    };
-    match found {
-        Some(text) => answer.push_str(text.as_str()),
-        None => answer.push_str("unread"),
+    match question {
+        "ring" => put_ring_answer(alloc, answer, rest),
+        "region" => put_region_answer(alloc, answer, rest),
+        "segments" => put_segments_answer(alloc, answer, rest),
+        "inside" => put_inside_answer(alloc, answer, rest),
+        "bounds" => put_bounds_answer(alloc, answer, rest),
+        "shapes" => put_shapes_answer(alloc, answer, rest),
+        _ => put_unread(answer),
     }
 }

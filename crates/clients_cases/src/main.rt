@@ -24,17 +24,27 @@ mod script;
 mod sockets;
 
 use room::Room;
-use script::answer;
+use script::put_answer;
 use std::io::{Read, Result};
 
-fn main(rt: HostRuntime) -> Result<()> {
-    let mut input = Vec::new(rt.alloc());
-    rt.stdin().read_to_end(&mut input)?;
-    let mut room = Room::new(rt.alloc())?;
-    for line in input.split(|byte| *byte == b'\n') {
+fn print_answer(rt: &HostRuntime, room: &mut Room, line: &[u8]) -> Result<()> {
+    let mut answer = String::new(rt.alloc());
+    put_answer(&mut answer, room, line)?;
+    println!(rt; "{answer}")
+}
+
+fn print_answers(rt: &HostRuntime, room: &mut Room, lines: &[u8]) -> Result<()> {
+    for line in lines.split(|byte| *byte == b'\n') {
         if !line.is_empty() {
-            println!(rt; "{}", answer(rt.alloc(), &mut room, line)?.as_str())?;
+            print_answer(rt, room, line)?;
         }
     }
     Ok(())
+}
+
+fn main(rt: HostRuntime) -> Result<()> {
+    let mut lines = Vec::new(rt.alloc());
+    rt.stdin().read_to_end(&mut lines)?;
+    let mut room = Room::new(rt.alloc())?;
+    print_answers(&rt, &mut room, &lines)
 }

@@ -27,6 +27,28 @@ impl Socket {
             taker: Taker::new(alloc),
         }
     }
+
+    /// Serves the client of this socket. What was written to it since it was served last.
+    fn serve(
+        &mut self,
+        alloc: Global,
+        clients: &mut Clients,
+        desk: &mut Desk<Echo>,
+        c: u32,
+        now: u64,
+    ) -> (Served, Vec<u8>) {
+        let served = clients.serve(
+            alloc,
+            c,
+            now,
+            &mut self.sender,
+            &mut self.taker,
+            desk,
+            &mut NoLog,
+        );
+        let taken = std::mem::replace(&mut self.taker.taken, Vec::new(alloc));
+        (served, taken)
+    }
 }
 
 /// The clients, the land office and their sockets, at one desk.
@@ -41,16 +63,23 @@ pub(crate) struct Room {
     pub(crate) now: u64,
 }
 
+/// Adds a place for the socket of each client.
+fn push_places(sockets: &mut Vec<Option<Socket>>) -> Result<(), AllocError> {
+    for _ in 0..ROOM {
+        sockets.push(None)?;
+    }
+    Ok(())
+}
+
 impl Room {
     pub(crate) fn new(alloc: Global) -> Result<Room, AllocError> {
+        let clients = Clients::new(alloc)?;
         let mut sockets = Vec::new(alloc);
-        for _ in 0..ROOM {
-            sockets.push(None)?;
-        }
+        push_places(&mut sockets)?;
         Ok(Room {
             alloc,
             desk: Desk::new(alloc, Echo::new(alloc)),
-            clients: Clients::new(alloc)?,
+            clients,
             sockets,
             entry: Entry::new(alloc),
             office: Socket::new(alloc),
@@ -64,9 +93,7 @@ impl Room {
         self.clients
             .open(self.alloc, c, self.now, &mut self.desk)
             .ok()?;
-        if let Some(slot) = self.sockets.get_mut(c as usize) {
-            *slot = Some(Socket::new(self.alloc));
-        }
+        self.set_socket(c, Some(Socket::new(self.alloc)));
         Some(c)
     }
 
@@ -78,6 +105,13 @@ impl Room {
         }
     }
 
+    /// Keeps this socket of a client from now on, or none.
+    fn set_socket(&mut self, c: u32, socket: Option<Socket>) {
+        if let Some(slot) = self.sockets.get_mut(c as usize) {
+            *slot = socket;
+        }
+    }
+
     /// Whether a reply of this client has not gone out.
     pub(crate) fn is_sending(&self, c: u32) -> bool {
         self.clients.is_sending(c)
@@ -85,26 +119,18 @@ impl Room {
 
     /// Serves a client, and keeps no socket of one that is over. What was written to it since it was served last.
     pub(crate) fn serve(&mut self, c: u32) -> (Served, Vec<u8>) {
-        let Some(slot) = self.sockets.get_mut(c as usize) else {
+        let Some(Some(socket)) = self.sockets.get_mut(c as usize) else {
             return (Served::Unknown, Vec::new(self.alloc));
         };
-        let Some(mut socket) = slot.take() else {
-            return (Served::Unknown, Vec::new(self.alloc));
-        };
-        let served = self.clients.serve(
+        let (served, taken) = socket.serve(
             self.alloc,
+            &mut self.clients,
+            &mut self.desk,
             c,
             self.now,
-            &mut socket.sender,
-            &mut socket.taker,
-            &mut self.desk,
-            &mut NoLog,
         );
-        let taken = std::mem::replace(&mut socket.taker.taken, Vec::new(self.alloc));
-        if served == Served::Stays {
-            if let Some(slot) = self.sockets.get_mut(c as usize) {
-                *slot = Some(socket);
-            }
+        if served != Served::Stays {
+            self.set_socket(c, None);
         }
         (served, taken)
     }
@@ -115,9 +141,7 @@ impl Room {
             return false;
         }
         self.clients.close(c, &mut self.desk);
-        if let Some(slot) = self.sockets.get_mut(c as usize) {
-            *slot = None;
-        }
+        self.set_socket(c, None);
         true
     }
 

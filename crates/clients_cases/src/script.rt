@@ -1,35 +1,42 @@
 //! The lines, and what is printed for them.
 
-use crate::room::Room;
+use crate::room::{Room, Socket};
+use crate::sockets::Sender;
 use cad_channel::Ending;
 use cad_clients::{ROOM, Served};
 use cad_entry::EntryTurned;
-use std::alloc::{AllocError, Global};
+use std::alloc::AllocError;
 
-/// The bytes of a text, in which `|` stands for CR and LF.
-fn bytes_of(alloc: Global, text: &str) -> Result<Vec<u8>, AllocError> {
-    let mut bytes = Vec::new(alloc);
+/// A peer sends the bytes of a text, in which `|` stands for CR and LF.
+fn give_text(sender: &mut Sender, text: &str) -> Result<(), AllocError> {
     for byte in text.as_bytes() {
         if *byte == b'|' {
-            bytes.extend_from_slice(b"\r\n")?;
+            sender.give(b"\r\n")?;
         } else {
-            bytes.push(*byte)?;
+            sender.give(&[*byte])?;
         }
     }
-    Ok(bytes)
+    Ok(())
 }
 
-/// The text of bytes, in which `|` stands for LF, and CR is left out.
-fn text_of(alloc: Global, bytes: &[u8]) -> Result<String, AllocError> {
-    let mut text = String::new(alloc);
+/// A peer sends so many bytes `a`.
+fn give_often(sender: &mut Sender, count: usize) -> Result<(), AllocError> {
+    for _ in 0..count {
+        sender.give(b"a")?;
+    }
+    Ok(())
+}
+
+/// Appends the text of bytes, in which `|` stands for LF, and CR is left out.
+fn put_text(answer: &mut String, bytes: &[u8]) -> Result<(), AllocError> {
     for byte in bytes {
         match *byte {
-            b'\n' => text.push('|')?,
+            b'\n' => answer.push('|')?,
             b'\r' => {}
-            byte => text.push(char::from(byte))?,
+            byte => answer.push(char::from(byte))?,
         }
     }
-    Ok(text)
+    Ok(())
 }
 
 fn ending_name(ending: Ending) -> &'static str {
@@ -62,128 +69,145 @@ fn turned_name(turned: EntryTurned) -> &'static str {
     }
 }
 
-fn told(alloc: Global, text: &str) -> Result<Option<String>, AllocError> {
-    Ok(Some(String::from_str(alloc, text)?))
+fn put_no_case(answer: &mut String) -> Result<(), AllocError> {
+    answer.push_str("no case")
 }
 
-fn open(alloc: Global, room: &mut Room) -> Result<Option<String>, AllocError> {
+fn put_open(answer: &mut String, room: &mut Room) -> Result<(), AllocError> {
     match room.open() {
-        Some(c) => Ok(Some(format!(in alloc; "{c} opened")?)),
-        None => told(alloc, "full"),
+        Some(c) => write!(answer, "{c} opened"),
+        None => answer.push_str("full"),
     }
 }
 
-fn serve(alloc: Global, room: &mut Room, c: u32) -> Result<Option<String>, AllocError> {
-    let (served, taken) = room.serve(c);
-    let written = text_of(alloc, &taken)?;
-    let sending = if room.is_sending(c) { " sending" } else { "" };
-    let name = served_name(served);
-    Ok(Some(format!(in alloc; "{c} {name}{sending} [{}]", written.as_str())?))
+/// Appends how serving ended, and what was written.
+fn put_turn(
+    answer: &mut String,
+    ended: &str,
+    sending: &str,
+    written: &[u8],
+) -> Result<(), AllocError> {
+    write!(answer, "{ended}{sending} [")?;
+    put_text(answer, written)?;
+    answer.push(']')
 }
 
-fn serve_office(alloc: Global, room: &mut Room) -> Result<Option<String>, AllocError> {
+fn put_served(answer: &mut String, room: &mut Room, c: u32) -> Result<(), AllocError> {
+    write!(answer, "{c} ")?;
+    let (served, taken) = room.serve(c);
+    let sending = if room.is_sending(c) { " sending" } else { "" };
+    put_turn(answer, served_name(served), sending, &taken)
+}
+
+fn put_office(answer: &mut String, room: &mut Room) -> Result<(), AllocError> {
+    answer.push_str("office ")?;
     let (turned, taken) = room.serve_office();
-    let written = text_of(alloc, &taken)?;
-    let name = turned_name(turned);
-    Ok(Some(format!(in alloc; "office {name} [{}]", written.as_str())?))
+    put_turn(answer, turned_name(turned), "", &taken)
 }
 
 /// The second is this one.
-fn at_second(alloc: Global, room: &mut Room, second: u64) -> Result<Option<String>, AllocError> {
+fn put_dropped(answer: &mut String, room: &mut Room, second: u64) -> Result<(), AllocError> {
     room.now = room.now.max(second);
-    let mut text = String::from_str(alloc, "dropped")?;
+    answer.push_str("dropped")?;
     for c in 0..ROOM {
         if room.drop_overdue(c) {
-            text.push_str(format!(in alloc; " {c}")?.as_str())?;
+            write!(answer, " {c}")?;
         }
     }
-    Ok(Some(text))
+    Ok(())
 }
 
 /// What a client's socket does.
 fn at_socket(
-    alloc: Global,
-    room: &mut Room,
+    answer: &mut String,
+    socket: &mut Socket,
     word: &str,
-    c: u32,
     rest: &str,
-) -> Result<Option<String>, AllocError> {
-    let Some(socket) = room.socket(c) else {
-        return told(alloc, "unknown");
-    };
+) -> Result<(), AllocError> {
     match (word, rest.parse::<usize>()) {
-        ("give", _) => socket.sender.give(&bytes_of(alloc, rest)?)?,
-        ("long", Ok(count)) => {
-            for _ in 0..count {
-                socket.sender.give(b"a")?;
-            }
-        }
+        ("give", _) => give_text(&mut socket.sender, rest)?,
+        ("long", Ok(count)) => give_often(&mut socket.sender, count)?,
         ("room", Ok(count)) => socket.taker.room = socket.taker.room.saturating_add(count),
         ("hang", _) => socket.sender.has_ended = true,
         ("break", _) => {
             socket.sender.is_broken = true;
             socket.taker.is_broken = true;
         }
-        _ => return Ok(None),
+        _ => return put_no_case(answer),
     }
-    told(alloc, "done")
+    answer.push_str("done")
+}
+
+/// What the socket of this client does.
+fn at_socket_of(
+    answer: &mut String,
+    room: &mut Room,
+    word: &str,
+    c: u32,
+    rest: &str,
+) -> Result<(), AllocError> {
+    match room.socket(c) {
+        Some(socket) => at_socket(answer, socket, word, rest),
+        None => answer.push_str("unknown"),
+    }
 }
 
 /// What the office's socket does.
 fn at_office(
-    alloc: Global,
-    room: &mut Room,
+    answer: &mut String,
+    office: &mut Socket,
     word: &str,
     rest: &str,
-) -> Result<Option<String>, AllocError> {
+) -> Result<(), AllocError> {
     match (word, rest.parse::<usize>()) {
         ("line", _) => {
-            room.office.sender.give(rest.as_bytes())?;
-            room.office.sender.give(b"\n")?;
+            office.sender.give(rest.as_bytes())?;
+            office.sender.give(b"\n")?;
         }
-        ("part", _) => room.office.sender.give(rest.as_bytes())?,
+        ("part", _) => office.sender.give(rest.as_bytes())?,
         ("office-room", Ok(count)) => {
-            room.office.taker.room = room.office.taker.room.saturating_add(count);
+            office.taker.room = office.taker.room.saturating_add(count);
         }
-        ("office-hang", _) => room.office.sender.has_ended = true,
-        _ => return Ok(None),
+        ("office-hang", _) => office.sender.has_ended = true,
+        _ => return put_no_case(answer),
     }
-    told(alloc, "done")
+    answer.push_str("done")
 }
 
 /// A line of more than a word.
-fn answer_words(
-    alloc: Global,
+fn put_words(
+    answer: &mut String,
     room: &mut Room,
     word: &str,
     rest: &str,
-) -> Result<Option<String>, AllocError> {
+) -> Result<(), AllocError> {
     let (number, text) = rest.split_once(' ').unwrap_or((rest, ""));
-    match (word, number.parse::<u32>()) {
-        ("serve", Ok(c)) => serve(alloc, room, c),
-        ("second", Ok(second)) => at_second(alloc, room, u64::from(second)),
-        ("give" | "long" | "room" | "hang" | "break", Ok(c)) => at_socket(
-            alloc, room, word, c, text,
-        ),
-        _ => at_office(alloc, room, word, rest),
+    let Ok(c) = number.parse::<u32>() else {
+        return at_office(answer, &mut room.office, word, rest);
+    };
+    match word {
+        "serve" => put_served(answer, room, c),
+        "second" => put_dropped(answer, room, u64::from(c)),
+        "give" | "long" | "room" | "hang" | "break" => at_socket_of(answer, room, word, c, text),
+        _ => at_office(answer, &mut room.office, word, rest),
     }
 }
 
-/// Does what a line asks for, and answers what is printed for it.
-pub(crate) fn answer(alloc: Global, room: &mut Room, line: &[u8]) -> Result<String, AllocError> {
+/// Does what a line asks for, and appends what is printed for it.
+pub(crate) fn put_answer(
+    answer: &mut String,
+    room: &mut Room,
+    line: &[u8],
+) -> Result<(), AllocError> {
     let Ok(text) = str::from_utf8(line) else {
-        return String::from_str(alloc, "no case");
+        return put_no_case(answer);
     };
-    let told = match text.split_once(' ') {
-        Some((word, rest)) => answer_words(alloc, room, word, rest)?,
+    match text.split_once(' ') {
+        Some((word, rest)) => put_words(answer, room, word, rest),
         None => match text {
-            "open" => open(alloc, room)?,
-            "office" => serve_office(alloc, room)?,
-            _ => None,
+            "open" => put_open(answer, room),
+            "office" => put_office(answer, room),
+            _ => put_no_case(answer),
         },
-    };
-    match told {
-        Some(told) => Ok(told),
-        None => String::from_str(alloc, "no case"),
     }
 }
