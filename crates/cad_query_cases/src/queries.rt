@@ -31,21 +31,40 @@ fn described(
     filter: Option<&str>,
     continuation: Continuation,
 ) -> Result<String, AllocError> {
-    let mut text = format!(in alloc; "limit {}", selection.limit)?;
-    put_days(selection, &mut text)?;
-    put_box(alloc, selection, &mut text)?;
-    if let Some(filter) = filter {
-        text.push_str(" filter ")?;
-        text.push_str(filter)?;
-    }
-    if let Some(revision) = continuation.revision {
-        text.push_str(&format!(in alloc; " revision {revision}")?)?;
-    }
-    if let Some(after) = continuation.after {
-        text.push_str(" after ")?;
-        text.push_str(&after.text(alloc)?)?;
-    }
+    let mut text = String::new(alloc);
+    put_described(alloc, selection, filter, continuation, &mut text)?;
     Ok(text)
+}
+
+fn put_described(
+    alloc: Global,
+    selection: Selection,
+    filter: Option<&str>,
+    continuation: Continuation,
+    text: &mut String,
+) -> Result<(), AllocError> {
+    write!(text, "limit {}", selection.limit)?;
+    put_days(selection, text)?;
+    put_box(selection, text)?;
+    if let Some(filter) = filter {
+        write!(text, " filter {filter}")?;
+    }
+    put_continuation(alloc, continuation, text)
+}
+
+fn put_continuation(
+    alloc: Global,
+    continuation: Continuation,
+    text: &mut String,
+) -> Result<(), AllocError> {
+    if let Some(revision) = continuation.revision {
+        write!(text, " revision {revision}")?;
+    }
+    let Some(after) = continuation.after else {
+        return Ok(());
+    };
+    let after = after.text(alloc)?;
+    write!(text, " after {after}")
 }
 
 fn put_days(selection: Selection, text: &mut String) -> Result<(), AllocError> {
@@ -63,14 +82,12 @@ fn put_days(selection: Selection, text: &mut String) -> Result<(), AllocError> {
     Ok(())
 }
 
-fn put_box(alloc: Global, selection: Selection, text: &mut String) -> Result<(), AllocError> {
+fn put_box(selection: Selection, text: &mut String) -> Result<(), AllocError> {
     let Some(bounds) = selection.bbox else {
         return Ok(());
     };
-    let lower = format!(in alloc; " bbox {},{}", bounds.x_min, bounds.y_min)?;
-    let upper = format!(in alloc; ",{},{}", bounds.x_max, bounds.y_max)?;
-    text.push_str(&lower)?;
-    text.push_str(&upper)
+    write!(text, " bbox {},{}", bounds.x_min, bounds.y_min)?;
+    write!(text, ",{},{}", bounds.x_max, bounds.y_max)
 }
 
 /// The target of the link to the page itself.

@@ -83,8 +83,7 @@ fn accepted(
     for feature in features {
         if is_taken(alloc, filter, days, feature)? {
             let identifier = feature.identifier().text(alloc)?;
-            line.push_str(" ")?;
-            line.push_str(identifier.as_str())?;
+            write!(line, " {identifier}")?;
         }
     }
     Ok(line)

@@ -3,14 +3,14 @@
 use std::alloc::{AllocError, Global};
 
 /// A text that stands several times.
-#[derive(Debug, Drop)]
+#[derive(Drop)]
 struct Repeated {
     count: usize,
     text: Vec<u8>,
 }
 
 /// The cases of lines that come one after the other.
-#[derive(Debug, Drop)]
+#[derive(Drop)]
 pub struct Cases {
     alloc: Global,
     /// What the lines before a case say that stands in place of its marks.

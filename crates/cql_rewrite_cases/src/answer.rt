@@ -21,9 +21,14 @@ fn constant_word(form: &Normal) -> &'static str {
     }
 }
 
-fn named(alloc: Global, word: &str, feature: &Feature) -> Result<String, AllocError> {
+fn put_named(
+    alloc: Global,
+    word: &str,
+    feature: &Feature,
+    line: &mut String,
+) -> Result<(), AllocError> {
     let identifier = feature.identifier().text(alloc)?;
-    format!(in alloc; "{word} {identifier}")
+    write!(line, "{word} {identifier}")
 }
 
 /// What is wrong with the form on this feature, in a word, if something is.
@@ -34,77 +39,91 @@ fn fault_of(
     feature: &Feature,
 ) -> Result<Option<&'static str>, AllocError> {
     let is_met = test(alloc, form, feature)?;
-    if is_met != (truth(alloc, filter, feature)? == Truth::Yes) {
+    let is_meant = truth(alloc, filter, feature)? == Truth::Yes;
+    if is_met != is_meant || form.is_constant() == Some(!is_met) {
         return Ok(Some("differs"));
     }
-    if let Some(all) = form.is_constant() {
-        if is_met != all {
-            return Ok(Some("differs"));
-        }
+    match form.range() {
+        Some(range) if is_met && !lies_in(range, feature) => Ok(Some("outside")),
+        _ => Ok(None),
     }
-    if let Some(range) = form.range() {
-        if is_met && !lies_in(range, feature) {
-            return Ok(Some("outside"));
-        }
-    }
-    Ok(None)
 }
 
-fn form_answer(
+/// Appends what the form is and the range that it offers.
+fn put_form(collection: Collection, form: &Normal, line: &mut String) -> Result<(), AllocError> {
+    line.push_str(constant_word(form))?;
+    match form.range() {
+        Some(range) => put_range(collection, range, line),
+        None => line.push_str("none"),
+    }
+}
+
+/// Appends the identifiers of the features that meet the form; of one that has a fault nothing but that fault is left.
+fn put_met(
+    alloc: Global,
+    filter: &Filter,
+    form: &Normal,
+    features: &[Feature],
+    line: &mut String,
+) -> Result<(), AllocError> {
+    for feature in features {
+        if let Some(fault) = fault_of(alloc, filter, form, feature)? {
+            line.clear();
+            return put_named(alloc, fault, feature, line);
+        }
+        if test(alloc, form, feature)? {
+            put_named(alloc, "", feature, line)?;
+        }
+    }
+    Ok(())
+}
+
+fn put_form_answer(
     alloc: Global,
     collection: Collection,
     filter: &Filter,
     form: &Normal,
     features: &[Feature],
-) -> Result<String, AllocError> {
-    let mut line = String::from_str(alloc, constant_word(form))?;
-    match form.range() {
-        Some(range) => put_range(alloc, collection, range, &mut line)?,
-        None => line.push_str("none")?,
-    }
+    line: &mut String,
+) -> Result<(), AllocError> {
+    put_form(collection, form, line)?;
     line.push_str(" yes")?;
-    for feature in features {
-        if let Some(fault) = fault_of(alloc, filter, form, feature)? {
-            return named(alloc, fault, feature);
-        }
-        if test(alloc, form, feature)? {
-            line.push_str(&named(alloc, "", feature)?)?;
-        }
-    }
-    Ok(line)
+    put_met(alloc, filter, form, features, line)
 }
 
-// The answer to a filter, by its normal form.
-fn filter_answer(
+/// Appends the answer to a filter, by its normal form.
+fn put_filter_answer(
     alloc: Global,
     versions: &[Version],
     collection: Collection,
     filter: &Filter,
-) -> Result<String, AllocError>
+    line: &mut String,
+) -> Result<(), AllocError>
     requires { IsListing versions.now }
 {
     let features = flatten(alloc, versions, collection)?;
     let form = normal(alloc, filter)?;
-    let answer = form_answer(alloc, collection, filter, &form, &features);
+    let put = put_form_answer(alloc, collection, filter, &form, &features, line);
     drop(form);
-    answer
+    put
 }
 
-fn answer_filter(
+fn put_text_answer(
     alloc: Global,
     versions: &[Version],
     collection: Collection,
     text: &str,
-) -> Result<String, AllocError>
+    line: &mut String,
+) -> Result<(), AllocError>
     requires { IsListing versions.now }
 {
     match read(alloc, text, collection) {
         Ok(filter) => {
-            let answer = filter_answer(alloc, versions, collection, &filter);
+            let put = put_filter_answer(alloc, versions, collection, &filter, line);
             drop(filter);
-            answer
+            put
         }
-        Err(FilterFault::Refused(_)) => String::from_str(alloc, "refused"),
+        Err(FilterFault::Refused(_)) => line.push_str("refused"),
         Err(FilterFault::Memory) => Err(AllocError),
     }
 }
@@ -118,8 +137,13 @@ fn collection_of(name: &[u8]) -> Option<Collection> {
     Collection::read(str::from_utf8(name).ok()?)
 }
 
-/// What is printed for a case, asked of these versions.
-pub fn answer(alloc: Global, versions: &[Version], case: &[u8]) -> Result<String, AllocError>
+/// Appends what is printed for a case, asked of these versions.
+pub fn put_answer(
+    alloc: Global,
+    versions: &[Version],
+    case: &[u8],
+    line: &mut String,
+) -> Result<(), AllocError>
     requires { IsListing versions.now }
 {
     let end = case.iter().position(|byte| *byte == b' ' || *byte == b'\t');
@@ -128,7 +152,7 @@ pub fn answer(alloc: Global, versions: &[Version], case: &[u8]) -> Result<String
         None => (case, b"".as_slice()),
     };
     match (collection_of(name), str::from_utf8(text)) {
-        (Some(collection), Ok(text)) => answer_filter(alloc, versions, collection, text),
-        _ => String::from_str(alloc, "no case"),
+        (Some(collection), Ok(text)) => put_text_answer(alloc, versions, collection, text, line),
+        _ => line.push_str("no case"),
     }
 }

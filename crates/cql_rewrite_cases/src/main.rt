@@ -25,7 +25,10 @@ mod edges;
 mod lines;
 mod sample;
 
-use answer::answer;
+ghost use Rattle.cad_versions.specs.Listing.{IsListing};
+
+use answer::put_answer;
+use cad_versions::Version;
 use lines::Cases;
 use sample::sample_versions;
 use std::io::{Error, ErrorKind, Read, Result};
@@ -34,17 +37,31 @@ use std::process::ExitCode;
 /// The status where memory is refused.
 const NO_MEMORY: u8 = 7;
 
+fn print_answer(rt: &HostRuntime, versions: &[Version], case: &[u8]) -> Result<()>
+    requires { IsListing versions.now }
+{
+    let mut line = String::new(rt.alloc());
+    put_answer(rt.alloc(), versions, case, &mut line)?;
+    println!(rt; "{line}")
+}
+
+fn answer_lines(rt: &HostRuntime, versions: &[Version], input: &[u8]) -> Result<()>
+    requires { IsListing versions.now }
+{
+    let mut cases = Cases::new(rt.alloc());
+    for line in input.split(|byte| *byte == b'\n') {
+        if let Some(case) = cases.case_of(line)? {
+            print_answer(rt, versions, &case)?;
+        }
+    }
+    Ok(())
+}
+
 fn run(rt: &HostRuntime) -> Result<()> {
     let mut input = Vec::new(rt.alloc());
     rt.stdin().read_to_end(&mut input)?;
     let versions = sample_versions(rt.alloc())?;
-    let mut cases = Cases::new(rt.alloc());
-    for line in input.split(|byte| *byte == b'\n') {
-        if let Some(case) = cases.case_of(line)? {
-            println!(rt; "{}", answer(rt.alloc(), &versions, &case)?.as_str())?;
-        }
-    }
-    Ok(())
+    answer_lines(rt, &versions, &input)
 }
 
 fn status_of(error: Error) -> u8 {
