@@ -3,4 +3,5 @@ mod MergedLemmas
 mod ReplacedLemmas
 mod ReplacingLemmas
 mod RunLemmas
+mod StandingLemmas
 mod WalkLemmas

@@ -1,5 +1,5 @@
 -- Features are ordered totally by their identifiers.
-use Rattle.std.proofs.Common.{◌≡◌, ◌∙◌, List, ◌∷◌, ap, subst, sym}
+use Rattle.std.proofs.Common.{◌≡◌, ◌∙◌, List, ◌∷◌, Ordering, ap, subst, sym}
 use Rattle.std.specs.Cmp.{IsTotalOrder}
 use Rattle.std.proofs.lemmas.Cmp.{on_total}
 use Rattle.cad_versions.specs.OrderLemmas.{identifiers_total}
@@ -9,10 +9,10 @@ use Rattle.std.specs.List.Sorted.{IsStrictlySortedBy}
 pub items_total : IsTotalOrder by_identifier
 items_total = on_total identifier_of identifiers_total
 
--- what is left of features that ascend ascends
-pub rest_rises : (x : Item) (xs ys : List Item) → ys ≡ x ∷ xs → IsStrictlySortedBy by_identifier ys → IsStrictlySortedBy by_identifier xs
+-- what is left of a list that ascends ascends
+pub rest_rises : {X : Type 0} (cmp : X → X → Ordering) (x : X) (xs ys : List X) → ys ≡ x ∷ xs → IsStrictlySortedBy cmp ys → IsStrictlySortedBy cmp xs
 unfolding IsStrictlySortedBy
-rest_rises x xs ys e up = (subst (IsStrictlySortedBy by_identifier) e up).1
+rest_rises cmp x xs ys e up = (subst (IsStrictlySortedBy cmp) e up).1
 
 -- the same front, of a feature that is it
 pub front_as : (xs rest : List Item) (x y : Item) → xs ≡ x ∷ rest → y ≡ x → xs ≡ y ∷ rest

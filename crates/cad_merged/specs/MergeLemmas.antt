@@ -18,7 +18,7 @@ module _ {X : Type 0} (cmp : X → X → Ordering) where
   put_greater : (n y : X) (ys : List X) → cmp n y ≡ Greater → put cmp n (y ∷ ys) ≡ y ∷ put cmp n ys
   put_greater n y ys e = ap (λ o. put_at o n y ys (put cmp n ys)) e
 
-  put_front : (n : X) (ys : List X) → AllByRecursion (λ y. cmp n y ≡ Less) ys → put cmp n ys ≡ n ∷ ys
+  pub put_front : (n : X) (ys : List X) → AllByRecursion (λ y. cmp n y ≡ Less) ys → put cmp n ys ≡ n ∷ ys
   put_front n [] all = refl
   put_front n (y ∷ ys) all = put_less n y ys all.0
 

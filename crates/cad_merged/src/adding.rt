@@ -1,29 +1,33 @@
-//! Changes with later ones put into them.
+//! Lists that ascend, with later ones put into them.
 
 ghost use Rattle.std.specs.Prelude.{◌≡◌, IfOk};
-ghost use Rattle.cad_merged.specs.Walks.{all_in, IsInOrder};
+ghost use Rattle.std.specs.List.Sorted.{IsStrictlySortedBy};
+ghost use Rattle.cad_merged.specs.Merging.{merged};
 
-use crate::Change;
+use crate::placed::Placed;
 use std::alloc::{AllocError, Global};
 use std::cmp::Ordering;
 
-/// What is left of changes and of later ones, both by identifier.
+/// What is left of two lists that ascend.
 #[derive(Drop)]
-struct Both<'a> {
-    earlier: &'a [Change],
-    later: &'a [Change],
+struct Both<'a, T> {
+    earlier: &'a [T],
+    later: &'a [T],
 }
 
-impl<'a> Both<'a> {
+impl<'a, T: Placed> Both<'a, T> {
     ghost use Rattle.std.specs.Prelude.{◌≡◌, ◌∷◌, [], MatchOption};
-    ghost use Rattle.cad_merged.specs.Walks.{all_in, IsInOrder};
+    ghost use Rattle.std.specs.List.Sorted.{IsStrictlySortedBy};
+    ghost use Rattle.cad_merged.specs.Merging.{merged};
 
-    /// The next change, a later one in place of an earlier one of the same feature.
-    fn next(&mut self) -> Option<&'a Change>
-        requires { IsInOrder self.now.earlier.now self.now.later.now }
-        ensures order { IsInOrder self.new.earlier.now self.new.later.now }
-        ensures next { MatchOption result (all_in self.old.earlier.now self.old.later.now ≡ [])
-            (λ x. all_in self.old.earlier.now self.old.later.now ≡ x.now ∷ all_in self.new.earlier.now self.new.later.now) }
+    /// The next of both, a later one in place of an earlier one that is equal to it.
+    fn next(&mut self) -> Option<&'a T>
+        requires earlier { IsStrictlySortedBy T.order self.now.earlier.now }
+        requires later { IsStrictlySortedBy T.order self.now.later.now }
+        ensures earlier { IsStrictlySortedBy T.order self.new.earlier.now }
+        ensures later { IsStrictlySortedBy T.order self.new.later.now }
+        ensures next { MatchOption result (merged T.order self.old.earlier.now self.old.later.now ≡ [])
+            (λ x. merged T.order self.old.earlier.now self.old.later.now ≡ x.now ∷ merged T.order self.new.earlier.now self.new.later.now) }
     {
         let Some((c, later)) = self.later.split_first() else {
             let (b, earlier) = self.earlier.split_first()?;
@@ -34,7 +38,7 @@ impl<'a> Both<'a> {
             self.later = later;
             return Some(c);
         };
-        match c.feature().compare(b.feature()) {
+        match c.compare(b) {
             Ordering::Less => {
                 self.later = later;
                 Some(c)
@@ -52,20 +56,21 @@ impl<'a> Both<'a> {
     }
 }
 
-/// The earlier changes with the later ones, all shared. An error is want of memory.
-pub(crate) fn with_later(
+/// The earlier ones with the later ones. An error is want of memory.
+pub(crate) fn with_later<T: Placed>(
     alloc: Global,
-    earlier: &[Change],
-    later: &[Change],
-) -> Result<Vec<Change>, AllocError>
-    requires { IsInOrder earlier.now later.now }
-    ensures { IfOk result (λ all. all.items ≡ all_in earlier.now later.now) }
+    earlier: &[T],
+    later: &[T],
+) -> Result<Vec<T>, AllocError>
+    requires earlier { IsStrictlySortedBy T.order earlier.now }
+    requires later { IsStrictlySortedBy T.order later.now }
+    ensures { IfOk result (λ all. all.items ≡ merged T.order earlier.now later.now) }
 {
-    let mut all = Vec::with_capacity(alloc, earlier.len() + later.len())?;
+    let mut all = Vec::with_capacity(alloc, earlier.len().saturating_add(later.len()))?;
     let mut both = Both { earlier, later };
-    while let Some(change) = both.next() {
-        let change = change.copy()?;
-        all.push(change)?;
+    while let Some(next) = both.next() {
+        let next = next.copy()?;
+        all.push(next)?;
     }
     Ok(all)
 }

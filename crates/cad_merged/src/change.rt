@@ -2,8 +2,10 @@
 
 ghost use Rattle.std.specs.Prelude.{◌≡◌, IfOk};
 
+use crate::placed::Placed;
 use cad_feature::Feature;
 use std::alloc::{AllocError, Global};
+use std::cmp::Ordering;
 use std::marker::Model;
 use std::rc::Rc;
 
@@ -40,11 +42,21 @@ impl Change {
     {
         self.feature.as_ref()
     }
+}
 
-    /// The same change, of the same feature. An error says that too many share it.
-    pub fn copy(&self) -> Result<Change, AllocError>
-        ensures { IfOk result (λ copy. copy ≡ self.now) }
-    {
+impl Placed for Change {
+    ghost use Rattle.cad_feature.specs.Features.{by_identifier};
+    ghost use Rattle.cad_merged.specs.ItemLemmas.{items_total};
+
+    ghost order = { by_identifier };
+
+    ghost total = { items_total };
+
+    fn compare(&self, other: &Change) -> Ordering {
+        self.feature.compare(&other.feature)
+    }
+
+    fn copy(&self) -> Result<Change, AllocError> {
         let feature = self.feature.clone()?;
         Ok(Change { feature })
     }

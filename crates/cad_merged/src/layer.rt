@@ -8,7 +8,7 @@ use crate::counting::count_merged;
 use crate::criterion::{InRange, NearCells};
 use crate::finding::find;
 use crate::merging::merge;
-use crate::replacing::replaced_by;
+use crate::replacing::replaced_after;
 use crate::{Change, Walk};
 use cad_feature::{Feature, Range};
 use cad_index::Base;
@@ -139,7 +139,8 @@ impl Layer {
         }
         let touched = as_changes(alloc, touched)?;
         let merged = with_later(alloc, listed(&self.changes), &touched)?;
-        let places = replaced_by(alloc, shared(&self.base).features(), &merged)?;
+        let replaced = positions(&self.replaced);
+        let places = replaced_after(alloc, shared(&self.base).features(), replaced, &touched)?;
         let base = self.base.clone()?;
         let changes = share(alloc, merged)?;
         let replaced = share(alloc, places)?;

@@ -21,6 +21,7 @@ mod finding;
 pub mod laws;
 mod layer;
 mod merging;
+mod placed;
 mod replacing;
 mod walk;
 

@@ -188,8 +188,16 @@ impl<S: Alter> Register<S> {
         // Whatever is answered, the limit of steps is the same, and no fault of the disk is forgotten.
         ensures later { IsLater (state_of S.Store self.old) (state_of S.Store self.new) }
     {
-        let count = decide(self.alloc, &mut self.connection, self.revision, &command)?;
+        let decided = decide(self.alloc, &mut self.connection, self.revision, &command);
+        let count = match decided {
+            Ok(count) => count,
+            Err(fault) => {
+                drop(command);
+                return Err(fault);
+            }
+        };
         if self.revision >= MOST_REVISION {
+            drop(command);
             return Err(RegisterFault::NotARegister);
         }
         let revision = self.revision + 1;

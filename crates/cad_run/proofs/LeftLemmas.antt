@@ -91,7 +91,7 @@ module _ (plan : Plan) where
   without_rises c (b ∷ bs) up = go (is_eq (by_identifier c b))
     where
       go : (d : Bool) → IsStrictlySortedBy by_identifier (if d then bs else (b ∷ bs))
-      go true = rest_rises b bs (b ∷ bs) refl up
+      go true = rest_rises by_identifier b bs (b ∷ bs) refl up
       go false = up
 
   without_passes : (c : Item) (bases : List Item) → AllPass bases → AllPass (without c bases)
@@ -104,7 +104,7 @@ module _ (plan : Plan) where
 
   module _ (bases changes rest : List Item) (c : Item) (cs : List Item) (is : changes ≡ c ∷ cs) (is_rest : rest ≡ without c bases) where
     pub still_in_order : IsInOrder bases changes → IsInOrder rest cs
-    still_in_order up = (subst (IsStrictlySortedBy by_identifier) (sym is_rest) (without_rises c bases up.0), rest_rises c cs changes is up.1)
+    still_in_order up = (subst (IsStrictlySortedBy by_identifier) (sym is_rest) (without_rises c bases up.0), rest_rises by_identifier c cs changes is up.1)
 
     pub still_passing : AllPass bases → AllPass rest
     still_passing all = subst AllPass (sym is_rest) (without_passes c bases all)
@@ -159,7 +159,7 @@ module _ (plan : Plan) where
   module _ (bases changes rest : List Item) (up : IsInOrder bases changes) (passing : AllPass bases) where
     pub taken_in_order : (found : Option (Bor Item)) → IsTaken found bases rest → IsInOrder rest changes
     taken_in_order None e = (subst (IsStrictlySortedBy by_identifier) (sym e.1) nothing_rises, up.1)
-    taken_in_order (Some x) e = (rest_rises x.now rest bases e up.0, up.1)
+    taken_in_order (Some x) e = (rest_rises by_identifier x.now rest bases e up.0, up.1)
 
     pub taken_passing : (found : Option (Bor Item)) → IsTaken found bases rest → AllPass rest
     taken_passing None e = subst AllPass (sym e.1) (λ k d h. absurd (omega (arith, h)))
