@@ -1,1 +1,3 @@
+pub mod FirstLines
 pub mod Printable
+pub mod Requests

@@ -1,5 +1,5 @@
 -- Printable bytes of ASCII (RFC 20, section 4: the graphic characters and the space).
-use Rattle.std.specs.Prelude.{◌≡◌, ℕ, ◌≤◌, ◌&&◌, Bool, true, List, nat_le}
+use Rattle.std.specs.Prelude.{◌≡◌, ℕ, ◌&&◌, Bool, true, List, nat_le}
 use Rattle.std.specs.List.{list_all}
 
 abbrev pub is_printable : ℕ → Bool
