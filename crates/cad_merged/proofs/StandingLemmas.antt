@@ -1,8 +1,8 @@
 -- Where those stand that changes replace, after later changes.
 use Rattle.std.proofs.Common.{◌≡◌, ℕ, zero, suc, ◌<◌, List, [], ◌∷◌, ◌++◌, cond, drop, get_or, refl, sym, ap, ap₂, subst, ◌∙◌, arith, ◌⊎◌, inl, inr, Ordering, Less, Equal, Greater, is_eq, Some, None}
 use Rattle.std.specs.Prelude.{slice_get}
-use Rattle.std.specs.Ordering.{ordering_reverse, nat_cmp}
-use Rattle.std.specs.Cmp.{IsTotalOrder, nat_cmp_is}
+use Rattle.std.specs.Ordering.{MatchOrdering, ordering_reverse, nat_cmp}
+use Rattle.std.specs.Cmp.{IsTotalOrder, ranks}
 use Rattle.std.specs.List.{AllByRecursion}
 use Rattle.std.specs.List.Sorted.{IsStrictlySortedBy}
 use Rattle.std.proofs.lemmas.Cmp.{tied_itself, alike_right}
@@ -12,13 +12,6 @@ use Rattle.cad_merged.specs.Merging.{put, put_at, merged}
 use Rattle.cad_merged.specs.MergeLemmas.{put_front, merged_ascends}
 use Rattle.cad_merged.specs.CountLemmas.{no_twins}
 use Rattle.cad_merged.specs.Replaced.{twins, replaced_in, StandAt}
-
-one_of : (m n : ℕ) → (m < n) ⊎ ((m ≡ n) ⊎ (n < m))
-one_of m n = grind arith
-
-all_both : {X : Type 0} (P : X → Type 0) (xs ys : List X) → AllByRecursion P xs → AllByRecursion P ys → AllByRecursion P (xs ++ ys)
-all_both P [] ys all more = more
-all_both P (x ∷ xs) ys all more = (all.0, all_both P xs ys all.1 more)
 
 all_at : {X : Type 0} (P : X → Type 0) (xs : List X) (k : ℕ) (x : X) → AllByRecursion P xs → slice_get xs k ≡ Some x → P x
 all_at P [] k x all e = absurd (none-some x e)
@@ -45,12 +38,12 @@ module _ {X : Type 0} (cmp : X → X → Ordering) (total : IsTotalOrder cmp) wh
   module _ (base : List X) (up : IsStrictlySortedBy cmp base) where
     -- positions are in the order of what stands there
     as_they_stand : (i j : ℕ) (x y : X) → slice_get base i ≡ Some x → slice_get base j ≡ Some y → nat_cmp i j ≡ cmp x y
-    as_they_stand i j x y e f = by (one_of i j)
+    as_they_stand i j x y e f = by (nat_cmp i j) (ranks i j)
       where
-        by : (i < j) ⊎ ((i ≡ j) ⊎ (j < i)) → nat_cmp i j ≡ cmp x y
-        by (inl h) = sym (nat_cmp_is i j Less h) ∙ sym (stands_below base i j x y up h e f)
-        by (inr (inl h)) = sym (nat_cmp_is i j Equal h) ∙ sym (ap (cmp x) (same_Some y x (sym f ∙ ap (slice_get base) (sym h) ∙ e)) ∙ tied_itself total x)
-        by (inr (inr h)) = sym (nat_cmp_is i j Greater h) ∙ sym (total.antisymm x y ∙ ap ordering_reverse (stands_below base j i y x up h f e))
+        by : (o : Ordering) → MatchOrdering o (i < j) (i ≡ j) (j < i) → o ≡ cmp x y
+        by Less h = sym (stands_below base i j x y up h e f)
+        by Equal h = sym (ap (cmp x) (same_Some y x (sym f ∙ ap (slice_get base) (sym h) ∙ e)) ∙ tied_itself total x)
+        by Greater h = sym (total.antisymm x y ∙ ap ordering_reverse (stands_below base j i y x up h f e))
 
     put_stands : (i : ℕ) (x : X) (ps : List ℕ) (ys : List X) → slice_get base i ≡ Some x → StandAt base ps ys → StandAt base (put nat_cmp i ps) (put cmp x ys)
     put_stands i x [] [] e stand = ap (λ o. o ∷ []) e
@@ -111,10 +104,13 @@ module _ {X : Type 0} (cmp : X → X → Ordering) (total : IsTotalOrder cmp) wh
       go Greater e more = more
 
   -- what stands after x replaces what stands after x
-  all_replaced : (x : X) (base cs : List X) → AllByRecursion (λ c. cmp x c ≡ Less) cs → AllByRecursion (λ y. cmp x y ≡ Less) (replaced_in cmp base cs)
-  all_replaced x base [] all = tt
-  all_replaced x base (c ∷ cs) all =
-      all_both (λ y. cmp x y ≡ Less) (twins cmp c base) (replaced_in cmp base cs) (all_twins (λ y. cmp x y ≡ Less) c base (λ y e. sym (alike_right total c y x e) ∙ all.0)) (all_replaced x base cs all.1)
+  all_replaced : (x : X) (base cs : List X) → IsStrictlySortedBy cmp base → AllByRecursion (λ c. cmp x c ≡ Less) cs → AllByRecursion (λ y. cmp x y ≡ Less) (replaced_in cmp base cs)
+  all_replaced x base [] up all = tt
+  all_replaced x base (c ∷ cs) up all = by (few_twins c base up) (all_replaced x base cs up all.1)
+    where
+      by : (twins cmp c base ≡ []) ⊎ ((b : X) × (twins cmp c base ≡ b ∷ []) × (cmp c b ≡ Equal)) → AllByRecursion (λ y. cmp x y ≡ Less) (replaced_in cmp base cs) → AllByRecursion (λ y. cmp x y ≡ Less) (twins cmp c base ++ replaced_in cmp base cs)
+      by (inl none) more = subst (λ xs. AllByRecursion (λ y. cmp x y ≡ Less) (xs ++ replaced_in cmp base cs)) (sym none) more
+      by (inr p) more = subst (λ xs. AllByRecursion (λ y. cmp x y ≡ Less) (xs ++ replaced_in cmp base cs)) (sym p.1) (sym (alike_right total c p.0 x p.2) ∙ all.0, more)
 
   replaced_rises : (base cs : List X) → IsStrictlySortedBy cmp base → IsStrictlySortedBy cmp cs → IsStrictlySortedBy cmp (replaced_in cmp base cs)
   unfolding IsStrictlySortedBy
@@ -125,7 +121,7 @@ module _ {X : Type 0} (cmp : X → X → Ordering) (total : IsTotalOrder cmp) wh
       by (inl none) more = subst (λ xs. IsStrictlySortedBy cmp (xs ++ replaced_in cmp base cs)) (sym none) more
       by (inr p) more =
           subst (λ xs. IsStrictlySortedBy cmp (xs ++ replaced_in cmp base cs)) (sym p.1)
-          (all_replaced p.0 base cs (all_weaker (λ z. cmp c z ≡ Less) (λ z. cmp p.0 z ≡ Less) (λ z k. sym (total.congr c p.0 z p.2) ∙ k) cs rises.0), more)
+          (all_replaced p.0 base cs up (all_weaker (λ z. cmp c z ≡ Less) (λ z. cmp p.0 z ≡ Less) (λ z k. sym (total.congr c p.0 z p.2) ∙ k) cs rises.0), more)
 
   -- ---- a later change
 
@@ -142,14 +138,14 @@ module _ {X : Type 0} (cmp : X → X → Ordering) (total : IsTotalOrder cmp) wh
   put_behind b [] zs all = refl
   put_behind b (y ∷ ys) zs all = ap (λ o. put_at o b y (ys ++ zs) (put cmp b (ys ++ zs))) all.0 ∙ ap (λ l. y ∷ l) (put_behind b ys zs all.1)
 
-  put_one : (base : List X) (t b : X) (ms : List X) → IsStrictlySortedBy cmp ms → twins cmp t base ≡ b ∷ [] → cmp t b ≡ Equal → replaced_in cmp base (put cmp t ms) ≡ put cmp b (replaced_in cmp base ms)
+  put_one : (base : List X) (t b : X) (ms : List X) → IsStrictlySortedBy cmp base → IsStrictlySortedBy cmp ms → twins cmp t base ≡ b ∷ [] → cmp t b ≡ Equal → replaced_in cmp base (put cmp t ms) ≡ put cmp b (replaced_in cmp base ms)
   unfolding IsStrictlySortedBy
-  put_one base t b [] rises one e = ap (λ xs. xs ++ []) one
-  put_one base t b (m ∷ ms) rises one e = go (cmp t m) refl (put_one base t b ms rises.1 one e)
+  put_one base t b [] up rises one e = ap (λ xs. xs ++ []) one
+  put_one base t b (m ∷ ms) up rises one e = go (cmp t m) refl (put_one base t b ms up rises.1 one e)
     where
       go : (o : Ordering) → cmp t m ≡ o → replaced_in cmp base (put cmp t ms) ≡ put cmp b (replaced_in cmp base ms) → replaced_in cmp base (put_at o t m ms (put cmp t ms)) ≡ put cmp b (replaced_in cmp base (m ∷ ms))
       go Less k more =
-          let behind = all_replaced t base (m ∷ ms) (k, all_weaker (λ z. cmp m z ≡ Less) (λ z. cmp t z ≡ Less) (λ z l. total.trans t m z k l) ms rises.0) in
+          let behind = all_replaced t base (m ∷ ms) up (k, all_weaker (λ z. cmp m z ≡ Less) (λ z. cmp t z ≡ Less) (λ z l. total.trans t m z k l) ms rises.0) in
           ap (λ xs. xs ++ replaced_in cmp base (m ∷ ms)) one
           ∙ sym (put_front cmp b (replaced_in cmp base (m ∷ ms)) (all_weaker (λ y. cmp t y ≡ Less) (λ y. cmp b y ≡ Less) (λ y l. sym (total.congr t b y e) ∙ l) (replaced_in cmp base (m ∷ ms)) behind))
       go Equal k more =
@@ -167,7 +163,7 @@ module _ {X : Type 0} (cmp : X → X → Ordering) (total : IsTotalOrder cmp) wh
           → replaced_in cmp base (put cmp t (merged cmp cs ts)) ≡ merged cmp (replaced_in cmp base cs) (twins cmp t base ++ replaced_in cmp base ts)
       by (inl none) more = put_none base t (merged cmp cs ts) none ∙ more ∙ sym (ap (λ xs. merged cmp (replaced_in cmp base cs) (xs ++ replaced_in cmp base ts)) none)
       by (inr p) more =
-          put_one base t p.0 (merged cmp cs ts) (merged_ascends cmp total cs ts rises) p.1 p.2 ∙ ap (put cmp p.0) more
+          put_one base t p.0 (merged cmp cs ts) up (merged_ascends cmp total cs ts rises) p.1 p.2 ∙ ap (put cmp p.0) more
           ∙ sym (ap (λ xs. merged cmp (replaced_in cmp base cs) (xs ++ replaced_in cmp base ts)) p.1)
 
   module _ (base cs : List X) (up : IsStrictlySortedBy cmp base) (rises : IsStrictlySortedBy cmp cs) (ps : List ℕ) (stand : StandAt base ps (replaced_in cmp base cs)) where
