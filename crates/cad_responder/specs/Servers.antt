@@ -22,6 +22,14 @@ use Rattle.cad_responder.specs.Replies.{AsksForFeatures, FailsToFind, FailsToTel
 abbrev pub ledger_in : {L : Type 0} → Records L → L
 ledger_in records = records.ledger
 
+-- how many changes a base of a collection gets before a new one is made
+abbrev pub bound_in : {L : Type 0} → Records L → ℕ
+bound_in records = records.most_changes
+
+-- the same of a server
+abbrev pub bound_of : {L : Type 0} → Server L → ℕ
+bound_of server = bound_in server.records
+
 -- the ledger that a server answers over
 abbrev pub ledger_of : {L : Type 0} → Server L → L
 ledger_of server = ledger_in server.records

@@ -47,7 +47,7 @@ impl<L: Ledger> Records<L> {
     ghost use Rattle.cad_versions.specs.Ledgers.{Applied};
     ghost use Rattle.cad_versions.specs.Refusals.{AreAccepted};
     ghost use Rattle.cad_responder.specs.Keeping.{IsKept, kept_at};
-    ghost use Rattle.cad_responder.specs.Servers.{ledger_in, AreRecordsOf, Forgets, Keeps, Recalls, Finds, Seeks, Tells};
+    ghost use Rattle.cad_responder.specs.Servers.{bound_in, ledger_in, AreRecordsOf, Forgets, Keeps, Recalls, Finds, Seeks, Tells};
 
     /// A ledger of which nothing was read yet, or the ledger back where there is no memory.
     pub(crate) fn new(alloc: Global, ledger: L, most_changes: usize) -> Result<Records<L>, L>
@@ -55,6 +55,7 @@ impl<L: Ledger> Records<L> {
             AreRecordsOf L.Ledger records commands) }
         ensures same { IfOk result (λ records. ledger_in records ≡ ledger) }
         ensures back { IfErr result (λ back. back ≡ ledger) }
+        ensures bound { IfOk result (λ records. bound_in records ≡ most_changes) }
     {
         let Ok(kept) = Kept::new(alloc) else {
             return Err(ledger);

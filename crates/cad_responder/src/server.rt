@@ -32,7 +32,7 @@ impl<L: Ledger + Drop> Drop for Server<L> {
 impl<L: Ledger> Server<L> {
     ghost use Rattle.std.specs.Prelude.{◌≡◌, List, IfOk, IfErr};
     ghost use Rattle.cad_versions.specs.declared.command.Command.{Command as CommandOf};
-    ghost use Rattle.cad_responder.specs.Servers.{ledger_of, IsServerOf};
+    ghost use Rattle.cad_responder.specs.Servers.{bound_of, ledger_of, IsServerOf};
 
     /// A server over the ledger, or the ledger back where there is no memory.
     pub fn new(alloc: Global, ledger: L) -> Result<Server<L>, L>
@@ -40,6 +40,7 @@ impl<L: Ledger> Server<L> {
             IsServerOf L.Ledger server commands) }
         ensures same { IfOk result (λ server. ledger_of server ≡ ledger) }
         ensures back { IfErr result (λ back. back ≡ ledger) }
+        ensures bound { IfOk result (λ server. bound_of server ≡ 512) }
     {
         Server::with_changes(alloc, ledger, MOST_CHANGES)
     }
@@ -50,6 +51,7 @@ impl<L: Ledger> Server<L> {
             IsServerOf L.Ledger server commands) }
         ensures same { IfOk result (λ server. ledger_of server ≡ ledger) }
         ensures back { IfErr result (λ back. back ≡ ledger) }
+        ensures bound { IfOk result (λ server. bound_of server ≡ most_changes) }
     {
         let Ok(routes) = Routes::new(alloc) else {
             return Err(ledger);
