@@ -157,37 +157,96 @@ def ranges(random):
 
 
 # How many parcels are merged for each of the most changes before a new base is due, however few are changed.
-MERGED_FOR_A_CHANGE = 64
 
 
-def layer_case(labels, times, most, changed):
-    after = [*changed, *labels[len(changed) :]] if times else labels
-    changes = len(changed) if times else 0
-    is_settled = changes <= most and times * len(changed) <= MERGED_FOR_A_CHANGE * most
-    told = f"{' '.join(after)} count {len(after)}"
-    return f"layer {' '.join(labels)} ? {times} {most} {' '.join(changed)}", f"{told} {'settled' if is_settled else 'due'} then {told} settled"
+# How many features a segment is cut of, how many times parcels are merged in, and the most changes.
+SIZES, TIMES, MOST = (0, 1, 2, 3, 4, 100), (0, 1, 2), (0, 1, 2, 8)
+BASES = ["a", "a b", "a b c d e", "a b c d e f g h i j k l"]
+CHANGED = ["x", "x y", "x y z", "v w x y z new", "1 2 3 4 5 6 7 8 9 10 11 12 13 14 15 16"]
+FURTHER = [
+    (["a"], 0, 65, 1, ["x"]),
+    (["a"], 1, 3, 1, "1 2 3 4 5 6 7".split()),
+    ("a b c d e f g h".split(), 1, 1, 3, "x y z 4 5 6 7 8 9".split()),
+    ("a b c d e f g h".split(), 2, 300, 8, "x y z".split()),
+    ("a b c d e f g h".split(), 3, 65535, 40, ["x"]),
+]
+# A layer with a base that has more than so many times as many features as a segment is cut of is cut anew; a segment with more than
+# this part of the most changes gets a new base, too.
+MOST_GROWN = MANY_OF_MOST = 4
+
+
+class Layer:
+    def __init__(self, labels, size):
+        self.size, self.spent = size, 0
+        self.cut(list(enumerate(labels, 1)))
+
+    def cut(self, parcels):
+        """Each segment has the parcels of its base, and the changes to it."""
+        self.segments = []
+        while self.size < len(parcels):
+            at = len(parcels) - 1 - self.size
+            self.segments.insert(0, (dict(parcels[at:]), {}))
+            parcels = parcels[:at]
+        self.segments.insert(0, (dict(parcels), {}))
+
+    def merge(self, labels):
+        starts = [min(base, default=0) for base, _ in self.segments]
+        for number, label in enumerate(labels, 1):
+            at = max([0] + [place for place, start in enumerate(starts) if 0 < place and start <= number])
+            self.segments[at][1][number] = label
+        self.spent += len(labels)
+
+    def parcels(self):
+        return sorted({number: label for base, changes in self.segments for number, label in {**base, **changes}.items()}.items())
+
+    def renew(self, most):
+        if max(len(base) for base, _ in self.segments) // MOST_GROWN > self.size:
+            self.spent += len(self.parcels())
+            self.cut(self.parcels())
+            return
+        counts = [len(changes) for _, changes in self.segments]
+        fullest = counts.index(max(counts))
+        for place, (base, changes) in enumerate(self.segments):
+            if place == fullest or counts[place] > most // MANY_OF_MOST:
+                self.spent += len(base)
+                self.segments[place] = ({**base, **changes}, {})
+
+    def told(self, most):
+        parcels = self.parcels()
+        state = "settled" if sum(len(changes) for _, changes in self.segments) <= most else "due"
+        labels = "".join(f"{label} " for _, label in parcels)
+        return f"{labels}count {len(parcels)} in {len(self.segments)} {state} spent {self.spent}"
+
+
+def layer_case(labels, size, times, most, changed):
+    layer = Layer(labels, size)
+    for _ in range(times):
+        layer.merge(changed)
+    told = layer.told(most)
+    layer.renew(most)
+    return f"layer {' '.join(labels)} ? {size} {times} {most} {' '.join(changed)}", f"{told} then {layer.told(most)}"
 
 
 def layers():
-    five = ["a", "b", "c", "d", "e"]
-    # changes beyond the bound, and as many as it
-    for changed in [["x"], ["x", "y"], ["x", "y", "z"], ["v", "w", "x", "y", "z", "new"]]:
-        for times in [0, 1, 2]:
-            for most in [0, 1, 2, 3]:
-                yield layer_case(five, times, most, changed)
-    # few changes, which stand for many that were merged
-    for times, most, changed in [(64, 1, ["x"]), (65, 1, ["x"]), (128, 2, ["x"]), (129, 2, ["x"]), (64, 2, ["x", "y"]), (65, 2, ["x", "y"]), (192, 3, ["x"]), (193, 3, ["x"])]:
-        yield layer_case(five, times, most, changed)
-    # what is merged stands before all of the base, or behind it
-    yield layer_case(["a"], 65, 1, ["x"])
-    yield layer_case(["a"], 1, 1, ["x", "y"])
+    """Parcels are the objects 1, 2 and so on, a label each; those that are merged in stand in the place of the first ones, and the last of them are new where there are more."""
+    for labels in BASES:
+        for size in SIZES:
+            for changed in CHANGED:
+                for times in TIMES:
+                    for most in MOST:
+                        yield layer_case(labels.split(), size, times, most, changed.split())
+    for case in FURTHER:
+        yield layer_case(*case)
 
 
 UNREAD = [
+    "layer a b ? 1 1 1",
     "layer a b ? 1 1",
     "layer a b ? 1",
-    "layer a b ? 65536 1 x",
-    "layer a b ? 1 -1 x",
+    "layer a b ? 1 65536 1 x",
+    "layer a b ? 1 1 -1 x",
+    "layer a b ? -1 1 1 x",
+    "layer a b ? x 1 1 x",
     "lifespan 1 ? free free",
     "area 1 2 ? free",
     "area 1 2 ? with:x free",

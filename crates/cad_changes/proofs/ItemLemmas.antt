@@ -22,12 +22,12 @@ use Rattle.cad_schema.specs.declared.collection.Collection.TheVariants.{Parcels,
 use Rattle.cad_schema.specs.Attributes.{attributes_of}
 use Rattle.cad_feature.specs.Flatten.{is_in, joined_name, or_null, as_text, as_whole, value_in, feature_in, features_in}
 use Rattle.cad_feature.specs.Values.{Datum, a_day, a_span}
+use Rattle.cad_merged.specs.SegmentLemmas.{kept_pass}
 use Rattle.cad_changes.specs.Changes.{left_by, next, is_closed_by, renames_on, is_object, is_touched_by, features_left}
 use Rattle.cad_changes.specs.Touching.{day_in, whole_in, first_of, last_of, unit_place, party_place, number_at, is_numbered, Edits, or_kept, span_to, edited_datum, edited_data, closing_day, closes, renames_if, renames, names_unit, names_party, touches, name_after, edits_by, item_left, items_left}
 use Rattle.cad_changes.proofs.ClassLemmas.{below, no_unit, no_party}
 use Rattle.cad_changes.proofs.FeatureLemmas.{name_next}
 use Rattle.cad_changes.proofs.StandingLemmas.{IsOver, renamed}
-use Rattle.cad_changes.proofs.TestLemmas.{all_pass}
 use Rattle.cad_changes.proofs.VersionLemmas.{left_keeps, AddsNew}
 
 -- ---- what a feature says
@@ -205,4 +205,4 @@ module _ (vs : List VersionedObject) (c : Command) (new : AddsNew vs c) (all : A
       go false more = more
 
   pub items_left_are : items_left c collection (features_in vs collection) ≡ features_left vs c collection
-  items_left_are = left_of (filter (is_in collection) vs) (all_pass (is_in collection) vs)
+  items_left_are = left_of (filter (is_in collection) vs) (kept_pass (is_in collection) vs)

@@ -29,7 +29,7 @@ fn next_number(features: &Layer, object: ObjectId) -> Option<u32>
     ensures in_range { IfSome result (λ number. (1 ≤ number) × (number ≤ 2147483647)) }
 {
     let mut number = 1;
-    let mut walk = features.walk().of_object(object);
+    let mut walk = features.versions_of(object);
     while let Some(_) = walk.next() {
         if number == MOST_NUMBER {
             return None;
@@ -82,7 +82,7 @@ fn name_among(
 ) -> Result<Value, AllocError>
     ensures { IfOk result (λ name. datum_of name ≡ spec.name_among features.now.features day object) }
 {
-    let mut walk = features.walk().of_object(object);
+    let mut walk = features.versions_of(object);
     while let Some(feature) = walk.next() {
         if has_day(feature, day) {
             return name_in(alloc, feature);

@@ -215,7 +215,7 @@ fn own_left(
 {
     let collection = features.collection();
     let mut all = Vec::new(alloc);
-    let mut walk = features.walk().of_object(command.object());
+    let mut walk = features.versions_of(command.object());
     while let Some(feature) = walk.next() {
         push_left(alloc, command, collection, name, feature, &mut all)?;
     }

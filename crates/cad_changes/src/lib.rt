@@ -2,6 +2,7 @@
 //!
 //! - [`touched`]: the features of a collection that a command adds or changes, told by the features before it
 //! - [`features_after`]: the features of a collection after a command, with those merged that it touches
+//! - [`snapshot_after`]: the features of all collections after a command
 //! - `laws`: that the features after a command are those before it with these merged, and more
 //!
 //! Where unit 10 is called Mill from 2000-01-01 on, and parcel 1 and right 20 of it begin on 2000-01-01 and on 2005-03-01, a command
@@ -15,7 +16,9 @@ mod following;
 pub mod laws;
 mod leaving;
 mod reading;
+mod revisions;
 mod touching;
 
 pub use following::features_after;
+pub use revisions::snapshot_after;
 pub use touching::touched;

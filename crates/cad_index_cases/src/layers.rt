@@ -7,16 +7,16 @@ use crate::cases::parcels;
 use crate::parcels::features;
 use anyhow::Result;
 use cad_feature::{Feature, Value};
-use cad_merged::{Layer, merge};
+use cad_merged::Layer;
 use cad_schema::{Collection, find_property};
 use std::alloc::{AllocError, Global};
 
-/// The parcels with these labels, as a base.
-fn base(alloc: Global, labels: &str) -> Result<Layer>
+/// The parcels with these labels, in segments of so many.
+fn base(alloc: Global, labels: &str, of_a_segment: usize) -> Result<Layer>
     ensures { IfOk result (λ layer. layer.collection ≡ Parcels) }
 {
     let features = features(alloc, parcels(alloc, "label", labels)?)?;
-    Ok(Layer::build(alloc, features, Collection::Parcels)?)
+    Ok(Layer::in_segments(alloc, features, Collection::Parcels, of_a_segment)?)
 }
 
 /// The layer with the parcels of these labels merged into it.
@@ -55,7 +55,7 @@ fn put_labels(told: &mut String, features: &[Feature], place: usize) -> Result<(
     Ok(())
 }
 
-/// The labels of the layer's parcels, how many it counts, and whether a new base is due.
+/// The labels of the layer's parcels, how many it counts, in how many segments, whether new bases are due, and what was spent on it.
 fn put_layer(
     alloc: Global,
     told: &mut String,
@@ -63,8 +63,7 @@ fn put_layer(
     place: usize,
     most: usize,
 ) -> Result<(), AllocError> {
-    let (base, changes) = layer.parts();
-    let all = merge(alloc, base.features(), changes)?;
+    let all = layer.features(alloc)?;
     put_labels(told, &all, place)?;
     drop(all);
     let state = if layer.is_settled(most) {
@@ -72,10 +71,16 @@ fn put_layer(
     } else {
         "due"
     };
-    write!(told, "count {} {state}", layer.count())
+    let segments = layer.segments().len();
+    write!(
+        told,
+        "count {} in {segments} {state} spent {}",
+        layer.count(),
+        layer.spent()
+    )
 }
 
-/// What is told of the layer, and of the same over a new base.
+/// What is told of the layer, and of the same over new bases.
 fn put_both(
     alloc: Global,
     told: &mut String,
@@ -85,7 +90,7 @@ fn put_both(
 ) -> Result<(), AllocError> {
     put_layer(alloc, told, layer, place, most)?;
     told.push_str(" then ")?;
-    let rebased = layer.rebased(alloc)?;
+    let rebased = layer.rebased(alloc, most)?;
     put_layer(alloc, told, &rebased, place, most)
 }
 
@@ -95,20 +100,36 @@ fn told(alloc: Global, layer: &Layer, place: usize, most: usize) -> Result<Strin
     Ok(told)
 }
 
+/// The numbers of a line: how many features a segment is cut of, how many times parcels are merged in, and the most changes.
+#[derive(Clone, Copy)]
+struct Numbers {
+    of_a_segment: usize,
+    times: u16,
+    most: usize,
+}
+
+/// The numbers in front, and what is behind them.
+fn read_numbers(asked: &str) -> Option<(Numbers, &str)> {
+    let (of_a_segment, rest) = asked.trim().split_once(' ')?;
+    let (times, rest) = rest.split_once(' ')?;
+    let (most, rest) = rest.split_once(' ')?;
+    let numbers = Numbers {
+        of_a_segment: of_a_segment.parse().ok()?,
+        times: times.parse().ok()?,
+        most: most.parse().ok()?,
+    };
+    Some((numbers, rest))
+}
+
 /// What a line with these labels and this question is answered: see the head of the program.
 pub fn layer_answer(alloc: Global, labels: &str, asked: &str) -> Result<Option<String>> {
-    let Some((times, rest)) = asked.trim().split_once(' ') else {
-        return Ok(None);
-    };
-    let Some((most, changed)) = rest.split_once(' ') else {
-        return Ok(None);
-    };
-    let (Ok(times), Ok(most)) = (times.parse::<u16>(), most.parse::<usize>()) else {
+    let Some((numbers, changed)) = read_numbers(asked) else {
         return Ok(None);
     };
     let Some((place, _)) = find_property(Collection::Parcels, "label") else {
         return Ok(None);
     };
-    let layer = merged_times(alloc, base(alloc, labels)?, changed, times)?;
-    Ok(Some(told(alloc, &layer, place, most)?))
+    let base = base(alloc, labels, numbers.of_a_segment)?;
+    let layer = merged_times(alloc, base, changed, numbers.times)?;
+    Ok(Some(told(alloc, &layer, place, numbers.most)?))
 }

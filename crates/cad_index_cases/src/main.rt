@@ -3,9 +3,9 @@
 //! - `PROPERTY VALUE VALUE .. ? X,Y,X,Y`, of a property with a grid: the positions near the box, and their number
 //! - `PROPERTY VALUE VALUE .. ? LOW HIGH`, of a property with an order: the positions in the range as they are listed, as
 //!   they are walked and as they are tested by their ranks, and their number
-//! - `layer LABEL LABEL .. ? TIMES MOST LABEL LABEL ..`: the labels of a base of parcels, into which those with the labels behind are
-//!   merged so many times, how many they are, and whether a new base is due at the most changes that are named (`settled` or `due`);
-//!   then the same over a new base
+//! - `layer LABEL LABEL .. ? SIZE TIMES MOST LABEL LABEL ..`: the labels of parcels in segments of that size, into which those with the
+//!   labels behind are merged so many times, how many they are and in how many segments, whether new bases are due at the most changes
+//!   that are named (`settled` or `due`), and how many features were merged or put into new bases; then the same over new bases
 //!
 //! The values are those of parcels at the positions 0, 1 and so on, `-` where one has none: `X,Y,X,Y` is a rectangle by
 //! its least and greatest corner, `X,Y` a point, `2001-01-01` a day; a label has no blank. An end is `free`, `with:VALUE`

@@ -1,7 +1,12 @@
 mod CountedLemmas
+mod CuttingLemmas
+mod LayerLemmas
 mod MergedLemmas
 mod ReplacedLemmas
 mod ReplacingLemmas
 mod RunLemmas
+mod SearchingLemmas
+mod SpreadingLemmas
 mod StandingLemmas
+mod SummingLemmas
 mod WalkLemmas

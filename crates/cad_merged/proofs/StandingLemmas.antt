@@ -9,7 +9,7 @@ use Rattle.std.proofs.lemmas.Cmp.{tied_itself, alike_right}
 use Rattle.std.proofs.lemmas.Option.{none-some, same_Some}
 use Rattle.cad_versions.specs.ListLemmas.{all_weaker}
 use Rattle.cad_merged.specs.Merging.{put, put_at, merged}
-use Rattle.cad_merged.specs.MergeLemmas.{put_front, merged_ascends}
+use Rattle.cad_merged.specs.MergeLemmas.{put_front, merged_ascends, put_behind}
 use Rattle.cad_merged.specs.CountLemmas.{no_twins}
 use Rattle.cad_merged.specs.Replaced.{twins, replaced_in, StandAt}
 
@@ -134,10 +134,6 @@ module _ {X : Type 0} (cmp : X → X → Ordering) (total : IsTotalOrder cmp) wh
       go Equal e more = ap (λ xs. xs ++ replaced_in cmp base ms) (same_twins t m base e)
       go Greater e more = ap (λ xs. twins cmp m base ++ xs) more
 
-  put_behind : (b : X) (ys zs : List X) → AllByRecursion (λ y. cmp b y ≡ Greater) ys → put cmp b (ys ++ zs) ≡ ys ++ put cmp b zs
-  put_behind b [] zs all = refl
-  put_behind b (y ∷ ys) zs all = ap (λ o. put_at o b y (ys ++ zs) (put cmp b (ys ++ zs))) all.0 ∙ ap (λ l. y ∷ l) (put_behind b ys zs all.1)
-
   put_one : (base : List X) (t b : X) (ms : List X) → IsStrictlySortedBy cmp base → IsStrictlySortedBy cmp ms → twins cmp t base ≡ b ∷ [] → cmp t b ≡ Equal → replaced_in cmp base (put cmp t ms) ≡ put cmp b (replaced_in cmp base ms)
   unfolding IsStrictlySortedBy
   put_one base t b [] up rises one e = ap (λ xs. xs ++ []) one
@@ -153,7 +149,7 @@ module _ {X : Type 0} (cmp : X → X → Ordering) (total : IsTotalOrder cmp) wh
           ∙ sym (ap (λ xs. put cmp b (xs ++ replaced_in cmp base ms)) (sym (same_twins t m base k) ∙ one) ∙ ap (λ o. put_at o b b (replaced_in cmp base ms) (put cmp b (replaced_in cmp base ms))) (tied_itself total b))
       go Greater k more =
           ap (λ xs. twins cmp m base ++ xs) more
-          ∙ sym (put_behind b (twins cmp m base) (replaced_in cmp base ms) (all_twins (λ y. cmp b y ≡ Greater) m base (λ y f. sym (total.congr t b y e) ∙ sym (alike_right total m y t f) ∙ k)))
+          ∙ sym (put_behind cmp total b (twins cmp m base) (replaced_in cmp base ms) (all_twins (λ y. cmp b y ≡ Greater) m base (λ y f. sym (total.congr t b y e) ∙ sym (alike_right total m y t f) ∙ k)))
 
   replaced_merged : (base cs ts : List X) → IsStrictlySortedBy cmp base → IsStrictlySortedBy cmp cs → replaced_in cmp base (merged cmp cs ts) ≡ merged cmp (replaced_in cmp base cs) (replaced_in cmp base ts)
   replaced_merged base cs [] up rises = refl

@@ -10,4 +10,6 @@ pub mod MergeLemmas
 pub mod Merging
 pub mod Replaced
 pub mod SearchLemmas
+pub mod SegmentLemmas
+pub mod Segments
 pub mod Walks

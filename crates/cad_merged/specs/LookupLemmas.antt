@@ -14,7 +14,7 @@ use Rattle.cad_merged.specs.SearchLemmas.{equal_is}
 here : {X : Type 0} (x : X) (xs : List X) → Contains (x ∷ xs) x
 here x xs = (zero, omega arith, refl)
 
-later : {X : Type 0} (x y : X) (xs : List X) → Contains xs x → Contains (y ∷ xs) x
+pub later : {X : Type 0} (x y : X) (xs : List X) → Contains xs x → Contains (y ∷ xs) x
 later x y xs (i, h, at) = (suc i, omega (arith, h), at)
 
 put_has : (n : Item) (ys : List Item) → Contains (put by_identifier n ys) n

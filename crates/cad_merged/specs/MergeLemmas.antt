@@ -128,6 +128,10 @@ module _ {X : Type 0} (cmp : X → X → Ordering) where
     merged_behind b bs [] all = refl
     merged_behind b bs (c ∷ cs) all = ap (put cmp c) (merged_behind b bs cs all.1) ∙ put_greater c b (merged cmp bs cs) (above b c all.0)
 
+    pub put_behind : (n : X) (xs ys : List X) → AllByRecursion (λ x. cmp n x ≡ Greater) xs → put cmp n (xs ++ ys) ≡ xs ++ put cmp n ys
+    put_behind n [] ys all = refl
+    put_behind n (x ∷ xs) ys all = put_greater n x (xs ++ ys) all.0 ∙ ap (λ l. x ∷ l) (put_behind n xs ys all.1)
+
     -- ---- what is merged, from its front
 
     pub all_put : (P : X → Type 0) (n : X) (ys : List X) → P n → AllByRecursion P ys → AllByRecursion P (put cmp n ys)

@@ -1,6 +1,6 @@
 //! What features are counted by.
 
-ghost use Rattle.std.specs.Prelude.{◌≡◌, Bool, option_map};
+ghost use Rattle.std.specs.Prelude.{◌≡◌, Bool, filter, length, option_map};
 ghost use Rattle.cad_feature.specs.Features.{Item};
 ghost use Rattle.cad_cells.specs.Blocks.{block_of};
 ghost use Rattle.cad_cells.specs.Counted.{block_at};
@@ -8,6 +8,7 @@ ghost use Rattle.cad_cells.specs.Near.{is_candidate};
 
 use cad_cells::{Cells, bounds_of};
 use cad_feature::{Feature, Range};
+use cad_index::Base;
 use cad_range::lies_in;
 use cad_shape::Bounds;
 
@@ -19,6 +20,10 @@ pub(crate) trait Criterion {
     /// Whether the feature meets it.
     fn is_met_by(&self, feature: &Feature) -> bool
         ensures { result ≡ passes self.now feature.now };
+
+    /// How many features of the base meet it, by an index of the base.
+    fn count_in(&self, base: &Base) -> u64
+        ensures { result ≡ length (filter (passes self.now) base.now.features) };
 }
 
 /// A value in the range.
@@ -35,13 +40,19 @@ impl Criterion for InRange<'_> {
     fn is_met_by(&self, feature: &Feature) -> bool {
         lies_in(self.range, feature)
     }
+
+    fn count_in(&self, base: &Base) -> u64 {
+        base.count_in(self.range)
+    }
 }
 
-/// A shape of the property near the cells.
+/// A shape of the property near the cells of a box.
 #[derive(Clone, Copy)]
 pub(crate) struct NearCells {
     property: usize,
+    bounds: Bounds,
     asked: Cells,
+    ghost same: { block_at asked ≡ block_of bounds },
 }
 
 impl NearCells {
@@ -52,10 +63,11 @@ impl NearCells {
     /// Near the box.
     pub(crate) fn to(property: usize, bounds: Bounds) -> NearCells
         ensures property { result.property ≡ property }
-        ensures asked { block_at result.asked ≡ block_of bounds }
+        ensures bounds { result.bounds ≡ bounds }
     {
         NearCells {
             property,
+            bounds,
             asked: Cells::of(bounds),
         }
     }
@@ -75,10 +87,10 @@ fn is_near(asked: Cells, bounds: Option<Bounds>) -> bool
 }
 
 impl Criterion for NearCells {
-    ghost use Rattle.cad_cells.specs.Counted.{block_at};
+    ghost use Rattle.cad_cells.specs.Blocks.{block_of};
     ghost use Rattle.cad_cells.specs.Near.{is_near as is_near_of};
 
-    ghost passes = { λ t. is_near_of t.property (block_at t.asked) };
+    ghost passes = { λ t. is_near_of t.property (block_of t.bounds) };
 
     fn is_met_by(&self, feature: &Feature) -> bool {
         if self.property < feature.values.len() {
@@ -86,5 +98,9 @@ impl Criterion for NearCells {
         } else {
             false
         }
+    }
+
+    fn count_in(&self, base: &Base) -> u64 {
+        base.count_near(self.property, self.bounds)
     }
 }

@@ -2,16 +2,14 @@
 
 ghost use Rattle.std.specs.Prelude.{◌≡◌, IfOk};
 
-use crate::adding::with_later;
-use crate::change::as_changes;
-use crate::counting::count_merged;
 use crate::criterion::{InRange, NearCells};
-use crate::finding::find;
-use crate::merging::merge;
-use crate::replacing::replaced_after;
-use crate::{Change, Walk};
+use crate::cutting::cut;
+use crate::renewing::{Due, all_features, change_count, greatest_base, most_changed, renewed};
+use crate::searching::segment_of;
+use crate::spreading::spread;
+use crate::summing::{count_all, length_of_all};
+use crate::{Segment, Walk};
 use cad_feature::{Feature, Range};
-use cad_index::Base;
 use cad_schema::Collection;
 use cad_shape::Bounds;
 use cad_versions::ObjectId;
@@ -19,62 +17,58 @@ use std::alloc::{AllocError, Global};
 use std::marker::Model;
 use std::rc::Rc;
 
-/// The most features that a base holds: their positions are numbers of 32 bits.
+/// The most features that are cut into segments at once: in one their positions are numbers of 32 bits.
 const MOST_FEATURES: usize = 4_294_967_295;
 
-/// How many features are merged into a base for each of the most changes that it may have. What revisions keep of the same few
-/// features, each its own, is bounded by this, where the changes stay few.
-const MERGED_FOR_A_CHANGE: usize = 64;
+/// Of how many features a segment is cut, where nothing else is asked for.
+pub const OF_A_SEGMENT: usize = 8192;
 
-/// The features of a collection at a revision: a base with its indexes, which other revisions share, the changes since, where those
-/// of the base stand that the changes replace, and how many features were merged since the base was made.
+/// A layer with a segment that has more than so many times as many features as it was cut of is cut anew.
+const MOST_GROWN: usize = 4;
+
+/// A segment with more than this part of the changes that all may have gets a new base, too.
+const MANY_OF_MOST: usize = 4;
+
+/// The features of a collection at a revision, in segments by object, which other revisions share.
 ///
 /// Contracts see the collection and the features, with the changes merged.
 #[derive(Drop)]
 pub struct Layer {
-    base: Rc<Base>,
-    changes: Rc<Vec<Change>>,
-    replaced: Rc<Vec<u32>>,
-    merged: usize,
+    collection: Collection,
+    segments: Rc<Vec<Segment>>,
+    /// How many features there are.
+    count: u64,
+    /// Of how many a segment is cut.
+    of_a_segment: usize,
+    /// How many features were merged or put into new bases since the layer was built.
+    spent: usize,
 }
 
-/// What is shared.
-fn shared(base: &Rc<Base>) -> &Base
-    ensures { result.now ≡ base.now.value }
+fn share(alloc: Global, segments: Vec<Segment>) -> Result<Rc<Vec<Segment>>, AllocError>
+    ensures { IfOk result (λ shared. shared.value.items ≡ segments.items) }
 {
-    base
-}
-
-fn share<T: Drop>(alloc: Global, list: Vec<T>) -> Result<Rc<Vec<T>>, AllocError>
-    ensures { IfOk result (λ shared. shared.value.items ≡ list.items) }
-{
-    let shared = Rc::new(alloc, list)?;
+    let shared = Rc::new(alloc, segments)?;
     Ok(shared)
 }
 
-fn listed(changes: &Rc<Vec<Change>>) -> &[Change]
-    ensures { result.now ≡ changes.now.value.items }
+fn listed(segments: &Rc<Vec<Segment>>) -> &[Segment]
+    ensures { result.now ≡ segments.now.value.items }
 {
-    changes.as_ref().as_slice()
-}
-
-fn positions(replaced: &Rc<Vec<u32>>) -> &[u32]
-    ensures { result.now ≡ replaced.now.value.items }
-{
-    replaced.as_ref().as_slice()
+    segments.as_ref().as_slice()
 }
 
 impl Model for Layer {
-    ghost use Rattle.cad_feature.specs.Features.{AreFeaturesOf, by_identifier};
+    ghost use Rattle.std.specs.Prelude.{◌≡◌, ◌<◌, length};
+    ghost use Rattle.std.specs.List.{AllByRecursion};
+    ghost use Rattle.cad_feature.specs.Features.{AreFeaturesOf};
     ghost use Rattle.cad_index.specs.Layers.{LayerFeatures};
-    ghost use Rattle.cad_merged.specs.Replaced.{StandAt, replaced_in};
-    ghost use Rattle.cad_merged.specs.Walks.{all_in};
+    ghost use Rattle.cad_merged.specs.Segments.{AreSegments, SegmentFeatures, joined};
 
     ghost Value = { LayerFeatures };
 
-    ghost view = { λ l. record { collection = l.base.value.collection; features = all_in l.base.value.features l.changes.value.items } };
+    ghost view = { λ l. record { collection = l.collection; features = joined l.segments.value.items } };
 
-    ghost invariant = { λ l. AreFeaturesOf l.base.value.collection l.base.value.features × AreFeaturesOf l.base.value.collection l.changes.value.items × StandAt l.base.value.features l.replaced.value.items (replaced_in by_identifier l.base.value.features l.changes.value.items) };
+    ghost invariant = { λ l. AreFeaturesOf l.collection (joined l.segments.value.items) × AreSegments l.segments.value.items × AllByRecursion (λ (s : SegmentFeatures). s.collection ≡ l.collection) l.segments.value.items × (l.count ≡ length (joined l.segments.value.items)) × (0 < length l.segments.value.items) };
 }
 
 impl Layer {
@@ -84,7 +78,8 @@ impl Layer {
     ghost use Rattle.cad_feature.specs.Features.{AreFeaturesOf};
     ghost use Rattle.cad_feature.specs.Limits.{limit_of};
     ghost use Rattle.cad_lookup.specs.Ways.{counts_of};
-    ghost use Rattle.cad_merged.specs.Identifiers.{identifier, IsTheOne};
+    ghost use Rattle.cad_merged.specs.Identifiers.{identifier, of_object, IsTheOne};
+    ghost use Rattle.cad_merged.specs.Segments.{joined};
     ghost use Rattle.cad_merged.specs.Walks.{all_in, IsInOrder};
 
     /// These features of the collection, without changes. An error is want of memory.
@@ -97,17 +92,29 @@ impl Layer {
         requires listed { AreFeaturesOf collection features.items }
         ensures { IfOk result (λ layer. layer ≡ record { collection = collection; features = features.items }) }
     {
-        let base = Base::build(alloc, features, collection)?;
-        let base = Rc::new(alloc, base)?;
-        let changes = Vec::new(alloc);
-        let changes = share(alloc, changes)?;
-        let replaced = Vec::new(alloc);
-        let replaced = share(alloc, replaced)?;
+        Layer::in_segments(alloc, features, collection, OF_A_SEGMENT)
+    }
+
+    /// The same in segments of so many features. An error is want of memory.
+    pub fn in_segments(
+        alloc: Global,
+        features: Vec<Feature>,
+        collection: Collection,
+        of_a_segment: usize,
+    ) -> Result<Layer, AllocError>
+        requires small { length features.items ≤ 4294967295 }
+        requires listed { AreFeaturesOf collection features.items }
+        ensures { IfOk result (λ layer. layer ≡ record { collection = collection; features = features.items }) }
+    {
+        let count = features.len() as u64;
+        let segments = cut(alloc, features, collection, of_a_segment)?;
+        let segments = share(alloc, segments)?;
         Ok(Layer {
-            base,
-            changes,
-            replaced,
-            merged: 0,
+            collection,
+            segments,
+            count,
+            of_a_segment,
+            spent: 0,
         })
     }
 
@@ -116,20 +123,25 @@ impl Layer {
         ensures collection { result ≡ self.now.collection }
         ensures listed { AreFeaturesOf result self.now.features }
     {
-        shared(&self.base).collection()
+        self.collection
     }
 
-    /// The base, and the changes to it by object and number.
-    pub fn parts(&self) -> (&Base, &[Change])
-        ensures collection { result.0.now.collection ≡ self.now.collection }
-        ensures all { all_in result.0.now.features result.1.now ≡ self.now.features }
-        ensures order { IsInOrder result.0.now.features result.1.now }
+    /// The segments, by object.
+    pub fn segments(&self) -> &[Segment]
+        ensures { joined result.now ≡ self.now.features }
     {
-        (shared(&self.base), listed(&self.changes))
+        listed(&self.segments)
     }
 
-    /// The same features with these merged into them, over the same base. Where there are none of these, all is shared; else the
-    /// changes are, one by one. An error is want of memory.
+    /// All features, by copies. An error is want of memory.
+    pub fn features(&self, alloc: Global) -> Result<Vec<Feature>, AllocError>
+        ensures { IfOk result (λ all. all.items ≡ self.now.features) }
+    {
+        all_features(alloc, listed(&self.segments))
+    }
+
+    /// The same features with these merged into them, over the same bases. Where there are none of these, all is shared; else the
+    /// segments are, but for those in which these lie. An error is want of memory.
     pub fn with(&self, alloc: Global, touched: Vec<Feature>) -> Result<Layer, AllocError>
         requires { AreFeaturesOf self.now.collection touched.items }
         ensures { IfOk result (λ layer. layer ≡ record { collection = self.now.collection; features = all_in self.now.features touched.items }) }
@@ -137,111 +149,130 @@ impl Layer {
         if touched.is_empty() {
             return self.copy();
         }
-        let touched = as_changes(alloc, touched)?;
-        let merged = with_later(alloc, listed(&self.changes), &touched)?;
-        let replaced = positions(&self.replaced);
-        let places = replaced_after(alloc, shared(&self.base).features(), replaced, &touched)?;
-        let base = self.base.clone()?;
-        let changes = share(alloc, merged)?;
-        let replaced = share(alloc, places)?;
+        let spent = self.spent.saturating_add(touched.len());
+        let segments = spread(alloc, listed(&self.segments), touched, self.collection)?;
+        let Some(count) = length_of_all(&segments) else {
+            return Err(AllocError);
+        };
+        let segments = share(alloc, segments)?;
         Ok(Layer {
-            base,
-            changes,
-            replaced,
-            merged: self.merged.saturating_add(touched.len()),
+            collection: self.collection,
+            segments,
+            count,
+            of_a_segment: self.of_a_segment,
+            spent,
         })
     }
 
-    /// The same features: base and changes are shared. An error says that too many share them.
+    /// The same features: segments are shared. An error says that too many share them.
     pub fn copy(&self) -> Result<Layer, AllocError>
         ensures { IfOk result (λ layer. layer ≡ self.now) }
     {
-        let base = self.base.clone()?;
-        let changes = self.changes.clone()?;
-        let replaced = self.replaced.clone()?;
+        let segments = self.segments.clone()?;
         Ok(Layer {
-            base,
-            changes,
-            replaced,
-            merged: self.merged,
+            collection: self.collection,
+            segments,
+            count: self.count,
+            of_a_segment: self.of_a_segment,
+            spent: self.spent,
         })
     }
 
-    /// Whether no new base is due: there are no more changes than `most`, and few features were merged for so many.
+    /// Whether no new base is due: all segments together have no more changes than `most`.
     pub fn is_settled(&self, most: usize) -> bool {
-        listed(&self.changes).len() <= most
-            && self.merged <= most.saturating_mul(MERGED_FOR_A_CHANGE)
+        change_count(listed(&self.segments)) <= most
     }
 
-    /// The same features over a base of their own, where a base can hold them. An error is want of memory.
-    pub fn rebased(&self, alloc: Global) -> Result<Layer, AllocError>
+    /// How many features were merged into it, or put into new bases, since it was built: so many may revisions keep that it follows.
+    pub fn spent(&self) -> usize {
+        self.spent
+    }
+
+    /// The same features, with new bases for the segment that has the most changes, and for those that have more than a quarter of
+    /// `most`. Where a segment has grown far, all is cut anew, if it can be. An error is want of memory.
+    pub fn rebased(&self, alloc: Global, most: usize) -> Result<Layer, AllocError>
         ensures { IfOk result (λ layer. layer ≡ self.now) }
     {
-        let base = shared(&self.base);
-        let features = merge(alloc, base.features(), listed(&self.changes))?;
-        if features.len() > MOST_FEATURES {
+        let segments = listed(&self.segments);
+        if greatest_base(segments) / MOST_GROWN > self.of_a_segment {
+            return self.cut_anew(alloc);
+        }
+        let due = Due {
+            at: most_changed(segments),
+            many: most / MANY_OF_MOST,
+        };
+        let spent = self.spent.saturating_add(due.base_count(segments));
+        let segments = renewed(alloc, segments, due)?;
+        let segments = share(alloc, segments)?;
+        Ok(Layer {
+            collection: self.collection,
+            segments,
+            count: self.count,
+            of_a_segment: self.of_a_segment,
+            spent,
+        })
+    }
+
+    /// The same features in new segments, where their positions are numbers that a base holds. An error is want of memory.
+    fn cut_anew(&self, alloc: Global) -> Result<Layer, AllocError>
+        ensures { IfOk result (λ layer. layer ≡ self.now) }
+    {
+        let features = self.features(alloc)?;
+        let count = features.len();
+        if count > MOST_FEATURES {
             return self.copy();
         }
-        Layer::build(alloc, features, base.collection())
+        let segments = cut(alloc, features, self.collection, self.of_a_segment)?;
+        let segments = share(alloc, segments)?;
+        Ok(Layer {
+            collection: self.collection,
+            segments,
+            count: self.count,
+            of_a_segment: self.of_a_segment,
+            spent: self.spent.saturating_add(count),
+        })
     }
 
     /// The feature that is the version of that object with that number. No memory is taken.
     pub fn feature(&self, object: ObjectId, number: u32) -> Option<&Feature>
         ensures { IsTheOne (identifier object number) self.now.features (option_copied result) }
     {
-        find(
-            shared(&self.base).features(),
-            listed(&self.changes),
-            object,
-            number,
-        )
+        match segment_of(listed(&self.segments), object) {
+            None => None,
+            Some(segment) => segment.feature(object, number),
+        }
     }
 
-    /// A walk through the features, by object and number.
-    pub fn walk(&self) -> Walk<'_>
-        ensures all { all_in result.base.now result.changes.now ≡ self.now.features }
+    /// A walk through the versions of the object, the oldest first.
+    pub fn versions_of(&self, object: ObjectId) -> Walk<'_>
         ensures order { IsInOrder result.base.now result.changes.now }
+        ensures all { all_in result.base.now result.changes.now ≡ of_object object self.now.features }
     {
-        Walk::new(shared(&self.base).features(), listed(&self.changes))
+        match segment_of(listed(&self.segments), object) {
+            None => Walk::new(&[], &[]),
+            Some(segment) => segment.walk().of_object(object),
+        }
     }
 
     /// How many features there are.
     pub fn count(&self) -> u64
         ensures { result ≡ length self.now.features }
     {
-        let in_base = shared(&self.base).features().len();
-        let changes = listed(&self.changes).len();
-        let replaced = positions(&self.replaced).len();
-        (in_base + changes - replaced) as u64
+        self.count
     }
 
-    /// How many features have a value in the range, by the base's index and a look at each change. No memory is taken.
+    /// How many features have a value in the range, by the indexes of the bases and a look at each change. No memory is taken.
     pub fn count_in(&self, range: &Range) -> u64
         ensures { result ≡ (counts_of self.now.features).between range.now.property (limit_of range.now.low) (limit_of range.now.high) }
     {
-        let base = shared(&self.base);
-        let in_base = base.count_in(range);
-        count_merged(
-            in_base,
-            base.features(),
-            listed(&self.changes),
-            positions(&self.replaced),
-            &InRange { range },
-        )
+        count_all(listed(&self.segments), &InRange { range }, self.count)
     }
 
-    /// How many features are near the box, by the base's grid and a look at each change. No memory is taken.
+    /// How many features are near the box, by the grids of the bases and a look at each change. No memory is taken.
     pub fn count_near(&self, property: usize, bounds: Bounds) -> u64
         ensures { result ≡ (counts_of self.now.features).near property (block_of bounds) }
     {
-        let base = shared(&self.base);
-        let in_base = base.count_near(property, bounds);
-        count_merged(
-            in_base,
-            base.features(),
-            listed(&self.changes),
-            positions(&self.replaced),
-            &NearCells::to(property, bounds),
-        )
+        let near = NearCells::to(property, bounds);
+        count_all(listed(&self.segments), &near, self.count)
     }
 }

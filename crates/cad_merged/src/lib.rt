@@ -1,6 +1,8 @@
-//! The features of one collection at one revision of several: a base with its indexes, which revisions share, and the changes to it.
+//! The features of one collection at one revision of several: segments, each a base with its indexes, which revisions share, and the
+//! changes to it.
 //!
-//! - [`Layer`]: a base and its changes, seen as the features with the changes merged, which it counts by the base's indexes
+//! - [`Layer`]: all segments, seen as their features with the changes merged, which it counts by the bases' indexes
+//! - [`Segment`]: the features of the objects between two numbers, as a base and its changes
 //! - [`Change`]: a feature that changes a base, which lists of changes share; [`as_changes`], [`changes_after`]: of these features, and
 //!   those after one of them
 //! - [`Walk`]: a walk through both, in the order of identifiers
@@ -17,18 +19,25 @@ mod changed;
 mod copies;
 mod counting;
 mod criterion;
+mod cutting;
 mod finding;
 pub mod laws;
 mod layer;
 mod merging;
 mod placed;
+mod renewing;
 mod replacing;
+mod searching;
+mod segment;
+mod spreading;
+mod summing;
 mod walk;
 
 pub use change::{Change, as_changes};
 pub use changed::changes_after;
 pub use copies::{copy_feature, copy_value};
 pub use finding::find;
-pub use layer::Layer;
+pub use layer::{Layer, OF_A_SEGMENT};
 pub use merging::merge;
+pub use segment::Segment;
 pub use walk::Walk;

@@ -5,7 +5,6 @@ ghost use Rattle.cql_rewrite.specs.Meets.{meets};
 use crate::plans::has;
 use cad_feature::Feature;
 use cad_lookup::Plan;
-use cad_merged::merge;
 use cad_run::{FeatureTest, Layer, candidate_count, page};
 use cql_rewrite::{Normal, test};
 use std::alloc::{AllocError, Global};
@@ -45,8 +44,7 @@ fn are_same(rows: &[&Feature], wanted: &[&Feature]) -> bool {
 
 /// The features of the layer, its changes merged into them.
 pub fn features_of(alloc: Global, layer: &Layer) -> Result<Vec<Feature>, AllocError> {
-    let (base, changes) = layer.parts();
-    merge(alloc, base.features(), changes)
+    layer.features(alloc)
 }
 
 /// How many of the features are candidates of the plan.

@@ -3,6 +3,7 @@
 ghost use Rattle.std.specs.Prelude.{IfOk};
 ghost use Rattle.cad_versions.specs.Listing.{IsListing};
 
+use cad_changes::snapshot_after;
 use cad_page::Snapshot;
 use cad_plain::PlainLedger;
 use cad_sample::{fill, sample};
@@ -55,7 +56,7 @@ pub fn grown_snapshot(alloc: Global) -> Result<Snapshot, AllocError> {
     let mut snapshot = empty_snapshot(alloc)?;
     for command in &commands {
         let revision = snapshot.revision().saturating_add(1);
-        snapshot = snapshot.next(alloc, command, revision)?;
+        snapshot = snapshot_after(alloc, &snapshot, command, revision)?;
     }
     Ok(snapshot)
 }

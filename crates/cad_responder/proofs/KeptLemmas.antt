@@ -1,5 +1,5 @@
 -- What is kept stays right.
-use Rattle.std.proofs.Common.{◌≡◌, ◌≤◌, ℕ, ◌+◌, Bool, true, List, [], ◌∷◌, ◌++◌, length, Contains, Option, Some, None, Result, Ok, Err, OnOk, OnErr, refl, sym, ap, ap₂, ◌∙◌, subst, inl, inr, take, arith, nat_eq}
+use Rattle.std.proofs.Common.{◌≡◌, ◌≤◌, ◌-◌, ℕ, ◌+◌, Bool, List, [], ◌∷◌, ◌++◌, length, Contains, Option, Some, None, Result, Ok, Err, OnOk, OnErr, refl, sym, ap, ap₂, ◌∙◌, subst, inl, inr, take, arith, nat_eq}
 use Rattle.std.proofs.lemmas.Bool.{eqb-true}
 use Rattle.std.proofs.lemmas.List.{length-append}
 use Rattle.std.specs.Option.{IfSome}
@@ -20,7 +20,7 @@ use Rattle.cad_snapshot.specs.Snapshots.{RevisionFeatures, IsSnapshotOf, is_told
 use Rattle.cad_responder.specs.Contents.{snapshot_of, snapshot_at}
 use Rattle.cad_responder.specs.declared.records.Records.{Records}
 use Rattle.cad_responder.specs.declared.kept.Kept.{Kept}
-use Rattle.cad_responder.specs.Keeping.{IsKept, AreKept, KeepsOf, Turns, StaysKept, kept_at, or_else}
+use Rattle.cad_responder.specs.Keeping.{IsKept, AreKept, KeepsOf, LetsEnteredGo, LetsOldestGo, StaysKept, kept_at, or_else}
 use Rattle.cad_responder.specs.Servers.{ledger_in, AreRecordsOf, Keeps}
 
 -- the snapshot of these versions is one value
@@ -37,8 +37,7 @@ kept_later stay commands command entries all entry among =
 
 pub keeps_later : RevisionsStay → (commands : List Command) (command : Command) (kept : Kept) → KeepsOf commands kept → KeepsOf (commands ++ command ∷ []) kept
 keeps_later stay commands command kept all = record {
-  newest = kept_later stay commands command kept.newest.entries all.newest;
-  before = kept_later stay commands command kept.before.entries all.before;
+  entered = kept_later stay commands command kept.entered.entries all.entered;
   read = kept_later stay commands command kept.read.entries all.read;
 }
 
@@ -56,13 +55,16 @@ kept_taken commands n old new same all entry among =
 none_kept : (commands : List Command) (entries : List (ℕ × RevisionFeatures)) → entries ≡ [] → AreKept commands entries
 none_kept commands entries none entry among = let at : Contains {X = ℕ × RevisionFeatures} [] entry = subst (λ es. Contains es entry) none among in absurd (omega (arith, at.1))
 
--- what was on the newest bases is right on those before
-pub turned_kept : (old new : Kept) → Turns old new → StaysKept old new
-turned_kept old new t commands all = record {
-  newest = none_kept commands new.newest.entries t.newest;
-  before = subst (AreKept commands) (sym t.before) all.newest;
+-- what is left where the oldest goes is right
+pub oldest_gone_kept : (old new : Kept) → LetsOldestGo old new → StaysKept old new
+oldest_gone_kept old new t commands all = record {
+  entered = λ entry among. all.entered entry (Contains-take (length old.entered.entries - 1) old.entered.entries entry (subst (λ es. Contains es entry) t.entered among));
   read = subst (AreKept commands) (sym t.read) all.read;
 }
+
+-- and where all go
+pub entered_gone_kept : (old new : Kept) → LetsEnteredGo old new → StaysKept old new
+entered_gone_kept old new t commands all = record { entered = none_kept commands new.entered.entries t.entered; read = subst (AreKept commands) (sym t.read) all.read }
 
 kept_under : (commands : List Command) (revision : ℕ) (snapshot : RevisionFeatures) (entry : ℕ × RevisionFeatures) → entry.1 ≡ snapshot → entry.0 ≡ revision → IsKept commands (revision, snapshot) → IsKept commands entry
 kept_under commands revision snapshot entry s r kept =
@@ -95,13 +97,12 @@ kept_found commands entries revision snapshot all found =
 
 -- what is found among all that is kept is that of the revision
 pub found_at : (commands : List Command) (revision : ℕ) (snapshot : RevisionFeatures) (kept : Kept) → KeepsOf commands kept → kept_at revision kept ≡ Some snapshot → IsKept commands (revision, snapshot)
-found_at commands revision snapshot kept all = go (lookup (nat_eq revision) kept.newest.entries) refl (lookup (nat_eq revision) kept.before.entries) refl (lookup (nat_eq revision) kept.read.entries) refl
+found_at commands revision snapshot kept all = go (lookup (nat_eq revision) kept.entered.entries) refl (lookup (nat_eq revision) kept.read.entries) refl
   where
-    go : (a : Option RevisionFeatures) → lookup (nat_eq revision) kept.newest.entries ≡ a → (b : Option RevisionFeatures) → lookup (nat_eq revision) kept.before.entries ≡ b
-        → (c : Option RevisionFeatures) → lookup (nat_eq revision) kept.read.entries ≡ c → or_else a (or_else b c) ≡ Some snapshot → IsKept commands (revision, snapshot)
-    go (Some s) e b f c g is = kept_found commands kept.newest.entries revision snapshot all.newest (e ∙ is)
-    go None e (Some s) f c g is = kept_found commands kept.before.entries revision snapshot all.before (f ∙ is)
-    go None e None f c g is = kept_found commands kept.read.entries revision snapshot all.read (g ∙ is)
+    go : (a : Option RevisionFeatures) → lookup (nat_eq revision) kept.entered.entries ≡ a → (b : Option RevisionFeatures) → lookup (nat_eq revision) kept.read.entries ≡ b
+        → or_else a b ≡ Some snapshot → IsKept commands (revision, snapshot)
+    go (Some s) e b f is = kept_found commands kept.entered.entries revision snapshot all.entered (e ∙ is)
+    go None e b f is = kept_found commands kept.read.entries revision snapshot all.read (f ∙ is)
 
 -- ---- the next revision
 

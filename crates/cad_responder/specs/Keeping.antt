@@ -1,5 +1,5 @@
 -- What is kept of revisions (own profile).
-use Rattle.std.specs.Prelude.{◌≡◌, ◌≤◌, ℕ, List, [], length, Contains, nat_eq, Option, Some, None}
+use Rattle.std.specs.Prelude.{◌≡◌, ◌≤◌, ◌-◌, ℕ, List, [], length, take, Contains, nat_eq, Option, Some, None}
 use Rattle.std.specs.Map.{lookup}
 use Rattle.cad_versions.specs.declared.command.Command.{Command}
 use Rattle.cad_snapshot.specs.Snapshots.{RevisionFeatures}
@@ -14,10 +14,9 @@ IsKept commands entry = (entry.0 ≤ length commands) × (entry.1 ≡ snapshot_a
 abbrev pub AreKept : List Command → List (ℕ × RevisionFeatures) → Type 0
 AreKept commands entries = (entry : ℕ × RevisionFeatures) → Contains entries entry → IsKept commands entry
 
--- so is all that is kept: of revisions on the newest bases, of those on the bases before them, and of old ones that were read
+-- so is all that is kept: of the revisions that were entered last, and of old ones that were read
 pub record KeepsOf (commands : List Command) (kept : Kept) : Type 0 where
-  pub newest : AreKept commands kept.newest.entries
-  pub before : AreKept commands kept.before.entries
+  pub entered : AreKept commands kept.entered.entries
   pub read : AreKept commands kept.read.entries
 
 abbrev pub or_else : {X : Type 0} → Option X → Option X → Option X
@@ -26,15 +25,18 @@ or_else None other = other
 
 -- what is kept of the revision, if anything is
 abbrev pub kept_at : ℕ → Kept → Option RevisionFeatures
-kept_at revision kept =
-    or_else (lookup (nat_eq revision) kept.newest.entries) (or_else (lookup (nat_eq revision) kept.before.entries) (lookup (nat_eq revision) kept.read.entries))
+kept_at revision kept = or_else (lookup (nat_eq revision) kept.entered.entries) (lookup (nat_eq revision) kept.read.entries)
 
 -- ---- what changes it
 
--- nothing is kept on the newest bases yet, what was is kept on those before them, and what was kept there is let go
-pub record Turns (old new : Kept) : Type 0 where
-  pub newest : new.newest.entries ≡ []
-  pub before : new.before.entries ≡ old.newest.entries
+-- of the revisions that were entered last the oldest is let go
+pub record LetsOldestGo (old new : Kept) : Type 0 where
+  pub entered : new.entered.entries ≡ take (length old.entered.entries - 1) old.entered.entries
+  pub read : new.read.entries ≡ old.read.entries
+
+-- all of them are
+pub record LetsEnteredGo (old new : Kept) : Type 0 where
+  pub entered : new.entered.entries ≡ []
   pub read : new.read.entries ≡ old.read.entries
 
 -- what is right stays so

@@ -22,7 +22,7 @@ use Rattle.cad_responder.specs.Replies.{AsksForFeatures, FailsToFind, FailsToTel
 abbrev pub ledger_in : {L : Type 0} → Records L → L
 ledger_in records = records.ledger
 
--- how many changes a base of a collection gets before a new one is made
+-- how many changes the bases of a collection get before new ones are made
 abbrev pub bound_in : {L : Type 0} → Records L → ℕ
 bound_in records = records.most_changes
 

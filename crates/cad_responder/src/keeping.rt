@@ -7,12 +7,11 @@ use crate::kept::Kept;
 use cad_snapshot::Snapshot;
 use lru::LruCache;
 use std::alloc::{AllocError, Global};
-use std::mem;
 use std::num::NonZeroUsize;
 
-/// Of how many revisions that share bases the features are kept at most: a base of a collection gets 512 changes, each of which two
-/// commands at most leave behind, and there are six collections; 16 more share bases however much they change.
-const MOST_ON_BASES: usize = 6160;
+/// Of how many revisions that were entered last the features are kept at most. Where commands touch few features each, more would be
+/// kept for what they take.
+const MOST_ENTERED: usize = 6160;
 
 /// Of how many old revisions that were read of the ledger the features are kept at most, each on bases of its own.
 const MOST_READ: usize = 2;
@@ -22,55 +21,46 @@ impl Kept {
     ghost use Rattle.std.specs.Map.{lookup};
     ghost use Rattle.std.specs.Option.{option_copied};
     ghost use Rattle.cad_versions.specs.declared.command.Command.{Command as CommandOf};
-    ghost use Rattle.cad_responder.specs.Keeping.{KeepsOf, StaysKept, StaysWith, Turns, kept_at, or_else};
+    ghost use Rattle.cad_responder.specs.Keeping.{KeepsOf, StaysKept, StaysWith, LetsOldestGo, LetsEnteredGo, kept_at};
     ghost use Rattle.cad_responder.specs.Rooms.{most_read};
 
     /// Nothing is kept yet. An error is want of memory.
     pub(crate) fn new(alloc: Global) -> Result<Kept, AllocError>
         ensures { IfOk result (λ kept. (commands : List CommandOf) → KeepsOf commands kept) }
     {
-        let newest = cache(alloc, MOST_ON_BASES)?;
-        let before = cache(alloc, MOST_ON_BASES)?;
+        let entered = cache(alloc, MOST_ENTERED)?;
         let read = cache(alloc, MOST_READ)?;
-        Ok(Kept {
-            newest,
-            before,
-            read,
-        })
+        Ok(Kept { entered, read })
     }
 
-    /// The features of the revision, where they are kept on the newest bases.
-    pub(crate) fn on_newest(&self, revision: u64) -> Option<&Snapshot>
-        ensures { option_copied result ≡ lookup (nat_eq revision) self.now.newest.entries }
+    /// The features of the revision, where it is one of those that were entered last.
+    pub(crate) fn entered_at(&self, revision: u64) -> Option<&Snapshot>
+        ensures { option_copied result ≡ lookup (nat_eq revision) self.now.entered.entries }
     {
-        self.newest.peek(&revision)
+        self.entered.peek(&revision)
     }
 
-    /// The same, where they are kept on other bases.
-    fn on_others(&self, revision: u64) -> Option<&Snapshot>
-        ensures { option_copied result ≡ or_else (lookup (nat_eq revision) self.now.before.entries) (lookup (nat_eq revision) self.now.read.entries) }
+    /// The features of the revision, where they are kept.
+    pub(crate) fn at(&self, revision: u64) -> Option<&Snapshot>
+        ensures { option_copied result ≡ kept_at revision self.now }
     {
-        match self.before.peek(&revision) {
+        match self.entered_at(revision) {
             Some(snapshot) => Some(snapshot),
             None => self.read.peek(&revision),
         }
     }
 
-    /// The same, where they are kept.
-    pub(crate) fn at(&self, revision: u64) -> Option<&Snapshot>
-        ensures { option_copied result ≡ kept_at revision self.now }
+    /// Of how many revisions that were entered last something is kept.
+    pub(crate) fn entered_count(&self) -> usize
+        ensures { result ≡ length self.now.entered.entries }
     {
-        match self.on_newest(revision) {
-            Some(snapshot) => Some(snapshot),
-            None => self.on_others(revision),
-        }
+        self.entered.len()
     }
 
-    /// How many revisions are kept on the newest bases.
-    pub(crate) fn on_newest_count(&self) -> usize
-        ensures { result ≡ length self.now.newest.entries }
-    {
-        self.newest.len()
+    /// What had been spent on the features of the oldest of them.
+    pub(crate) fn oldest_spent(&self) -> Option<usize> {
+        let (_, oldest) = self.entered.peek_lru()?;
+        Some(oldest.spent())
     }
 
     /// The revision was asked for: of the old ones that were read those go first that were not asked for longest.
@@ -80,12 +70,18 @@ impl Kept {
         let _ = self.read.promote(&revision);
     }
 
-    /// New bases are to be made: the revisions on those before the newest are let go.
-    pub(crate) fn turn(&mut self)
-        ensures { Turns self.old self.new }
+    /// Lets the oldest of the revisions go that were entered last.
+    pub(crate) fn let_oldest_go(&mut self)
+        ensures { LetsOldestGo self.old self.new }
     {
-        self.before.clear();
-        mem::swap(&mut self.newest, &mut self.before);
+        drop(self.entered.pop_lru());
+    }
+
+    /// Lets all of them go.
+    pub(crate) fn let_entered_go(&mut self)
+        ensures { LetsEnteredGo self.old self.new }
+    {
+        self.entered.clear();
     }
 
     /// Lets an old revision go that was read of the ledger, where no other can be kept beside those that are.
@@ -99,12 +95,12 @@ impl Kept {
         drop(self.read.pop_lru());
     }
 
-    /// Keeps features on the newest bases, if there is memory.
+    /// Keeps features of the revision in force, if there is memory.
     pub(crate) fn add(&mut self, snapshot: Snapshot)
         ensures { StaysWith snapshot self.old self.new }
     {
         let revision = snapshot.revision();
-        drop(self.newest.put(revision, snapshot));
+        drop(self.entered.put(revision, snapshot));
     }
 
     /// Keeps features of an old revision that were read of the ledger, if there is memory.

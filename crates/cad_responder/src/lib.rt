@@ -6,9 +6,9 @@
 //!
 //! What is read of the ledger at a revision is kept, and after a command what was kept of the revision before it, with what the
 //! command touches: so a page of the newest revision, or after another of the same revision, reads nothing of the ledger. Revisions
-//! share their bases, and past a bound of changes, and 16 revisions, new bases are made; all revisions on the newest bases and on those
-//! before them are kept, 6,160 on each at most, and two at most that were read of the ledger when they were old. Keeping changes no
-//! reply.
+//! share segments of features, and past a bound of changes a segment gets a new base. Those that were entered last are kept, 16 before
+//! the newest at least and 6,160 at most, by how much was spent since; and two at most that were read of the ledger when they were old.
+//! Keeping changes no reply.
 //!
 //! Of the ledger of no commands, the request
 //!

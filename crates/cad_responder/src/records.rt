@@ -7,6 +7,7 @@ ghost use Rattle.cad_responder.specs.Contents.{content_told, refusal};
 use crate::kept::Kept;
 use crate::sought::{revision_of, told_in};
 use cad_bodies::word_body;
+use cad_changes::snapshot_after;
 use cad_reply::Status;
 use cad_snapshot::Snapshot;
 use cad_versions::laws::revisions_stay;
@@ -14,18 +15,24 @@ use cad_versions::{Command, Ledger, RegisterFault};
 use cad_wanted::{FeatureRequest, Told, Wanted};
 use std::alloc::{AllocError, Global};
 
-/// How many changes a base of a collection gets before a new one is made, where nothing else is asked for.
+/// How many changes the bases of a collection get before new ones are made, where nothing else is asked for.
 pub(crate) const MOST_CHANGES: usize = 512;
 
-/// How many revisions share bases at least, however much is changed, where a base gets that many changes. So at least as many are
-/// kept at any time.
+/// How many features a segment of a collection has for each of these changes: as many are put into a new base when one is due.
+const FEATURES_FOR_A_CHANGE: usize = 16;
+
+/// How many features are merged or put into new bases, for each of these changes, before a revision goes: what is kept beside the
+/// newest features is bounded by this.
+const SPENT_FOR_A_CHANGE: usize = 128;
+
+/// How many revisions before the newest are kept at least, however much is changed, where the bases get that many changes.
 const LEAST_REVISIONS: usize = 16;
 
 /// A ledger, and the features at the revisions that were asked for last or entered last.
 pub(crate) struct Records<L: Ledger> {
     ledger: L,
     kept: Kept,
-    /// How many changes a base of a collection gets before a new one is made.
+    /// How many changes the bases of a collection get before new ones are made.
     most_changes: usize,
     alloc: Global,
 }
@@ -112,33 +119,56 @@ impl<L: Ledger> Records<L> {
     {
         let newest = self.ledger.revision();
         let revision = newest.checked_add(1)?;
-        let snapshot = self.kept.on_newest(newest)?;
-        snapshot.next(self.alloc, command, revision).ok()
+        let snapshot = self.kept.entered_at(newest)?;
+        snapshot_after(self.alloc, snapshot, command, revision).ok()
     }
 
-    /// Whether new bases are due: of a collection there are many changes, and enough revisions share the bases.
-    fn is_due(&self, next: &Snapshot) -> bool {
-        let least = self.most_changes.min(LEAST_REVISIONS);
-        !next.is_settled(self.most_changes) && least <= self.kept.on_newest_count()
+    /// Whether more revisions are kept than at least, and much was spent since the oldest of those that were entered last.
+    fn is_spent(&self, spent: usize) -> bool {
+        let Some(before) = self.kept.oldest_spent() else {
+            return false;
+        };
+        let least = self.most_changes.clamp(1, LEAST_REVISIONS);
+        let most = self.most_changes.saturating_mul(SPENT_FOR_A_CHANGE);
+        least < self.kept.entered_count() && most < spent.saturating_sub(before)
     }
 
-    /// Keeps the features of the revision in force, on new bases where these are due.
+    /// Lets the revisions go since which much was spent.
+    fn let_spent_go(&mut self, spent: usize)
+        ensures { Forgets L.Ledger self.old self.new }
+    {
+        for _ in 0..self.kept.entered_count() {
+            if !self.is_spent(spent) {
+                return;
+            }
+            self.kept.let_oldest_go();
+        }
+    }
+
+    /// The same features, with new bases where these are due and there is memory for them.
+    fn settled(&self, next: Snapshot) -> Snapshot
+        ensures { result ≡ next }
+    {
+        if next.is_settled(self.most_changes) {
+            return next;
+        }
+        match next.settled(self.alloc, self.most_changes) {
+            Ok(settled) => settled,
+            Err(AllocError) => next,
+        }
+    }
+
+    /// Keeps the features of the revision in force.
     fn keep_entered(&mut self, next: Snapshot)
         ensures { Keeps L.Ledger next self.old self.new }
     {
-        if !self.is_due(&next) {
-            self.kept.add(next);
-            return;
-        }
-        // What the bases before are kept for goes first, so that there are four of a collection at most.
-        self.kept.turn();
-        match next.settled(self.alloc, self.most_changes) {
-            Ok(settled) => self.kept.add(settled),
-            Err(AllocError) => self.kept.add(next),
-        }
+        // What goes does so first.
+        self.let_spent_go(next.spent());
+        let settled = self.settled(next);
+        self.kept.add(settled);
     }
 
-    /// Lets go what is kept for the bases in whose place those of the revision are to be made.
+    /// Lets go what is kept in whose place the features of the revision are to be kept.
     fn make_room(&mut self, revision: u64)
         ensures { Forgets L.Ledger self.old self.new }
     {
@@ -146,10 +176,7 @@ impl<L: Ledger> Records<L> {
             self.kept.make_room();
             return;
         }
-        if self.kept.on_newest_count() == 0 {
-            return;
-        }
-        self.kept.turn();
+        self.kept.let_entered_go();
     }
 
     /// Keeps features that were read of the ledger.
@@ -181,7 +208,8 @@ impl<L: Ledger> Records<L> {
     {
         let versions = self.ledger.as_of(revision)?;
         self.make_room(revision);
-        let snapshot = Snapshot::build(self.alloc, revision, versions)?;
+        let of_a_segment = self.most_changes.saturating_mul(FEATURES_FOR_A_CHANGE);
+        let snapshot = Snapshot::in_segments(self.alloc, revision, versions, of_a_segment)?;
         let told = told_in(self.alloc, sought, &snapshot)?;
         self.keep_read(snapshot);
         Ok(told)

@@ -45,7 +45,7 @@ impl<L: Ledger> Server<L> {
         Server::with_changes(alloc, ledger, MOST_CHANGES)
     }
 
-    /// The same, where a base of a collection gets at most so many changes before a new one is made.
+    /// The same, where the bases of a collection get at most so many changes before new ones are made.
     pub fn with_changes(alloc: Global, ledger: L, most_changes: usize) -> Result<Server<L>, L>
         ensures made { IfOk result (λ server. (commands : List CommandOf) → L.Ledger.stands_for ledger commands →
             IsServerOf L.Ledger server commands) }

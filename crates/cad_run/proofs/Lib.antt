@@ -3,3 +3,4 @@ pub mod IndexLemmas
 pub mod PlanLemmas
 pub mod PageLemmas
 pub mod LeftLemmas
+pub mod SourceLemmas

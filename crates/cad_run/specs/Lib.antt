@@ -3,5 +3,5 @@ pub mod LaterLemmas
 pub mod Positions
 pub mod Parts
 pub mod Bases
-pub mod Bounds
+pub mod SegmentLeft
 pub mod Left

@@ -1,38 +1,67 @@
 //! The candidates of a layer, in the order of identifiers.
 
-ghost use Rattle.std.specs.Prelude.{◌≡◌, ◌<◌, ◌^◌, true, length};
-ghost use Rattle.std.specs.List.{All};
-ghost use Rattle.std.proofs.Props.{props};
-ghost use Rattle.cad_lookup.specs.Candidates.{is_candidate as is_candidate_of};
-ghost use Rattle.cad_merged.specs.Walks.{IsInOrder};
-ghost use Rattle.cad_run.specs.Bases.{bases_left};
+ghost use Rattle.std.specs.Prelude.{◌≡◌, ◌<◌, ◌^◌, ◌-◌, [], ◌∷◌, length, take, IfOk, MatchOption, option_map};
+ghost use Rattle.cad_lookup.specs.Candidates.{candidates};
+ghost use Rattle.cad_merged.specs.Segments.{joined};
+ghost use Rattle.cad_run.specs.SegmentLeft.{all_left};
+ghost use Rattle.cad_run.specs.Slices.{identifier, later};
 
-use crate::after::changes_later;
-use crate::bases::Bases;
-use crate::candidacy::is_candidate;
 use crate::feature_source::FeatureSource;
+use crate::segment_candidates::SegmentCandidates;
 use cad_feature::Feature;
 use cad_lookup::Plan;
-use cad_merged::{Change, Layer};
+use cad_merged::{Layer, Segment};
 use cad_versions::ObjectId;
 use std::alloc::{AllocError, Global};
 
-/// What is left of a plan's candidates: those of the base, and changes, which may be candidates or not.
+/// What is left of a plan's candidates, segment by segment.
 #[derive(Drop)]
 pub struct Candidates<'a, 'p> {
+    /// The last first.
+    sources: Vec<SegmentCandidates<'a, 'p>>,
+    ghost few: { length (all_left sources.items) < 2 ^ 64 },
+}
+
+/// The sources of the segments, the last first.
+fn sources_of<'a, 'p>(
+    alloc: Global,
     plan: &'p Plan,
-    bases: Bases<'a>,
-    changes: &'a [Change],
-    ghost order: { IsInOrder (bases_left bases) changes.now } by { Prim.hlevel props },
-    ghost passing: { All (λ x. is_candidate_of plan.now x ≡ true) (bases_left bases) },
-    ghost few: { length changes.now < 2 ^ 63 },
+    segments: &'a [Segment],
+    after: Option<(ObjectId, u32)>,
+) -> Result<Vec<SegmentCandidates<'a, 'p>>, AllocError>
+    ensures { IfOk result (λ sources. all_left sources.items ≡ later (option_map identifier after) (candidates plan.now (joined segments.now))) }
+{
+    let mut sources = Vec::new(alloc);
+    let mut segments = segments;
+    while let Some((segment, before)) = segments.split_last() {
+        let source = SegmentCandidates::of(alloc, plan, segment, after)?;
+        sources.push(source)?;
+        segments = before;
+    }
+    Ok(sources)
+}
+
+fn drop_last<T: Drop>(items: &mut Vec<T>)
+    ensures { items.new.items ≡ take (length items.old.items - 1) items.old.items }
+{
+    items.pop();
+}
+
+/// Takes the first of what is left. The sources before its own, which have nothing left, are dropped.
+fn take_first<'a>(sources: &mut Vec<SegmentCandidates<'a, '_>>) -> Option<&'a Feature>
+    ensures { MatchOption result ((all_left sources.old.items ≡ []) × (all_left sources.new.items ≡ [])) (λ x. all_left sources.old.items ≡ x.now ∷ all_left sources.new.items) }
+{
+    while let Some(source) = sources.last_mut() {
+        if let Some(feature) = source.next() {
+            return Some(feature);
+        }
+        drop_last(sources);
+    }
+    None
 }
 
 impl<'a, 'p> Candidates<'a, 'p> {
-    ghost use Rattle.std.specs.Prelude.{◌≡◌, IfOk, option_map};
-    ghost use Rattle.cad_lookup.specs.Candidates.{candidates};
     ghost use Rattle.cad_run.specs.Left.{candidates_left};
-    ghost use Rattle.cad_run.specs.Slices.{identifier, later};
 
     /// Those of the layer after the one that is named. An error is want of memory.
     pub fn of(
@@ -43,14 +72,10 @@ impl<'a, 'p> Candidates<'a, 'p> {
     ) -> Result<Candidates<'a, 'p>, AllocError>
         ensures { IfOk result (λ left. candidates_left left ≡ later (option_map identifier after) (candidates plan.now layer.now.features)) }
     {
-        let (base, changes) = layer.parts();
-        let bases = Bases::of(alloc, plan, base, after)?;
-        let changes = changes_later(changes, after);
-        Ok(Candidates {
-            plan,
-            bases,
-            changes,
-        })
+        // A counter holds how many features there are, and so how many candidates are left.
+        let _count = layer.count();
+        let sources = sources_of(alloc, plan, layer.segments(), after)?;
+        Ok(Candidates { sources })
     }
 }
 
@@ -62,16 +87,6 @@ impl<'a> FeatureSource<'a> for Candidates<'a, '_> {
     ghost bounded = { left_bounded };
 
     fn next(&mut self) -> Option<&'a Feature> {
-        while let Some((change, changes)) = self.changes.split_first() {
-            let feature = change.feature();
-            if !self.bases.give_way(feature) {
-                return self.bases.next();
-            }
-            self.changes = changes;
-            if is_candidate(self.plan, feature) {
-                return Some(feature);
-            }
-        }
-        self.bases.next()
+        take_first(&mut self.sources)
     }
 }

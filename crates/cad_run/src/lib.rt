@@ -26,6 +26,7 @@ mod paging;
 mod parts;
 mod planned;
 mod rows;
+mod segment_candidates;
 
 pub use cad_lookup::Plan;
 pub use cad_merged::Layer;

@@ -1,15 +1,14 @@
 //! The register at one revision, as the features of each collection.
 //!
-//! - [`Snapshot`]: the features of each collection at a revision with their indexes, built of its versions, or of the snapshot before
-//!   it and the command between, and lent from then on
+//! - [`Snapshot`]: the features of each collection at a revision with their indexes, built of its versions, or of [`Layers`], and lent
+//!   from then on
 //!
 //! Of a register whose first two commands enter unit 10 and parcel 1, the snapshot of revision 2 has the feature 1.1 among the parcels
 //! and 10.1 among the units.
 #![tactic(auto)]
 
 mod building;
-mod following;
 mod rebasing;
 mod snapshot;
 
-pub use snapshot::Snapshot;
+pub use snapshot::{Layers, Snapshot};

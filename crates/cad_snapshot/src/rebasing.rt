@@ -5,13 +5,13 @@ ghost use Rattle.std.specs.Prelude.{◌≡◌, IfOk};
 use cad_merged::Layer;
 use std::alloc::{AllocError, Global};
 
-/// The same features, over a new base where one is due at these many changes.
+/// The same features, with new bases where some are due at these many changes.
 pub(crate) fn settled_layer(alloc: Global, layer: &Layer, most: usize) -> Result<Layer, AllocError>
     ensures { IfOk result (λ settled. settled ≡ layer.now) }
 {
     if layer.is_settled(most) {
         layer.copy()
     } else {
-        layer.rebased(alloc)
+        layer.rebased(alloc, most)
     }
 }

@@ -3,12 +3,11 @@
 ghost use Rattle.std.specs.Prelude.{◌≡◌};
 
 use crate::building::features;
-use crate::following::layer_after;
 use crate::rebasing::settled_layer;
 use cad_feature::Feature;
-use cad_merged::Layer;
+use cad_merged::{Layer, OF_A_SEGMENT};
 use cad_schema::Collection;
-use cad_versions::{Command, ObjectId, Version};
+use cad_versions::{ObjectId, Version};
 use std::alloc::{AllocError, Global};
 use std::marker::Model;
 
@@ -24,6 +23,23 @@ pub struct Snapshot {
     units: Layer,
     parties: Layer,
     responsibilities: Layer,
+}
+
+/// A layer for each collection.
+#[derive(Drop)]
+pub struct Layers {
+    /// Of the parcels.
+    pub parcels: Layer,
+    /// Of the rights.
+    pub rights: Layer,
+    /// Of the restrictions.
+    pub restrictions: Layer,
+    /// Of the units.
+    pub units: Layer,
+    /// Of the parties.
+    pub parties: Layer,
+    /// Of the responsibilities.
+    pub responsibilities: Layer,
 }
 
 impl Model for Snapshot {
@@ -53,14 +69,13 @@ impl Model for Snapshot {
 }
 
 impl Snapshot {
-    ghost use Rattle.std.specs.Prelude.{◌≡◌, ◌+◌, List, [], ◌∷◌, ◌++◌, length, IfOk};
+    ghost use Rattle.std.specs.Prelude.{◌≡◌, IfOk};
     ghost use Rattle.std.specs.Option.{option_copied};
-    ghost use Rattle.cad_versions.specs.declared.command.Command.{Command as CommandOf};
-    ghost use Rattle.cad_versions.specs.AsOf.{as_of};
     ghost use Rattle.cad_versions.specs.Listing.{IsListing};
-    ghost use Rattle.cad_versions.specs.Refusals.{AreAccepted};
     ghost use Rattle.cad_feature.specs.Features.{AreFeaturesOf};
     ghost use Rattle.cad_merged.specs.Identifiers.{identifier, IsTheOne};
+    ghost use Rattle.cad_schema.specs.declared.collection.Collection.TheVariants.{Parcels, Rights, Restrictions, Units, Parties, Responsibilities};
+    ghost use Rattle.cad_snapshot.specs.Layers.{features_of_layers};
     ghost use Rattle.cad_snapshot.specs.Snapshots.{features_at, IsSnapshotOf};
 
     /// The features of these versions, which are those of the revision. An error is want of memory.
@@ -68,6 +83,20 @@ impl Snapshot {
         alloc: Global,
         revision: u64,
         versions: Vec<Version>,
+    ) -> Result<Snapshot, AllocError>
+        requires { IsListing versions.items }
+        ensures { IfOk result (IsSnapshotOf revision versions.items) }
+    {
+        Snapshot::in_segments(alloc, revision, versions, OF_A_SEGMENT)
+    }
+
+    /// The same, where the features of a collection stand in segments of so many, each with a base of its own. An error is want of
+    /// memory.
+    pub fn in_segments(
+        alloc: Global,
+        revision: u64,
+        versions: Vec<Version>,
+        of_a_segment: usize,
     ) -> Result<Snapshot, AllocError>
         requires { IsListing versions.items }
         ensures { IfOk result (IsSnapshotOf revision versions.items) }
@@ -80,12 +109,22 @@ impl Snapshot {
         let responsibilities = features(alloc, &versions, Collection::Responsibilities)?;
         // Versions and indexes never stand side by side, so that a register takes the room of one of them.
         drop(versions);
-        let parcels = Layer::build(alloc, parcels, Collection::Parcels)?;
-        let rights = Layer::build(alloc, rights, Collection::Rights)?;
-        let restrictions = Layer::build(alloc, restrictions, Collection::Restrictions)?;
-        let units = Layer::build(alloc, units, Collection::Units)?;
-        let parties = Layer::build(alloc, parties, Collection::Parties)?;
-        let responsibilities = Layer::build(alloc, responsibilities, Collection::Responsibilities)?;
+        let parcels = Layer::in_segments(alloc, parcels, Collection::Parcels, of_a_segment)?;
+        let rights = Layer::in_segments(alloc, rights, Collection::Rights, of_a_segment)?;
+        let restrictions = Layer::in_segments(
+            alloc,
+            restrictions,
+            Collection::Restrictions,
+            of_a_segment,
+        )?;
+        let units = Layer::in_segments(alloc, units, Collection::Units, of_a_segment)?;
+        let parties = Layer::in_segments(alloc, parties, Collection::Parties, of_a_segment)?;
+        let responsibilities = Layer::in_segments(
+            alloc,
+            responsibilities,
+            Collection::Responsibilities,
+            of_a_segment,
+        )?;
         Ok(Snapshot {
             revision,
             parcels,
@@ -97,35 +136,28 @@ impl Snapshot {
         })
     }
 
-    /// The features after the command, over the same bases, as those of the revision with this number. An error is want of memory.
-    pub fn next(
-        &self,
-        alloc: Global,
-        command: &Command,
-        revision: u64,
-    ) -> Result<Snapshot, AllocError>
-        ensures { IfOk result (λ next. (commands : List CommandOf) → AreAccepted [] (commands ++ command.now ∷ [])
-            → IsSnapshotOf (length commands) (as_of (length commands) commands) self.now
-            → IsSnapshotOf revision (as_of (length commands + 1) (commands ++ command.now ∷ [])) next) }
+    /// The features of these layers, one for each collection, as those of the revision with this number.
+    pub fn of_layers(revision: u64, layers: Layers) -> Snapshot
+        requires parcels { layers.parcels.collection ≡ Parcels }
+        requires rights { layers.rights.collection ≡ Rights }
+        requires restrictions { layers.restrictions.collection ≡ Restrictions }
+        requires units { layers.units.collection ≡ Units }
+        requires parties { layers.parties.collection ≡ Parties }
+        requires responsibilities { layers.responsibilities.collection ≡ Responsibilities }
+        ensures { result ≡ features_of_layers revision layers }
     {
-        let parcels = layer_after(alloc, self, command, Collection::Parcels)?;
-        let rights = layer_after(alloc, self, command, Collection::Rights)?;
-        let restrictions = layer_after(alloc, self, command, Collection::Restrictions)?;
-        let units = layer_after(alloc, self, command, Collection::Units)?;
-        let parties = layer_after(alloc, self, command, Collection::Parties)?;
-        let responsibilities = layer_after(alloc, self, command, Collection::Responsibilities)?;
-        Ok(Snapshot {
+        Snapshot {
             revision,
-            parcels,
-            rights,
-            restrictions,
-            units,
-            parties,
-            responsibilities,
-        })
+            parcels: layers.parcels,
+            rights: layers.rights,
+            restrictions: layers.restrictions,
+            units: layers.units,
+            parties: layers.parties,
+            responsibilities: layers.responsibilities,
+        }
     }
 
-    /// Whether no collection has more changes to its base than `most`, or was handed many features for so many.
+    /// Whether no collection has more changes to its bases than `most`.
     pub fn is_settled(&self, most: usize) -> bool {
         self.parcels.is_settled(most)
             && self.rights.is_settled(most)
@@ -135,7 +167,18 @@ impl Snapshot {
             && self.responsibilities.is_settled(most)
     }
 
-    /// The same features, with a new base for each collection that is not settled. An error is want of memory.
+    /// How many features were merged or put into new bases since it was built, by each of the revisions that it follows.
+    pub fn spent(&self) -> usize {
+        self.parcels
+            .spent()
+            .saturating_add(self.rights.spent())
+            .saturating_add(self.restrictions.spent())
+            .saturating_add(self.units.spent())
+            .saturating_add(self.parties.spent())
+            .saturating_add(self.responsibilities.spent())
+    }
+
+    /// The same features, with new bases for the segments of each collection that is not settled. An error is want of memory.
     pub fn settled(&self, alloc: Global, most: usize) -> Result<Snapshot, AllocError>
         ensures { IfOk result (λ settled. settled ≡ self.now) }
     {

@@ -1,6 +1,6 @@
 use Rattle.std.proofs.Common.{◌<◌, length, ap, arith}
 use Rattle.std.proofs.Common.{length-append}
-use Rattle.cad_index_cases.proofs.ListingLemmas.{Below, below_more, listed_more, nothing_listed, nothing_below}
+use Rattle.cad_index_cases.proofs.ListingLemmas.{below_more, listed_more, nothing_listed, nothing_below}
 use Rattle.cad_index_cases.proofs.parcels.listed.Goals as goal
 
 pub loop-parcel-init : goal.loop-parcel-init

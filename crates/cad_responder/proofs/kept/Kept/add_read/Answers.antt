@@ -7,6 +7,5 @@ pub returns : goal.returns
 returns c = λ commands all is. record {
   read = kept_put commands c.args.self.now.read _ c.revision-revision.result c.args.snapshot c.put.result c.put.ensures.entries c.put.ensures.err all.read
       (subst (λ n. IsKept commands (n, c.args.snapshot)) (sym c.revision-revision.ensures) is);
-  before = all.before;
-  newest = all.newest;
+  entered = all.entered;
 }

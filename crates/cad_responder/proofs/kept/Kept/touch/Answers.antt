@@ -4,7 +4,6 @@ use Rattle.cad_responder.proofs.kept.Kept.touch.Goals as goal
 
 pub returns : goal.returns
 returns c = λ commands all. record {
-  newest = all.newest;
-  before = all.before;
+  entered = all.entered;
   read = kept_promoted commands (nat_eq c.args.revision) c.args.self.now.read _ c.promote.ensures.entries all.read;
 }

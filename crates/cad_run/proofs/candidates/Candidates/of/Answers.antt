@@ -1,16 +1,12 @@
-use Rattle.std.proofs.Common.{option_map, rules}
-use Rattle.cad_run.specs.Slices.{identifier}
-use Rattle.cad_run.proofs.LeftLemmas.{begins_in_order, begins_passing, begins_with}
+use Rattle.std.proofs.Common.{◌∙◌, ap, option_map}
+use Rattle.cad_lookup.specs.Candidates.{candidates}
+use Rattle.cad_run.specs.Slices.{identifier, later}
+use Rattle.cad_run.proofs.SourceLemmas.{few_wanted}
 use Rattle.cad_run.proofs.candidates.Candidates.of.Goals as goal
 
 pub invariant_of-result : goal.invariant_of-result
 invariant_of-result c =
     let last = option_map identifier c.args.after in
     record {
-      order = begins_in_order c.args.plan.now last _ _ _ _ c.in_ok-bases.ensures c.changes_later-changes.ensures c.parts.ensures.order;
-      passing = begins_passing c.args.plan.now last _ _ _ _ c.in_ok-bases.ensures c.changes_later-changes.ensures c.parts.ensures.order;
-      few = search rules;
+      few = few_wanted c.args.plan.now last c.args.layer.now.features _ c.count-count.result c.count-count.ensures c.count-count.type_inv (c.in_ok-sources.ensures ∙ ap (λ xs. later last (candidates c.args.plan.now xs)) c.segments.ensures);
     }
-
-pub returns : goal.returns
-returns c = begins_with c.args.plan.now (option_map identifier c.args.after) _ _ _ _ c.in_ok-bases.ensures c.changes_later-changes.ensures c.parts.ensures.order _ c.parts.ensures.all

@@ -1,56 +1,7 @@
-use Rattle.std.proofs.Common.{◌∙◌, ap, length, sym, arith}
-use Rattle.cad_merged.specs.ItemLemmas.{front_as}
-use Rattle.cad_run.proofs.LeftLemmas.{still_in_order, still_passing, change_given, change_skipped, taken_behind, taken_in_order, taken_passing, base_before, base_alone, given_of}
+use Rattle.cad_run.proofs.SourceLemmas.{fewer_left}
 use Rattle.cad_run.proofs.candidates.CandidatesFeatureSource.next.Goals as goal
 
 pub invariant_of-self : goal.invariant_of-self
-invariant_of-self c =
-    let s = c.loop-change.self in
-    let taken = taken_behind s.plan.now c.next.result c.feature-feature.result.now _ _ _ (sym c.if-not-give_way.true ∙ c.give_way.ensures.first) c.give_way.ensures.rest c.next.ensures in
-    record {
-      order = taken_in_order s.plan.now _ s.changes.now _ s.order s.passing c.next.result taken;
-      passing = taken_passing s.plan.now _ s.changes.now _ s.order s.passing c.next.result taken;
-      few = s.few;
-    }
-
-pub returns-then-not-give_way : goal.returns-then-not-give_way
-returns-then-not-give_way c =
-    let s = c.loop-change.self in
-    let behind = sym c.if-not-give_way.true ∙ c.give_way.ensures.first in
-    let taken = taken_behind s.plan.now c.next.result c.feature-feature.result.now _ _ _ behind c.give_way.ensures.rest c.next.ensures in
-    given_of s.plan.now c.next.result _ _ _ c.loop-change.invariant (base_before s.plan.now _ s.changes.now _ s.order s.passing c.next.result c.feature-feature.result.now _ (front_as _ _ _ _ c.in-Some.ensures.cases.0 c.feature-feature.ensures) behind taken)
-
-pub invariant_of-self-in-Some : goal.invariant_of-self-in-Some
-invariant_of-self-in-Some c =
-    let s = c.loop-change.self in
-    record {
-      order = still_in_order s.plan.now _ _ _ c.feature-feature.result.now _ (front_as _ _ _ _ c.in-Some.ensures.cases.0 c.feature-feature.ensures) c.give_way.ensures.rest s.order;
-      passing = still_passing s.plan.now _ _ _ c.feature-feature.result.now _ (front_as _ _ _ _ c.in-Some.ensures.cases.0 c.feature-feature.ensures) c.give_way.ensures.rest s.passing;
-      few = omega (arith, s.few, ap length c.in-Some.ensures.cases.0);
-    }
-
-pub returns-then-is_candidate : goal.returns-then-is_candidate
-returns-then-is_candidate c =
-    let s = c.loop-change.self in
-    sym c.loop-change.invariant
-    ∙ change_given s.plan.now _ _ _ c.feature-feature.result.now _ (front_as _ _ _ _ c.in-Some.ensures.cases.0 c.feature-feature.ensures) c.give_way.ensures.rest (sym c.if-not-give_way.false ∙ c.give_way.ensures.first) s.order (sym c.is_candidate.ensures ∙ c.if-is_candidate.true)
-
-pub loop-change-preserved : goal.loop-change-preserved
-loop-change-preserved c =
-    let s = c.loop-change.self in
-    sym (change_skipped s.plan.now _ _ _ c.feature-feature.result.now _ (front_as _ _ _ _ c.in-Some.ensures.cases.0 c.feature-feature.ensures) c.give_way.ensures.rest (sym c.if-not-give_way.false ∙ c.give_way.ensures.first) s.order (sym c.is_candidate.ensures ∙ c.if-is_candidate.false))
-    ∙ c.loop-change.invariant
-
-pub invariant_of-self-2 : goal.invariant_of-self-2
-invariant_of-self-2 c =
-    let s = c.loop-change.self in
-    record {
-      order = taken_in_order s.plan.now _ s.changes.now _ s.order s.passing c.next-2.result c.next-2.ensures;
-      passing = taken_passing s.plan.now _ s.changes.now _ s.order s.passing c.next-2.result c.next-2.ensures;
-      few = s.few;
-    }
-
-pub returns : goal.returns
-returns c =
-    let s = c.loop-change.self in
-    given_of s.plan.now c.next-2.result _ _ _ c.loop-change.invariant (base_alone s.plan.now _ s.changes.now _ s.order s.passing c.next-2.result c.in_default.ensures.cases c.next-2.ensures)
+invariant_of-self c = record {
+  few = fewer_left c.take_first.result _ _ c.take_first.ensures c.args.self.now.few;
+}

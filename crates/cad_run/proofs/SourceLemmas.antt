@@ -1,0 +1,82 @@
+-- What is left in segments of which the last stands first.
+use Rattle.std.proofs.Common.{◌≡◌, ◌∙◌, ℕ, ℤ, ◌+◌, ◌-◌, ◌<◌, ◌^◌, List, [], ◌∷◌, ◌++◌, length, take, ap, sym, arith, MatchOption, Bor, Option, Some, None, slice_index_or, slice_set}
+use Rattle.std.proofs.lemmas.List.{append_assoc, append-nil, length-set, nil_from_length, take-set, take_all, take_more, take_more_set}
+use Rattle.std.proofs.lemmas.List.Elements.{filter-append}
+use Rattle.cad_versions.specs.ListLemmas.{filter_fewer}
+use Rattle.cad_feature.specs.Features.{Item}
+use Rattle.cad_lookup.specs.declared.plan.Plan.{Plan}
+use Rattle.cad_lookup.specs.Candidates.{is_candidate, candidates}
+use Rattle.cad_merged.specs.Segments.{SegmentFeatures, joined}
+use Rattle.cad_run.specs.declared.segment_candidates.SegmentCandidates.{SegmentCandidates}
+use Rattle.cad_run.specs.SegmentLeft.{segment_left, all_left}
+use Rattle.cad_run.specs.Slices.{is_later, later}
+
+last_left : (ss : List SegmentCandidates) (s : SegmentCandidates) → all_left (ss ++ (s ∷ [])) ≡ segment_left s ++ all_left ss
+last_left [] s = sym (append-nil (segment_left s))
+last_left (t ∷ ss) s = ap (λ xs. xs ++ segment_left t) (last_left ss s) ∙ append_assoc (segment_left s) (all_left ss) (segment_left t)
+
+-- ---- at the beginning
+
+last_joined : (ss : List SegmentFeatures) (s : SegmentFeatures) → joined (ss ++ (s ∷ [])) ≡ joined ss ++ s.features
+last_joined [] s = append-nil s.features
+last_joined (t ∷ ss) s = ap (λ xs. t.features ++ xs) (last_joined ss s) ∙ sym (append_assoc t.features (joined ss) s.features)
+
+module _ (plan : Plan) (last : Option (ℤ × ℤ)) where
+  abbrev pub wanted : List Item → List Item
+  wanted xs = later last (candidates plan xs)
+
+  wanted_of_both : (xs ys : List Item) → wanted (xs ++ ys) ≡ wanted xs ++ wanted ys
+  wanted_of_both xs ys =
+      ap (later last) (filter-append (is_candidate plan) xs ys) ∙ filter-append (is_later last) (candidates plan xs) (candidates plan ys)
+
+  pub none_taken : (sources : List SegmentCandidates) (xs : List Item) → sources ≡ [] → wanted xs ++ all_left sources ≡ wanted xs
+  none_taken sources xs is = ap (λ ss. wanted xs ++ all_left ss) is ∙ append-nil (wanted xs)
+
+  pub last_taken : (segments before : List SegmentFeatures) (segment : SegmentFeatures) (old new : List SegmentCandidates) (source : SegmentCandidates) (all : List Item) → segments ≡ before ++ (segment ∷ []) → new ≡ old ++ (source ∷ []) → segment_left source ≡ wanted segment.features → wanted (joined segments) ++ all_left old ≡ all → wanted (joined before) ++ all_left new ≡ all
+  last_taken segments before segment old new source all are added is same =
+      ap (λ ss. wanted (joined before) ++ all_left ss) added
+      ∙ ap (λ xs. wanted (joined before) ++ xs) (last_left old source ∙ ap (λ xs. xs ++ all_left old) is)
+      ∙ sym (append_assoc (wanted (joined before)) (wanted segment.features) (all_left old))
+      ∙ ap (λ xs. xs ++ all_left old) (sym (ap (λ ss. wanted (joined ss)) are ∙ ap wanted (last_joined before segment) ∙ wanted_of_both (joined before) segment.features))
+      ∙ same
+
+  pub all_taken : (segments : List SegmentFeatures) (sources : List SegmentCandidates) (all : List Item) → length segments ≡ 0 → wanted (joined segments) ++ all_left sources ≡ all → all_left sources ≡ all
+  all_taken segments sources all none same = ap (λ ss. wanted (joined ss) ++ all_left sources) (sym (nil_from_length segments none)) ∙ same
+
+  pub few_wanted : (xs left : List Item) (count : ℕ) → count ≡ length xs → count < 2 ^ 64 → left ≡ wanted xs → length left < 2 ^ 64
+  few_wanted xs left count counted small is =
+      omega (arith, counted, small, ap length is, filter_fewer (is_later last) (candidates plan xs), filter_fewer (is_candidate plan) xs)
+
+-- ---- from the front
+
+module _ (sources : List SegmentCandidates) (at : ℕ) (first new : SegmentCandidates) (is_last : at + 1 ≡ length sources) (is : first ≡ slice_index_or sources at first) where
+  abbrev others : List SegmentCandidates
+  others = take at sources
+
+  abbrev changed : List SegmentCandidates
+  changed = slice_set sources at new
+
+  before_it : all_left sources ≡ segment_left first ++ all_left others
+  before_it =
+      ap all_left (sym (take_all (at + 1) sources (omega (arith, is_last))) ∙ take_more sources at first (omega (arith, is_last)) ∙ ap (λ s. others ++ (s ∷ [])) (sym is))
+      ∙ last_left others first
+
+  after_it : all_left changed ≡ segment_left new ++ all_left others
+  after_it =
+      ap all_left (sym (take_all (at + 1) changed (omega (arith, is_last, length-set sources at new))) ∙ take_more_set sources at new (omega (arith, is_last)))
+      ∙ last_left others new
+
+  all_but_one : length changed - 1 ≡ at
+  all_but_one = omega (arith, is_last, length-set sources at new)
+
+  pub first_given : (x : Item) → segment_left first ≡ x ∷ segment_left new → all_left sources ≡ x ∷ all_left changed
+  first_given x given = before_it ∙ ap (λ xs. xs ++ all_left others) given ∙ ap (λ xs. x ∷ xs) (sym after_it)
+
+  pub first_dropped : (rest : List SegmentCandidates) → segment_left first ≡ [] → rest ≡ take (length changed - 1) changed → all_left rest ≡ all_left sources
+  first_dropped rest none are =
+      ap all_left (are ∙ ap (λ n. take n changed) all_but_one ∙ take-set sources at new)
+      ∙ sym (before_it ∙ ap (λ xs. xs ++ all_left others) none)
+
+pub fewer_left : (found : Option (Bor Item)) (old new : List Item) → MatchOption found ((old ≡ []) × (new ≡ [])) (λ x. old ≡ x.now ∷ new) → length old < 2 ^ 64 → length new < 2 ^ 64
+fewer_left None old new e few = omega (arith, ap length e.1)
+fewer_left (Some x) old new e few = omega (arith, ap length e, few)

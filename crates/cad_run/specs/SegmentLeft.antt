@@ -1,0 +1,15 @@
+-- What is left of the candidates of segments.
+use Rattle.std.specs.Prelude.{List, [], ◌∷◌, ◌++◌, filter}
+use Rattle.cad_feature.specs.Features.{Item}
+use Rattle.cad_lookup.specs.Candidates.{is_candidate}
+use Rattle.cad_merged.specs.Walks.{all_in}
+use Rattle.cad_run.specs.declared.segment_candidates.SegmentCandidates.{SegmentCandidates}
+use Rattle.cad_run.specs.Bases.{bases_left}
+
+abbrev pub segment_left : SegmentCandidates → List Item
+segment_left s = filter (is_candidate s.plan.now) (all_in (bases_left s.bases) s.changes.now)
+
+-- of several, the last of which stands first
+abbrev pub all_left : List SegmentCandidates → List Item
+all_left [] = []
+all_left (s ∷ ss) = all_left ss ++ segment_left s

@@ -1,0 +1,70 @@
+//! The candidates of a segment, in the order of identifiers.
+
+ghost use Rattle.std.specs.Prelude.{◌≡◌, true};
+ghost use Rattle.std.specs.List.{All};
+ghost use Rattle.std.proofs.Props.{props};
+ghost use Rattle.cad_lookup.specs.Candidates.{is_candidate as is_candidate_of};
+ghost use Rattle.cad_merged.specs.Walks.{IsInOrder};
+ghost use Rattle.cad_run.specs.Bases.{bases_left};
+
+use crate::after::changes_later;
+use crate::bases::Bases;
+use crate::candidacy::is_candidate;
+use cad_feature::Feature;
+use cad_lookup::Plan;
+use cad_merged::{Change, Segment};
+use cad_versions::ObjectId;
+use std::alloc::{AllocError, Global};
+
+/// What is left of a plan's candidates in a segment: those of the base, and changes, which may be candidates or not.
+#[derive(Drop)]
+pub(crate) struct SegmentCandidates<'a, 'p> {
+    plan: &'p Plan,
+    bases: Bases<'a>,
+    changes: &'a [Change],
+    ghost order: { IsInOrder (bases_left bases) changes.now } by { Prim.hlevel props },
+    ghost passing: { All (λ x. is_candidate_of plan.now x ≡ true) (bases_left bases) },
+}
+
+impl<'a, 'p> SegmentCandidates<'a, 'p> {
+    ghost use Rattle.std.specs.Prelude.{◌≡◌, [], ◌∷◌, IfOk, MatchOption, option_map};
+    ghost use Rattle.cad_lookup.specs.Candidates.{candidates};
+    ghost use Rattle.cad_run.specs.SegmentLeft.{segment_left};
+    ghost use Rattle.cad_run.specs.Slices.{identifier, later};
+
+    /// Those of the segment after the one that is named. An error is want of memory.
+    pub(crate) fn of(
+        alloc: Global,
+        plan: &'p Plan,
+        segment: &'a Segment,
+        after: Option<(ObjectId, u32)>,
+    ) -> Result<SegmentCandidates<'a, 'p>, AllocError>
+        ensures { IfOk result (λ left. segment_left left ≡ later (option_map identifier after) (candidates plan.now segment.now.features)) }
+    {
+        let (base, changes) = segment.parts();
+        let bases = Bases::of(alloc, plan, base, after)?;
+        let changes = changes_later(changes, after);
+        Ok(SegmentCandidates {
+            plan,
+            bases,
+            changes,
+        })
+    }
+
+    /// Takes the first.
+    pub(crate) fn next(&mut self) -> Option<&'a Feature>
+        ensures { MatchOption result (segment_left self.old ≡ []) (λ x. segment_left self.old ≡ x.now ∷ segment_left self.new) }
+    {
+        while let Some((change, changes)) = self.changes.split_first() {
+            let feature = change.feature();
+            if !self.bases.give_way(feature) {
+                return self.bases.next();
+            }
+            self.changes = changes;
+            if is_candidate(self.plan, feature) {
+                return Some(feature);
+            }
+        }
+        self.bases.next()
+    }
+}
