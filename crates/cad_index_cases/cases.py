@@ -2,7 +2,8 @@
 """Writes `stdin` and `stdout` of this folder: questions asked of indexes, and what must be answered.
 
 The answers come from a look at every value, and not from an index: a cell is a square of 65,536 mm with its left and its
-lower edge, and a box touches it where the two share a point; texts are ordered by code point, as Python orders them.
+lower edge, and a box touches it where the two share a point; texts are ordered by code point, as Python orders them. What extents tell
+comes from the least and the greatest of all values, or from the least block of cells round all shapes.
 """
 from pathlib import Path
 from random import Random
@@ -54,12 +55,39 @@ def spot_word(shape):
     return "-" if shape is None else f"{shape[0]},{shape[1]}"
 
 
+def is_wide(shape):
+    return len(numbers(shape[0], shape[2])) * len(numbers(shape[1], shape[3])) > 64
+
+
+def may_be_near(shapes, asked):
+    """Whether a shape is wide, or the block of all their cells shares one with the box."""
+    shapes = [shape for shape in shapes if shape is not None]
+    if not shapes or any(is_wide(shape) for shape in shapes):
+        return bool(shapes)
+    lows, highs = [min(it) // SIDE for it in list(zip(*shapes))[:2]], [max(it) // SIDE for it in list(zip(*shapes))[2:]]
+    return all(low <= asked[at + 2] // SIDE and asked[at] // SIDE <= high for at, (low, high) in enumerate(zip(lows, highs)))
+
+
+def may_lie_in(values, low, high):
+    """Whether there are values, and, if they are numbers, some from the least to the greatest could lie there."""
+    values = [value for value in values if value is not None]
+    if not values or not isinstance(values[0], int):
+        return bool(values)
+    least, greatest = min(values), max(values)
+    reaches_low = low == "free" or low[1] < greatest or (low[0] == "with" and low[1] == greatest)
+    return reaches_low and (high == "free" or least < high[1] or (high[0] == "with" and least == high[1]))
+
+
+def told_by_extents(may):
+    return "may be" if may else "none"
+
+
 def near_case(shapes, asked, spots=False):
     word = spot_word if spots else shape_word
     name = "reference_point" if spots else "geometry"
     near = [p for p, shape in enumerate(shapes) if is_near(shape, asked)]
     words = " ".join(word(shape) for shape in shapes)
-    return f"{name} {words} ? {shape_word(asked)}", f"near{listed(near)} count {len(near)}"
+    return f"{name} {words} ? {shape_word(asked)}", f"near{listed(near)} count {len(near)} {told_by_extents(may_be_near(shapes, asked))}"
 
 
 def lies_in(value, low, high):
@@ -80,7 +108,7 @@ def range_case(name, values, low, high):
     text = listed(found)
     return (
         f"{name} {words} ? {edge_word(low)} {edge_word(high)}",
-        f"range{text} walked{text} held{text} count {len(found)}",
+        f"range{text} walked{text} held{text} count {len(found)} {told_by_extents(may_lie_in(values, low, high))}",
     )
 
 
@@ -150,13 +178,14 @@ def ranges(random):
                 drawn = [None if random.random() < nulls else random.choice(values) for _ in range(size)]
                 yield range_case(name, drawn, edges(random, values), edges(random, values))
     yield range_case("area", [None, None], "free", "free")
+    # beside all of them, and between two
+    for low, high in [(("with", 8), "free"), (("without", 7), "free"), (("with", 7), "free"), ("free", ("with", 4)), ("free", ("without", 5)), ("free", ("with", 5)), (("with", 6), ("with", 6)), (("without", 5), ("without", 7))]:
+        for values in [[5, None, 7], [7, 5], [None, 7, 6, 5]]:
+            yield range_case("area", values, low, high)
     # beyond what a parcel's area may be
     yield range_case("area", [5, None, 7], ("with", -(2**63)), ("without", 2**63 - 1))
     yield range_case("object", list(range(1, 151)), ("with", 3), ("with", 3))
     yield range_case("object", list(range(1, 151)), ("without", 3), ("with", 120))
-
-
-# How many parcels are merged for each of the most changes before a new base is due, however few are changed.
 
 
 # How many features a segment is cut of, how many times parcels are merged in, and the most changes.
@@ -169,10 +198,14 @@ FURTHER = [
     ("a b c d e f g h".split(), 1, 1, 3, "x y z 4 5 6 7 8 9".split()),
     ("a b c d e f g h".split(), 2, 300, 8, "x y z".split()),
     ("a b c d e f g h".split(), 3, 65535, 40, ["x"]),
+    ([*"abcdefghijklmnopqrstuvwxyz", *"abcdefghijklmnopqrstuvwxyz"], 1, 3, 0, [*"zyxwvutsrqponmlkjihgfedcba"]),
+    ([*"abcdefghijklmnopqrstuvwxyz"], 30, 3, 25, [*"zyxwvutsrqponmlkjihgfedcba", "more", "than", "there", "were"]),
 ]
 # A layer with a base that has more than so many times as many features as a segment is cut of is cut anew; a segment with more than
 # this part of the most changes gets a new base, too.
 MOST_GROWN = MANY_OF_MOST = 4
+# So many entries of lists, which are written anew where parcels are merged in, are told as much as a parcel.
+ENTRIES = 16
 
 
 class Layer:
@@ -190,11 +223,14 @@ class Layer:
         self.segments.insert(0, (dict(parcels), {}))
 
     def merge(self, labels):
+        self.spent += len(labels) + (len(self.segments) + self.most_changes()) // ENTRIES
         starts = [min(base, default=0) for base, _ in self.segments]
         for number, label in enumerate(labels, 1):
             at = max([0] + [place for place, start in enumerate(starts) if 0 < place and start <= number])
             self.segments[at][1][number] = label
-        self.spent += len(labels)
+
+    def most_changes(self):
+        return max(len(changes) for _, changes in self.segments)
 
     def parcels(self):
         return sorted({number: label for base, changes in self.segments for number, label in {**base, **changes}.items()}.items())
@@ -260,7 +296,7 @@ UNREAD = [
 
 def main():
     random = Random(65_536)
-    cases = [*named_boxes(), *drawn_boxes(random), *ranges(random), ("# Layers", None), *layers(), ("# Lines that are no cases", None), *((line, "unread") for line in UNREAD)]
+    cases = [("# Boxes", None), *named_boxes(), *drawn_boxes(random), ("# Ranges", None), *ranges(random), ("# Layers", None), *layers(), ("# Lines that are no cases", None), *((line, "unread") for line in UNREAD)]
     here = Path(__file__).parent
     (here / "stdin").write_text("".join(f"{asked}\n" for asked, _ in cases), encoding="utf-8")
     (here / "stdout").write_text("".join(f"{answer}\n" for _, answer in cases if answer is not None), encoding="utf-8")

@@ -5,6 +5,7 @@ ghost use Rattle.cad_schema.specs.declared.collection.Collection.TheVariants.{Pa
 ghost use Rattle.cad_feature.specs.Features.{AreFeaturesOf};
 ghost use Rattle.cad_ordered.specs.Edges.{IsEdgeOf};
 
+use crate::between::put_extents;
 use crate::layers::layer_answer;
 use crate::parcels::{Parcel, bare, features};
 use crate::values::{bounds, edge, point, rectangle};
@@ -211,11 +212,15 @@ fn read_answer(alloc: Global, line: &str) -> Result<Option<String>> {
     if property == "layer" {
         return layer_answer(alloc, words, asked);
     }
-    let Some((place, _)) = find_property(Collection::Parcels, property) else {
+    let Some((place, kind)) = find_property(Collection::Parcels, property) else {
         return Ok(None);
     };
     let features = features(alloc, parcels(alloc, property, words)?)?;
-    Ok(indexed_answer(alloc, &features, place, asked)?)
+    let Some(mut answer) = indexed_answer(alloc, &features, place, asked)? else {
+        return Ok(None);
+    };
+    put_extents(alloc, &mut answer, &features, place, kind, asked)?;
+    Ok(Some(answer))
 }
 
 /// What a line is answered: see the head of the program.

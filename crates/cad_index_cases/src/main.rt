@@ -1,11 +1,13 @@
 //! Cases of indexes, one a line of the input, and an answer for each:
 //!
-//! - `PROPERTY VALUE VALUE .. ? X,Y,X,Y`, of a property with a grid: the positions near the box, and their number
+//! - `PROPERTY VALUE VALUE .. ? X,Y,X,Y`, of a property with a grid: the positions near the box, their number, and whether the extents of
+//!   the values tell that there are none (`none`, or `may be`)
 //! - `PROPERTY VALUE VALUE .. ? LOW HIGH`, of a property with an order: the positions in the range as they are listed, as
-//!   they are walked and as they are tested by their ranks, and their number
+//!   they are walked and as they are tested by their ranks, their number, and what the extents tell
 //! - `layer LABEL LABEL .. ? SIZE TIMES MOST LABEL LABEL ..`: the labels of parcels in segments of that size, into which those with the
 //!   labels behind are merged so many times, how many they are and in how many segments, whether new bases are due at the most changes
-//!   that are named (`settled` or `due`), and how many features were merged or put into new bases; then the same over new bases
+//!   that are named (`settled` or `due`), and what was spent: how many features were merged or put into new bases, and what takes as
+//!   much; then the same over new bases
 //!
 //! The values are those of parcels at the positions 0, 1 and so on, `-` where one has none: `X,Y,X,Y` is a rectangle by
 //! its least and greatest corner, `X,Y` a point, `2001-01-01` a day; a label has no blank. An end is `free`, `with:VALUE`
@@ -13,6 +15,7 @@
 //! is passed over.
 #![tactic(auto)]
 
+mod between;
 mod cases;
 mod layers;
 mod parcels;

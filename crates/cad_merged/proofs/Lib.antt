@@ -1,5 +1,6 @@
 mod CountedLemmas
 mod CuttingLemmas
+mod ExtentLemmas
 mod LayerLemmas
 mod MergedLemmas
 mod ReplacedLemmas

@@ -30,10 +30,19 @@ fn passes_at<T: Criterion>(features: &[Feature], position: u32, criterion: &T) -
     }
 }
 
-/// How many of the features at the positions meet the criterion.
-fn count_passing_at<T: Criterion>(features: &[Feature], positions: &[u32], criterion: &T) -> u64
+/// How many of the features at the positions meet the criterion, where so many do that stand at any. None is looked at where none does.
+fn count_passing_at<T: Criterion>(
+    of_all: u64,
+    features: &[Feature],
+    positions: &[u32],
+    criterion: &T,
+) -> u64
+    requires { of_all ≡ length (filter (T.passes criterion.now) features.now) }
     ensures { result ≡ count_by (passes_at_of (T.passes criterion.now) features.now) positions.now }
 {
+    if of_all == 0 {
+        return 0;
+    }
     positions
         .iter()
         .filter(|position| passes_at(features, **position, criterion))
@@ -56,5 +65,6 @@ pub(crate) fn count_merged<T: Criterion>(
     requires short { length changes.now < 2 ^ 63 }
     ensures { result ≡ how_many (T.passes criterion.now) (all_in base.now changes.now) }
 {
-    of_base + count_passing(changes, criterion) - count_passing_at(base, replaced, criterion)
+    of_base + count_passing(changes, criterion)
+        - count_passing_at(of_base, base, replaced, criterion)
 }

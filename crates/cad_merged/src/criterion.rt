@@ -1,12 +1,14 @@
 //! What features are counted by.
 
-ghost use Rattle.std.specs.Prelude.{◌≡◌, Bool, filter, length, option_map};
+ghost use Rattle.std.specs.Prelude.{◌≡◌, Bool, false, filter, length, option_map};
 ghost use Rattle.cad_feature.specs.Features.{Item};
 ghost use Rattle.cad_cells.specs.Blocks.{block_of};
 ghost use Rattle.cad_cells.specs.Counted.{block_at};
 ghost use Rattle.cad_cells.specs.Near.{is_candidate};
+ghost use Rattle.cad_extents.specs.Extents.{IsWithin};
 
 use cad_cells::{Cells, bounds_of};
+use cad_extents::Extents;
 use cad_feature::{Feature, Range};
 use cad_index::Base;
 use cad_range::lies_in;
@@ -20,6 +22,10 @@ pub(crate) trait Criterion {
     /// Whether the feature meets it.
     fn is_met_by(&self, feature: &Feature) -> bool
         ensures { result ≡ passes self.now feature.now };
+
+    /// Whether one of the features with these extents may meet it.
+    fn may_be_met_in(&self, extents: &Extents) -> bool
+        ensures { result ≡ false → (x : Item) → IsWithin extents.now x → passes self.now x ≡ false };
 
     /// How many features of the base meet it, by an index of the base.
     fn count_in(&self, base: &Base) -> u64
@@ -39,6 +45,10 @@ impl Criterion for InRange<'_> {
 
     fn is_met_by(&self, feature: &Feature) -> bool {
         lies_in(self.range, feature)
+    }
+
+    fn may_be_met_in(&self, extents: &Extents) -> bool {
+        extents.may_lie_in(self.range)
     }
 
     fn count_in(&self, base: &Base) -> u64 {
@@ -98,6 +108,10 @@ impl Criterion for NearCells {
         } else {
             false
         }
+    }
+
+    fn may_be_met_in(&self, extents: &Extents) -> bool {
+        extents.may_be_near(self.property, self.asked)
     }
 
     fn count_in(&self, base: &Base) -> u64 {

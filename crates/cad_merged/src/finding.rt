@@ -4,7 +4,7 @@ ghost use Rattle.std.specs.Prelude.{◌≡◌};
 ghost use Rattle.std.specs.Option.{option_copied};
 ghost use Rattle.std.specs.List.Sorted.{IsStrictlySortedBy};
 ghost use Rattle.cad_feature.specs.Features.{by_identifier};
-ghost use Rattle.cad_merged.specs.Identifiers.{identifier, compared, comes_after as is_after, after, of_object, IsTheOne};
+ghost use Rattle.cad_merged.specs.Identifiers.{identifier, compared, of_object, IsTheOne};
 ghost use Rattle.cad_merged.specs.Walks.{all_in, IsInOrder};
 
 use crate::Change;
@@ -18,21 +18,6 @@ pub(crate) fn compare(feature: &Feature, object: ObjectId, number: u32) -> Order
     ensures { result ≡ compared (identifier object number) feature.now }
 {
     compare_identifiers((feature.object, feature.number), (object, number))
-}
-
-fn comes_after(feature: &Feature, object: ObjectId, number: u32) -> bool
-    ensures { result ≡ is_after (identifier object number) feature.now }
-{
-    compare(feature, object, number).is_gt()
-}
-
-/// Those after the one that is named.
-pub(crate) fn rest_after(features: &[Feature], object: ObjectId, number: u32) -> &[Feature]
-    requires { IsStrictlySortedBy by_identifier features.now }
-    ensures { result.now ≡ after (identifier object number) features.now }
-{
-    let first = features.partition_point(|feature| !comes_after(feature, object, number));
-    &features[first..]
 }
 
 /// The features of that object, the oldest first.

@@ -4,8 +4,9 @@ ghost use Rattle.std.specs.Prelude.{◌≡◌, IfOk};
 
 use crate::criterion::{InRange, NearCells};
 use crate::cutting::cut;
-use crate::renewing::{Due, all_features, change_count, greatest_base, most_changed, renewed};
+use crate::renewing::{Due, all_features, change_count, fullest_of, greatest_base, renewed};
 use crate::searching::segment_of;
+use crate::segment::MOST_FEATURES;
 use crate::spreading::spread;
 use crate::summing::{count_all, length_of_all};
 use crate::{Segment, Walk};
@@ -17,9 +18,6 @@ use std::alloc::{AllocError, Global};
 use std::marker::Model;
 use std::rc::Rc;
 
-/// The most features that are cut into segments at once: in one their positions are numbers of 32 bits.
-const MOST_FEATURES: usize = 4_294_967_295;
-
 /// Of how many features a segment is cut, where nothing else is asked for.
 pub const OF_A_SEGMENT: usize = 8192;
 
@@ -28,6 +26,9 @@ const MOST_GROWN: usize = 4;
 
 /// A segment with more than this part of the changes that all may have gets a new base, too.
 const MANY_OF_MOST: usize = 4;
+
+/// So many entries of lists that are written anew beside the features that are merged take as much as one of these.
+const ENTRIES_FOR_A_FEATURE: usize = 16;
 
 /// The features of a collection at a revision, in segments by object, which other revisions share.
 ///
@@ -40,7 +41,7 @@ pub struct Layer {
     count: u64,
     /// Of how many a segment is cut.
     of_a_segment: usize,
-    /// How many features were merged or put into new bases since the layer was built.
+    /// How many features were merged or put into new bases since the layer was built, and what takes as much as so many.
     spent: usize,
 }
 
@@ -149,8 +150,13 @@ impl Layer {
         if touched.is_empty() {
             return self.copy();
         }
-        let spent = self.spent.saturating_add(touched.len());
-        let segments = spread(alloc, listed(&self.segments), touched, self.collection)?;
+        let segments = listed(&self.segments);
+        let entries = segments.len().saturating_add(fullest_of(segments).changes);
+        let written = touched
+            .len()
+            .saturating_add(entries / ENTRIES_FOR_A_FEATURE);
+        let spent = self.spent.saturating_add(written);
+        let segments = spread(alloc, segments, touched, self.collection)?;
         let Some(count) = length_of_all(&segments) else {
             return Err(AllocError);
         };
@@ -183,7 +189,8 @@ impl Layer {
         change_count(listed(&self.segments)) <= most
     }
 
-    /// How many features were merged into it, or put into new bases, since it was built: so many may revisions keep that it follows.
+    /// How many features were merged into it, or put into new bases, since it was built, and what takes as much: so much may revisions
+    /// keep that it follows.
     pub fn spent(&self) -> usize {
         self.spent
     }
@@ -198,7 +205,7 @@ impl Layer {
             return self.cut_anew(alloc);
         }
         let due = Due {
-            at: most_changed(segments),
+            at: fullest_of(segments).at,
             many: most / MANY_OF_MOST,
         };
         let spent = self.spent.saturating_add(due.base_count(segments));

@@ -17,6 +17,26 @@ pub(crate) fn change_count(segments: &[Segment]) -> usize {
     count
 }
 
+/// The segment with the most changes.
+#[derive(Clone, Copy)]
+pub(crate) struct Fullest {
+    /// Where it stands.
+    pub(crate) at: usize,
+    /// How many changes it has.
+    pub(crate) changes: usize,
+}
+
+pub(crate) fn fullest_of(segments: &[Segment]) -> Fullest {
+    let mut fullest = Fullest { at: 0, changes: 0 };
+    for (at, segment) in segments.iter().enumerate() {
+        let changes = segment.change_count();
+        if fullest.changes < changes {
+            fullest = Fullest { at, changes };
+        }
+    }
+    fullest
+}
+
 /// How many features the greatest base has.
 pub(crate) fn greatest_base(segments: &[Segment]) -> usize {
     let mut greatest = 0;
@@ -24,19 +44,6 @@ pub(crate) fn greatest_base(segments: &[Segment]) -> usize {
         greatest = segment.base_count().max(greatest);
     }
     greatest
-}
-
-/// The place of the segment with the most changes.
-pub(crate) fn most_changed(segments: &[Segment]) -> usize {
-    let mut most = 0;
-    let mut found = 0;
-    for (place, segment) in segments.iter().enumerate() {
-        if most < segment.change_count() {
-            most = segment.change_count();
-            found = place;
-        }
-    }
-    found
 }
 
 /// Which segments get new bases: the one at a place, and those that have many changes.

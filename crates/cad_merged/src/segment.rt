@@ -10,19 +10,21 @@ use crate::finding::find;
 use crate::merging::merge;
 use crate::replacing::replaced_after;
 use crate::{Change, Walk};
+use cad_extents::Extents;
 use cad_feature::Feature;
 use cad_index::Base;
-use cad_schema::Collection;
+use cad_schema::{Collection, schema};
 use cad_versions::ObjectId;
 use std::alloc::{AllocError, Global};
 use std::marker::Model;
 use std::rc::Rc;
 
 /// The most features that a base holds: their positions are numbers of 32 bits.
-const MOST_FEATURES: usize = 4_294_967_295;
+pub(crate) const MOST_FEATURES: usize = 4_294_967_295;
 
 /// The features of a collection at a revision that are of the objects from a number on, up to where the next segment starts: a base
-/// with its indexes, which other revisions share, the changes since, and where those of the base stand that the changes replace.
+/// with its indexes, which other revisions share, the changes since, where those of the base stand that the changes replace, and the
+/// extents of both.
 ///
 /// Contracts see the number, the collection and the features, with the changes merged.
 #[derive(Drop)]
@@ -31,6 +33,7 @@ pub struct Segment {
     base: Rc<Base>,
     changes: Rc<Vec<Change>>,
     replaced: Rc<Vec<u32>>,
+    extents: Rc<Extents>,
 }
 
 /// What is shared.
@@ -45,6 +48,19 @@ fn share<T: Drop>(alloc: Global, list: Vec<T>) -> Result<Rc<Vec<T>>, AllocError>
 {
     let shared = Rc::new(alloc, list)?;
     Ok(shared)
+}
+
+fn share_extents(alloc: Global, extents: Extents) -> Result<Rc<Extents>, AllocError>
+    ensures { IfOk result (λ shared. shared.value ≡ extents) }
+{
+    let shared = Rc::new(alloc, extents)?;
+    Ok(shared)
+}
+
+fn told(extents: &Rc<Extents>) -> &Extents
+    ensures { result.now ≡ extents.now.value }
+{
+    extents
 }
 
 fn listed(changes: &Rc<Vec<Change>>) -> &[Change]
@@ -63,17 +79,21 @@ impl Model for Segment {
     ghost use Rattle.cad_feature.specs.Features.{AreFeaturesOf, by_identifier};
     ghost use Rattle.cad_merged.specs.Segments.{SegmentFeatures};
     ghost use Rattle.cad_merged.specs.Replaced.{StandAt, replaced_in};
+    ghost use Rattle.std.specs.List.{AllByRecursion};
+    ghost use Rattle.cad_extents.specs.Extents.{IsWithin};
     ghost use Rattle.cad_merged.specs.Walks.{all_in};
 
     ghost Value = { SegmentFeatures };
 
     ghost view = { λ l. record { start = l.start; collection = l.base.value.collection; features = all_in l.base.value.features l.changes.value.items } };
 
-    ghost invariant = { λ l. AreFeaturesOf l.base.value.collection l.base.value.features × AreFeaturesOf l.base.value.collection l.changes.value.items × StandAt l.base.value.features l.replaced.value.items (replaced_in by_identifier l.base.value.features l.changes.value.items) };
+    ghost invariant = { λ l. AreFeaturesOf l.base.value.collection l.base.value.features × AreFeaturesOf l.base.value.collection l.changes.value.items × StandAt l.base.value.features l.replaced.value.items (replaced_in by_identifier l.base.value.features l.changes.value.items) × AllByRecursion (IsWithin l.extents.value) (all_in l.base.value.features l.changes.value.items) };
 }
 
 impl Segment {
     ghost use Rattle.std.specs.Prelude.{◌≡◌, ◌≤◌, IfOk, length};
+    ghost use Rattle.std.specs.List.{AllByRecursion};
+    ghost use Rattle.cad_extents.specs.Extents.{IsWithin};
     ghost use Rattle.std.specs.Option.{option_copied};
     ghost use Rattle.cad_feature.specs.Features.{AreFeaturesOf};
     ghost use Rattle.cad_lookup.specs.Ways.{how_many};
@@ -91,6 +111,8 @@ impl Segment {
         requires listed { AreFeaturesOf collection features.items }
         ensures { IfOk result (λ segment. segment ≡ record { start = start; collection = collection; features = features.items }) }
     {
+        let extents = Extents::of(alloc, &features, schema(collection).len())?;
+        let extents = share_extents(alloc, extents)?;
         let base = Base::build(alloc, features, collection)?;
         let base = Rc::new(alloc, base)?;
         let changes = Vec::new(alloc);
@@ -102,6 +124,7 @@ impl Segment {
             base,
             changes,
             replaced,
+            extents,
         })
     }
 
@@ -130,6 +153,8 @@ impl Segment {
         if touched.is_empty() {
             return self.copy();
         }
+        let extents = told(&self.extents).with(alloc, &touched)?;
+        let extents = share_extents(alloc, extents)?;
         let touched = as_changes(alloc, touched)?;
         let merged = with_later(alloc, listed(&self.changes), &touched)?;
         let replaced = positions(&self.replaced);
@@ -142,6 +167,7 @@ impl Segment {
             base,
             changes,
             replaced,
+            extents,
         })
     }
 
@@ -152,11 +178,13 @@ impl Segment {
         let base = self.base.clone()?;
         let changes = self.changes.clone()?;
         let replaced = self.replaced.clone()?;
+        let extents = self.extents.clone()?;
         Ok(Segment {
             start: self.start,
             base,
             changes,
             replaced,
+            extents,
         })
     }
 
@@ -212,10 +240,21 @@ impl Segment {
         (in_base + changes - replaced) as u64
     }
 
-    /// How many features meet the criterion, by an index of the base and a look at each change. No memory is taken.
+    /// Between which values the features lie.
+    pub fn extents(&self) -> &Extents
+        ensures { AllByRecursion (IsWithin result.now) self.now.features }
+    {
+        told(&self.extents)
+    }
+
+    /// How many features meet the criterion: none where none may, and else by an index of the base and a look at each change. No
+    /// memory is taken.
     pub(crate) fn count_meeting<T: Criterion>(&self, criterion: &T) -> u64
         ensures { result ≡ how_many (T.passes criterion.now) self.now.features }
     {
+        if !criterion.may_be_met_in(self.extents()) {
+            return 0;
+        }
         let base = shared(&self.base);
         let in_base = criterion.count_in(base);
         count_merged(

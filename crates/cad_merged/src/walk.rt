@@ -2,7 +2,7 @@
 
 use crate::Change;
 use crate::changed::{changes_after, changes_to};
-use crate::finding::{rest_after, run_of};
+use crate::finding::run_of;
 use cad_feature::Feature;
 use cad_versions::ObjectId;
 use std::cmp::Ordering;
@@ -25,18 +25,6 @@ impl<'a> Walk<'a> {
         ensures changes { result.changes.now ≡ changes.now }
     {
         Walk { base, changes }
-    }
-
-    /// The walk through what is left after the feature that is named, whether or not it is one of them.
-    pub fn after(&self, object: ObjectId, number: u32) -> Walk<'a>
-        requires { IsInOrder self.now.base.now self.now.changes.now }
-        ensures order { IsInOrder result.base.now result.changes.now }
-        ensures rest { all_in result.base.now result.changes.now ≡ after (identifier object number) (all_in self.now.base.now self.now.changes.now) }
-    {
-        Walk {
-            base: rest_after(self.base, object, number),
-            changes: changes_after(self.changes, object, number),
-        }
     }
 
     /// The walk through what is left of the features of that object.

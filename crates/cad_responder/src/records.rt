@@ -16,14 +16,14 @@ use cad_wanted::{FeatureRequest, Told, Wanted};
 use std::alloc::{AllocError, Global};
 
 /// How many changes the bases of a collection get before new ones are made, where nothing else is asked for.
-pub(crate) const MOST_CHANGES: usize = 512;
+pub(crate) const MOST_CHANGES: usize = 2048;
 
 /// How many features a segment of a collection has for each of these changes: as many are put into a new base when one is due.
-const FEATURES_FOR_A_CHANGE: usize = 16;
+const FEATURES_FOR_A_CHANGE: usize = 4;
 
 /// How many features are merged or put into new bases, for each of these changes, before a revision goes: what is kept beside the
 /// newest features is bounded by this.
-const SPENT_FOR_A_CHANGE: usize = 128;
+const SPENT_FOR_A_CHANGE: usize = 32;
 
 /// How many revisions before the newest are kept at least, however much is changed, where the bases get that many changes.
 const LEAST_REVISIONS: usize = 16;

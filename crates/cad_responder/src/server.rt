@@ -40,7 +40,7 @@ impl<L: Ledger> Server<L> {
             IsServerOf L.Ledger server commands) }
         ensures same { IfOk result (λ server. ledger_of server ≡ ledger) }
         ensures back { IfErr result (λ back. back ≡ ledger) }
-        ensures bound { IfOk result (λ server. bound_of server ≡ 512) }
+        ensures bound { IfOk result (λ server. bound_of server ≡ 2048) }
     {
         Server::with_changes(alloc, ledger, MOST_CHANGES)
     }

@@ -1,11 +1,14 @@
 -- What is left in segments of which the last stands first.
-use Rattle.std.proofs.Common.{◌≡◌, ◌∙◌, ℕ, ℤ, ◌+◌, ◌-◌, ◌<◌, ◌^◌, List, [], ◌∷◌, ◌++◌, length, take, ap, sym, arith, MatchOption, Bor, Option, Some, None, slice_index_or, slice_set}
+use Rattle.std.proofs.Common.{◌≡◌, ◌∙◌, ℕ, ℤ, ◌+◌, ◌-◌, ◌<◌, ◌^◌, false, refl, List, [], ◌∷◌, ◌++◌, length, take, ap, sym, arith, MatchOption, Bor, Option, Some, None, slice_index_or, slice_set}
+use Rattle.std.specs.List.{AllByRecursion}
 use Rattle.std.proofs.lemmas.List.{append_assoc, append-nil, length-set, nil_from_length, take-set, take_all, take_more, take_more_set}
 use Rattle.std.proofs.lemmas.List.Elements.{filter-append}
 use Rattle.cad_versions.specs.ListLemmas.{filter_fewer}
 use Rattle.cad_feature.specs.Features.{Item}
 use Rattle.cad_lookup.specs.declared.plan.Plan.{Plan}
 use Rattle.cad_lookup.specs.Candidates.{is_candidate, candidates}
+use Rattle.cad_extents.specs.declared.extents.Extents.{Extents}
+use Rattle.cad_extents.specs.Extents.{IsWithin}
 use Rattle.cad_merged.specs.Segments.{SegmentFeatures, joined}
 use Rattle.cad_run.specs.declared.segment_candidates.SegmentCandidates.{SegmentCandidates}
 use Rattle.cad_run.specs.SegmentLeft.{segment_left, all_left}
@@ -39,6 +42,17 @@ module _ (plan : Plan) (last : Option (ℤ × ℤ)) where
       ∙ sym (append_assoc (wanted (joined before)) (wanted segment.features) (all_left old))
       ∙ ap (λ xs. xs ++ all_left old) (sym (ap (λ ss. wanted (joined ss)) are ∙ ap wanted (last_joined before segment) ∙ wanted_of_both (joined before) segment.features))
       ∙ same
+
+  none_wanted : (extents : Extents) (xs : List Item) → AllByRecursion (IsWithin extents) xs → ((x : Item) → IsWithin extents x → is_candidate plan x ≡ false) → candidates plan xs ≡ []
+  none_wanted extents [] all fails = refl
+  none_wanted extents (x ∷ xs) all fails = rw (fails x all.0) (none_wanted extents xs all.1 fails)
+
+  -- a segment that has no candidates
+  pub last_left_out : (segments before : List SegmentFeatures) (segment : SegmentFeatures) (extents : Extents) (sources : List SegmentCandidates) (all : List Item) → segments ≡ before ++ (segment ∷ []) → AllByRecursion (IsWithin extents) segment.features → ((x : Item) → IsWithin extents x → is_candidate plan x ≡ false) → wanted (joined segments) ++ all_left sources ≡ all → wanted (joined before) ++ all_left sources ≡ all
+  last_left_out segments before segment extents sources all are within fails same =
+      let none = ap (later last) (none_wanted extents segment.features within fails) in
+      let whole = ap (λ ss. wanted (joined ss)) are ∙ ap wanted (last_joined before segment) ∙ wanted_of_both (joined before) segment.features ∙ ap (λ xs. wanted (joined before) ++ xs) none ∙ append-nil (wanted (joined before)) in
+      ap (λ xs. xs ++ all_left sources) (sym whole) ∙ same
 
   pub all_taken : (segments : List SegmentFeatures) (sources : List SegmentCandidates) (all : List Item) → length segments ≡ 0 → wanted (joined segments) ++ all_left sources ≡ all → all_left sources ≡ all
   all_taken segments sources all none same = ap (λ ss. wanted (joined ss) ++ all_left sources) (sym (nil_from_length segments none)) ∙ same

@@ -7,6 +7,7 @@ ghost use Rattle.cad_run.specs.SegmentLeft.{all_left};
 ghost use Rattle.cad_run.specs.Slices.{identifier, later};
 
 use crate::feature_source::FeatureSource;
+use crate::presence::may_have;
 use crate::segment_candidates::SegmentCandidates;
 use cad_feature::Feature;
 use cad_lookup::Plan;
@@ -22,7 +23,7 @@ pub struct Candidates<'a, 'p> {
     ghost few: { length (all_left sources.items) < 2 ^ 64 },
 }
 
-/// The sources of the segments, the last first.
+/// The sources of the segments that may have candidates, the last first.
 fn sources_of<'a, 'p>(
     alloc: Global,
     plan: &'p Plan,
@@ -34,8 +35,10 @@ fn sources_of<'a, 'p>(
     let mut sources = Vec::new(alloc);
     let mut segments = segments;
     while let Some((segment, before)) = segments.split_last() {
-        let source = SegmentCandidates::of(alloc, plan, segment, after)?;
-        sources.push(source)?;
+        if may_have(plan, segment.extents()) {
+            let source = SegmentCandidates::of(alloc, plan, segment, after)?;
+            sources.push(source)?;
+        }
         segments = before;
     }
     Ok(sources)

@@ -25,6 +25,7 @@ mod kept;
 mod paging;
 mod parts;
 mod planned;
+mod presence;
 mod rows;
 mod segment_candidates;
 

@@ -11,7 +11,7 @@ invariant_of-result c =
     let old = inside.segments.value.items in
     let new = c.in_ok-segments-2.segments.value.items in
     let touched = c.args.touched.items in
-    let is = c.in_ok-segments-2.ensures ∙ c.in_ok-segments.ensures ∙ ap (λ l. with_in l touched) c.listed.ensures in
+    let is = c.in_ok-segments-2.ensures ∙ c.in_ok-segments.ensures ∙ ap (λ l. with_in l touched) c.listed-segments.ensures in
     let listed = subst (λ (m : LayerFeatures). AreFeaturesOf m.collection touched) (sym c.self.view_is) c.requires in
     let apart = c.self.invariant.1 in
     let some = c.self.invariant.4 in (
@@ -28,5 +28,5 @@ returns c =
     let old = inside.segments.value.items in
     let new = c.in_ok-segments-2.segments.value.items in
     let touched = c.args.touched.items in
-    let is = c.in_ok-segments-2.ensures ∙ c.in_ok-segments.ensures ∙ ap (λ l. with_in l touched) c.listed.ensures in
+    let is = c.in_ok-segments-2.ensures ∙ c.in_ok-segments.ensures ∙ ap (λ l. with_in l touched) c.listed-segments.ensures in
     spread_seen inside.collection old new touched is c.self.invariant.4 c.self.invariant.1 c.requires.ascending c.args.self.now c.self.view_is

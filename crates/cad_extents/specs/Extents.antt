@@ -1,0 +1,64 @@
+-- Between which values those of some features lie, property by property (own profile).
+use Rattle.std.specs.Prelude.{◌≡◌, ℕ, ℤ, Bool, true, not, ◌&&◌, int_le, List, Option, Some, None, get_or}
+use Rattle.cad_cells.specs.Blocks.{Block, is_wide}
+use Rattle.cad_cells.specs.Counted.{block_at}
+use Rattle.cad_cells.specs.Near.{block_in}
+use Rattle.cad_feature.specs.Features.{Item, datum_at}
+use Rattle.cad_feature.specs.Values.{Datum, a_whole}
+use Rattle.cad_range.specs.Ranges.{has_order}
+use Rattle.cad_extents.specs.declared.values.ValueExtent.{ValueExtent}
+use Rattle.cad_extents.specs.declared.values.ValueExtent.TheVariants as values
+use Rattle.cad_extents.specs.declared.cells.CellExtent.{CellExtent}
+use Rattle.cad_extents.specs.declared.cells.CellExtent.TheVariants as cells
+use Rattle.cad_extents.specs.declared.extent.Extent.{Extent}
+use Rattle.cad_extents.specs.declared.extents.Extents.{Extents}
+
+-- a whole number from one to another, or what has no order
+abbrev pub is_whole_in : ℤ → ℤ → Datum → Bool
+is_whole_in low high (a_whole n) = int_le low n && int_le n high
+is_whole_in low high d = not (has_order d)
+
+-- the value is one of those, or has no order
+abbrev pub holds_value : ValueExtent → Datum → Bool
+holds_value values.Empty d = not (has_order d)
+holds_value (values.Wholes low high) d = is_whole_in low high d
+holds_value values.Any d = true
+
+-- the numbers from one to another are some of those from one to another
+abbrev pub is_part : ℤ → ℤ → ℤ → ℤ → Bool
+is_part first last from to = int_le from first && int_le last to
+
+-- each cell of the one is one of the other
+abbrev pub is_inside : Block → Block → Bool
+is_inside a b = is_part a.left a.right b.left b.right && is_part a.low a.high b.low b.high
+
+-- no more than 64 cells, of these
+abbrev pub is_small_in : Block → Block → Bool
+is_small_in all own = not (is_wide own) && is_inside own all
+
+-- a shape with these cells is one of those; or there is no shape
+abbrev pub holds_cells : CellExtent → Option Block → Bool
+holds_cells e None = true
+holds_cells cells.Empty (Some own) = not true
+holds_cells (cells.Within all) (Some own) = is_small_in (block_at all) own
+holds_cells cells.Any (Some own) = true
+
+-- the value is one of those, and so is the shape that it may be
+abbrev pub holds : Extent → Datum → Bool
+holds e d = holds_value e.values d && holds_cells e.cells (block_in d)
+
+-- ---- of all properties
+
+abbrev pub any : Extent
+any = record { values = values.Any; cells = cells.Any }
+
+-- that of the property at a place; past the last there are any values
+abbrev pub extent_at : List Extent → ℕ → Extent
+extent_at es place = get_or es place any
+
+-- each value of the feature is one of those of its property
+abbrev pub AreHeld : List Extent → Item → Type 0
+AreHeld es x = (place : ℕ) → holds (extent_at es place) (datum_at x place) ≡ true
+
+abbrev pub IsWithin : Extents → Item → Type 0
+IsWithin extents x = AreHeld extents.all.items x
