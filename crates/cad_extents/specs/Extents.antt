@@ -1,5 +1,5 @@
 -- Between which values those of some features lie, property by property (own profile).
-use Rattle.std.specs.Prelude.{◌≡◌, ℕ, ℤ, Bool, true, not, ◌&&◌, int_le, List, Option, Some, None, get_or}
+use Rattle.std.specs.Prelude.{◌≡◌, ℕ, ℤ, Bool, true, false, not, ◌&&◌, int_le, List, Option, Some, None, get_or}
 use Rattle.cad_cells.specs.Blocks.{Block, is_wide}
 use Rattle.cad_cells.specs.Counted.{block_at}
 use Rattle.cad_cells.specs.Near.{block_in}
@@ -39,7 +39,7 @@ is_small_in all own = not (is_wide own) && is_inside own all
 -- a shape with these cells is one of those; or there is no shape
 abbrev pub holds_cells : CellExtent → Option Block → Bool
 holds_cells e None = true
-holds_cells cells.Empty (Some own) = not true
+holds_cells cells.Empty (Some own) = false
 holds_cells (cells.Within all) (Some own) = is_small_in (block_at all) own
 holds_cells cells.Any (Some own) = true
 

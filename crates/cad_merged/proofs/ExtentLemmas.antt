@@ -1,4 +1,4 @@
--- Extents of a base and of the changes to it.
+-- Extents of features and of the changes to them.
 use Rattle.std.proofs.Common.{◌≡◌, List, [], subst}
 use Rattle.std.specs.List.{AllByRecursion}
 use Rattle.cad_versions.specs.ListLemmas.{all_weaker}
@@ -10,13 +10,13 @@ use Rattle.cad_merged.specs.MergeLemmas.{all_merged, merged_merged}
 use Rattle.cad_merged.specs.Walks.{all_in}
 
 -- those of features without changes
-pub built_within : (of shared : Extents) (seen features changes : List Item) → shared ≡ of → AllByRecursion (IsWithin of) seen → seen ≡ features → changes ≡ [] → AllByRecursion (IsWithin shared) (all_in features changes)
-built_within of shared seen features changes is all same none = rw (is, none, ← same) all
+pub within_alone : (of given : Extents) (features seen changes : List Item) → given ≡ of → seen ≡ features → changes ≡ [] → AllByRecursion (IsWithin of) features → AllByRecursion (IsWithin given) (all_in seen changes)
+within_alone of given features seen changes is same none all = rw (is, same, none) all
 
--- those of features and of more
-pub more_within : (old told of shared : Extents) (base changes touched seen new : List Item) → told ≡ old → shared ≡ of → seen ≡ touched → new ≡ all_in changes touched
-    → ((x : Item) → IsWithin told x → IsWithin of x) → AllByRecursion (IsWithin of) seen → AllByRecursion (IsWithin old) (all_in base changes) → AllByRecursion (IsWithin shared) (all_in base new)
-more_within old told of shared base changes touched seen new same is lent added own more all =
-    let wider = all_weaker (IsWithin old) (IsWithin of) (subst (λ e. (x : Item) → IsWithin e x → IsWithin of x) same own) (all_in base changes) all in
-    let both = all_merged by_identifier items_total (IsWithin of) (all_in base changes) touched wider (subst (AllByRecursion (IsWithin of)) lent more) in
-    rw (is, added, merged_merged by_identifier items_total base changes touched) both
+-- those of features and of more changes
+pub within_more : (old new : Extents) (features changes touched seen more : List Item) → seen ≡ touched → more ≡ all_in changes touched
+    → ((x : Item) → IsWithin old x → IsWithin new x) → AllByRecursion (IsWithin new) seen → AllByRecursion (IsWithin old) (all_in features changes) → AllByRecursion (IsWithin new) (all_in features more)
+within_more old new features changes touched seen more lent is own added all =
+    let wider = all_weaker (IsWithin old) (IsWithin new) own (all_in features changes) all in
+    let both = all_merged by_identifier items_total (IsWithin new) (all_in features changes) touched wider (subst (AllByRecursion (IsWithin new)) lent added) in
+    rw (is, merged_merged by_identifier items_total features changes touched) both

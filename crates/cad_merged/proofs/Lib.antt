@@ -1,13 +1,12 @@
 mod CountedLemmas
 mod CuttingLemmas
 mod ExtentLemmas
+mod IndexedLemmas
 mod LayerLemmas
 mod MergedLemmas
 mod ReplacedLemmas
-mod ReplacingLemmas
 mod RunLemmas
 mod SearchingLemmas
 mod SpreadingLemmas
-mod StandingLemmas
 mod SummingLemmas
 mod WalkLemmas

@@ -1,26 +1,29 @@
--- What is told of a base with changes after more of them.
-use Rattle.std.proofs.Common.{◌≡◌, ℕ, List, sym, ap, ◌∙◌, subst}
-use Rattle.cad_schema.specs.declared.collection.Collection.{Collection}
-use Rattle.cad_feature.specs.Features.{Item, by_identifier, AreFeaturesOf}
+-- What is told of features with changes after more of them.
+use Rattle.std.proofs.Common.{◌≡◌, ◌∙◌, ℕ, List, ap}
+use Rattle.cad_feature.specs.Features.{Item, by_identifier}
+use Rattle.cad_index.specs.Layers.{LayerFeatures}
 use Rattle.cad_merged.specs.ItemLemmas.{items_total}
-use Rattle.cad_merged.specs.ListedLemmas.{listed_is}
 use Rattle.cad_merged.specs.MergeLemmas.{merged_merged}
 use Rattle.cad_merged.specs.Segments.{SegmentFeatures}
 use Rattle.cad_merged.specs.Walks.{all_in}
 
-abbrev pub seen : ℕ → Collection → List Item → List Item → SegmentFeatures
-seen start collection base changes = record { start = start; collection = collection; features = all_in base changes }
+abbrev seen : LayerFeatures → List Item → LayerFeatures
+seen f changes = record { collection = f.collection; features = all_in f.features changes }
 
-module _ (self : SegmentFeatures) (start : ℕ) (collection : Collection) (base changes : List Item) (is : self ≡ seen start collection base changes) where
-  -- the changes with more of them
-  pub more_listed : (touched old new : List Item) → old ≡ changes → new ≡ all_in old touched → AreFeaturesOf collection changes → AreFeaturesOf self.collection touched → AreFeaturesOf collection new
-  more_listed touched old new same added some more =
-      listed_is collection changes touched new (added ∙ ap (λ xs. all_in xs touched) same) some (subst (λ k. AreFeaturesOf k touched) (ap (λ (m : SegmentFeatures). m.collection) is) more)
+abbrev seen_from : ℕ → LayerFeatures → List Item → SegmentFeatures
+seen_from start f changes = record { start = start; collection = f.collection; features = all_in f.features changes }
 
-  pub more_seen : (touched shared old new : List Item) → shared ≡ base → old ≡ changes → new ≡ all_in old touched
-      → seen start collection shared new ≡ record { start = self.start; collection = self.collection; features = all_in self.features touched }
-  more_seen touched shared old new is_base same added =
-      ap (λ xs. seen start collection xs new) is_base
-      ∙ ap (λ xs. seen start collection base xs) (added ∙ ap (λ xs. all_in xs touched) same)
-      ∙ ap (λ (xs : List Item). let m : SegmentFeatures = record { start = start; collection = collection; features = xs } in m) (merged_merged by_identifier items_total base changes touched)
-      ∙ ap (λ (m : SegmentFeatures). let n : SegmentFeatures = record { start = m.start; collection = m.collection; features = all_in m.features touched } in n) (sym is)
+module _ (f shared : LayerFeatures) (is : shared ≡ f) (changes old touched new : List Item) (same : old ≡ changes) (added : new ≡ all_in old touched) where
+  more_of : seen shared new ≡ seen (seen f changes) touched
+  more_of =
+      ap (λ m. seen m new) is ∙ ap (seen f) (added ∙ ap (λ xs. all_in xs touched) same)
+      ∙ ap (λ (xs : List Item). let m : LayerFeatures = record { collection = f.collection; features = xs } in m) (merged_merged by_identifier items_total f.features changes touched)
+
+  pub more_seen : (self : LayerFeatures) → seen f changes ≡ self → seen shared new ≡ seen self touched
+  more_seen self was = more_of ∙ ap (λ m. seen m touched) was
+
+  pub more_seen_from : (start : ℕ) (self : SegmentFeatures) → seen_from start f changes ≡ self
+      → seen_from start shared new ≡ record { start = self.start; collection = self.collection; features = all_in self.features touched }
+  more_seen_from start self was =
+      ap (λ (m : LayerFeatures). let n : SegmentFeatures = record { start = start; collection = m.collection; features = m.features } in n) more_of
+      ∙ ap (λ (m : SegmentFeatures). let n : SegmentFeatures = record { start = m.start; collection = m.collection; features = all_in m.features touched } in n) was

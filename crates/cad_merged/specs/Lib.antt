@@ -8,6 +8,7 @@ pub mod ListedLemmas
 pub mod LookupLemmas
 pub mod MergeLemmas
 pub mod Merging
+pub mod Recent
 pub mod Replaced
 pub mod SearchLemmas
 pub mod SegmentLemmas

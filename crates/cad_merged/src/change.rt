@@ -2,10 +2,8 @@
 
 ghost use Rattle.std.specs.Prelude.{◌≡◌, IfOk};
 
-use crate::placed::Placed;
 use cad_feature::Feature;
 use std::alloc::{AllocError, Global};
-use std::cmp::Ordering;
 use std::marker::Model;
 use std::rc::Rc;
 
@@ -42,21 +40,11 @@ impl Change {
     {
         self.feature.as_ref()
     }
-}
 
-impl Placed for Change {
-    ghost use Rattle.cad_feature.specs.Features.{by_identifier};
-    ghost use Rattle.cad_merged.specs.ItemLemmas.{items_total};
-
-    ghost order = { by_identifier };
-
-    ghost total = { items_total };
-
-    fn compare(&self, other: &Change) -> Ordering {
-        self.feature.compare(&other.feature)
-    }
-
-    fn copy(&self) -> Result<Change, AllocError> {
+    /// The same once more. An error says that too many share it.
+    pub(crate) fn copy(&self) -> Result<Change, AllocError>
+        ensures { IfOk result (λ copy. copy ≡ self.now) }
+    {
         let feature = self.feature.clone()?;
         Ok(Change { feature })
     }

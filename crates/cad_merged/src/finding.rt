@@ -5,10 +5,7 @@ ghost use Rattle.std.specs.Option.{option_copied};
 ghost use Rattle.std.specs.List.Sorted.{IsStrictlySortedBy};
 ghost use Rattle.cad_feature.specs.Features.{by_identifier};
 ghost use Rattle.cad_merged.specs.Identifiers.{identifier, compared, of_object, IsTheOne};
-ghost use Rattle.cad_merged.specs.Walks.{all_in, IsInOrder};
 
-use crate::Change;
-use crate::changed::changed;
 use cad_feature::Feature;
 use cad_versions::{ObjectId, compare_identifiers};
 use std::cmp::Ordering;
@@ -32,8 +29,8 @@ pub(crate) fn run_of(features: &[Feature], object: ObjectId) -> &[Feature]
     &rest[..count]
 }
 
-/// The feature with that identifier.
-fn found(features: &[Feature], object: ObjectId, number: u32) -> Option<&Feature>
+/// The feature with that identifier. No memory is taken.
+pub fn found(features: &[Feature], object: ObjectId, number: u32) -> Option<&Feature>
     requires { IsStrictlySortedBy by_identifier features.now }
     ensures { IsTheOne (identifier object number) features.now (option_copied result) }
 {
@@ -41,21 +38,5 @@ fn found(features: &[Feature], object: ObjectId, number: u32) -> Option<&Feature
     match place {
         Ok(at) => Some(&features[at]),
         Err(_) => None,
-    }
-}
-
-/// The feature of the base with the changes that has that identifier.
-pub fn find<'a>(
-    base: &'a [Feature],
-    changes: &'a [Change],
-    object: ObjectId,
-    number: u32,
-) -> Option<&'a Feature>
-    requires { IsInOrder base.now changes.now }
-    ensures { IsTheOne (identifier object number) (all_in base.now changes.now) (option_copied result) }
-{
-    match changed(changes, object, number) {
-        Some(feature) => Some(feature),
-        None => found(base, object, number),
     }
 }

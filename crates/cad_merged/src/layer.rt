@@ -4,9 +4,12 @@ ghost use Rattle.std.specs.Prelude.{◌≡◌, IfOk};
 
 use crate::criterion::{InRange, NearCells};
 use crate::cutting::cut;
-use crate::renewing::{Due, all_features, change_count, fullest_of, greatest_base, renewed};
+use crate::indexed::MOST_FEATURES;
+use crate::renewing::{
+    Due, all_features, change_count, fullest_of, greatest_base, renewed, spent_on,
+};
 use crate::searching::segment_of;
-use crate::segment::MOST_FEATURES;
+use crate::segment::ENTRIES_FOR_A_FEATURE;
 use crate::spreading::spread;
 use crate::summing::{count_all, length_of_all};
 use crate::{Segment, Walk};
@@ -27,8 +30,11 @@ const MOST_GROWN: usize = 4;
 /// A segment with more than this part of the changes that all may have gets a new base, too.
 const MANY_OF_MOST: usize = 4;
 
-/// So many entries of lists that are written anew beside the features that are merged take as much as one of these.
-const ENTRIES_FOR_A_FEATURE: usize = 16;
+/// A segment has no more recent changes than one for so many of the features of which it is cut.
+const FEATURES_FOR_A_RECENT: usize = 4;
+
+/// Nor more than these: they are looked at one by one where features are counted, and a list of them is written anew with each change.
+const MOST_RECENT: usize = 32;
 
 /// The features of a collection at a revision, in segments by object, which other revisions share.
 ///
@@ -41,7 +47,7 @@ pub struct Layer {
     count: u64,
     /// Of how many a segment is cut.
     of_a_segment: usize,
-    /// How many features were merged or put into new bases since the layer was built, and what takes as much as so many.
+    /// What was spent on it since it was built, but for what its segments tell.
     spent: usize,
 }
 
@@ -81,7 +87,7 @@ impl Layer {
     ghost use Rattle.cad_lookup.specs.Ways.{counts_of};
     ghost use Rattle.cad_merged.specs.Identifiers.{identifier, of_object, IsTheOne};
     ghost use Rattle.cad_merged.specs.Segments.{joined};
-    ghost use Rattle.cad_merged.specs.Walks.{all_in, IsInOrder};
+    ghost use Rattle.cad_merged.specs.Walks.{all_in};
 
     /// These features of the collection, without changes. An error is want of memory.
     pub fn build(
@@ -150,13 +156,10 @@ impl Layer {
         if touched.is_empty() {
             return self.copy();
         }
+        let most_recent = (self.of_a_segment / FEATURES_FOR_A_RECENT).min(MOST_RECENT);
         let segments = listed(&self.segments);
-        let entries = segments.len().saturating_add(fullest_of(segments).changes);
-        let written = touched
-            .len()
-            .saturating_add(entries / ENTRIES_FOR_A_FEATURE);
-        let spent = self.spent.saturating_add(written);
-        let segments = spread(alloc, segments, touched, self.collection)?;
+        let written = segments.len() / ENTRIES_FOR_A_FEATURE;
+        let segments = spread(alloc, segments, touched, self.collection, most_recent)?;
         let Some(count) = length_of_all(&segments) else {
             return Err(AllocError);
         };
@@ -166,7 +169,7 @@ impl Layer {
             segments,
             count,
             of_a_segment: self.of_a_segment,
-            spent,
+            spent: self.spent.saturating_add(written),
         })
     }
 
@@ -189,10 +192,9 @@ impl Layer {
         change_count(listed(&self.segments)) <= most
     }
 
-    /// How many features were merged into it, or put into new bases, since it was built, and what takes as much: so much may revisions
-    /// keep that it follows.
+    /// How many features were put into indexes since it was built, and what takes as much: so much may revisions keep that it follows.
     pub fn spent(&self) -> usize {
-        self.spent
+        self.spent.saturating_add(spent_on(listed(&self.segments)))
     }
 
     /// The same features, with new bases for the segment that has the most changes, and for those that have more than a quarter of
@@ -208,7 +210,6 @@ impl Layer {
             at: fullest_of(segments).at,
             many: most / MANY_OF_MOST,
         };
-        let spent = self.spent.saturating_add(due.base_count(segments));
         let segments = renewed(alloc, segments, due)?;
         let segments = share(alloc, segments)?;
         Ok(Layer {
@@ -216,7 +217,7 @@ impl Layer {
             segments,
             count: self.count,
             of_a_segment: self.of_a_segment,
-            spent,
+            spent: self.spent,
         })
     }
 
@@ -236,7 +237,7 @@ impl Layer {
             segments,
             count: self.count,
             of_a_segment: self.of_a_segment,
-            spent: self.spent.saturating_add(count),
+            spent: self.spent().saturating_add(count),
         })
     }
 
@@ -252,11 +253,10 @@ impl Layer {
 
     /// A walk through the versions of the object, the oldest first.
     pub fn versions_of(&self, object: ObjectId) -> Walk<'_>
-        ensures order { IsInOrder result.base.now result.changes.now }
-        ensures all { all_in result.base.now result.changes.now ≡ of_object object self.now.features }
+        ensures { result ≡ of_object object self.now.features }
     {
         match segment_of(listed(&self.segments), object) {
-            None => Walk::new(&[], &[]),
+            None => Walk::new(&[], &[], &[]),
             Some(segment) => segment.walk().of_object(object),
         }
     }

@@ -2,11 +2,12 @@
 //! changes to it.
 //!
 //! - [`Layer`]: all segments, seen as their features with the changes merged, which it counts by the bases' indexes
-//! - [`Segment`]: the features of the objects between two numbers, as a base and its changes
+//! - [`Segment`]: the features of the objects between two numbers: [`Indexed`] ones, and recent changes to them
+//! - [`Indexed`]: a base, and older changes to it, each with indexes
 //! - [`Change`]: a feature that changes a base, which lists of changes share; [`as_changes`], [`changes_after`]: of these features, and
 //!   those after one of them
 //! - [`Walk`]: a walk through both, in the order of identifiers
-//! - [`merge`], [`find`]: all of both, and one of them
+//! - [`merge`], [`found`]: all of a list and the changes to it, and one of a list
 //! - `laws`: that changes may be merged with one another first, and that identifiers are unique
 //!
 //! A base of the parcels 1.1 and 2.1 with the changes 1.1, which is closed, and 1.2, has the features 1.1 as it was changed, 1.2 and
@@ -14,17 +15,21 @@
 #![tactic(auto)]
 
 mod adding;
+mod both;
 mod change;
 mod changed;
 mod copies;
 mod counting;
 mod criterion;
 mod cutting;
+mod findable;
 mod finding;
+mod indexed;
 pub mod laws;
 mod layer;
 mod merging;
 mod placed;
+mod recent;
 mod renewing;
 mod replacing;
 mod searching;
@@ -36,7 +41,8 @@ mod walk;
 pub use change::{Change, as_changes};
 pub use changed::changes_after;
 pub use copies::{copy_feature, copy_value};
-pub use finding::find;
+pub use finding::found;
+pub use indexed::Indexed;
 pub use layer::{Layer, OF_A_SEGMENT};
 pub use merging::merge;
 pub use segment::Segment;

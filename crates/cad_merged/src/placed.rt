@@ -1,40 +1,46 @@
-//! What stands in an order.
+//! What stands in the order of identifiers.
 
-use std::alloc::AllocError;
+use crate::Change;
+use cad_feature::Feature;
 use std::cmp::Ordering;
 
-/// What has a place in an order, and can be had once more.
+/// What has a place in an order.
 pub(crate) trait Placed: Drop {
-    ghost use Rattle.std.specs.Prelude.{◌≡◌, IfOk};
+    ghost use Rattle.std.specs.Prelude.{◌≡◌};
     ghost use Rattle.std.specs.Cmp.{IsTotalOrder};
     ghost use Rattle.std.specs.declared.cmp.Ordering.{Ordering as OrderingOf};
 
     ghost order: { Self → Self → OrderingOf };
 
     /// How it stands to another.
-    fn compare(&self, other: &Self) -> Ordering
+    fn stands_to(&self, other: &Self) -> Ordering
         ensures { result ≡ order self.now other.now };
-
-    /// The same once more. An error says that too many share it.
-    fn copy(&self) -> Result<Self, AllocError>
-        ensures { IfOk result (λ copy. copy ≡ self.now) };
 
     ghost total: { IsTotalOrder order };
 }
 
-impl Placed for u32 {
-    ghost use Rattle.std.specs.Ordering.{nat_cmp};
-    ghost use Rattle.std.proofs.lemmas.Cmp.{nat_cmp_total};
+impl Placed for Feature {
+    ghost use Rattle.cad_feature.specs.Features.{by_identifier};
+    ghost use Rattle.cad_merged.specs.ItemLemmas.{items_total};
 
-    ghost order = { nat_cmp };
+    ghost order = { by_identifier };
 
-    ghost total = { nat_cmp_total };
+    ghost total = { items_total };
 
-    fn compare(&self, other: &u32) -> Ordering {
-        self.cmp(other)
+    fn stands_to(&self, other: &Feature) -> Ordering {
+        self.compare(other)
     }
+}
 
-    fn copy(&self) -> Result<u32, AllocError> {
-        Ok(*self)
+impl Placed for Change {
+    ghost use Rattle.cad_feature.specs.Features.{by_identifier};
+    ghost use Rattle.cad_merged.specs.ItemLemmas.{items_total};
+
+    ghost order = { by_identifier };
+
+    ghost total = { items_total };
+
+    fn stands_to(&self, other: &Change) -> Ordering {
+        self.feature().compare(other.feature())
     }
 }

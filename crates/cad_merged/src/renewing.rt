@@ -1,10 +1,10 @@
 //! Segments over new bases.
 
-ghost use Rattle.std.specs.Prelude.{◌≡◌, ◌++◌, IfOk, OnOk};
+ghost use Rattle.std.specs.Prelude.{◌≡◌, IfOk};
 ghost use Rattle.cad_merged.specs.Segments.{joined};
 
 use crate::Segment;
-use crate::copies::copy_feature;
+use crate::merging::push_all;
 use cad_feature::Feature;
 use std::alloc::{AllocError, Global};
 
@@ -26,6 +26,7 @@ pub(crate) struct Fullest {
     pub(crate) changes: usize,
 }
 
+/// The first of the segments that have more changes than the others.
 pub(crate) fn fullest_of(segments: &[Segment]) -> Fullest {
     let mut fullest = Fullest { at: 0, changes: 0 };
     for (at, segment) in segments.iter().enumerate() {
@@ -59,17 +60,6 @@ impl Due {
     fn holds(self, place: usize, segment: &Segment) -> bool {
         place == self.at || self.many < segment.change_count()
     }
-
-    /// How many features the bases have in whose place new ones are due.
-    pub(crate) fn base_count(self, segments: &[Segment]) -> usize {
-        let mut count: usize = 0;
-        for (place, segment) in segments.iter().enumerate() {
-            if self.holds(place, segment) {
-                count = count.saturating_add(segment.base_count());
-            }
-        }
-        count
-    }
 }
 
 /// The same segments, and those that are due over new bases. An error is want of memory.
@@ -92,18 +82,6 @@ pub(crate) fn renewed(
     Ok(all)
 }
 
-/// Puts copies of the segment's features behind the others. An error is want of memory.
-fn push_all(alloc: Global, all: &mut Vec<Feature>, segment: &Segment) -> Result<(), AllocError>
-    ensures { OnOk result (all.new.items ≡ all.old.items ++ segment.now.features) }
-{
-    let mut walk = segment.walk();
-    while let Some(feature) = walk.next() {
-        let feature = copy_feature(alloc, feature)?;
-        all.push(feature)?;
-    }
-    Ok(())
-}
-
 /// The features of all segments, by copies. An error is want of memory.
 pub(crate) fn all_features(alloc: Global, segments: &[Segment]) -> Result<Vec<Feature>, AllocError>
     ensures { IfOk result (λ all. all.items ≡ joined segments.now) }
@@ -111,8 +89,17 @@ pub(crate) fn all_features(alloc: Global, segments: &[Segment]) -> Result<Vec<Fe
     let mut all = Vec::new(alloc);
     let mut rest = segments;
     while let Some((segment, behind)) = rest.split_first() {
-        push_all(alloc, &mut all, segment)?;
+        push_all(alloc, &mut all, segment.walk())?;
         rest = behind;
     }
     Ok(all)
+}
+
+/// How many features they have put into indexes, and what takes as much.
+pub(crate) fn spent_on(segments: &[Segment]) -> usize {
+    let mut spent: usize = 0;
+    for segment in segments {
+        spent = spent.saturating_add(segment.spent());
+    }
+    spent
 }

@@ -45,12 +45,13 @@ fn cut_off(
     Ok(left)
 }
 
-/// The segments, each with those of the features that lie in it. An error is want of memory.
+/// The segments, each with those of the features that lie in it, and no more recent changes than so many. An error is want of memory.
 pub(crate) fn spread(
     alloc: Global,
     segments: &[Segment],
     touched: Vec<Feature>,
     collection: Collection,
+    most_recent: usize,
 ) -> Result<Vec<Segment>, AllocError>
     requires alike { AllByRecursion (λ (s : SegmentFeatures). s.collection ≡ collection) segments.now }
     requires listed { AreFeaturesOf collection touched.items }
@@ -61,7 +62,7 @@ pub(crate) fn spread(
     let mut rest = segments;
     while let Some((segment, behind)) = rest.split_first() {
         let later = cut_off(alloc, &mut left, behind)?;
-        let segment = segment.with(alloc, left)?;
+        let segment = segment.with(alloc, left, most_recent)?;
         all.push(segment)?;
         left = later;
         rest = behind;

@@ -1,73 +1,94 @@
-//! Walks through a base and the changes to it.
+//! Walks through features and the changes to them.
+
+ghost use Rattle.std.specs.Prelude.{◌≡◌};
 
 use crate::Change;
-use crate::changed::{changes_after, changes_to};
+use crate::both::Both;
+use crate::changed::changes_to;
 use crate::finding::run_of;
 use cad_feature::Feature;
 use cad_versions::ObjectId;
 use std::cmp::Ordering;
+use std::marker::Model;
 
-/// What is left of a walk: features of the base, and changes, both by identifier.
-#[derive(Debug, Clone, Copy)]
+/// What is left of a walk: features of a base, older changes and recent ones, each by identifier.
+///
+/// Contracts see the features that are left, with the changes merged.
+#[derive(Debug, Drop)]
 pub struct Walk<'a> {
-    base: &'a [Feature],
+    indexed: Both<'a, Feature>,
     changes: &'a [Change],
+}
+
+impl<'a> Model for Walk<'a> {
+    ghost use Rattle.std.specs.Prelude.{List};
+    ghost use Rattle.cad_feature.specs.Features.{Item};
+    ghost use Rattle.cad_merged.specs.Walks.{all_in, IsInOrder};
+
+    ghost Value = { List Item };
+
+    ghost view = { λ w. all_in (all_in w.indexed.earlier.now w.indexed.later.now) w.changes.now };
+
+    ghost invariant = { λ w. IsInOrder w.indexed.earlier.now w.indexed.later.now × IsInOrder (all_in w.indexed.earlier.now w.indexed.later.now) w.changes.now };
 }
 
 impl<'a> Walk<'a> {
     ghost use Rattle.std.specs.Prelude.{◌≡◌, ◌∷◌, [], MatchOption};
-    ghost use Rattle.cad_merged.specs.Identifiers.{identifier, after, of_object};
+    ghost use Rattle.cad_merged.specs.Identifiers.{of_object};
     ghost use Rattle.cad_merged.specs.Walks.{all_in, IsInOrder};
+    ghost use Rattle.std.specs.List.Sorted.{IsStrictlySortedBy};
+    ghost use Rattle.cad_feature.specs.Features.{by_identifier};
 
-    /// The walk through all of both.
-    pub fn new(base: &'a [Feature], changes: &'a [Change]) -> Walk<'a>
-        ensures base { result.base.now ≡ base.now }
-        ensures changes { result.changes.now ≡ changes.now }
+    /// The walk through all of a base, of older changes to it and of recent ones.
+    pub(crate) fn new(base: &'a [Feature], older: &'a [Feature], changes: &'a [Change]) -> Walk<'a>
+        requires indexed { IsInOrder base.now older.now }
+        requires changes { IsStrictlySortedBy by_identifier changes.now }
+        ensures { result ≡ all_in (all_in base.now older.now) changes.now }
     {
-        Walk { base, changes }
+        let indexed = Both {
+            earlier: base,
+            later: older,
+        };
+        Walk { indexed, changes }
     }
 
     /// The walk through what is left of the features of that object.
     pub fn of_object(&self, object: ObjectId) -> Walk<'a>
-        requires { IsInOrder self.now.base.now self.now.changes.now }
-        ensures order { IsInOrder result.base.now result.changes.now }
-        ensures object { all_in result.base.now result.changes.now ≡ of_object object (all_in self.now.base.now self.now.changes.now) }
+        ensures { result ≡ of_object object self.now }
     {
-        Walk {
-            base: run_of(self.base, object),
-            changes: changes_to(self.changes, object),
-        }
+        let indexed = Both {
+            earlier: run_of(self.indexed.earlier, object),
+            later: run_of(self.indexed.later, object),
+        };
+        let changes = changes_to(self.changes, object);
+        Walk { indexed, changes }
     }
 
-    /// The next feature, a change in place of the one of the base that it changes.
+    /// The next feature, a change in place of the one that it changes.
     pub fn next(&mut self) -> Option<&'a Feature>
-        requires { IsInOrder self.now.base.now self.now.changes.now }
-        ensures order { IsInOrder self.new.base.now self.new.changes.now }
-        ensures next { MatchOption result (all_in self.old.base.now self.old.changes.now ≡ [])
-            (λ x. all_in self.old.base.now self.old.changes.now ≡ x.now ∷ all_in self.new.base.now self.new.changes.now) }
+        ensures { MatchOption result (self.old ≡ []) (λ x. self.old ≡ x.now ∷ self.new) }
     {
         let Some((c, changes)) = self.changes.split_first() else {
-            let (b, base) = self.base.split_first()?;
-            self.base = base;
-            return Some(b);
-        };
-        let Some((b, base)) = self.base.split_first() else {
-            self.changes = changes;
-            return Some(c.feature());
+            return self.indexed.next();
         };
         let c = c.feature();
+        let mut indexed = self.indexed.again();
+        let Some(b) = indexed.next() else {
+            self.changes = changes;
+            return Some(c);
+        };
         match c.compare(b) {
             Ordering::Less => {
                 self.changes = changes;
                 Some(c)
             }
             Ordering::Equal => {
-                self.base = base;
+                self.indexed = indexed;
                 self.changes = changes;
                 Some(c)
             }
             Ordering::Greater => {
-                self.base = base;
+                self.indexed = indexed;
                 Some(b)
             }
         }

@@ -1,5 +1,5 @@
 -- The candidates that are left of a base and of the changes to it, from their front.
-use Rattle.std.proofs.Common.{◌≡◌, ◌∙◌, ℤ, Bool, true, false, cond, not, List, [], ◌∷◌, Bor, length, filter, ap, sym, refl, subst, arith, true≢false, MatchOption, Option, Some, None, Ordering, Less, Equal, Greater, is_eq, is_gt}
+use Rattle.std.proofs.Common.{◌≡◌, ◌∙◌, ℤ, Bool, true, false, cond, List, [], ◌∷◌, Bor, length, filter, ap, sym, refl, subst, arith, true≢false, MatchOption, Option, Some, None, Equal, is_eq, is_gt}
 use Rattle.std.specs.Prelude.{if◌then◌else◌}
 use Rattle.std.specs.List.{All, AllByRecursion}
 use Rattle.std.specs.List.Sorted.{IsStrictlySortedBy}
@@ -12,15 +12,12 @@ use Rattle.cad_lookup.specs.declared.plan.Plan.{Plan}
 use Rattle.cad_lookup.specs.Candidates.{is_candidate, candidates}
 use Rattle.cad_merged.specs.FilterLemmas.{merged_filtered}
 use Rattle.cad_merged.specs.ItemLemmas.{items_total, rest_rises}
-use Rattle.cad_merged.specs.MergeLemmas.{change_first, change_before, change_in_place, change_behind, filter_merged}
+use Rattle.cad_merged.specs.MergeLemmas.{filter_merged}
 use Rattle.cad_merged.specs.SearchLemmas.{equal_is}
 use Rattle.cad_merged.specs.Walks.{all_in, IsInOrder}
-use Rattle.cad_run.specs.Bases.{stands_first, without}
+use Rattle.cad_run.specs.Peeked.{stands_first, without}
+use Rattle.cad_run.proofs.FrontLemmas.{IsTaken, behind_is, first_change, nothing_rises, without_rises}
 use Rattle.cad_run.specs.Slices.{is_later, later}
-
-nothing_rises : IsStrictlySortedBy by_identifier []
-unfolding IsStrictlySortedBy
-nothing_rises = tt
 
 -- ---- two filters
 
@@ -43,6 +40,10 @@ all_passing : (p : Item → Bool) (xs : List Item) → AllByRecursion (λ y. p y
 all_passing p [] = tt
 all_passing p (x ∷ xs) = passing_one p (p x) x (filter p xs) refl (all_passing p xs)
 
+pub same_later : (last : Option (ℤ × ℤ)) (x y : Item) → by_identifier x y ≡ Equal → is_later last x ≡ is_later last y
+same_later None x y e = refl
+same_later (Some named) x y e = ap (λ i. is_gt (identifier_cmp i named)) (equal_is (identifier_of x) (identifier_of y) e)
+
 module _ (plan : Plan) where
   abbrev test : Item → Bool
   test = is_candidate plan
@@ -51,10 +52,6 @@ module _ (plan : Plan) where
   AllPass xs = All (λ x. test x ≡ true) xs
 
   -- ---- at the beginning
-
-  same_later : (last : Option (ℤ × ℤ)) (x y : Item) → by_identifier x y ≡ Equal → is_later last x ≡ is_later last y
-  same_later None x y e = refl
-  same_later (Some named) x y e = ap (λ i. is_gt (identifier_cmp i named)) (equal_is (identifier_of x) (identifier_of y) e)
 
   module _ (last : Option (ℤ × ℤ)) (base changes bs cs : List Item) (is_base : bs ≡ filter test (later last base)) (is : cs ≡ later last changes) (up : IsInOrder base changes) where
     later_rises : IsStrictlySortedBy by_identifier (later last base)
@@ -76,23 +73,6 @@ module _ (plan : Plan) where
         ∙ turned test (is_later last) xs
 
   -- ---- a change that stands first
-
-  first_change : (bases changes : List Item) (c : Item) (cs : List Item) → changes ≡ c ∷ cs → true ≡ stands_first c bases → IsInOrder bases changes → all_in bases changes ≡ c ∷ all_in (without c bases) cs
-  first_change [] changes c cs is h up = rw is (change_first by_identifier items_total [] c cs tt (subst (IsStrictlySortedBy by_identifier) is up.1))
-  first_change (b ∷ bs) changes c cs is h up = rw is (go (by_identifier c b) refl h)
-    where
-      go : (o : Ordering) → by_identifier c b ≡ o → true ≡ not (is_gt o) → all_in (b ∷ bs) (c ∷ cs) ≡ c ∷ all_in (if is_eq o then bs else (b ∷ bs)) cs
-      go Less e h = change_before by_identifier items_total b bs c cs e up.0 (subst (IsStrictlySortedBy by_identifier) is up.1)
-      go Equal e h = change_in_place by_identifier items_total b bs c cs e (subst (IsStrictlySortedBy by_identifier) is up.1)
-      go Greater e h = absurd (true≢false h)
-
-  without_rises : (c : Item) (bases : List Item) → IsStrictlySortedBy by_identifier bases → IsStrictlySortedBy by_identifier (without c bases)
-  without_rises c [] up = up
-  without_rises c (b ∷ bs) up = go (is_eq (by_identifier c b))
-    where
-      go : (d : Bool) → IsStrictlySortedBy by_identifier (if d then bs else (b ∷ bs))
-      go true = rest_rises by_identifier b bs (b ∷ bs) refl up
-      go false = up
 
   without_passes : (c : Item) (bases : List Item) → AllPass bases → AllPass (without c bases)
   without_passes c [] all = all
@@ -120,22 +100,6 @@ module _ (plan : Plan) where
 
   -- ---- the first of the base
 
-  abbrev pub IsTaken : Option (Bor Item) → List Item → List Item → Type 0
-  IsTaken found bases rest = MatchOption found ((bases ≡ []) × (rest ≡ [])) (λ x. bases ≡ x.now ∷ rest)
-
-  -- a change that stands behind the first leaves it there
-  stays : (c : Item) (bases : List Item) → false ≡ stands_first c bases → without c bases ≡ bases
-  stays c [] h = absurd (true≢false (sym h))
-  stays c (b ∷ bs) h = go (by_identifier c b) h
-    where
-      go : (o : Ordering) → false ≡ not (is_gt o) → (if is_eq o then bs else (b ∷ bs)) ≡ b ∷ bs
-      go Less h = absurd (true≢false (sym h))
-      go Equal h = absurd (true≢false (sym h))
-      go Greater h = refl
-
-  pub taken_behind : (found : Option (Bor Item)) (c : Item) (bases kept rest : List Item) → false ≡ stands_first c bases → kept ≡ without c bases → IsTaken found kept rest → IsTaken found bases rest
-  taken_behind found c bases kept rest h is taken = subst (λ xs. IsTaken found xs rest) (is ∙ stays c bases h) taken
-
   -- what comes out is the front of what is left
   abbrev pub IsGiven : Option (Bor Item) → List Item → List Item → Type 0
   IsGiven found old new = MatchOption found (filter test old ≡ []) (λ x. filter test old ≡ x.now ∷ filter test new)
@@ -147,14 +111,6 @@ module _ (plan : Plan) where
 
   base_given : (x : Item) (rest : List Item) (all new : List Item) → AllPass (x ∷ rest) → all ≡ x ∷ new → filter test all ≡ x ∷ filter test new
   base_given x rest all new passing is = ap (filter test) is ∙ ap (λ b. cond b (x ∷ filter test new) (filter test new)) (passing 0 x (omega arith))
-
-  behind_is : (x : Item) (rest changes : List Item) (c : Item) (cs : List Item) → changes ≡ c ∷ cs → false ≡ stands_first c (x ∷ rest) → IsInOrder (x ∷ rest) changes → all_in (x ∷ rest) changes ≡ x ∷ all_in rest changes
-  behind_is x rest changes c cs is h up = rw is (go (by_identifier c x) refl h)
-    where
-      go : (o : Ordering) → by_identifier c x ≡ o → false ≡ not (is_gt o) → all_in (x ∷ rest) (c ∷ cs) ≡ x ∷ all_in rest (c ∷ cs)
-      go Less e h = absurd (true≢false (sym h))
-      go Equal e h = absurd (true≢false (sym h))
-      go Greater e h = change_behind by_identifier items_total x rest c cs e (subst (IsStrictlySortedBy by_identifier) is up.1)
 
   module _ (bases changes rest : List Item) (up : IsInOrder bases changes) (passing : AllPass bases) where
     pub taken_in_order : (found : Option (Bor Item)) → IsTaken found bases rest → IsInOrder rest changes

@@ -3,5 +3,8 @@ pub mod LaterLemmas
 pub mod Positions
 pub mod Parts
 pub mod Bases
+pub mod Peeked
+pub mod Standing
+pub mod IndexedLeft
 pub mod SegmentLeft
 pub mod Left

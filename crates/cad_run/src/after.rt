@@ -36,6 +36,15 @@ pub(crate) fn first_after(features: &[Feature], after: Option<(ObjectId, u32)>) 
     }
 }
 
+/// The features after that one.
+pub(crate) fn features_later(features: &[Feature], after: Option<(ObjectId, u32)>) -> &[Feature]
+    requires { IsStrictlySortedBy by_identifier features.now }
+    ensures { result.now ≡ later (option_map identifier after) features.now }
+{
+    let start = first_after(features, after);
+    &features[start..]
+}
+
 /// The changes after that one.
 pub(crate) fn changes_later(changes: &[Change], after: Option<(ObjectId, u32)>) -> &[Change]
     requires { IsStrictlySortedBy by_identifier changes.now }

@@ -20,14 +20,18 @@ mod counting;
 mod feature_source;
 mod feature_test;
 mod finding;
+mod indexed_candidates;
 mod joining;
 mod kept;
 mod paging;
 mod parts;
+mod peeked;
 mod planned;
 mod presence;
+mod replaced;
 mod rows;
 mod segment_candidates;
+mod stream;
 
 pub use cad_lookup::Plan;
 pub use cad_merged::Layer;

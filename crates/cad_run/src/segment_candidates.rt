@@ -5,25 +5,27 @@ ghost use Rattle.std.specs.List.{All};
 ghost use Rattle.std.proofs.Props.{props};
 ghost use Rattle.cad_lookup.specs.Candidates.{is_candidate as is_candidate_of};
 ghost use Rattle.cad_merged.specs.Walks.{IsInOrder};
-ghost use Rattle.cad_run.specs.Bases.{bases_left};
+ghost use Rattle.cad_run.specs.Peeked.{peeked_left};
+ghost use Rattle.cad_run.specs.IndexedLeft.{indexed_left};
 
 use crate::after::changes_later;
-use crate::bases::Bases;
 use crate::candidacy::is_candidate;
+use crate::indexed_candidates::IndexedCandidates;
+use crate::peeked::Peeked;
 use cad_feature::Feature;
 use cad_lookup::Plan;
 use cad_merged::{Change, Segment};
 use cad_versions::ObjectId;
 use std::alloc::{AllocError, Global};
 
-/// What is left of a plan's candidates in a segment: those of the base, and changes, which may be candidates or not.
+/// What is left of a plan's candidates in a segment: those that indexes find, and recent changes, which may be candidates or not.
 #[derive(Drop)]
 pub(crate) struct SegmentCandidates<'a, 'p> {
     plan: &'p Plan,
-    bases: Bases<'a>,
+    bases: Peeked<'a, IndexedCandidates<'a>>,
     changes: &'a [Change],
-    ghost order: { IsInOrder (bases_left bases) changes.now } by { Prim.hlevel props },
-    ghost passing: { All (λ x. is_candidate_of plan.now x ≡ true) (bases_left bases) },
+    ghost order: { IsInOrder (peeked_left indexed_left bases) changes.now } by { Prim.hlevel props },
+    ghost passing: { All (λ x. is_candidate_of plan.now x ≡ true) (peeked_left indexed_left bases) },
 }
 
 impl<'a, 'p> SegmentCandidates<'a, 'p> {
@@ -41,12 +43,12 @@ impl<'a, 'p> SegmentCandidates<'a, 'p> {
     ) -> Result<SegmentCandidates<'a, 'p>, AllocError>
         ensures { IfOk result (λ left. segment_left left ≡ later (option_map identifier after) (candidates plan.now segment.now.features)) }
     {
-        let (base, changes) = segment.parts();
-        let bases = Bases::of(alloc, plan, base, after)?;
+        let (indexed, changes) = segment.parts();
+        let bases = IndexedCandidates::of(alloc, plan, indexed, after)?;
         let changes = changes_later(changes, after);
         Ok(SegmentCandidates {
             plan,
-            bases,
+            bases: Peeked::new(bases),
             changes,
         })
     }

@@ -1,9 +1,12 @@
-use Rattle.std.proofs.Common.{◌≡◌, ◌++◌, drop, map, Some}
+use Rattle.std.proofs.Common.{◌≡◌, ◌++◌, length}
 use Rattle.cad_feature.specs.Features.{by_identifier}
-use Rattle.cad_merged.specs.Replaced.{replaced_in, standing_at}
+use Rattle.cad_merged.specs.Replaced.{replaced_in}
 use Rattle.cad_merged.proofs.replacing.replaced_by.Given as goal
 
--- those so far with those of the changes that are left are all
 abbrev pub invariant-loop-change : goal.invariant-loop-change
-invariant-loop-change l =
-    standing_at l.base l.positions.items ++ map Some (replaced_in by_identifier l.base (drop l.change-index l.changes)) ≡ map Some (replaced_in by_identifier l.base l.changes)
+invariant-loop-change g l = record {
+  so_far : replaced_in by_identifier (g.T.Findable.features l.features) l.changes ≡ l.all.items ++ replaced_in by_identifier (g.T.Findable.features l.features) l.rest;
+}
+
+abbrev pub decreases-loop-change : goal.decreases-loop-change
+decreases-loop-change g l = length l.rest

@@ -1,22 +1,31 @@
-use Rattle.std.proofs.Common.{length, ap, ◌∙◌, arith}
+use Rattle.std.proofs.Common.{ap, arith, length, ◌∙◌}
 use Rattle.cad_index.specs.Layers.{LayerFeatures}
 use Rattle.cad_merged.specs.Segments.{SegmentFeatures}
+use Rattle.cad_merged.specs.declared.recent.Recent.{Recent}
 use Rattle.cad_merged.proofs.CountedLemmas.{merged_length}
 use Rattle.cad_merged.proofs.segment.Segment.count.Goals as goal
 
 pub overflow_sub-result : goal.overflow_sub-result
 overflow_sub-result c =
-    let base = c.self.inside.base.value.features in
-    let same = ap length (c.features-in_base.ensures.features ∙ ap (λ (f : LayerFeatures). f.features) c.shared.ensures) in
-    let changes = ap length c.listed-changes.ensures in
-    let replaced = ap length c.positions-replaced.ensures in
-    omega (arith, merged_length base c.self.inside.changes.value.items c.self.inside.replaced.value.items (c.self.invariant.0.ascending, c.self.invariant.1.ascending) c.self.invariant.2, same, changes, replaced)
+    let f = c.self.inside.indexed.value in
+    let r = c.self.inside.recent.value in
+    let indexed = c.count.ensures.count ∙ ap (λ (m : LayerFeatures). length m.features) c.shared.ensures in
+    let changes = ap length c.deref-changes.ensures.value ∙ ap (λ (m : Recent). length m.changes.items) c.told-recent.ensures in
+    let replaced = ap length c.deref-replaced.ensures.value ∙ ap (λ (m : Recent). length m.replaced.items) c.told-recent.ensures in
+    omega (arith, indexed, changes, replaced, merged_length f.features r.changes.items r.replaced.items (c.self.invariant.0.ascending, c.self.invariant.1.ascending) c.self.invariant.2)
 
 pub returns : goal.returns
 returns c =
-    let base = c.self.inside.base.value.features in
-    let same = ap length (c.features-in_base.ensures.features ∙ ap (λ (f : LayerFeatures). f.features) c.shared.ensures) in
-    let changes = ap length c.listed-changes.ensures in
-    let replaced = ap length c.positions-replaced.ensures in
-    let seen = ap (λ (f : SegmentFeatures). length f.features) c.self.view_is in
-    omega (arith, merged_length base c.self.inside.changes.value.items c.self.inside.replaced.value.items (c.self.invariant.0.ascending, c.self.invariant.1.ascending) c.self.invariant.2, same, changes, replaced, seen)
+    let f = c.self.inside.indexed.value in
+    let r = c.self.inside.recent.value in
+    let indexed = c.count.ensures.count ∙ ap (λ (m : LayerFeatures). length m.features) c.shared.ensures in
+    let changes = ap length c.deref-changes.ensures.value ∙ ap (λ (m : Recent). length m.changes.items) c.told-recent.ensures in
+    let replaced = ap length c.deref-replaced.ensures.value ∙ ap (λ (m : Recent). length m.replaced.items) c.told-recent.ensures in
+    omega (
+      arith,
+      indexed,
+      changes,
+      replaced,
+      ap (λ (m : SegmentFeatures). length m.features) c.self.view_is,
+      merged_length f.features r.changes.items r.replaced.items (c.self.invariant.0.ascending, c.self.invariant.1.ascending) c.self.invariant.2,
+    )

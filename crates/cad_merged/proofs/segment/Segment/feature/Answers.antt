@@ -1,14 +1,29 @@
-use Rattle.std.proofs.Common.{◌∙◌, List, ap, ap₂, subst}
+use Rattle.std.proofs.Common.{None, Some, ◌∙◌, ap, subst}
 use Rattle.std.specs.Option.{option_copied}
-use Rattle.cad_feature.specs.Features.{Item}
 use Rattle.cad_index.specs.Layers.{LayerFeatures}
 use Rattle.cad_merged.specs.Identifiers.{identifier, IsTheOne}
+use Rattle.cad_merged.specs.LookupLemmas.{changed_one, base_one}
 use Rattle.cad_merged.specs.Segments.{SegmentFeatures}
-use Rattle.cad_merged.specs.Walks.{all_in}
+use Rattle.cad_merged.specs.declared.recent.Recent.{Recent}
 use Rattle.cad_merged.proofs.segment.Segment.feature.Goals as goal
 
-pub returns : goal.returns
-returns c =
-    let features = c.features.ensures.features ∙ ap (λ (f : LayerFeatures). f.features) c.shared.ensures in
-    let seen = ap₂ all_in features c.listed.ensures ∙ ap (λ (s : SegmentFeatures). s.features) c.self.view_is in
-    subst (λ (xs : List Item). IsTheOne (identifier c.args.object c.args.number) xs (option_copied c.find.result)) seen c.find.ensures
+pub returns-in-Some : goal.returns-in-Some
+returns-in-Some c =
+    let wanted = identifier c.args.object c.args.number in
+    let f = c.self.inside.indexed.value in
+    let r = c.self.inside.recent.value in
+    let x = c.in-Some.feature.now in
+    let changes = c.deref.ensures.value ∙ ap (λ (m : Recent). m.changes.items) c.told.ensures in
+    let one = subst (λ xs. IsTheOne wanted xs (Some x)) changes c.in-Some.ensures in
+    subst (λ (s : SegmentFeatures). IsTheOne wanted s.features (Some x)) c.self.view_is (changed_one wanted f.features r.changes.items x c.self.invariant.1.ascending one)
+
+pub returns-in-None : goal.returns-in-None
+returns-in-None c =
+    let wanted = identifier c.args.object c.args.number in
+    let f = c.self.inside.indexed.value in
+    let r = c.self.inside.recent.value in
+    let found = option_copied c.feature.result in
+    let changes = c.deref.ensures.value ∙ ap (λ (m : Recent). m.changes.items) c.told.ensures in
+    let none = subst (λ xs. IsTheOne wanted xs None) changes c.in-None.ensures in
+    let one = subst (λ (m : LayerFeatures). IsTheOne wanted m.features found) c.shared.ensures c.feature.ensures.one in
+    subst (λ (s : SegmentFeatures). IsTheOne wanted s.features found) c.self.view_is (base_one wanted f.features r.changes.items found none one)

@@ -1,10 +1,14 @@
-use Rattle.std.proofs.Common.{ap, ap₂, ◌∙◌}
+use Rattle.std.proofs.Common.{◌++◌, ◌∙◌, ap, subst, sym}
+use Rattle.cad_feature.specs.Features.{AreFeaturesOf}
 use Rattle.cad_index.specs.Layers.{LayerFeatures}
 use Rattle.cad_merged.specs.ListedLemmas.{listed_is}
-use Rattle.cad_merged.specs.Walks.{all_in}
+use Rattle.cad_merged.specs.Segments.{SegmentFeatures}
 use Rattle.cad_merged.proofs.segment.Segment.rebased.Goals as goal
 
-pub build-requires-clause-listed : goal.build-requires-clause-listed
-build-requires-clause-listed c =
-    rw (c.collection.ensures.collection, c.shared-base.ensures) (listed_is _ c.self.inside.base.value.features c.self.inside.changes.value.items _
-    (c.in_ok-features.ensures ∙ ap₂ all_in (c.features.ensures.features ∙ ap (λ (f : LayerFeatures). f.features) c.shared-base.ensures) c.listed.ensures) c.self.invariant.0 c.self.invariant.1)
+pub over-requires-clause-listed : goal.over-requires-clause-listed
+over-requires-clause-listed c =
+    let f = c.self.inside.indexed.value in
+    let r = c.self.inside.recent.value in
+    let same = c.collection-collection.ensures.collection ∙ ap (λ (m : LayerFeatures). m.collection) c.shared.ensures in
+    let all = c.in_ok-push_all.ensures ∙ ap (λ xs. xs ++ c.walk.result) c.in_ok-features.ensures.items ∙ c.walk.ensures ∙ sym (ap (λ (s : SegmentFeatures). s.features) c.self.view_is) in
+    subst (λ k. AreFeaturesOf k c.push_all.new.all.items) (sym same) (listed_is f.collection f.features r.changes.items c.push_all.new.all.items all c.self.invariant.0 c.self.invariant.1)

@@ -1,9 +1,19 @@
+use Rattle.std.proofs.Common.{ap, ◌∙◌}
+use Rattle.cad_feature.specs.Features.{by_identifier}
+use Rattle.cad_merged.specs.Identifiers.{of_object}
+use Rattle.cad_merged.specs.ItemLemmas.{items_total}
+use Rattle.cad_merged.specs.MergeLemmas.{merged_ascends}
 use Rattle.cad_merged.proofs.RunLemmas.{object_rises, object_merged}
 use Rattle.cad_merged.proofs.walk.Walk.of_object.Goals as goal
 
-pub returns-clause-order : goal.returns-clause-order
-returns-clause-order c =
-    (object_rises c.args.object _ _ c.run_of.ensures c.requires.0, object_rises c.args.object _ _ c.changes_to.ensures c.requires.1)
+pub invariant_of-result : goal.invariant_of-result
+invariant_of-result c =
+    let object = c.args.object in
+    let rises = object_rises object _ _ c.run_of.ensures c.self.invariant.0.0 in
+    ((rises, object_rises object _ _ c.run_of-2.ensures c.self.invariant.0.1), (merged_ascends by_identifier items_total _ c.run_of-2.result.now rises, object_rises object _ _ c.changes_to-changes.ensures c.self.invariant.1.1))
 
-pub returns-clause-object : goal.returns-clause-object
-returns-clause-object c = object_merged c.args.object _ _ _ _ c.run_of.ensures c.changes_to.ensures c.requires
+pub returns : goal.returns
+returns c =
+    let object = c.args.object in
+    let indexed = object_merged object _ _ _ _ c.run_of.ensures c.run_of-2.ensures c.self.invariant.0 in
+    object_merged object _ _ _ _ indexed c.changes_to-changes.ensures c.self.invariant.1 ∙ ap (of_object object) c.self.view_is

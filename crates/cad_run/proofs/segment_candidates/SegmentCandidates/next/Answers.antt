@@ -1,12 +1,13 @@
 use Rattle.std.proofs.Common.{◌∙◌, sym}
 use Rattle.cad_merged.specs.ItemLemmas.{front_as}
-use Rattle.cad_run.proofs.LeftLemmas.{still_in_order, still_passing, change_given, change_skipped, taken_behind, taken_in_order, taken_passing, base_before, base_alone, given_of}
+use Rattle.cad_run.proofs.FrontLemmas.{taken_behind}
+use Rattle.cad_run.proofs.LeftLemmas.{still_in_order, still_passing, change_given, change_skipped, taken_in_order, taken_passing, base_before, base_alone, given_of}
 use Rattle.cad_run.proofs.segment_candidates.SegmentCandidates.next.Goals as goal
 
 pub invariant_of-self : goal.invariant_of-self
 invariant_of-self c =
     let s = c.loop-change.self in
-    let taken = taken_behind s.plan.now c.next.result c.feature-feature.result.now _ _ _ (sym c.if-not-give_way.true ∙ c.give_way.ensures.first) c.give_way.ensures.rest c.next.ensures in
+    let taken = taken_behind c.next.result c.feature-feature.result.now _ _ _ (sym c.if-not-give_way.true ∙ c.give_way.ensures.first) c.give_way.ensures.rest c.next.ensures in
     record {
       order = taken_in_order s.plan.now _ s.changes.now _ s.order s.passing c.next.result taken;
       passing = taken_passing s.plan.now _ s.changes.now _ s.order s.passing c.next.result taken;
@@ -16,7 +17,7 @@ pub returns-then-not-give_way : goal.returns-then-not-give_way
 returns-then-not-give_way c =
     let s = c.loop-change.self in
     let behind = sym c.if-not-give_way.true ∙ c.give_way.ensures.first in
-    let taken = taken_behind s.plan.now c.next.result c.feature-feature.result.now _ _ _ behind c.give_way.ensures.rest c.next.ensures in
+    let taken = taken_behind c.next.result c.feature-feature.result.now _ _ _ behind c.give_way.ensures.rest c.next.ensures in
     given_of s.plan.now c.next.result _ _ _ c.loop-change.invariant (base_before s.plan.now _ s.changes.now _ s.order s.passing c.next.result c.feature-feature.result.now _ (front_as _ _ _ _ c.in-Some.ensures.cases.0 c.feature-feature.ensures) behind taken)
 
 pub invariant_of-self-in-Some : goal.invariant_of-self-in-Some

@@ -1,0 +1,90 @@
+//! The candidates among the indexed features of a segment, in the order of identifiers.
+
+ghost use Rattle.std.specs.Prelude.{◌≡◌};
+ghost use Rattle.std.specs.List.Sorted.{IsStrictlySortedBy};
+ghost use Rattle.std.proofs.Props.{props};
+ghost use Rattle.cad_feature.specs.Features.{by_identifier};
+ghost use Rattle.cad_merged.specs.Walks.{IsInOrder};
+ghost use Rattle.cad_run.specs.Bases.{rows_left};
+ghost use Rattle.cad_run.specs.Peeked.{peeked_left};
+ghost use Rattle.cad_run.specs.Standing.{standing};
+
+use crate::after::features_later;
+use crate::bases::Bases;
+use crate::peeked::Peeked;
+use crate::replaced::is_replaced;
+use crate::stream::Stream;
+use cad_feature::Feature;
+use cad_lookup::Plan;
+use cad_merged::Indexed;
+use cad_versions::ObjectId;
+use std::alloc::{AllocError, Global};
+
+/// What is left of a plan's candidates among features of a base and older changes to it: those of the base, but for those in whose place
+/// a change stands, and those of the changes, both found by indexes.
+#[derive(Drop)]
+pub(crate) struct IndexedCandidates<'a> {
+    bases: Peeked<'a, Bases<'a>>,
+    older: &'a [Feature],
+    olders: Peeked<'a, Bases<'a>>,
+    ghost ascending: { IsStrictlySortedBy by_identifier older.now } by { Prim.hlevel props },
+    ghost order: { IsInOrder (peeked_left rows_left bases) (peeked_left rows_left olders) } by { Prim.hlevel props },
+}
+
+impl<'a> IndexedCandidates<'a> {
+    ghost use Rattle.std.specs.Prelude.{◌≡◌, IfOk, filter, option_map};
+    ghost use Rattle.cad_lookup.specs.Candidates.{is_candidate};
+    ghost use Rattle.cad_run.specs.Slices.{identifier, later};
+    ghost use Rattle.cad_run.specs.IndexedLeft.{indexed_left, BaseStandsFirst};
+
+    /// Those after the one that is named. An error is want of memory.
+    pub(crate) fn of(
+        alloc: Global,
+        plan: &Plan,
+        indexed: &'a Indexed,
+        after: Option<(ObjectId, u32)>,
+    ) -> Result<IndexedCandidates<'a>, AllocError>
+        ensures { IfOk result (λ left. indexed_left left ≡ filter (is_candidate plan.now) (later (option_map identifier after) indexed.now.features)) }
+    {
+        let (base, older) = indexed.parts();
+        let bases = Bases::of(alloc, plan, base, after)?;
+        let olders = Bases::of(alloc, plan, older, after)?;
+        let older = features_later(older.features(), after);
+        Ok(IndexedCandidates {
+            bases: Peeked::new(bases),
+            older,
+            olders: Peeked::new(olders),
+        })
+    }
+
+    /// Drops the first of the base, up to one in whose place no change stands.
+    fn drop_replaced(&mut self)
+        ensures left { indexed_left self.new ≡ indexed_left self.old }
+        ensures first { BaseStandsFirst self.new }
+    {
+        while let Some(feature) = self.bases.peek() {
+            if !is_replaced(self.older, feature) {
+                return;
+            }
+            self.bases.next();
+        }
+    }
+}
+
+impl<'a> Stream<'a> for IndexedCandidates<'a> {
+    ghost use Rattle.cad_run.specs.IndexedLeft.{indexed_left};
+
+    ghost left = { indexed_left };
+
+    fn take(&mut self) -> Option<&'a Feature> {
+        self.drop_replaced();
+        let Some(older) = self.olders.peek() else {
+            return self.bases.next();
+        };
+        if self.bases.give_way(older) {
+            self.olders.next()
+        } else {
+            self.bases.next()
+        }
+    }
+}

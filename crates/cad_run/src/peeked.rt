@@ -1,0 +1,67 @@
+//! A stream whose first feature is looked at before it is taken.
+
+use crate::stream::Stream;
+use cad_feature::Feature;
+use std::cmp::Ordering;
+
+/// What is left of a stream, behind the feature that was looked at and not taken yet.
+#[derive(Drop)]
+pub(crate) struct Peeked<'a, S> {
+    source: S,
+    front: Option<&'a Feature>,
+}
+
+impl<'a, S: Stream<'a>> Peeked<'a, S> {
+    ghost use Rattle.std.specs.Prelude.{◌≡◌, [], ◌∷◌, MatchOption};
+    ghost use Rattle.std.specs.Option.{option_copied};
+    ghost use Rattle.cad_run.specs.Peeked.{peeked_left, stands_first, without};
+
+    /// The stream, of which nothing was looked at yet.
+    pub(crate) fn new(source: S) -> Self
+        ensures { peeked_left S.left result ≡ S.left source }
+    {
+        Peeked {
+            source,
+            front: None,
+        }
+    }
+
+    /// The first, which is left there.
+    pub(crate) fn peek(&mut self) -> Option<&'a Feature>
+        ensures kept { peeked_left S.left self.new ≡ peeked_left S.left self.old }
+        ensures front { self.new.front ≡ result }
+        ensures none { MatchOption result (peeked_left S.left self.old ≡ []) (λ x. peeked_left S.left self.old ≡ x.now ∷ S.left self.new.source) }
+    {
+        if self.front.is_none() {
+            self.front = self.source.take();
+        }
+        self.front
+    }
+
+    /// Takes the first.
+    pub(crate) fn next(&mut self) -> Option<&'a Feature>
+        ensures { MatchOption result ((peeked_left S.left self.old ≡ []) × (peeked_left S.left self.new ≡ [])) (λ x. peeked_left S.left self.old ≡ x.now ∷ peeked_left S.left self.new) }
+    {
+        let first = self.peek();
+        self.front = None;
+        first
+    }
+
+    /// Whether the change stands before all of them, or in the place of the first, which is dropped.
+    pub(crate) fn give_way(&mut self, change: &Feature) -> bool
+        ensures first { result ≡ stands_first change.now (peeked_left S.left self.old) }
+        ensures rest { peeked_left S.left self.new ≡ without change.now (peeked_left S.left self.old) }
+    {
+        let Some(first) = self.peek() else {
+            return true;
+        };
+        match change.compare(first) {
+            Ordering::Less => true,
+            Ordering::Equal => {
+                self.front = None;
+                true
+            }
+            Ordering::Greater => false,
+        }
+    }
+}

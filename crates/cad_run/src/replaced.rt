@@ -1,0 +1,20 @@
+//! Whether a change stands in the place of a feature.
+
+ghost use Rattle.std.specs.Prelude.{◌≡◌};
+ghost use Rattle.std.specs.List.Sorted.{IsStrictlySortedBy};
+ghost use Rattle.cad_feature.specs.Features.{by_identifier};
+ghost use Rattle.cad_run.specs.Standing.{is_replaced as is_replaced_of};
+
+use cad_feature::Feature;
+use cad_merged::found;
+
+/// Whether one of the changes stands in the place of the feature, by a search in their order.
+pub(crate) fn is_replaced(changes: &[Feature], feature: &Feature) -> bool
+    requires { IsStrictlySortedBy by_identifier changes.now }
+    ensures { result ≡ is_replaced_of changes.now feature.now }
+{
+    match found(changes, feature.object, feature.number) {
+        None => false,
+        Some(_) => true,
+    }
+}
