@@ -201,63 +201,95 @@ FURTHER = [
     ([*"abcdefghijklmnopqrstuvwxyz", *"abcdefghijklmnopqrstuvwxyz"], 1, 3, 0, [*"zyxwvutsrqponmlkjihgfedcba"]),
     ([*"abcdefghijklmnopqrstuvwxyz"], 30, 3, 25, [*"zyxwvutsrqponmlkjihgfedcba", "more", "than", "there", "were"]),
 ]
+# Several lists, so that recent changes stand over older ones and over a base, over older ones alone, and over neither.
+LISTS = ["v w x y z / p", "v w x y z / p q", "v w x y z / p / q r s t u o", "x / v w x y z", "v w x y z / p q r s t u", "v w x y z /", "/ x", "x y / p / x y z", "1 2 3 4 5 6 7 8 9 / x / y z"]
 # A layer with a base that has more than so many times as many features as a segment is cut of is cut anew; a segment with more than
 # this part of the most changes gets a new base, too.
 MOST_GROWN = MANY_OF_MOST = 4
 # So many entries of lists, which are written anew where parcels are merged in, are told as much as a parcel.
 ENTRIES = 16
+# A segment has no more recent changes than one for so many of the parcels of which it is cut, and no more than so many: where there are
+# more they are put into indexes, with the older ones and with what these stand in the place of.
+PARCELS_FOR_A_RECENT, MOST_RECENT = 4, 32
+
+
+class Segment:
+    """The parcels of a base, older changes to it and recent ones, and what was spent on them."""
+
+    def __init__(self, parcels, spent=0):
+        self.base, self.older, self.recent, self.spent = dict(parcels), {}, {}, spent
+
+    def start(self):
+        return min(self.base, default=0)
+
+    def changes(self):
+        return len(self.older) + len(self.recent)
+
+    def parcels(self):
+        return {**self.base, **self.older, **self.recent}
+
+    def merge(self, own, most_recent):
+        self.spent += len(own) + most_recent // ENTRIES
+        self.recent |= own
+        if len(self.recent) > most_recent:
+            self.older, self.recent = self.older | self.recent, {}
+            self.spent += 2 * len(self.older)
 
 
 class Layer:
     def __init__(self, labels, size):
-        self.size, self.spent = size, 0
+        self.size, self.others_spent = size, 0
         self.cut(list(enumerate(labels, 1)))
 
     def cut(self, parcels):
-        """Each segment has the parcels of its base, and the changes to it."""
         self.segments = []
         while self.size < len(parcels):
             at = len(parcels) - 1 - self.size
-            self.segments.insert(0, (dict(parcels[at:]), {}))
+            self.segments.insert(0, Segment(parcels[at:]))
             parcels = parcels[:at]
-        self.segments.insert(0, (dict(parcels), {}))
+        self.segments.insert(0, Segment(parcels))
+
+    def spent(self):
+        return self.others_spent + sum(segment.spent for segment in self.segments)
 
     def merge(self, labels):
-        self.spent += len(labels) + (len(self.segments) + self.most_changes()) // ENTRIES
-        starts = [min(base, default=0) for base, _ in self.segments]
+        self.others_spent += len(self.segments) // ENTRIES
+        starts = [segment.start() for segment in self.segments]
+        own = [{} for _ in starts]
         for number, label in enumerate(labels, 1):
             at = max([0] + [place for place, start in enumerate(starts) if 0 < place and start <= number])
-            self.segments[at][1][number] = label
-
-    def most_changes(self):
-        return max(len(changes) for _, changes in self.segments)
+            own[at][number] = label
+        for segment, parcels in zip(self.segments, own):
+            if parcels:
+                segment.merge(parcels, min(self.size // PARCELS_FOR_A_RECENT, MOST_RECENT))
 
     def parcels(self):
-        return sorted({number: label for base, changes in self.segments for number, label in {**base, **changes}.items()}.items())
+        return sorted({number: label for segment in self.segments for number, label in segment.parcels().items()}.items())
 
     def renew(self, most):
-        if max(len(base) for base, _ in self.segments) // MOST_GROWN > self.size:
-            self.spent += len(self.parcels())
+        if max(len(segment.base) for segment in self.segments) // MOST_GROWN > self.size:
+            self.others_spent = self.spent() + len(self.parcels())
             self.cut(self.parcels())
             return
-        counts = [len(changes) for _, changes in self.segments]
+        counts = [segment.changes() for segment in self.segments]
         fullest = counts.index(max(counts))
-        for place, (base, changes) in enumerate(self.segments):
+        for place, segment in enumerate(self.segments):
             if place == fullest or counts[place] > most // MANY_OF_MOST:
-                self.spent += len(base)
-                self.segments[place] = ({**base, **changes}, {})
+                parcels = segment.parcels()
+                self.segments[place] = Segment(parcels, segment.spent + len(parcels))
 
     def told(self, most):
         parcels = self.parcels()
-        state = "settled" if sum(len(changes) for _, changes in self.segments) <= most else "due"
+        state = "settled" if sum(segment.changes() for segment in self.segments) <= most else "due"
         labels = "".join(f"{label} " for _, label in parcels)
-        return f"{labels}count {len(parcels)} in {len(self.segments)} {state} spent {self.spent}"
+        return f"{labels}count {len(parcels)} in {len(self.segments)} {state} spent {self.spent()}"
 
 
 def layer_case(labels, size, times, most, changed):
     layer = Layer(labels, size)
-    for _ in range(times):
-        layer.merge(changed)
+    for some in " ".join(changed).split("/"):
+        for _ in range(times):
+            layer.merge(some.split())
     told = layer.told(most)
     layer.renew(most)
     return f"layer {' '.join(labels)} ? {size} {times} {most} {' '.join(changed)}", f"{told} then {layer.told(most)}"
@@ -270,6 +302,12 @@ def layers():
             for changed in CHANGED:
                 for times in TIMES:
                     for most in MOST:
+                        yield layer_case(labels.split(), size, times, most, changed.split())
+    for labels in BASES:
+        for size in (1, 4, 12, 16, 100, 200):
+            for changed in LISTS:
+                for times in (1, 2):
+                    for most in (0, 1, 8):
                         yield layer_case(labels.split(), size, times, most, changed.split())
     for case in FURTHER:
         yield layer_case(*case)

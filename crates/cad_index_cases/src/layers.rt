@@ -40,6 +40,18 @@ fn merged_times(alloc: Global, layer: Layer, labels: &str, times: u16) -> Result
     Ok(layer)
 }
 
+/// The same for the labels of several lists, one list after the other.
+fn merged_lists(alloc: Global, layer: Layer, lists: &str, times: u16) -> Result<Layer>
+    requires { layer.collection ≡ Parcels }
+    ensures { IfOk result (λ merged. merged.collection ≡ Parcels) }
+{
+    let mut layer = layer;
+    for labels in lists.split('/') {
+        layer = merged_times(alloc, layer, labels, times)?;
+    }
+    Ok(layer)
+}
+
 fn label(feature: &Feature, place: usize) -> &str {
     match feature.values.get(place) {
         Some(Value::Text(text)) => text.as_str(),
@@ -130,6 +142,6 @@ pub fn layer_answer(alloc: Global, labels: &str, asked: &str) -> Result<Option<S
         return Ok(None);
     };
     let base = base(alloc, labels, numbers.of_a_segment)?;
-    let layer = merged_times(alloc, base, changed, numbers.times)?;
+    let layer = merged_lists(alloc, base, changed, numbers.times)?;
     Ok(Some(told(alloc, &layer, place, numbers.most)?))
 }

@@ -5,9 +5,9 @@
 //! - `PROPERTY VALUE VALUE .. ? LOW HIGH`, of a property with an order: the positions in the range as they are listed, as
 //!   they are walked and as they are tested by their ranks, their number, and what the extents tell
 //! - `layer LABEL LABEL .. ? SIZE TIMES MOST LABEL LABEL ..`: the labels of parcels in segments of that size, into which those with the
-//!   labels behind are merged so many times, how many they are and in how many segments, whether new bases are due at the most changes
-//!   that are named (`settled` or `due`), and what was spent: how many features were merged or put into new bases, and what takes as
-//!   much; then the same over new bases
+//!   labels behind are merged so many times (a `/` parts the labels of several lists, which are merged in one after the other), how many
+//!   they are and in how many segments, whether new bases are due at the most changes that are named (`settled` or `due`), and what was
+//!   spent: how many features were put into indexes, and what takes as much; then the same over new bases
 //!
 //! The values are those of parcels at the positions 0, 1 and so on, `-` where one has none: `X,Y,X,Y` is a rectangle by
 //! its least and greatest corner, `X,Y` a point, `2001-01-01` a day; a label has no blank. An end is `free`, `with:VALUE`
