@@ -5,16 +5,11 @@ use Rattle.std.specs.Ordering.{ordering_reverse}
 use Rattle.std.proofs.Math.Nat.{eq-or-lt_of_le}
 use Rattle.std.proofs.lemmas.List.{take_all, length-drop}
 use Rattle.std.proofs.lemmas.List.Elements.{All-from_recursion}
-use Rattle.std.proofs.lemmas.List.Kept.{IsStrictlySortedBy-filter}
 use Rattle.std.proofs.lemmas.Bool.{not-true, not-false}
 use Rattle.cad_versions.specs.Identifiers.{identifier_cmp}
 use Rattle.cad_versions.specs.OrderLemmas.{identifiers_total}
 use Rattle.cad_feature.specs.Features.{Item, identifier_of, by_identifier}
 use Rattle.cad_merged.specs.Identifiers.{comes_after, after}
-use Rattle.cad_merged.specs.ItemLemmas.{items_total}
-use Rattle.cad_merged.specs.MergeLemmas.{filter_merged}
-use Rattle.cad_merged.specs.SearchLemmas.{equal_is}
-use Rattle.cad_merged.specs.Walks.{all_in, IsInOrder}
 
 -- each is below every later one
 pub ascends : (xs : List Item) → IsStrictlySortedBy by_identifier xs → (i j : ℕ) (d : Item) → i < j → j < length xs → by_identifier (get_or xs i d) (get_or xs j d) ≡ Less
@@ -71,16 +66,3 @@ found_rest last xs first split =
 pub found_after : (last : ℤ × ℤ) (xs : List Item) (first : ℕ) → IsPartitionPoint (λ x. is_no_later last x ≡ true) (λ x. is_no_later last x ≡ false) xs first → take (length xs - first) (drop first xs) ≡ after last xs
 found_after last xs first split =
     take_all (length xs - first) (drop first xs) (omega (arith, length-drop first xs)) ∙ found_rest last xs first split
-
--- ---- of a base with changes
-
-same_after : (last : ℤ × ℤ) (x y : Item) → by_identifier x y ≡ Equal → comes_after last x ≡ comes_after last y
-same_after last x y e = ap (λ i. is_gt (identifier_cmp i last)) (equal_is (identifier_of x) (identifier_of y) e)
-
-pub after_rises : (last : ℤ × ℤ) (xs ys : List Item) → ys ≡ after last xs → IsStrictlySortedBy by_identifier xs → IsStrictlySortedBy by_identifier ys
-after_rises last xs ys is up = subst (IsStrictlySortedBy by_identifier) (sym is) (IsStrictlySortedBy-filter by_identifier (comes_after last) xs up)
-
--- what comes after of both, merged, is what comes after of all
-pub after_merged : (last : ℤ × ℤ) (base changes bs cs : List Item) → bs ≡ after last base → cs ≡ after last changes → IsInOrder base changes → all_in bs cs ≡ after last (all_in base changes)
-after_merged last base changes bs cs base_is changes_is up =
-    rw (base_is, changes_is) (sym (filter_merged by_identifier items_total (comes_after last) (same_after last) base changes up.0))

@@ -59,7 +59,8 @@ has_base base (c ∷ cs) x apart has = put_keeps c x (merged by_identifier base 
 pub changed_one : (wanted : ℤ × ℤ) (base changes : List Item) (x : Item) → IsStrictlySortedBy by_identifier changes → IsTheOne wanted changes (Some x) → IsTheOne wanted (merged by_identifier base changes) (Some x)
 changed_one wanted base changes x up one = (has_change base changes x up one.0, one.1)
 
-apart : (wanted : ℤ × ℤ) (x c : Item) → identifier_of x ≡ wanted → ¬ (identifier_of c ≡ wanted) → is_eq (by_identifier c x) ≡ false
+-- a feature with another identifier does not stand in the place of one
+pub apart : (wanted : ℤ × ℤ) (x c : Item) → identifier_of x ≡ wanted → ¬ (identifier_of c ≡ wanted) → is_eq (by_identifier c x) ≡ false
 apart wanted x c is other = go (by_identifier c x) refl
   where
     go : (o : Ordering) → by_identifier c x ≡ o → is_eq o ≡ false

@@ -10,9 +10,10 @@ use Rattle.cad_versions.specs.ListLemmas.{all_weaker}
 use Rattle.cad_feature.specs.Features.{Item, identifier_of, by_identifier}
 use Rattle.cad_merged.specs.Identifiers.{IsTheOne}
 use Rattle.cad_merged.specs.ItemLemmas.{items_total}
+use Rattle.cad_merged.specs.LookupLemmas.{apart}
 use Rattle.cad_merged.specs.Merging.{put, put_at}
 use Rattle.cad_merged.specs.MergeLemmas.{all_merged, filter_merged, filter_put, filter_put_out, merged_ascends, put_front, IsNew}
-use Rattle.cad_merged.specs.SearchLemmas.{equal_is, is_equal}
+use Rattle.cad_merged.specs.SearchLemmas.{is_equal}
 use Rattle.cad_merged.specs.Walks.{all_in, IsInOrder}
 use Rattle.cad_run.specs.IndexedLeft.{FirstStands}
 use Rattle.cad_run.specs.Peeked.{stands_first, without}
@@ -24,14 +25,6 @@ use Rattle.cad_run.proofs.LeftLemmas.{same_later, turned}
 -- ---- a search
 
 module _ (x : Item) where
-  other : (c : Item) → ¬ (identifier_of c ≡ identifier_of x) → is_eq (by_identifier c x) ≡ false
-  other c h = go (by_identifier c x) refl
-    where
-      go : (o : Ordering) → by_identifier c x ≡ o → is_eq o ≡ false
-      go Less e = refl
-      go Equal e = absurd (h (equal_is (identifier_of c) (identifier_of x) e))
-      go Greater e = refl
-
   none_replaces : (cs : List Item) → AllByRecursion (λ c. is_eq (by_identifier c x) ≡ false) cs → false ≡ is_replaced cs x
   none_replaces [] all = refl
   none_replaces (c ∷ cs) all = rw all.0 (none_replaces cs all.1)
@@ -40,7 +33,7 @@ module _ (x : Item) where
   pub not_replaced : (cs : List Item) → IsTheOne (identifier_of x) cs None → false ≡ is_replaced cs x
   not_replaced cs none =
       let Other : Item → Type 0 = λ c. ¬ (identifier_of c ≡ identifier_of x) in
-      none_replaces cs (all_weaker Other (λ c. is_eq (by_identifier c x) ≡ false) other cs (recursion_from_All Other cs none))
+      none_replaces cs (all_weaker Other (λ c. is_eq (by_identifier c x) ≡ false) (λ c. apart (identifier_of x) x c refl) cs (recursion_from_All Other cs none))
 
   -- and where one has
   pub replaced : (cs : List Item) (c : Item) → IsTheOne (identifier_of x) cs (Some c) → true ≡ is_replaced cs x
@@ -190,10 +183,6 @@ module _ (p : Item → Bool) (last : Option (ℤ × ℤ)) (base older : List Ite
 
 -- ---- from its front
 
--- one that is replaced is left out
-pub standing_without : (cs xs rest : List Item) (x : Item) → xs ≡ x ∷ rest → is_replaced cs x ≡ true → standing cs xs ≡ standing cs rest
-standing_without cs xs rest x is e = rw (is, e) refl
-
 first_kept : (cs rest : List Item) (x : Item) → stands cs x ≡ true → standing cs (x ∷ rest) ≡ x ∷ standing cs rest
 first_kept cs rest x e = rw e refl
 
@@ -212,11 +201,6 @@ without_standing cs (b ∷ bs) c h = ap (without c) (first_kept cs bs b h) ∙ g
 
 -- what stands first in a list stands before what stands of it
 module _ (cs bs os : List Item) (first : FirstStands cs bs) where
-  -- no change is left
-  pub base_alone : (found : Option (Bor Item)) (rest left : List Item) → os ≡ [] → left ≡ os → IsTaken found bs rest → IsTaken found (all_in (standing cs bs) os) (all_in (standing cs rest) left)
-  base_alone None rest left none same e = rw (same, none, e.0, e.1) (refl, refl)
-  base_alone (Some x) rest left none same e = rw (same, none) (ap (standing cs) e ∙ first_kept cs rest x.now (subst (FirstStands cs) e first))
-
   module _ (up : IsInOrder (standing cs bs) os) (c : Item) (ds : List Item) (is : os ≡ c ∷ ds) where
     -- the change comes
     pub change_comes : (found : Option (Bor Item)) (kept left rest : List Item) → true ≡ stands_first c bs → kept ≡ without c bs → left ≡ os → IsTaken found left rest → IsTaken found (all_in (standing cs bs) os) (all_in (standing cs kept) rest)
@@ -238,10 +222,3 @@ module _ (cs bs os : List Item) (first : FirstStands cs bs) where
         ap (λ ys. all_in ys os) kept
         ∙ behind_is x.now (standing cs rest) os c ds is (h ∙ sym (first_of_standing cs bs c first) ∙ ap (stands_first c) kept) (subst (λ ys. IsInOrder ys os) kept up)
         ∙ ap (λ ys. x.now ∷ all_in (standing cs rest) ys) (sym same)
-
--- it is asked whether the first stands
-pub first_stands : (cs bs rest : List Item) (x : Item) → bs ≡ x ∷ rest → is_replaced cs x ≡ false → FirstStands cs bs
-first_stands cs bs rest x is e = subst (FirstStands cs) (sym is) (ap not e)
-
-pub nothing_first : (cs bs : List Item) → bs ≡ [] → FirstStands cs bs
-nothing_first cs bs none = subst (FirstStands cs) (sym none) tt

@@ -5,19 +5,17 @@ use Rattle.cad_merged.proofs.indexed.Indexed.count.Goals as goal
 
 pub overflow_sub-result : goal.overflow_sub-result
 overflow_sub-result c =
-    let inside = c.self.inside in
     let base = ap length (c.features-base.ensures.features ∙ ap (λ (f : LayerFeatures). f.features) c.shared.ensures) in
     omega (
       arith,
       base,
       ap length c.features-older.ensures.features,
       ap length c.features-replaced.ensures.features,
-      merged_length inside.base.value.features inside.older.features inside.replaced.features (c.self.invariant.0.ascending, c.self.invariant.1.ascending) c.self.invariant.3,
+      merged_length c.self.inside.base.value.features c.self.inside.older.features c.self.inside.replaced.features (c.self.invariant.0.ascending, c.self.invariant.1.ascending) c.self.invariant.3,
     )
 
 pub returns-clause-count : goal.returns-clause-count
 returns-clause-count c =
-    let inside = c.self.inside in
     let base = ap length (c.features-base.ensures.features ∙ ap (λ (f : LayerFeatures). f.features) c.shared.ensures) in
     omega (
       arith,
@@ -25,7 +23,7 @@ returns-clause-count c =
       ap length c.features-older.ensures.features,
       ap length c.features-replaced.ensures.features,
       ap (λ (f : LayerFeatures). length f.features) c.self.view_is,
-      merged_length inside.base.value.features inside.older.features inside.replaced.features (c.self.invariant.0.ascending, c.self.invariant.1.ascending) c.self.invariant.3,
+      merged_length c.self.inside.base.value.features c.self.inside.older.features c.self.inside.replaced.features (c.self.invariant.0.ascending, c.self.invariant.1.ascending) c.self.invariant.3,
     )
 
 pub returns-clause-few : goal.returns-clause-few

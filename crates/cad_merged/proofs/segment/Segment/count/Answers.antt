@@ -7,17 +7,13 @@ use Rattle.cad_merged.proofs.segment.Segment.count.Goals as goal
 
 pub overflow_sub-result : goal.overflow_sub-result
 overflow_sub-result c =
-    let f = c.self.inside.indexed.value in
-    let r = c.self.inside.recent.value in
     let indexed = c.count.ensures.count ∙ ap (λ (m : LayerFeatures). length m.features) c.shared.ensures in
     let changes = ap length c.deref-changes.ensures.value ∙ ap (λ (m : Recent). length m.changes.items) c.told-recent.ensures in
     let replaced = ap length c.deref-replaced.ensures.value ∙ ap (λ (m : Recent). length m.replaced.items) c.told-recent.ensures in
-    omega (arith, indexed, changes, replaced, merged_length f.features r.changes.items r.replaced.items (c.self.invariant.0.ascending, c.self.invariant.1.ascending) c.self.invariant.2)
+    omega (arith, indexed, changes, replaced, merged_length c.self.inside.indexed.value.features c.self.inside.recent.value.changes.items c.self.inside.recent.value.replaced.items (c.self.invariant.0.ascending, c.self.invariant.1.ascending) c.self.invariant.2)
 
 pub returns : goal.returns
 returns c =
-    let f = c.self.inside.indexed.value in
-    let r = c.self.inside.recent.value in
     let indexed = c.count.ensures.count ∙ ap (λ (m : LayerFeatures). length m.features) c.shared.ensures in
     let changes = ap length c.deref-changes.ensures.value ∙ ap (λ (m : Recent). length m.changes.items) c.told-recent.ensures in
     let replaced = ap length c.deref-replaced.ensures.value ∙ ap (λ (m : Recent). length m.replaced.items) c.told-recent.ensures in
@@ -27,5 +23,5 @@ returns c =
       changes,
       replaced,
       ap (λ (m : SegmentFeatures). length m.features) c.self.view_is,
-      merged_length f.features r.changes.items r.replaced.items (c.self.invariant.0.ascending, c.self.invariant.1.ascending) c.self.invariant.2,
+      merged_length c.self.inside.indexed.value.features c.self.inside.recent.value.changes.items c.self.inside.recent.value.replaced.items (c.self.invariant.0.ascending, c.self.invariant.1.ascending) c.self.invariant.2,
     )

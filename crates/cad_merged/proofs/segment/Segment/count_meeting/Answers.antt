@@ -18,18 +18,14 @@ returns-then-not-may_be_met_in g c =
 pub overflow_sub-result : goal.overflow_sub-result
 overflow_sub-result g c =
     let passes = g.T.Criterion.passes c.args.criterion.now in
-    let f = c.self.inside.indexed.value in
-    let r = c.self.inside.recent.value in
     let indexed = c.count_meeting.ensures.passing ∙ ap (λ (m : LayerFeatures). how_many passes m.features) c.shared.ensures in
     let changes = c.count_passing.ensures ∙ sym (counted_by passes _) ∙ ap (how_many passes) c.deref.ensures.value ∙ ap (λ (m : Recent). how_many passes m.changes.items) c.told-recent.ensures in
     let replaced = c.count_passing-2.ensures ∙ sym (counted_by passes _) ∙ ap (how_many passes) c.deref-2.ensures.value ∙ ap (λ (m : Recent). how_many passes m.replaced.items) c.told-recent.ensures in
-    omega (arith, indexed, changes, replaced, merged_count f.features r.changes.items r.replaced.items (c.self.invariant.0.ascending, c.self.invariant.1.ascending) c.self.invariant.2 passes)
+    omega (arith, indexed, changes, replaced, merged_count c.self.inside.indexed.value.features c.self.inside.recent.value.changes.items c.self.inside.recent.value.replaced.items (c.self.invariant.0.ascending, c.self.invariant.1.ascending) c.self.invariant.2 passes)
 
 pub returns : goal.returns
 returns g c =
     let passes = g.T.Criterion.passes c.args.criterion.now in
-    let f = c.self.inside.indexed.value in
-    let r = c.self.inside.recent.value in
     let indexed = c.count_meeting.ensures.passing ∙ ap (λ (m : LayerFeatures). how_many passes m.features) c.shared.ensures in
     let changes = c.count_passing.ensures ∙ sym (counted_by passes _) ∙ ap (how_many passes) c.deref.ensures.value ∙ ap (λ (m : Recent). how_many passes m.changes.items) c.told-recent.ensures in
     let replaced = c.count_passing-2.ensures ∙ sym (counted_by passes _) ∙ ap (how_many passes) c.deref-2.ensures.value ∙ ap (λ (m : Recent). how_many passes m.replaced.items) c.told-recent.ensures in
@@ -39,5 +35,5 @@ returns g c =
       changes,
       replaced,
       ap (λ (m : SegmentFeatures). how_many passes m.features) c.self.view_is,
-      merged_count f.features r.changes.items r.replaced.items (c.self.invariant.0.ascending, c.self.invariant.1.ascending) c.self.invariant.2 passes,
+      merged_count c.self.inside.indexed.value.features c.self.inside.recent.value.changes.items c.self.inside.recent.value.replaced.items (c.self.invariant.0.ascending, c.self.invariant.1.ascending) c.self.invariant.2 passes,
     )

@@ -6,8 +6,7 @@ use Rattle.cad_run.proofs.indexed_candidates.IndexedCandidates.drop_replaced.Goa
 
 pub invariant_of-self-in-Some : goal.invariant_of-self-in-Some
 invariant_of-self-in-Some c =
-    let s = c.loop-feature.self in
     record {
-      ascending = s.ascending;
-      order = (taken_rises c.next.result _ _ c.next.ensures (subst (IsStrictlySortedBy by_identifier) (sym c.peek.ensures.kept) s.order.0), s.order.1);
+      ascending = c.loop-feature.self.ascending;
+      order = (taken_rises c.next.result _ _ c.next.ensures (subst (IsStrictlySortedBy by_identifier) (sym c.peek.ensures.kept) c.loop-feature.self.order.0), c.loop-feature.self.order.1);
     }

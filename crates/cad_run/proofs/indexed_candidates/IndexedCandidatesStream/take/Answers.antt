@@ -41,21 +41,19 @@ invariant_of-self-else-give_way c =
 pub returns-then-give_way : goal.returns-then-give_way
 returns-then-give_way c =
     let d = c.drop_replaced.new.self in
-    let r = c.next-then-give_way.result in
     let bs = peeked_left rows_left d.bases in
     let up = IsStrictlySortedBy-filter by_identifier (stands d.older.now) bs d.order.0 in
     let left = all_in (standing d.older.now (peeked_left rows_left c.give_way.new.self)) (peeked_left rows_left c.next-then-give_way.new.self) in
-    subst (λ xs. IsTaken r xs left) c.drop_replaced.ensures.left
-    (change_comes d.older.now bs (peeked_left rows_left d.olders) c.drop_replaced.ensures.first (up, d.order.1) c.in-Some.older.now _ c.in-Some.ensures.none r _ _ _ (sym c.if-give_way.true ∙ c.give_way.ensures.first) c.give_way.ensures.rest c.peek.ensures.kept c.next-then-give_way.ensures)
+    subst (λ xs. IsTaken c.next-then-give_way.result xs left) c.drop_replaced.ensures.left
+    (change_comes d.older.now bs (peeked_left rows_left d.olders) c.drop_replaced.ensures.first (up, d.order.1) c.in-Some.older.now _ c.in-Some.ensures.none c.next-then-give_way.result _ _ _ (sym c.if-give_way.true ∙ c.give_way.ensures.first) c.give_way.ensures.rest c.peek.ensures.kept c.next-then-give_way.ensures)
 
 pub returns-else-give_way : goal.returns-else-give_way
 returns-else-give_way c =
     let d = c.drop_replaced.new.self in
-    let r = c.next-else-give_way.result in
     let bs = peeked_left rows_left d.bases in
     let up = IsStrictlySortedBy-filter by_identifier (stands d.older.now) bs d.order.0 in
     let left = all_in (standing d.older.now (peeked_left rows_left c.next-else-give_way.new.self)) (peeked_left rows_left c.peek.new.self) in
     let behind = sym c.if-give_way.false ∙ c.give_way.ensures.first in
-    let taken = taken_behind r c.in-Some.older.now _ _ _ behind c.give_way.ensures.rest c.next-else-give_way.ensures in
-    subst (λ xs. IsTaken r xs left) c.drop_replaced.ensures.left
-    (base_comes d.older.now bs (peeked_left rows_left d.olders) c.drop_replaced.ensures.first (up, d.order.1) c.in-Some.older.now _ c.in-Some.ensures.none r _ _ behind c.peek.ensures.kept taken)
+    let taken = taken_behind c.next-else-give_way.result c.in-Some.older.now _ _ _ behind c.give_way.ensures.rest c.next-else-give_way.ensures in
+    subst (λ xs. IsTaken c.next-else-give_way.result xs left) c.drop_replaced.ensures.left
+    (base_comes d.older.now bs (peeked_left rows_left d.olders) c.drop_replaced.ensures.first (up, d.order.1) c.in-Some.older.now _ c.in-Some.ensures.none c.next-else-give_way.result _ _ behind c.peek.ensures.kept taken)
