@@ -210,7 +210,7 @@ MOST_GROWN = MANY_OF_MOST = 4
 ENTRIES = 16
 # A segment has no more recent changes than one for so many of the parcels of which it is cut, and no more than so many: where there are
 # more they are put into indexes, with the older ones and with what these stand in the place of.
-PARCELS_FOR_A_RECENT, MOST_RECENT = 4, 32
+PARCELS_FOR_A_RECENT, MOST_RECENT = 4, 64
 
 
 class Segment:
@@ -304,7 +304,7 @@ def layers():
                     for most in MOST:
                         yield layer_case(labels.split(), size, times, most, changed.split())
     for labels in BASES:
-        for size in (1, 4, 12, 16, 100, 200):
+        for size in (1, 4, 12, 16, 100, 300):
             for changed in LISTS:
                 for times in (1, 2):
                     for most in (0, 1, 8):

@@ -34,7 +34,7 @@ const MANY_OF_MOST: usize = 4;
 const FEATURES_FOR_A_RECENT: usize = 4;
 
 /// Nor more than these: they are looked at one by one where features are counted, and a list of them is written anew with each change.
-const MOST_RECENT: usize = 32;
+const MOST_RECENT: usize = 64;
 
 /// The features of a collection at a revision, in segments by object, which other revisions share.
 ///
