@@ -197,7 +197,6 @@ FURTHER = [
     (["a"], 1, 3, 1, "1 2 3 4 5 6 7".split()),
     ("a b c d e f g h".split(), 1, 1, 3, "x y z 4 5 6 7 8 9".split()),
     ("a b c d e f g h".split(), 2, 300, 8, "x y z".split()),
-    ("a b c d e f g h".split(), 3, 65535, 40, ["x"]),
     ([*"abcdefghijklmnopqrstuvwxyz", *"abcdefghijklmnopqrstuvwxyz"], 1, 3, 0, [*"zyxwvutsrqponmlkjihgfedcba"]),
     ([*"abcdefghijklmnopqrstuvwxyz"], 30, 3, 25, [*"zyxwvutsrqponmlkjihgfedcba", "more", "than", "there", "were"]),
 ]
@@ -303,14 +302,18 @@ def layers():
                 for times in TIMES:
                     for most in MOST:
                         yield layer_case(labels.split(), size, times, most, changed.split())
+    for case in FURTHER:
+        yield layer_case(*case)
+
+
+def lists():
+    """The same with several lists, of which the later ones stand over what the earlier ones left."""
     for labels in BASES:
         for size in (1, 4, 12, 16, 100, 300):
             for changed in LISTS:
                 for times in (1, 2):
                     for most in (0, 1, 8):
                         yield layer_case(labels.split(), size, times, most, changed.split())
-    for case in FURTHER:
-        yield layer_case(*case)
 
 
 UNREAD = [
@@ -334,7 +337,7 @@ UNREAD = [
 
 def main():
     random = Random(65_536)
-    cases = [("# Boxes", None), *named_boxes(), *drawn_boxes(random), ("# Ranges", None), *ranges(random), ("# Layers", None), *layers(), ("# Lines that are no cases", None), *((line, "unread") for line in UNREAD)]
+    cases = [("# Boxes", None), *named_boxes(), *drawn_boxes(random), ("# Ranges", None), *ranges(random), ("# Layers", None), *layers(), ("# Lists of changes", None), *lists(), ("# As many times as a line may say", None), layer_case("a b c d e f g h".split(), 3, 65535, 40, ["x"]), ("# Lines that are no cases", None), *((line, "unread") for line in UNREAD)]
     here = Path(__file__).parent
     (here / "stdin").write_text("".join(f"{asked}\n" for asked, _ in cases), encoding="utf-8")
     (here / "stdout").write_text("".join(f"{answer}\n" for _, answer in cases if answer is not None), encoding="utf-8")
