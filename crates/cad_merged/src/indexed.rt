@@ -3,13 +3,12 @@
 ghost use Rattle.std.specs.Prelude.{◌≡◌, IfOk};
 ghost use Rattle.cad_feature.specs.Features.{AreFeaturesOf};
 
-use crate::change::as_changes;
+use crate::Change;
 use crate::counting::count_indexed;
 use crate::criterion::Criterion;
 use crate::finding::found;
 use crate::merging::merge;
 use crate::replacing::replaced_by;
-use crate::{Change, Walk};
 use cad_feature::Feature;
 use cad_index::Base;
 use cad_schema::Collection;

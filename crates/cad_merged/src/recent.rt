@@ -1,8 +1,6 @@
 //! The changes that stand in no index yet.
 
 ghost use Rattle.std.specs.Prelude.{◌≡◌, [], IfOk};
-ghost use Rattle.std.specs.List.{AllByRecursion};
-ghost use Rattle.cad_extents.specs.Extents.{IsWithin};
 ghost use Rattle.cad_feature.specs.Features.{AreFeaturesOf};
 ghost use Rattle.cad_merged.specs.Recent.{AreRecent};
 ghost use Rattle.cad_merged.specs.Walks.{all_in};

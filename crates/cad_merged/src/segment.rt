@@ -43,6 +43,7 @@ fn shared(indexed: &Rc<Indexed>) -> &Indexed
     indexed
 }
 
+/// The same of recent changes.
 fn told(recent: &Rc<Recent>) -> &Recent
     ensures { result.now ≡ recent.now.value }
 {

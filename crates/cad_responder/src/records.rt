@@ -21,8 +21,8 @@ pub(crate) const MOST_CHANGES: usize = 2048;
 /// How many features a segment of a collection has for each of these changes: as many are put into a new base when one is due.
 const FEATURES_FOR_A_CHANGE: usize = 4;
 
-/// How many features are merged or put into new bases, for each of these changes, before a revision goes: what is kept beside the
-/// newest features is bounded by this.
+/// How many features are put into indexes, and what takes as much, for each of these changes, before a revision goes: what is kept beside
+/// the newest features is bounded by this.
 const SPENT_FOR_A_CHANGE: usize = 32;
 
 /// How many revisions before the newest are kept at least, however much is changed, where the bases get that many changes.

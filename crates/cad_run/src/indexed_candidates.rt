@@ -7,7 +7,6 @@ ghost use Rattle.cad_feature.specs.Features.{by_identifier};
 ghost use Rattle.cad_merged.specs.Walks.{IsInOrder};
 ghost use Rattle.cad_run.specs.Bases.{rows_left};
 ghost use Rattle.cad_run.specs.Peeked.{peeked_left};
-ghost use Rattle.cad_run.specs.Standing.{standing};
 
 use crate::after::features_later;
 use crate::bases::Bases;

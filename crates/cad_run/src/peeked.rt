@@ -13,7 +13,6 @@ pub(crate) struct Peeked<'a, S> {
 
 impl<'a, S: Stream<'a>> Peeked<'a, S> {
     ghost use Rattle.std.specs.Prelude.{◌≡◌, [], ◌∷◌, MatchOption};
-    ghost use Rattle.std.specs.Option.{option_copied};
     ghost use Rattle.cad_run.specs.Peeked.{peeked_left, stands_first, without};
 
     /// The stream, of which nothing was looked at yet.

@@ -167,8 +167,7 @@ impl Snapshot {
             && self.responsibilities.is_settled(most)
     }
 
-    /// How many features were merged or put into new bases since it was built, by each of the revisions that it follows, and what takes
-    /// as much.
+    /// How many features were put into indexes since it was built, by each of the revisions that it follows, and what takes as much.
     pub fn spent(&self) -> usize {
         self.parcels
             .spent()
