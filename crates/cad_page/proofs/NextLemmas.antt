@@ -19,7 +19,6 @@ use Rattle.cad_ask.specs.Laws.{AskTheSame, NextAsksTheSame, PairsAskOneThing}
 use Rattle.cad_ask.specs.AnswerLemmas.{asks_well}
 use Rattle.cad_snapshot.specs.Snapshots.{RevisionFeatures, features_at}
 use Rattle.cad_answer.specs.Answers.{answers}
-use Rattle.cad_answer.specs.Places.{places_of}
 use Rattle.cad_run.specs.Slices.{is_later, later}
 use Rattle.cad_page.specs.Bodies.{numbers_of, pairs_of, target_after, next_in}
 use Rattle.cad_page.specs.Laws.{GoesOn, IsReadAgain, NextIsReadAgain}
@@ -53,7 +52,7 @@ rows_numbered : (ask : Ask) (snapshot : RevisionFeatures) → All (λ (x : Item)
 rows_numbered ask snapshot all =
     All-take (λ (x : Item). IsVersionNumber x.number) ask.selection.limit (later (beginning ask) (answer_in ask snapshot))
     (All-filter (is_later (beginning ask)) (λ (x : Item). IsVersionNumber x.number) (answer_in ask snapshot)
-    (All-filter (answers (places_of ask.collection) (restrictions ask)) (λ (x : Item). IsVersionNumber x.number) (features_at snapshot ask.collection) all))
+    (All-filter (answers ask.collection (restrictions ask)) (λ (x : Item). IsVersionNumber x.number) (features_at snapshot ask.collection) all))
 
 last_identifies : (ask : Ask) (snapshot : RevisionFeatures) (i : ℕ) (last : Item) → All (λ (x : Item). IsVersionNumber x.number) (features_at snapshot ask.collection)
     → slice_get (rows_in ask snapshot) i ≡ Some last → Identifies (identifier_text (numbers_of last)) (numbers_of last)
