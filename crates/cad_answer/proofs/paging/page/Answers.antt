@@ -48,5 +48,6 @@ pub returns-clause-features : goal.returns-clause-features
 returns-clause-features c =
     let layer = c.args.layer.now in
     let query = c.args.query in
+    let place = c.lifespan_place.result in
     let each = rw c.collection-collection.ensures.collection at c.collection-collection.ensures.listed.each in
     rw c.in_ok-page.ensures.rows (all_rows (IsFeatureOf layer.collection) (passes_query place query) (is_candidate c.args.plan.now) (after_of query) query.limit layer.features each)
