@@ -5,7 +5,7 @@ use Rattle.std.specs.List.{All}
 use Rattle.std.proofs.lemmas.List.Elements.{All-tail, All-take, All-filter}
 use Rattle.cad_schema.specs.declared.collection.Collection.{Collection}
 use Rattle.cad_feature.specs.Features.{Item, AreFeaturesOf}
-use Rattle.cad_rows.specs.Pages.{examined_of}
+use Rattle.cad_run.specs.Pages.{examined_of}
 use Rattle.cql_rewrite.specs.Laws.{FeaturesAreWritten}
 use Rattle.cql_rewrite.specs.Meets.{HoldsCharacters}
 use Rattle.cad_answer.specs.declared.query.PageQuery.{PageQuery}

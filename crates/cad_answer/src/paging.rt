@@ -4,7 +4,7 @@ ghost use Rattle.std.specs.Prelude.{◌≡◌, IfOk};
 ghost use Rattle.std.specs.List.{All};
 ghost use Rattle.cad_feature.specs.Features.{IsFeatureOf};
 ghost use Rattle.cad_lookup.specs.Candidates.{candidates};
-ghost use Rattle.cad_rows.specs.Pages.{examined_of};
+ghost use Rattle.cad_run.specs.Pages.{examined_of};
 ghost use Rattle.cad_run.specs.Slices.{later, rows_of, slice, is_more};
 ghost use Rattle.cad_answer.specs.Answers.{after_of, restrictions_of, answer, answers};
 ghost use Rattle.cad_answer.specs.Passing.{IsFormFor};

@@ -5,7 +5,7 @@ use Rattle.cad_feature.specs.Features.{Item}
 use Rattle.cad_lookup.specs.declared.plan.Plan.{Plan}
 use Rattle.cad_lookup.specs.Candidates.{candidates}
 use Rattle.cad_lookup.specs.Ways.{cost, counts_of, way_of}
-use Rattle.cad_rows.specs.Pages.{examined_of}
+use Rattle.cad_run.specs.Pages.{examined_of}
 use Rattle.cad_run.specs.Slices.{later}
 use Rattle.cql_box.specs.Boxes.{box_condition}
 use Rattle.cql_truth.specs.Sides.{yes}
