@@ -2,7 +2,7 @@
 use Rattle.std.proofs.Common.{◌≡◌, ◌∙◌, ◌⊎◌, inl, inr, ap, refl, sym, ℕ, zero, suc, ◌+◌, ◌≤◌, Bool, true, false, List, [], ◌∷◌, ◌++◌, length, filter, arith}
 use Rattle.std.specs.Prelude.{if◌then◌else◌}
 use Rattle.cad_feature.specs.Features.{Item}
-use Rattle.cad_rows.specs.Pages.{examined_of}
+use Rattle.cad_run.specs.Pages.{examined_of}
 use Rattle.cad_answer.specs.Examined.{AreTested, AreUpToOneMore, AreAll}
 
 module _ (p : Item → Bool) where
