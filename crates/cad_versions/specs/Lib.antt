@@ -15,6 +15,7 @@ pub mod Identifiers
 pub mod AsOf
 pub mod Listing
 pub mod Keeping
+pub mod KeepingLemmas
 pub mod Ledgers
 pub mod LedgerCalls
 pub mod Laws
