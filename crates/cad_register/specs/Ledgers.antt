@@ -14,8 +14,8 @@ use Rattle.cad_versions.specs.Versions.{versions}
 use Rattle.cad_versions.specs.Refusals.{refusal}
 use Rattle.cad_register.specs.declared.register.Register.{Register}
 use Rattle.cad_register.specs.Damage.{ReadsRows}
-use Rattle.cad_register.specs.Naming.{NamesShown}
-use Rattle.cad_register.specs.Refusing.{IsNotForMemory, RefusesToApply, IsForCommand}
+use Rattle.cad_register.specs.Naming.{FirstBreaks}
+use Rattle.cad_register.specs.Refusing.{IsNotForMemory, RefusesToApply, command_asked}
 use Rattle.cad_register.specs.Registers.{connection_of, state_of, revision_of, IsRegisterOf, Remains, HasFailed}
 use Rattle.cad_register.specs.Stands.{IsStoreFault}
 
@@ -37,10 +37,10 @@ abbrev pub RefusesListing : {S : Type 0} → Ghosts S → Register S → Registe
 RefusesListing g old new revision =
     (e : Error) × IsNotForMemory e × FailsToQuery listing_text (Int (pos revision) ∷ []) (state_of g old) (state_of g new) e
 
--- asked for the command, the database shows this damaged row, which is named
+-- asked for the command, the database shows this damaged row, the first of all that it shows
 abbrev pub DamagedForCommand : {S : Type 0} → Ghosts S → Register S → Register S → Command → ℤ → ℤ → Type 0
 DamagedForCommand g old new command object number =
-    NamesShown g (connection_of old) (connection_of new) (IsForCommand command (revision_of old)) (fault.Damaged object number)
+    FirstBreaks g (connection_of new) (command_asked command (revision_of old)) object number (connection_of old)
 
 -- asked for the revision, it shows such a row
 abbrev pub DamagedForListing : {S : Type 0} → Ghosts S → Register S → Register S → ℕ → ℤ → ℤ → Type 0
