@@ -12,7 +12,6 @@ use Rattle.cad_versions.specs.declared.object_id.ObjectId.{ObjectId}
 use Rattle.cad_versions.specs.declared.fault.RegisterFault.{RegisterFault}
 use Rattle.cad_versions.specs.declared.fault.RegisterFault.TheVariants as fault
 use Rattle.cad_versions.specs.Keeping.{NamesDamage}
-use Rattle.cad_versions.specs.KeepingLemmas.{names_by}
 use Rattle.cad_versions.specs.Objects.{object_number}
 use Rattle.cad_versions.specs.Refusals.{most_versions}
 use Rattle.cad_versions.specs.VersionedObject.{VersionedObject}
@@ -27,6 +26,11 @@ use Rattle.cad_register.proofs.StandLemmas.{IsDecided}
 -- a fault in the rows of an object tells of no revision
 pub rows_known : (object : ObjectId) (rows : List Row) (why : RegisterFault) → IsFaultIn object rows why → why ≢ fault.UnknownRevision
 rows_known object rows why bad e = subst (IsFaultIn object rows) e bad
+
+-- what is so of each row is so of the one that is named
+names_by : (P Q : ℤ → ℤ → Type 0) → ((object number : ℤ) → P object number → Q object number) → (why : RegisterFault) → NamesDamage P why → NamesDamage Q why
+names_by P Q weaker (fault.Damaged object number) named = weaker object number named
+names_by P Q weaker why named = tt
 
 -- what the database refuses names no row
 pub store_named : (P : ℤ → ℤ → Type 0) (why : RegisterFault) → IsStoreFault why → NamesDamage P why

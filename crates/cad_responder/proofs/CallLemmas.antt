@@ -5,7 +5,7 @@ use Rattle.cad_versions.specs.declared.command.Command.{Command}
 use Rattle.cad_versions.specs.declared.fault.RegisterFault.{RegisterFault}
 use Rattle.cad_versions.specs.declared.fault.RegisterFault.TheVariants.{Store, Memory}
 use Rattle.cad_versions.specs.Keeping.{IsShut, NamesDamage}
-use Rattle.cad_versions.specs.KeepingLemmas.{names_by}
+use Rattle.cad_stream.specs.KeepingLemmas.{names_by}
 use Rattle.cad_versions.specs.declared.ledger.Ledger.{Ghosts}
 use Rattle.cad_snapshot.specs.Snapshots.{RevisionFeatures}
 use Rattle.cad_head.specs.Request.{Request}

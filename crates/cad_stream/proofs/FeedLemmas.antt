@@ -10,7 +10,7 @@ use Rattle.cad_head.specs.Front.{front_bytes, IsHeadAt}
 use Rattle.cad_versions.specs.declared.command.Command.{Command}
 use Rattle.cad_versions.specs.declared.fault.RegisterFault.{RegisterFault}
 use Rattle.cad_versions.specs.declared.fault.RegisterFault.TheVariants.{Memory}
-use Rattle.cad_versions.specs.KeepingLemmas.{names_by, shut_by}
+use Rattle.cad_stream.specs.KeepingLemmas.{names_by, shut_by}
 use Rattle.cad_head.specs.Request.{Request, request_at, request_of}
 use Rattle.cad_stream.specs.declared.answer.Answer.{Answer}
 use Rattle.cad_stream.specs.declared.connection.Fed.{Fed}

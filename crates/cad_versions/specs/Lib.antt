@@ -15,7 +15,6 @@ pub mod Identifiers
 pub mod AsOf
 pub mod Listing
 pub mod Keeping
-pub mod KeepingLemmas
 pub mod Ledgers
 pub mod LedgerCalls
 pub mod Laws
