@@ -34,11 +34,14 @@
 mod departing;
 mod doors;
 mod hosting;
+pub mod laws;
 mod log;
 mod office;
 mod peers;
 mod readiness;
+mod stopped;
 
 pub use doors::{DoorFault, Doors, remove_door};
-pub use hosting::{Stopped, host};
+pub use hosting::host;
 pub use log::Log;
+pub use stopped::Stopped;
