@@ -2,17 +2,15 @@
 use Rattle.std.proofs.Common.{◌≡◌, ℕ, ◌+◌, List, [], ◌∷◌, ◌++◌, length, Result, Ok, Err, refl, sym, subst, append_assoc, append-nil, length-append, inl, inr}
 use Rattle.cad_versions.specs.declared.command.Command.{Command}
 use Rattle.cad_versions.specs.declared.fault.RegisterFault.{RegisterFault}
-use Rattle.cad_versions.specs.declared.fault.RegisterFault.TheVariants as register
-use Rattle.cad_versions.specs.Keeping.{MayClose}
 use Rattle.cad_stream.specs.declared.responder.Responder.{Ghosts}
 use Rattle.cad_desk.specs.declared.desk.Desk.{Desk}
 use Rattle.cad_desk.specs.declared.event.Event.{Event}
 use Rattle.cad_desk.specs.declared.event.Event.TheVariants.{Open, Bytes, Close, Office}
 use Rattle.cad_desk.specs.declared.event.Reply.{Reply}
 use Rattle.cad_desk.specs.declared.fault.DeskFault.{DeskFault}
-use Rattle.cad_desk.specs.Desks.{responder_of, Steps}
+use Rattle.cad_desk.specs.Desks.{responder_of, IsShutAtDesk, Steps}
 use Rattle.cad_desk.specs.Events.{commands_after}
-use Rattle.cad_desk.specs.Faults.{fault_of, MayCloseDesk}
+use Rattle.cad_desk.specs.Faults.{fault_of}
 use Rattle.cad_office.specs.declared.print.Answer.{Answer}
 use Rattle.cad_office.specs.declared.print.Answer.TheVariants.{Entered, Refused, NotACommand}
 use Rattle.cad_office.specs.Keeping.{AnswersLine}
@@ -26,21 +24,6 @@ client_same commands (Open c) answer of = refl
 client_same commands (Bytes c piece) answer of = refl
 client_same commands (Close c) answer of = refl
 client_same commands (Office command) answer of = absurd of
-
--- a fault after which the desk may be closed is one after which what keeps the commands may
-may_close : (fault : RegisterFault) → MayCloseDesk (fault_of fault) → MayClose fault
-may_close register.KnownObject h = h
-may_close register.UnknownObject h = h
-may_close register.OtherClass h = h
-may_close (register.DayNotAfter day) h = h
-may_close register.Retired h = h
-may_close register.UnknownReference h = h
-may_close register.Full h = h
-may_close (register.Damaged object number) h = h
-may_close register.NotARegister h = h
-may_close register.Store h = h
-may_close register.Memory h = h
-may_close register.UnknownRevision h = h
 
 module _ {R : Type 0} (g : Ghosts R) where
   same_counts : (old mid : Desk R) → mid ≡ old → g.counts (responder_of mid) → g.counts (responder_of old)
@@ -68,15 +51,21 @@ module _ {R : Type 0} (g : Ghosts R) where
 
   -- a client's event leaves them
   client_stands : (commands : List Command) (event : Event) (answer : Result Reply DeskFault) (old mid : Desk R) → IsOfClient event → Steps g old event answer mid → g.counts (responder_of mid)
-      → MayAsk g (serves event answer) mid → g.stands_for (responder_of old) commands → g.stands_for (responder_of mid) commands
+      → MayAsk g old (serves event answer) mid → g.stands_for (responder_of old) commands → g.stands_for (responder_of mid) commands
   client_stands commands event (Ok reply) old mid of s counts may stands =
       subst (λ (cs : List Command). g.stands_for (responder_of mid) cs) (client_same commands event (Ok reply) of) (s.kept counts commands stands)
-  client_stands commands event (Err fault) old mid of s counts may stands = s.unchanged counts may commands stands
+  client_stands commands event (Err fault) old mid of s counts may stands = elim (s.unchanged counts commands stands) [
+    | inl same ↦ same
+    | inr shut ↦ absurd (may shut)
+  ]
 
   -- a refused command leaves them
   refused_stands : (commands : List Command) (command : Command) (fault : RegisterFault) (old mid : Desk R) → Steps g old (Office command) (Err (fault_of fault)) mid → g.counts (responder_of mid)
-      → (MayClose fault → g.lives (responder_of mid)) → g.stands_for (responder_of old) commands → g.stands_for (responder_of mid) commands
-  refused_stands commands command fault old mid s counts may stands = s.unchanged counts (λ closes. may (may_close fault closes)) commands stands
+      → (IsShutAtDesk g old (fault_of fault) mid → ⊥) → g.stands_for (responder_of old) commands → g.stands_for (responder_of mid) commands
+  refused_stands commands command fault old mid s counts may stands = elim (s.unchanged counts commands stands) [
+    | inl same ↦ same
+    | inr shut ↦ absurd (may shut)
+  ]
 
   pub ledger_stands : LedgerStands g
   ledger_stands commands [] old new goes may counts stands =

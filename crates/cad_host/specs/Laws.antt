@@ -1,11 +1,10 @@
 -- What holds of all that a host does (own profile).
 use Rattle.std.specs.Prelude.{◌≡◌, ⊤, ℕ, ◌+◌, List, [], ◌∷◌, ◌++◌, length, IfErr}
 use Rattle.cad_versions.specs.declared.command.Command.{Command}
-use Rattle.cad_versions.specs.Keeping.{MayClose}
 use Rattle.cad_stream.specs.declared.responder.Responder.{Ghosts}
 use Rattle.cad_desk.specs.declared.desk.Desk.{Desk}
-use Rattle.cad_desk.specs.Desks.{responder_of}
-use Rattle.cad_desk.specs.Faults.{MayCloseDesk}
+use Rattle.cad_desk.specs.Desks.{responder_of, IsShutAtDesk}
+use Rattle.cad_desk.specs.Faults.{fault_of}
 use Rattle.cad_office.specs.declared.print.Answer.{Answer}
 use Rattle.cad_office.specs.declared.print.Answer.TheVariants.{Entered, Refused, NotACommand}
 use Rattle.cad_office.specs.Keeping.{Asks}
@@ -26,16 +25,16 @@ AreEntered (answers text answer ∷ later) count entered = AreFirst (AreEntered 
 AreEntered (asks_to_stop ∷ later) count entered = AreEntered later count entered
 
 module _ {R : Type 0} (g : Ghosts R) where
-  -- after a refusal by what keeps the commands, or for want of memory, it may be asked again
-  abbrev pub MayAsk : Work → Desk R → Type 0
-  MayAsk (serves event answer) new = IfErr answer (λ fault. MayCloseDesk fault → g.lives (responder_of new))
-  MayAsk (answers text (Refused fault)) new = MayClose fault → g.lives (responder_of new)
-  MayAsk (answers text other) new = ⊤
-  MayAsk asks_to_stop new = ⊤
+  -- what keeps the commands was not closed by it
+  abbrev pub MayAsk : Desk R → Work → Desk R → Type 0
+  MayAsk old (serves event answer) new = IfErr answer (λ fault. ¬ IsShutAtDesk g old fault new)
+  MayAsk old (answers text (Refused fault)) new = ¬ IsShutAtDesk g old (fault_of fault) new
+  MayAsk old (answers text other) new = ⊤
+  MayAsk old asks_to_stop new = ⊤
 
   abbrev pub MayGoOn : (works : List Work) (old new : Desk R) → Goes g old works new → Type 0
   MayGoOn [] old new goes = ⊤
-  MayGoOn (work ∷ later) old new goes = MayAsk work goes.0 × MayGoOn later goes.0 new goes.2
+  MayGoOn (work ∷ later) old new goes = MayAsk old work goes.0 × MayGoOn later goes.0 new goes.2
 
   -- what keeps the commands stands at the end for those before, and for those that the land office was told the revisions of, and no others
   abbrev pub LedgerStands : Type 0

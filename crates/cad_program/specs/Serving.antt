@@ -20,7 +20,7 @@ use Rattle.cad_sample.specs.Filling.{Enters, IsFilled}
 use Rattle.cad_sample.specs.Sample.{sample_commands}
 use Rattle.cad_responder.specs.declared.server.Server.{Server}
 use Rattle.cad_responder.specs.Replies.{IsReply, bad_head_reply, Asks, FailsToAnswer}
-use Rattle.cad_responder.specs.Servers.{ledger_of, IsServerOf, RefusesToAnswer}
+use Rattle.cad_responder.specs.Servers.{ledger_of, IsServerOf, RefusesToAnswer, DamagedForAnswer}
 use Rattle.cad_program.specs.declared.outcome.Outcome.{Outcome}
 use Rattle.cad_program.specs.declared.outcome.Outcome.TheVariants as outcome
 use Rattle.cad_program.specs.Outcomes.{outcome_of}
@@ -39,6 +39,7 @@ module _ {L : Type 0} (g : ledger.Ghosts L) where
     stands_for = IsServerOf g;
     counts = λ server. g.counts (ledger_of server);
     lives = λ server. g.lives (ledger_of server);
+    fails = λ old new. g.fails (ledger_of old) (ledger_of new);
     replies = IsReply;
     closes = ends_after;
     bad_head = bad_head_reply;
@@ -47,6 +48,8 @@ module _ {L : Type 0} (g : ledger.Ghosts L) where
     fails_to_enter = g.fails_to_apply;
     refuses_answer = RefusesToAnswer g;
     refuses_command = λ old new. g.refuses_command (ledger_of old) (ledger_of new);
+    damaged_for_answer = DamagedForAnswer g;
+    damaged_for_command = λ old new. g.damaged_for_command (ledger_of old) (ledger_of new);
     remains = λ old new. g.remains (ledger_of old) (ledger_of new);
   }
 
