@@ -5,7 +5,7 @@ rules of ranges, and not from the crates.
     scripts/normal_model.py <crates/cql_rewrite_cases/stdin     prints the answers
 
 A form is ("constant", b), ("range", property, low, high), ("front", property, low, high) of a LIKE that stays a condition,
-("and", parts), ("or", parts) or ("other",). An end is None, ("with", value) or ("without", value). Of NOT the opposite form is
+("and", parts), ("or", parts), ("equality",) of flags or ("other",). An end is None, ("with", value) or ("without", value). Of NOT the opposite form is
 taken, so no form has a NOT.
 """
 import re
@@ -18,7 +18,7 @@ FALSE, TRUE = ("constant", False), ("constant", True)
 ORDERED = ("whole", "text", "day")
 TURNED = {"=": "=", "<>": "<>", "<": ">", ">": "<", "<=": ">=", ">=": "<="}
 OPPOSITE = {"=": "<>", "<>": "=", "<": ">=", ">": "<=", "<=": ">", ">=": "<"}
-OTHER = ("other",)
+OTHER, EQUALITY = ("other",), ("equality",)
 
 
 def is_fixed(tree):
@@ -44,6 +44,14 @@ def compared(sign, left, right):
     if fixed[0] == fixed[1] or left[0] != "name" or sign == "<>" or isinstance(values[1], bool):
         return OTHER
     return ("range", left[3], *ends(sign, values[1]))
+
+
+def equal_flags(left, right):
+    """The form of an equality of flags, which is no range."""
+    fixed = [is_fixed(left), is_fixed(right)]
+    if all(fixed):
+        return ("constant", left[3] == right[3])
+    return EQUALITY if any(fixed) else OTHER
 
 
 def is_empty(low, high):
@@ -143,8 +151,8 @@ def form_of(tree, side):
         return liked(*parts) if side else OTHER
     if operator == "between":
         return between(*parts, side)
-    if operator == "in" and side and is_ordered(parts):
-        forms = [compared("=", parts[0], it) for it in parts[1:]]
+    if operator == "in" and side:
+        forms = [compared("=", parts[0], it) if is_ordered(parts) else equal_flags(parts[0], it) for it in parts[1:]]
         return OTHER if OTHER in forms else some_of(forms)
     return OTHER
 

@@ -1,20 +1,18 @@
 -- Answers among the candidates of a plan.
 use Rattle.std.proofs.Common.{◌≡◌, ◌∙◌, ℕ, zero, suc, ◌+◌, ◌≤◌, length, ℤ, Bool, true, false, cond, ◌&&◌, List, [], ◌∷◌, filter, get_or, refl, sym, ap, arith, true≢false, Option, Some, None}
-use Rattle.std.specs.Prelude.{if◌then◌else◌, option_map}
+use Rattle.std.specs.Prelude.{codes, if◌then◌else◌}
 use Rattle.std.specs.List.{All}
 use Rattle.std.proofs.lemmas.List.Elements.{All-tail, All-take, All-filter}
 use Rattle.cad_schema.specs.declared.collection.Collection.{Collection}
 use Rattle.cad_feature.specs.Features.{Item, AreFeaturesOf}
-use Rattle.cad_rows.specs.Pages.{examined_of}
+use Rattle.cad_run.specs.Pages.{examined_of}
 use Rattle.cql_rewrite.specs.Laws.{FeaturesAreWritten}
 use Rattle.cql_rewrite.specs.Meets.{HoldsCharacters}
-use Rattle.cad_answer.specs.declared.condition.Condition.{Condition}
-use Rattle.cad_answer.specs.declared.places.Places.{Places}
 use Rattle.cad_answer.specs.declared.query.PageQuery.{PageQuery}
 use Rattle.cad_run.specs.Slices.{is_later, later, slice}
 use Rattle.cad_answer.specs.Answers.{restrictions_of, if_asked, meets_days, meets_bounds, is_true_of, answers}
-use Rattle.cad_answer.specs.Passing.{meets_form, passes_query}
-use Rattle.cad_answer.specs.Places.{lifespan_of, geometry_of}
+use Rattle.cad_answer.specs.Passing.{IsFormFor, passes_query}
+use Rattle.cad_answer.specs.Places.{lifespan_of, geometry_of, place_named}
 
 one_step : (b : Bool) (m n : ℕ) → m ≤ n → (if b then 1 else (1 + m)) ≤ suc n
 one_step true m n h = omega arith
@@ -59,17 +57,19 @@ module _ {X : Type 0} where
 
 -- ---- a query as features are tested by it
 
-same_filter : (x : Item) → HoldsCharacters x → (c : Option Condition) → if_asked (meets_form x) c ≡ if_asked (is_true_of x) (option_map (λ d. d.filter.now) c)
-same_filter x written None = refl
-same_filter x written (Some c) = c.stands (record { item = x; characters = written })
+and_comm : (a b : Bool) → (a && b) ≡ (b && a)
+and_comm a b = grind arith
 
-pub passes_is : (places : Places) (query : PageQuery) (x : Item) → HoldsCharacters x → passes_query places query x ≡ answers places (restrictions_of query) x
-passes_is places query x written =
-    ap (λ b. if_asked (meets_days (lifespan_of places x)) query.days && (if_asked (meets_bounds (geometry_of places x)) query.bounds && b)) (same_filter x written query.filter)
+passes_is : (collection : Collection) (query : PageQuery) (x : Item) → HoldsCharacters x → IsFormFor query.normal.now collection (restrictions_of query) → passes_query (place_named collection (codes "lifespan")) query x ≡ answers collection (restrictions_of query) x
+passes_is collection query x written form =
+    ap (λ b. if_asked (meets_days (lifespan_of collection x)) query.days && b)
+    (form (record { item = x; characters = written }) ∙ and_comm (if_asked (is_true_of x) (restrictions_of query).filter) (if_asked (meets_bounds (geometry_of collection x)) query.bounds))
 
-pub passes_each : (collection : Collection) (places own : Places) (query : PageQuery) (xs : List Item) → FeaturesAreWritten collection → AreFeaturesOf collection xs → own ≡ places → All (λ x. passes_query own query x ≡ answers places (restrictions_of query) x) xs
-passes_each collection places own query xs written listed same = λ k d h.
-    passes_is own query (get_or xs k d) (written (get_or xs k d) (listed.each k d h)) ∙ ap (λ ps. answers ps (restrictions_of query) (get_or xs k d)) same
+pub passes_each : (own collection : Collection) (place : Option ℕ) (query : PageQuery) (xs : List Item) → FeaturesAreWritten own → AreFeaturesOf own xs → own ≡ collection → place ≡ place_named own (codes "lifespan") → IsFormFor query.normal.now collection (restrictions_of query)
+    → All (λ x. passes_query place query x ≡ answers collection (restrictions_of query) x) xs
+passes_each own collection place query xs written listed same at form = λ k d h.
+    ap (λ p. passes_query p query (get_or xs k d)) (at ∙ ap (λ c. place_named c (codes "lifespan")) same)
+    ∙ passes_is collection query (get_or xs k d) (written (get_or xs k d) (listed.each k d h)) form
 
 -- ---- what holds of the features of a list holds of those of a page
 

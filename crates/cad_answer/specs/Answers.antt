@@ -12,9 +12,8 @@ use Rattle.cad_feature.specs.Features.{Item}
 use Rattle.cql_types.specs.declared.filter.Filter.{Filter}
 use Rattle.cql_truth.specs.Sides.{yes}
 use Rattle.cad_run.specs.Slices.{identifier}
-use Rattle.cad_answer.specs.declared.places.Places.{Places}
 use Rattle.cad_answer.specs.declared.query.PageQuery.{PageQuery}
-use Rattle.cad_answer.specs.Places.{places_of, lifespan_of, geometry_of}
+use Rattle.cad_answer.specs.Places.{lifespan_of, geometry_of}
 
 -- what restricts an answer
 pub record Restrictions : Type 0 where
@@ -23,7 +22,7 @@ pub record Restrictions : Type 0 where
   pub filter : Option Filter
 
 abbrev pub restrictions_of : PageQuery → Restrictions
-restrictions_of query = record { days = query.days; bounds = query.bounds; filter = option_map (λ c. c.filter.now) query.filter }
+restrictions_of query = record { days = query.days; bounds = query.bounds; filter = option_map (λ f. f.now) query.filter }
 
 -- the identifier that the page begins after
 abbrev pub after_of : PageQuery → Option (ℤ × ℤ)
@@ -48,11 +47,11 @@ meets_bounds (Some shape) bounds = shapes_meet shape (Frame bounds)
 abbrev pub is_true_of : Item → Filter → Bool
 is_true_of x f = yes f x
 
-abbrev pub answers : Places → Restrictions → Item → Bool
-answers places asked x =
-    if_asked (meets_days (lifespan_of places x)) asked.days
-    && (if_asked (meets_bounds (geometry_of places x)) asked.bounds && if_asked (is_true_of x) asked.filter)
+abbrev pub answers : Collection → Restrictions → Item → Bool
+answers collection asked x =
+    if_asked (meets_days (lifespan_of collection x)) asked.days
+    && (if_asked (meets_bounds (geometry_of collection x)) asked.bounds && if_asked (is_true_of x) asked.filter)
 
 -- those features of the collection that all asked restrictions let pass, in their order
 abbrev pub answer : Collection → Restrictions → List Item → List Item
-answer collection asked xs = filter (answers (places_of collection) asked) xs
+answer collection asked xs = filter (answers collection asked) xs

@@ -7,9 +7,10 @@ use Rattle.cad_schema.specs.declared.collection.Collection.{Collection}
 use Rattle.cad_feature.specs.Features.{Item, identifier_of, by_identifier}
 use Rattle.cad_lookup.specs.declared.plan.Plan.{Plan}
 use Rattle.cad_lookup.specs.Candidates.{candidates}
-use Rattle.cad_rows.specs.Pages.{examined_of}
+use Rattle.cad_run.specs.Pages.{examined_of}
 use Rattle.cad_run.specs.Slices.{is_later, later, slice, is_more}
 use Rattle.cad_answer.specs.Answers.{Restrictions, answer}
+use Rattle.cad_answer.specs.Examined.{AreTested}
 use Rattle.cad_answer.specs.Passing.{Covers}
 
 -- the features of a page ascend by identifier, and come after the one that is named
@@ -45,6 +46,10 @@ abbrev pub CoveringPlansHaveTheAnswer : Type 0
 CoveringPlansHaveTheAnswer =
     (p : Plan) (collection : Collection) (asked : Restrictions) (xs : List Item)
     → Covers p collection asked xs → answer collection asked (candidates p xs) ≡ answer collection asked xs
+
+-- what is counted as tested for a page are the candidates up to the one that shows that more are left, or all
+abbrev pub ExaminedAreTested : Type 0
+ExaminedAreTested = (passes : Item → Bool) (limit : ℕ) (xs : List Item) → AreTested passes limit xs (examined_of passes limit xs)
 
 -- no more are tested for a page than the plan has candidates, which are no more than there are
 abbrev pub ExaminedAreCandidates : Type 0

@@ -8,14 +8,10 @@ use Rattle.cad_feature.specs.Features.{Item, datum_at}
 use Rattle.cad_schema.specs.Schema.{schema_of, find}
 use Rattle.cad_feature.specs.Values.{Datum, null}
 use Rattle.cql_truth.specs.Values.{span_in, shape_in}
-use Rattle.cad_answer.specs.declared.places.Places.{Places}
 
 -- the place of the collection's property of that name
 abbrev pub place_named : Collection → List ℕ → Option ℕ
 place_named collection name = option_map (λ (found : ℕ × PropertyKind). found.0) (find (schema_of collection) name)
-
-abbrev pub places_of : Collection → Places
-places_of collection = record { lifespan = place_named collection (codes "lifespan"); geometry = place_named collection (codes "geometry") }
 
 -- the value at the place; where there is no place there is no value
 abbrev pub value_at : Option ℕ → Item → Datum
@@ -23,9 +19,9 @@ value_at None x = null
 value_at (Some place) x = datum_at x place
 
 -- the days of the version
-abbrev pub lifespan_of : Places → Item → Option Interval
-lifespan_of places x = span_in (value_at places.lifespan x)
+abbrev pub lifespan_of : Collection → Item → Option Interval
+lifespan_of collection x = span_in (value_at (place_named collection (codes "lifespan")) x)
 
 -- its shape, where it has one
-abbrev pub geometry_of : Places → Item → Option Shape
-geometry_of places x = shape_in (value_at places.geometry x)
+abbrev pub geometry_of : Collection → Item → Option Shape
+geometry_of collection x = shape_in (value_at (place_named collection (codes "geometry")) x)

@@ -1,6 +1,6 @@
 //! What holds of pages, whatever is asked. Each contract is a law; the functions do nothing.
 
-ghost use Rattle.cad_answer.specs.Laws.{CoveringPlansHaveTheAnswer, ExaminedAreCandidates, PagesAscend, PagesAreFull, WalksAreWhole};
+ghost use Rattle.cad_answer.specs.Laws.{CoveringPlansHaveTheAnswer, ExaminedAreCandidates, ExaminedAreTested, PagesAscend, PagesAreFull, WalksAreWhole};
 
 /// The features of a page ascend by identifier, and come after the one that the page begins after.
 pub fn pages_ascend()
@@ -20,6 +20,11 @@ pub fn walks_are_whole()
 /// Of the candidates of a plan that covers an answer, those that answer are the answer.
 pub fn covering_plans_have_the_answer()
     ensures { CoveringPlansHaveTheAnswer }
+{}
+
+/// What is counted as tested for a page are the candidates up to the one that shows that more are left, or all where none are.
+pub fn examined_are_tested()
+    ensures { ExaminedAreTested }
 {}
 
 /// No more features are tested for a page than the plan has candidates, which are no more than there are.

@@ -1,7 +1,7 @@
 //! Which features of a collection answer a query, and a page of them.
 //!
-//! - [`Condition`]: a filter with its normal form, by which features are tested
-//! - [`PageQuery`]: days, a box and a filter that restrict an answer, and which part of the answer is wanted
+//! - [`PageQuery`]: days, a box and a filter that restrict an answer, the normal form of box and filter, by which features are
+//!   tested, and which part of the answer is wanted
 //! - [`page`]: the first features that answer, after one that is named, and whether more are left: a [`Page`]. Looked at are the
 //!   candidates of a [`Plan`] among the features of a [`Layer`]
 //! - `laws`: that pages ascend and are full, that the pages of a walk, joined, are the whole answer, and that those candidates
@@ -13,14 +13,12 @@
 #![tactic(auto)]
 
 mod answer;
-mod condition;
 pub mod laws;
+mod lifespans;
 mod paging;
-mod places;
 mod query;
 mod query_test;
 
 pub use cad_run::{Layer, Page, Plan};
-pub use condition::Condition;
 pub use paging::page;
 pub use query::PageQuery;

@@ -4,12 +4,12 @@ ghost use Rattle.std.specs.Prelude.{◌≡◌, IfOk};
 ghost use Rattle.std.specs.List.{All};
 ghost use Rattle.cad_feature.specs.Features.{IsFeatureOf};
 ghost use Rattle.cad_lookup.specs.Candidates.{candidates};
-ghost use Rattle.cad_rows.specs.Pages.{examined_of};
+ghost use Rattle.cad_run.specs.Pages.{examined_of};
 ghost use Rattle.cad_run.specs.Slices.{later, rows_of, slice, is_more};
 ghost use Rattle.cad_answer.specs.Answers.{after_of, restrictions_of, answer, answers};
-ghost use Rattle.cad_answer.specs.Places.{places_of};
+ghost use Rattle.cad_answer.specs.Passing.{IsFormFor};
 
-use crate::places::Places;
+use crate::lifespans::lifespan_place;
 use crate::query::PageQuery;
 use crate::query_test::QueryTest;
 use cad_run::{Layer, Page, Plan};
@@ -26,19 +26,20 @@ pub fn page<'a>(
     layer: &'a Layer,
     query: PageQuery,
 ) -> Result<Page<'a>, AllocError>
+    requires { IsFormFor query.normal.now layer.now.collection (restrictions_of query) }
     ensures rows { IfOk result (λ page. rows_of page
         ≡ slice (after_of query.entry) query.entry.limit (answer layer.now.collection (restrictions_of query.entry) (candidates plan.now layer.now.features))) }
     ensures more { IfOk result (λ page. page.more
         ≡ is_more (after_of query.entry) query.entry.limit (answer layer.now.collection (restrictions_of query.entry) (candidates plan.now layer.now.features))) }
     ensures examined { IfOk result (λ page. page.examined
-        ≡ examined_of (answers (places_of layer.now.collection) (restrictions_of query.entry)) query.entry.limit (later (after_of query.entry) (candidates plan.now layer.now.features))) }
+        ≡ examined_of (answers layer.now.collection (restrictions_of query.entry)) query.entry.limit (later (after_of query.entry) (candidates plan.now layer.now.features))) }
     ensures features { IfOk result (λ page. All (IsFeatureOf layer.now.collection) (rows_of page)) }
 {
     let collection = layer.collection();
     features_are_written(collection);
     let test = QueryTest {
         alloc,
-        places: Places::of(collection),
+        place: lifespan_place(collection),
         query,
     };
     let page = cad_run::page(alloc, plan, layer, &test, query.after, query.limit)?;

@@ -1,6 +1,6 @@
 -- What is answered to a query.
-use Rattle.std.proofs.Common.{◌≡◌, ℕ, ◌⊎◌, inl, inr, false, cond, List, ◌∷◌, Option, Some, None, Result, Ok, Err, refl, sym, ap, subst, ◌∙◌}
-use Rattle.std.specs.Prelude.{codes, IfSome, IsOk, option_map}
+use Rattle.std.proofs.Common.{◌≡◌, ℕ, ◌⊎◌, inl, inr, List, Option, Some, None, Result, Ok, Err, refl, sym, ap, subst, ◌∙◌}
+use Rattle.std.specs.Prelude.{IfSome, IsOk, option_map}
 use Rattle.std.specs.Option.{option_or}
 use Rattle.std.specs.Result.{result_err}
 use Rattle.std.proofs.lemmas.List.Folds.{find-append}
@@ -16,15 +16,14 @@ use Rattle.cql_filter.specs.declared.cause.FilterFault.{FilterFault}
 use Rattle.cql_filter.specs.declared.cause.FilterFault.TheVariants as filter_fault
 use Rattle.cql_filter.specs.Laws as filter_laws
 use Rattle.cad_query.specs.declared.fault.ParameterFault.{ParameterFault}
-use Rattle.cad_query.specs.declared.fault.ParameterFault.TheVariants as parameter
-use Rattle.cad_query.specs.Pairs.{PairText, given}
-use Rattle.cad_query.specs.Parameters.{any_text, have, first_of, selection_faults, continuation_faults, first_fault, is_wrong}
+use Rattle.cad_query.specs.Pairs.{PairText}
+use Rattle.cad_query.specs.Parameters.{have, first_of, selection_faults, continuation_faults, first_fault}
 use Rattle.cad_query.specs.Links.{continued}
 use Rattle.cad_query.specs.Laws.{ContinuedGoesOn}
 use Rattle.cad_ask.specs.declared.ask.Ask.{Ask}
 use Rattle.cad_ask.specs.declared.fault.AskFault.{AskFault}
 use Rattle.cad_ask.specs.declared.fault.AskFault.TheVariants as fault
-use Rattle.cad_ask.specs.Faults.{of_filter as fault_of_filter, selection_fault}
+use Rattle.cad_ask.specs.Faults.{of_filter as fault_of_filter, of_parameter, selection_fault}
 use Rattle.cad_ask.specs.Answers.{filter_given, IsFilterFault, FiltersWell, AsksWell, IsFirstFault, of_selection, of_filter, of_continuation, AnswersFilter, Answers, OrMemory}
 use Rattle.cad_ask.specs.Laws.{HasOneFirstFault, HasFaultOrAsks, NextAsksTheSame}
 use Rattle.cad_ask.specs.AnswerLemmas.{asks_well}
@@ -58,7 +57,7 @@ accepted_text : (c : Collection) (o : Option (List ℕ)) (text : List ℕ) → o
 accepted_text c o text is well = let here : IfSome (Some text) (IsAccepted (schema_of c)) = subst (λ p. IfSome p (IsAccepted (schema_of c))) is well in here
 
 module _ (excludes : filter_laws.HasFaultOrFilter) where
-  refused_text : (c : Collection) (pairs : List PairText) (f : AskFault) → IsFilterFault c (filter_given pairs) f → FiltersWell c pairs → ⊥
+  pub refused_text : (c : Collection) (pairs : List PairText) (f : AskFault) → IsFilterFault c (filter_given pairs) f → FiltersWell c pairs → ⊥
   refused_text c pairs f refused well =
       excludes (schema_of c) refused.content refused.cause refused.first (accepted_text c (filter_given pairs) refused.content refused.content_is well)
 
@@ -101,20 +100,13 @@ refused excludes one c pairs (Err g) (inr other) f first = inr (ap Err (one c pa
 
 -- ---- the next page
 
-told_of_none : (o : Option ParameterFault) → option_map fault.Parameter o ≡ None → o ≡ None
+pub told_of_none : (o : Option ParameterFault) → option_map of_parameter o ≡ None → o ≡ None
 told_of_none None e = refl
-told_of_none (Some f) e = absurd (let no_more : Some (fault.Parameter f) ≡ None = e in cc)
-
-no_filter_judged : (o : Option (List ℕ)) → is_wrong any_text o ≡ false
-no_filter_judged None = refl
-no_filter_judged (Some text) = refl
+told_of_none (Some f) e = absurd (let no_more : Some (of_parameter f) ≡ None = e in cc)
 
 whole_order : (pairs : List PairText)
-    → first_fault any_text pairs ≡ option_or (first_of any_text selection_faults pairs) (first_of any_text continuation_faults pairs)
-whole_order pairs =
-    find-append (λ f. have any_text f pairs) selection_faults (parameter.Filter ∷ continuation_faults)
-    ∙ ap (λ t. option_or (first_of any_text selection_faults pairs) (cond t (Some parameter.Filter) (first_of any_text continuation_faults pairs)))
-    (no_filter_judged (given (codes "filter") pairs))
+    → first_fault pairs ≡ option_or (first_of selection_faults pairs) (first_of continuation_faults pairs)
+whole_order pairs = find-append (λ f. have f pairs) selection_faults continuation_faults
 
 both_none : (o p : Option ParameterFault) → option_or o p ≡ None → (o ≡ None) × (p ≡ None)
 both_none None p e = (refl, e)
@@ -123,15 +115,15 @@ both_none (Some f) p e = absurd (let no_more : Some f ≡ None = e in cc)
 pub next_asks_the_same : ContinuedGoesOn → NextAsksTheSame
 next_asks_the_same goes_on c pairs revision last small is well =
     let again = continued revision last pairs in
-    let selects = told_of_none (first_of any_text selection_faults pairs) well.selects in
-    let continues = told_of_none (first_of any_text continuation_faults pairs) well.continues in
-    let none = whole_order pairs ∙ ap (λ o. option_or o (first_of any_text continuation_faults pairs)) selects ∙ continues in
-    let goes = goes_on any_text pairs revision last small is none in
-    let later = both_none (first_of any_text selection_faults again) (first_of any_text continuation_faults again) (sym (whole_order again) ∙ goes.no_fault) in (
+    let selects = told_of_none (first_of selection_faults pairs) well.selects in
+    let continues = told_of_none (first_of continuation_faults pairs) well.continues in
+    let none = whole_order pairs ∙ ap (λ o. option_or o (first_of continuation_faults pairs)) selects ∙ continues in
+    let goes = goes_on pairs revision last small is none in
+    let later = both_none (first_of selection_faults again) (first_of continuation_faults again) (sym (whole_order again) ∙ goes.no_fault) in (
       record {
-        selects = ap (option_map fault.Parameter) later.0;
+        selects = ap (option_map of_parameter) later.0;
         filters_well = subst (λ o. IfSome o (IsAccepted (schema_of c))) (sym goes.same_filter) well.filters_well;
-        continues = ap (option_map fault.Parameter) later.1;
+        continues = ap (option_map of_parameter) later.1;
       },
       goes,
     )

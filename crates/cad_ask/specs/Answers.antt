@@ -1,5 +1,5 @@
 -- What the pairs of a query ask of a collection, and their first fault (OGC 17-069r4, 7.15: features; OGC 19-079r2, 6.4: filter; the order of faults: own profile).
-use Rattle.std.specs.Prelude.{◌≡◌, ℕ, ◌⊎◌, List, map, codes, Option, Some, None, Result, Ok, Err, IfSome}
+use Rattle.std.specs.Prelude.{◌≡◌, ℕ, ◌≤◌, ◌⊎◌, true, List, map, codes, Option, Some, None, Result, Ok, Err, IfSome}
 use Rattle.cad_schema.specs.declared.collection.Collection.{Collection}
 use Rattle.cad_schema.specs.Schema.{schema_of}
 use Rattle.cql_types.specs.declared.filter.Filter.{Filter}
@@ -8,11 +8,12 @@ use Rattle.cql_filter.specs.Causes.{place_of}
 use Rattle.cql_filter.specs.Filters.{IsAccepted, IsFilterOf}
 use Rattle.cql_filter.specs.Filters as filters
 use Rattle.cad_query.specs.Pairs.{PairText, pair_text, given}
-use Rattle.cad_query.specs.Parameters.{IsSelection, IsContinuation}
+use Rattle.cad_query.specs.declared.fault.ParameterFault.{ParameterFault}
+use Rattle.cad_query.specs.Parameters.{have, IsSelection, IsContinuation}
 use Rattle.cad_ask.specs.declared.ask.Ask.{Ask}
 use Rattle.cad_ask.specs.declared.fault.AskFault.{AskFault}
 use Rattle.cad_ask.specs.declared.fault.AskFault.TheVariants as fault
-use Rattle.cad_ask.specs.Faults.{selection_fault, continuation_fault}
+use Rattle.cad_ask.specs.Faults.{fault_number, of_parameter, selection_fault, continuation_fault}
 
 -- the text that is given as a filter, if one is
 abbrev pub filter_given : List PairText → Option (List ℕ)
@@ -32,6 +33,16 @@ pub record IsFilterFault (c : Collection) (text : Option (List ℕ)) (f : AskFau
   pub content_is : text ≡ Some content
   pub first : filters.IsFirstFault (schema_of c) content cause
   pub told : f ≡ fault.Filter (place_of cause) cause
+
+-- the pairs have the fault: that of a parameter, or that of the filter's text
+abbrev pub HasFault : Collection → List PairText → AskFault → Type 0
+HasFault c pairs f =
+    ((p : ParameterFault) × (f ≡ of_parameter p) × (have p pairs ≡ true)) ⊎ IsFilterFault c (filter_given pairs) f
+
+-- they have it, and none with a lower number
+pub record IsLeastFault (c : Collection) (pairs : List PairText) (f : AskFault) : Type 0 where
+  pub is_had : HasFault c pairs f
+  pub least : (other : AskFault) → HasFault c pairs other → fault_number f ≤ fault_number other
 
 -- what is asked is what the pairs say, and they have no fault
 pub record IsAsk (c : Collection) (pairs : List PairText) (ask : Ask) : Type 0 where

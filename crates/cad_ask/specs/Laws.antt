@@ -4,17 +4,22 @@ use Rattle.cad_schema.specs.declared.collection.Collection.{Collection}
 use Rattle.cql_types.specs.Conditions.{condition_in}
 use Rattle.cad_query.specs.Pairs.{PairText, pair_text}
 use Rattle.cad_query.specs.Identifiers.{Numbers, Identifies, identifier_text, numbers_of}
-use Rattle.cad_query.specs.Parameters.{any_text}
 use Rattle.cad_query.specs.Links.{continued}
 use Rattle.cad_query.specs.Laws.{AsksToGoOn}
 use Rattle.cad_ask.specs.declared.ask.Ask.{Ask}
 use Rattle.cad_ask.specs.declared.fault.AskFault.{AskFault}
-use Rattle.cad_ask.specs.Answers.{IsAsk, AsksWell, IsFirstFault}
+use Rattle.cad_ask.specs.Answers.{IsAsk, AsksWell, IsFirstFault, IsLeastFault}
 
 -- pairs have at most one first fault
 abbrev pub HasOneFirstFault : Type 0
 HasOneFirstFault =
     (c : Collection) (pairs : List PairText) (f g : AskFault) → IsFirstFault c pairs f → IsFirstFault c pairs g → f ≡ g
+
+-- the first fault is the one with the lowest number of those that they have
+abbrev pub TheFirstIsTheLeast : Type 0
+TheFirstIsTheLeast =
+    (c : Collection) (pairs : List PairText) (f : AskFault)
+    → (IsFirstFault c pairs f → IsLeastFault c pairs f) × (IsLeastFault c pairs f → ¬ ¬ IsFirstFault c pairs f)
 
 -- and then they ask for nothing
 abbrev pub HasFaultOrAsks : Type 0
@@ -25,7 +30,7 @@ abbrev pub NextAsksTheSame : Type 0
 NextAsksTheSame =
     (c : Collection) (pairs : List PairText) (revision : ℕ) (last : Numbers)
     → revision < 10 ^ 18 → Identifies (identifier_text last) last → AsksWell c pairs
-    → AsksWell c (continued revision last pairs) × AsksToGoOn any_text pairs revision last (continued revision last pairs)
+    → AsksWell c (continued revision last pairs) × AsksToGoOn pairs revision last (continued revision last pairs)
 
 -- two values ask the same, but for where they lie in memory
 pub record AskTheSame (a b : Ask) : Type 0 where

@@ -66,7 +66,7 @@ fn selection(pairs: &[Pair]) -> Result<Selection, AskFault>
 {
     match Selection::read(pairs) {
         Ok(selection) => Ok(selection),
-        Err(fault) => Err(AskFault::Parameter(fault)),
+        Err(fault) => Err(AskFault::from(fault)),
     }
 }
 
@@ -76,7 +76,7 @@ fn continuation(pairs: &[Pair]) -> Result<Continuation, AskFault>
 {
     match Continuation::read(pairs) {
         Ok(continuation) => Ok(continuation),
-        Err(fault) => Err(AskFault::Parameter(fault)),
+        Err(fault) => Err(AskFault::from(fault)),
     }
 }
 

@@ -8,12 +8,33 @@ use thiserror::Error;
 /// Why a query is refused. The faults are looked for in the order of their numbers.
 #[derive(Clone, Copy, Debug, PartialEq, Eq, Error)]
 pub enum AskFault {
-    /// The pairs are wrong, or a parameter is; of `filter` the next one tells.
-    #[error(transparent)]
-    Parameter(ParameterFault),
+    /// A parameter has an unknown name.
+    #[error("a parameter has an unknown name")]
+    Unknown,
+    /// A parameter comes more than once.
+    #[error("a parameter comes more than once")]
+    Repeated,
+    /// `limit` is no number from 1.
+    #[error("the limit is no number from 1")]
+    Limit,
+    /// `datetime` is neither a moment nor an interval.
+    #[error("the datetime is neither a moment nor an interval")]
+    Datetime,
+    /// `bbox` is no box.
+    #[error("the bbox is no box")]
+    Bbox,
+    /// `filter-lang` is not `cql2-text`.
+    #[error("the language of the filter is unknown")]
+    FilterLang,
     /// `filter` is no filter of the collection: the cause, and the byte of the filter's text at which it stands.
     #[error("the filter is not accepted")]
     Filter { place: usize, cause: Cause },
+    /// `revision` is no number of 1 to 18 digits.
+    #[error("the revision is no number of 1 to 18 digits")]
+    Revision,
+    /// `after` is no identifier.
+    #[error("the identifier to start after is none")]
+    After,
     /// A growth was refused, at any point.
     #[error("out of memory")]
     Memory,
@@ -21,20 +42,27 @@ pub enum AskFault {
 
 impl AskFault {
     ghost use Rattle.std.specs.Prelude.{◌≡◌};
-    ghost use Rattle.cad_ask.specs.Faults.{fault_told, fault_number, fault_name};
+    ghost use Rattle.cad_ask.specs.Faults.{fault_told, fault_number, fault_name, fault_word};
 
     /// The number and the name.
     fn told(self) -> (u8, &'static str)
         ensures { (result.0, result.1.now) ≡ fault_told self }
     {
         match self {
-            AskFault::Parameter(fault) => (fault.number(), fault.name()),
+            AskFault::Unknown => (1, "Unknown"),
+            AskFault::Repeated => (2, "Repeated"),
+            AskFault::Limit => (3, "Limit"),
+            AskFault::Datetime => (4, "Datetime"),
+            AskFault::Bbox => (5, "Bbox"),
+            AskFault::FilterLang => (6, "FilterLang"),
             AskFault::Filter { place: _, cause: _ } => (7, "Filter"),
+            AskFault::Revision => (8, "Revision"),
+            AskFault::After => (9, "After"),
             AskFault::Memory => (10, "Memory"),
         }
     }
 
-    /// The fault's number in the table of specs/Faults, from 1, by which programs may tell it.
+    /// The number by which programs may tell the fault: its place in the order of looking, from 1.
     pub fn number(&self) -> u8
         ensures { result ≡ fault_number self.now }
     {
@@ -46,6 +74,44 @@ impl AskFault {
         ensures { result.now ≡ fault_name self.now }
     {
         self.told().1
+    }
+
+    /// The word that the body of the refusal tells: the parameter's name, where one is wrong.
+    pub fn word(&self) -> &'static str
+        ensures { result.now ≡ fault_word self.now }
+    {
+        match self {
+            AskFault::Unknown => "unknown",
+            AskFault::Repeated => "repeated",
+            AskFault::Limit => "limit",
+            AskFault::Datetime => "datetime",
+            AskFault::Bbox => "bbox",
+            AskFault::FilterLang => "filter-lang",
+            AskFault::Filter { place: _, cause: _ } => "filter",
+            AskFault::Revision => "revision",
+            AskFault::After => "after",
+            AskFault::Memory => "memory",
+        }
+    }
+}
+
+impl From<ParameterFault> for AskFault {
+    ghost use Rattle.std.specs.Prelude.{◌≡◌};
+    ghost use Rattle.cad_ask.specs.Faults.{of_parameter};
+
+    ghost from_gives = { λ fault gives. gives ≡ of_parameter fault };
+
+    fn from(fault: ParameterFault) -> AskFault {
+        match fault {
+            ParameterFault::Unknown => AskFault::Unknown,
+            ParameterFault::Repeated => AskFault::Repeated,
+            ParameterFault::Limit => AskFault::Limit,
+            ParameterFault::Datetime => AskFault::Datetime,
+            ParameterFault::Bbox => AskFault::Bbox,
+            ParameterFault::FilterLang => AskFault::FilterLang,
+            ParameterFault::Revision => AskFault::Revision,
+            ParameterFault::After => AskFault::After,
+        }
     }
 }
 

@@ -1,6 +1,6 @@
 //! What holds of every query. Nothing runs here.
 
-ghost use Rattle.cad_ask.specs.Laws.{HasFaultOrAsks, HasOneFirstFault, NextAsksTheSame, PairsAskOneThing};
+ghost use Rattle.cad_ask.specs.Laws.{HasFaultOrAsks, HasOneFirstFault, NextAsksTheSame, PairsAskOneThing, TheFirstIsTheLeast};
 
 use cad_query::laws::continued_goes_on;
 use cql_filter::laws as filters;
@@ -11,6 +11,14 @@ pub fn one_first_fault()
 {
     filters::fault_or_filter();
     filters::one_first_fault();
+}
+
+/// The first fault is the one with the lowest number of those that the pairs have.
+pub fn the_first_is_the_least()
+    ensures { TheFirstIsTheLeast }
+{
+    filters::fault_or_filter();
+    filters::filter_or_fault();
 }
 
 /// Pairs with a fault ask for nothing.

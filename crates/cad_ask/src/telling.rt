@@ -15,8 +15,7 @@ pub fn fault_body(alloc: Global, fault: &AskFault) -> Result<String, AllocError>
     ensures reads_back { IfOk result (λ text. read (string_bytes text) ≡ Some (fault_data fault.now)) }
 {
     match fault {
-        AskFault::Parameter(fault) => word_body(alloc, fault.word()),
         AskFault::Filter { place, cause } => filter_fault_body(alloc, cause.name(), *place),
-        AskFault::Memory => word_body(alloc, "memory"),
+        _ => word_body(alloc, fault.word()),
     }
 }

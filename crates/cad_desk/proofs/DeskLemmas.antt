@@ -1,18 +1,21 @@
--- A piece that is refused closes its connection.
-use Rattle.std.proofs.Common.{◌≡◌, ◌≢◌, ◌⊎◌, ℕ, Bool, true, false, cond, nat_eq, List, Some, None, is_some, Err, refl, sym, ap, subst, ◌∙◌, inl, inr}
+-- A piece that is refused closes its connection, and a command that is refused leaves them all.
+use Rattle.std.proofs.Common.{◌≡◌, ◌≢◌, ◌⊎◌, ℕ, Bool, true, false, cond, nat_eq, List, ◌++◌, Some, None, is_some, Err, refl, sym, ap, subst, ◌∙◌, inl, inr}
 use Rattle.std.specs.Global.{Vec}
 use Rattle.std.specs.HashMap.{get}
+use Rattle.cad_versions.specs.declared.command.Command.{Command}
 use Rattle.cad_versions.specs.declared.fault.RegisterFault.{RegisterFault}
 use Rattle.cad_versions.specs.declared.fault.RegisterFault.TheVariants as register
+use Rattle.cad_versions.specs.Ledgers.{Applied}
+use Rattle.cad_stream.specs.KeepingLemmas.{names_by}
 use Rattle.cad_stream.specs.declared.responder.Responder.{Ghosts}
-use Rattle.cad_stream.specs.Feeding.{bytes_left, Feeds}
+use Rattle.cad_stream.specs.Feeding.{bytes_left, DamagedLater, Feeds}
 use Rattle.cad_desk.specs.declared.desk.Desk.{Desk}
-use Rattle.cad_desk.specs.declared.event.Event.TheVariants.{Bytes}
+use Rattle.cad_desk.specs.declared.event.Event.TheVariants.{Bytes, Office}
 use Rattle.cad_desk.specs.declared.fault.DeskFault.{DeskFault}
 use Rattle.cad_desk.specs.declared.fault.DeskFault.TheVariants.{Memory, Register}
 use Rattle.cad_desk.specs.Faults.{fault_of}
-use Rattle.cad_desk.specs.Connections.{Connections, rest_at, Changes}
-use Rattle.cad_desk.specs.Desks.{responder_of, connections_of, Steps}
+use Rattle.cad_desk.specs.Connections.{Connections, rest_at, Changes, Keeps}
+use Rattle.cad_desk.specs.Desks.{responder_of, connections_of, IsDamagedFor, Steps}
 
 -- a fault of the register is want of memory, or is told as it is
 fault_cases : (fault : RegisterFault) → ((fault ≡ register.Memory) × (fault_of fault ≡ Memory)) ⊎ ((fault ≢ register.Memory) × (fault_of fault ≡ Register fault))
@@ -28,6 +31,9 @@ fault_cases register.NotARegister = inr ((λ e. absurd cc), refl)
 fault_cases register.Store = inr ((λ e. absurd cc), refl)
 fault_cases register.Memory = inl (refl, refl)
 fault_cases register.UnknownRevision = inr ((λ e. absurd cc), refl)
+
+same_fault : (a b : RegisterFault) → Register a ≡ Register b → a ≡ b
+same_fault a b e = cc
 
 -- a connection that is taken out is not open
 pub taken_out : (old new : Connections) (c : ℕ) → ((d : ℕ) → get nat_eq new d ≡ cond (nat_eq c d) None (get nat_eq old d)) → Changes old new c None
@@ -46,8 +52,12 @@ module _ {R : Type 0} (g : Ghosts R) where
         | inl m ↦ subst (λ (d : DeskFault). Steps g old (Bytes c piece) (Err d) new) (sym (e ∙ m.1)) (record {
           stepped = (ap is_some known, changes);
           kept = λ counts. tt;
-          unchanged = λ counts lives. f.stays.unchanged counts (λ may. lives tt);
+          unchanged = λ counts commands stands. elim (f.stays.unchanged counts commands stands) [
+            | inl still ↦ inl still
+            | inr shut ↦ inr (tt, shut.1, shut.2)
+          ];
           store = λ counts same. absurd cc;
+          damaged = tt;
           clean = f.stays.clean;
         })
         | inr r ↦ subst (λ (d : DeskFault). Steps g old (Bytes c piece) (Err d) new) (sym (e ∙ r.1)) (record {
@@ -55,6 +65,7 @@ module _ {R : Type 0} (g : Ghosts R) where
           kept = λ counts. tt;
           unchanged = f.stays.unchanged;
           store = λ counts same. (held, known, f.stays.store counts (same_fault fault register.Store same));
+          damaged = names_by (DamagedLater g (held ++ piece.items) (responder_of old) (responder_of new)) (IsDamagedFor g old (Bytes c piece) (responder_of new)) (λ object number named. (held, known, named)) fault f.stays.damaged;
           clean = f.stays.clean;
         })
       ]
@@ -63,5 +74,28 @@ module _ {R : Type 0} (g : Ghosts R) where
       refused_for (inl a) none = absurd (none a)
       refused_for (inr b) none = b
 
-      same_fault : (a b : RegisterFault) → Register a ≡ Register b → a ≡ b
-      same_fault a b e = cc
+  pub refused_command : (old new : Desk R) (command : Command) (fault : RegisterFault) (given : DeskFault) → given ≡ fault_of fault → Keeps (connections_of old) (connections_of new)
+      → Applied g.stands_for g.counts g.lives g.fails g.fails_to_enter g.refuses_command g.damaged_for_command (responder_of old) command (Err fault) (responder_of new)
+      → Steps g old (Office command) (Err given) new
+  refused_command old new command fault given e keeps a =
+      elim (fault_cases fault) [
+        | inl m ↦ subst (λ (d : DeskFault). Steps g old (Office command) (Err d) new) (sym (e ∙ m.1)) (record {
+          stepped = keeps;
+          kept = λ counts. tt;
+          unchanged = λ counts commands stands. elim (a.unchanged counts commands stands) [
+            | inl still ↦ inl still
+            | inr shut ↦ inr (tt, shut.1, shut.2)
+          ];
+          store = λ counts same. absurd cc;
+          damaged = tt;
+          clean = a.clean;
+        })
+        | inr r ↦ subst (λ (d : DeskFault). Steps g old (Office command) (Err d) new) (sym (e ∙ r.1)) (record {
+          stepped = (keeps, r.0, a.refused);
+          kept = λ counts. tt;
+          unchanged = a.unchanged;
+          store = λ counts same. a.store counts (ap Err (same_fault fault register.Store same));
+          damaged = names_by (g.damaged_for_command (responder_of old) (responder_of new) command) (IsDamagedFor g old (Office command) (responder_of new)) (λ object number named. named) fault a.damaged;
+          clean = a.clean;
+        })
+      ]

@@ -1,5 +1,5 @@
 -- Runs of a desk, by recursion on the events.
-use Rattle.std.proofs.Common.{ℕ, List, [], ◌∷◌, Result, Ok, Err, IfErr, subst}
+use Rattle.std.proofs.Common.{◌⊎◌, ℕ, List, [], ◌∷◌, Result, Ok, Err, IfErr, subst, inl, inr}
 use Rattle.cad_versions.specs.declared.command.Command.{Command}
 use Rattle.cad_stream.specs.declared.responder.Responder.{Ghosts}
 use Rattle.cad_stream.specs.Feeding.{Under}
@@ -12,11 +12,14 @@ use Rattle.cad_desk.specs.declared.fault.DeskFault.{DeskFault}
 use Rattle.cad_desk.specs.declared.fault.DeskFault.TheVariants.{UnknownConnection, KnownConnection, TooManyConnections, Memory, Register}
 use Rattle.cad_desk.specs.Connections.{Connections}
 use Rattle.cad_desk.specs.Events.{Rules, IsOpened, IsTaken, IsClosed, IsEntered, StepOf, commands_after}
-use Rattle.cad_desk.specs.Desks.{responder_of, connections_of, rules_of, Steps}
+use Rattle.cad_desk.specs.Desks.{responder_of, connections_of, rules_of, IsShutAtDesk, Steps}
 use Rattle.cad_desk.specs.Runs.{RunOf, Takes}
-use Rattle.cad_desk.specs.Faults.{MayCloseDesk}
 
 -- ---- from a desk's steps to a run
+
+not_shut : {A B : Type 0} → A ⊎ B → ¬ B → A
+not_shut (inl a) none = a
+not_shut (inr b) none = absurd (none b)
 
 -- what holds of all commands in force holds of these
 abbrev Settles : ((List Command → Type 0) → Type 0) → List Command → Type 1
@@ -82,13 +85,13 @@ module _ {R : Type 0} (g : Ghosts R) where
   counted old new (event ∷ events) (answer ∷ answers) t counts = t.1.clean (counted t.0 new events answers t.3 counts)
 
   -- the responder stands for the commands in force after the event
-  stands_after : (old mid : Desk R) (event : Event) (answer : Result Reply DeskFault) (commands : List Command) → Steps g old event answer mid → g.counts (responder_of mid) → IfErr answer (λ fault. MayCloseDesk fault → g.lives (responder_of mid))
+  stands_after : (old mid : Desk R) (event : Event) (answer : Result Reply DeskFault) (commands : List Command) → Steps g old event answer mid → g.counts (responder_of mid) → IfErr answer (λ fault. ¬ IsShutAtDesk g old fault mid)
       → g.stands_for (responder_of old) commands → g.stands_for (responder_of mid) (commands_after commands event answer)
-  stands_after old mid event (Ok reply) commands s counts lives stands = s.kept counts commands stands
-  stands_after old mid (Open c) (Err fault) commands s counts lives stands = s.unchanged counts lives commands stands
-  stands_after old mid (Bytes c piece) (Err fault) commands s counts lives stands = s.unchanged counts lives commands stands
-  stands_after old mid (Close c) (Err fault) commands s counts lives stands = s.unchanged counts lives commands stands
-  stands_after old mid (Office command) (Err fault) commands s counts lives stands = s.unchanged counts lives commands stands
+  stands_after old mid event (Ok reply) commands s counts not_closed stands = s.kept counts commands stands
+  stands_after old mid (Open c) (Err fault) commands s counts not_closed stands = not_shut (s.unchanged counts commands stands) not_closed
+  stands_after old mid (Bytes c piece) (Err fault) commands s counts not_closed stands = not_shut (s.unchanged counts commands stands) not_closed
+  stands_after old mid (Close c) (Err fault) commands s counts not_closed stands = not_shut (s.unchanged counts commands stands) not_closed
+  stands_after old mid (Office command) (Err fault) commands s counts not_closed stands = not_shut (s.unchanged counts commands stands) not_closed
 
   pub takes_run : (events : List Event) (answers : List (Result Reply DeskFault)) (commands : List Command) (old new : Desk R) → Takes g old events answers new
       → g.counts (responder_of new) → g.stands_for (responder_of old) commands → RunOf (rules_of g) commands (connections_of old) events answers

@@ -1,9 +1,9 @@
 -- What clauses see of a desk, and what its step does (own profile).
-use Rattle.std.specs.Prelude.{◌≡◌, ℕ, List, ◌++◌, length, Some, Result, IfErr, OnOk, OnErr}
+use Rattle.std.specs.Prelude.{◌≡◌, ◌⊎◌, ℕ, ℤ, List, ◌++◌, length, Some, Result, IfErr, OnOk}
 use Rattle.cad_versions.specs.declared.command.Command.{Command}
 use Rattle.cad_versions.specs.declared.fault.RegisterFault.TheVariants.{Store}
 use Rattle.cad_stream.specs.declared.responder.Responder.{Ghosts}
-use Rattle.cad_stream.specs.Feeding.{Under, RefusesLater}
+use Rattle.cad_stream.specs.Feeding.{Under, RefusesLater, DamagedLater}
 use Rattle.cad_desk.specs.declared.desk.Desk.{Desk}
 use Rattle.cad_desk.specs.declared.event.Event.{Event}
 use Rattle.cad_desk.specs.declared.event.Event.TheVariants.{Open, Bytes, Close, Office}
@@ -12,7 +12,7 @@ use Rattle.cad_desk.specs.declared.fault.DeskFault.{DeskFault}
 use Rattle.cad_desk.specs.declared.fault.DeskFault.TheVariants.{Register}
 use Rattle.cad_desk.specs.Connections.{Connections, rest_at}
 use Rattle.cad_desk.specs.Events.{Rules, StepOf, commands_after}
-use Rattle.cad_desk.specs.Faults.{MayCloseDesk}
+use Rattle.cad_desk.specs.Faults.{MayCloseDesk, NamesDamageAtDesk}
 
 -- what answers the requests
 abbrev pub responder_of : {R : Type 0} → Desk R → R
@@ -41,10 +41,23 @@ module _ {R : Type 0} (g : Ghosts R) where
   IsRefused old (Close c) new = ⊥
   IsRefused old (Office command) new = (commands : List Command) → g.stands_for (responder_of old) commands → g.refuses_command (responder_of old) new command (length commands)
 
-  -- an event is answered by the definition, over the commands for which the responder stands
+  -- a row of this object and this number is damaged that is shown for a part of the event
+  abbrev pub IsDamagedFor : Desk R → Event → R → ℤ → ℤ → Type 0
+  IsDamagedFor old (Open c) new object number = ⊥
+  IsDamagedFor old (Bytes c piece) new object number =
+      (held : List ℕ) × (rest_at (connections_of old) c ≡ Some held) × DamagedLater g (held ++ piece.items) (responder_of old) new object number
+  IsDamagedFor old (Close c) new object number = ⊥
+  IsDamagedFor old (Office command) new object number = g.damaged_for_command (responder_of old) new command object number
+
+  -- what keeps the commands is closed after this fault, since it failed meanwhile
+  abbrev pub IsShutAtDesk : Desk R → DeskFault → Desk R → Type 0
+  IsShutAtDesk old fault new = MayCloseDesk fault × ¬ g.lives (responder_of new) × g.fails (responder_of old) (responder_of new)
+
+  -- an event is answered by the definition, over the commands for which the responder stands; after a refusal it stands for the same ones, or what keeps them failed and is closed; a row that is named as damaged is such a one, whatever it stands for
   pub record Steps (old : Desk R) (event : Event) (result : Result Reply DeskFault) (new : Desk R) : Type 0 where
     pub stepped : StepOf rules_of (Under g (responder_of old) (responder_of new)) (connections_of old) event result (connections_of new)
     pub kept : g.counts (responder_of new) → OnOk result ((commands : List Command) → g.stands_for (responder_of old) commands → g.stands_for (responder_of new) (commands_after commands event result))
-    pub unchanged : g.counts (responder_of new) → IfErr result (λ fault. MayCloseDesk fault → g.lives (responder_of new)) → OnErr result ((commands : List Command) → g.stands_for (responder_of old) commands → g.stands_for (responder_of new) commands)
+    pub unchanged : g.counts (responder_of new) → IfErr result (λ fault. (commands : List Command) → g.stands_for (responder_of old) commands → g.stands_for (responder_of new) commands ⊎ IsShutAtDesk old fault new)
     pub store : g.counts (responder_of new) → IfErr result (λ fault. fault ≡ Register Store → IsRefused old event (responder_of new))
+    pub damaged : IfErr result (NamesDamageAtDesk (IsDamagedFor old event (responder_of new)))
     pub clean : g.counts (responder_of new) → g.counts (responder_of old)

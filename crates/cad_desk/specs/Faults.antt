@@ -1,8 +1,8 @@
 -- The numbers and names of a desk's faults, as programs print them (own profile).
-use Rattle.std.specs.Prelude.{ℕ, List, codes}
+use Rattle.std.specs.Prelude.{ℕ, ℤ, List, codes}
 use Rattle.cad_versions.specs.declared.fault.RegisterFault.{RegisterFault}
 use Rattle.cad_versions.specs.declared.fault.RegisterFault.TheVariants as register
-use Rattle.cad_versions.specs.Keeping.{MayClose}
+use Rattle.cad_versions.specs.Keeping.{MayClose, NamesDamage}
 use Rattle.cad_desk.specs.declared.fault.DeskFault.{DeskFault}
 use Rattle.cad_desk.specs.declared.fault.DeskFault.TheVariants.{UnknownConnection, KnownConnection, TooManyConnections, Memory, Register}
 
@@ -29,3 +29,8 @@ abbrev pub MayCloseDesk : DeskFault → Type 0
 MayCloseDesk Memory = Unit {0}
 MayCloseDesk (Register fault) = MayClose fault
 MayCloseDesk other = ⊥
+
+-- the row that the register's fault names as damaged is such a one
+abbrev pub NamesDamageAtDesk : (ℤ → ℤ → Type 0) → DeskFault → Type 0
+NamesDamageAtDesk IsDamaged (Register fault) = NamesDamage IsDamaged fault
+NamesDamageAtDesk IsDamaged other = Unit {0}

@@ -13,8 +13,7 @@ use Rattle.cad_desk.specs.declared.fault.DeskFault.{DeskFault}
 use Rattle.cad_desk.specs.declared.fault.DeskFault.TheVariants.{UnknownConnection}
 use Rattle.cad_desk.specs.Connections.{Connections}
 use Rattle.cad_desk.specs.Events.{Rules, StepOf, commands_after}
-use Rattle.cad_desk.specs.Desks.{responder_of, Steps}
-use Rattle.cad_desk.specs.Faults.{MayCloseDesk}
+use Rattle.cad_desk.specs.Desks.{IsShutAtDesk, Steps}
 
 -- each event has its answer, one after the other, each with the commands in force then
 abbrev pub RunOf : Rules → List Command → Connections → List Event → List (Result Reply DeskFault) → Type 0
@@ -25,13 +24,13 @@ RunOf rules commands old (event ∷ events) (answer ∷ answers) =
     (new : Connections) × StepOf rules (λ Holds. Holds commands) old event answer new
     × RunOf rules (commands_after commands event answer) new events answers
 
--- the desk took these events, one after the other, and answered so; after a refusal by what keeps the commands, or for want of memory, it may be asked again
+-- the desk took these events, one after the other, and answered so; what keeps the commands was closed by none of them
 abbrev pub Takes : {R : Type 0} → Ghosts R → Desk R → List Event → List (Result Reply DeskFault) → Desk R → Type 0
 Takes g old [] [] new = new ≡ old
 Takes g old [] (answer ∷ answers) new = ⊥
 Takes g old (event ∷ events) [] new = ⊥
 Takes {R} g old (event ∷ events) (answer ∷ answers) new =
-    (mid : Desk R) × Steps g old event answer mid × IfErr answer (λ fault. MayCloseDesk fault → g.lives (responder_of mid)) × Takes g mid events answers new
+    (mid : Desk R) × Steps g old event answer mid × IfErr answer (λ fault. ¬ IsShutAtDesk g old fault mid) × Takes g mid events answers new
 
 -- a piece of a connection's bytes, and what went out for it
 abbrev pub Exchange : Type 0

@@ -1,4 +1,5 @@
 pub mod SameLemmas
 pub mod PlanLemmas
+pub mod MenuLemmas
 pub mod WholeLemmas
 pub mod NextLemmas

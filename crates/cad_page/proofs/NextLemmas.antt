@@ -12,14 +12,12 @@ use Rattle.cad_query.specs.Laws.{IsPairOfTexts, PairsAreTexts, NextIsReadBack, A
 use Rattle.cad_query.specs.Links.{continued}
 use Rattle.cad_query.specs.Pairs.{PairText, pair_text}
 use Rattle.cad_query.specs.Pairs as queries
-use Rattle.cad_query.specs.Parameters.{any_text}
 use Rattle.cad_ask.specs.declared.ask.Ask.{Ask}
 use Rattle.cad_ask.specs.Answers.{IsFilterGiven, IsAsk, AsksWell}
 use Rattle.cad_ask.specs.Laws.{AskTheSame, NextAsksTheSame, PairsAskOneThing}
 use Rattle.cad_ask.specs.AnswerLemmas.{asks_well}
 use Rattle.cad_snapshot.specs.Snapshots.{RevisionFeatures, features_at}
 use Rattle.cad_answer.specs.Answers.{answers}
-use Rattle.cad_answer.specs.Places.{places_of}
 use Rattle.cad_run.specs.Slices.{is_later, later}
 use Rattle.cad_page.specs.Bodies.{numbers_of, pairs_of, target_after, next_in}
 use Rattle.cad_page.specs.Laws.{GoesOn, IsReadAgain, NextIsReadAgain}
@@ -53,7 +51,7 @@ rows_numbered : (ask : Ask) (snapshot : RevisionFeatures) → All (λ (x : Item)
 rows_numbered ask snapshot all =
     All-take (λ (x : Item). IsVersionNumber x.number) ask.selection.limit (later (beginning ask) (answer_in ask snapshot))
     (All-filter (is_later (beginning ask)) (λ (x : Item). IsVersionNumber x.number) (answer_in ask snapshot)
-    (All-filter (answers (places_of ask.collection) (restrictions ask)) (λ (x : Item). IsVersionNumber x.number) (features_at snapshot ask.collection) all))
+    (All-filter (answers ask.collection (restrictions ask)) (λ (x : Item). IsVersionNumber x.number) (features_at snapshot ask.collection) all))
 
 last_identifies : (ask : Ask) (snapshot : RevisionFeatures) (i : ℕ) (last : Item) → All (λ (x : Item). IsVersionNumber x.number) (features_at snapshot ask.collection)
     → slice_get (rows_in ask snapshot) i ≡ Some last → Identifies (identifier_text (numbers_of last)) (numbers_of last)
@@ -69,7 +67,7 @@ last_identifies ask snapshot i last all stands = record {
 abbrev between : Ask → Ask → Ask
 between ask again = record { collection = again.collection; pairs = ask.pairs; selection = again.selection; filter = again.filter; continuation = ask.continuation }
 
-between_asks : (c : Collection) (pairs new : List PairText) (revision : ℕ) (last : Numbers) (ask again : Ask) → IsAsk c pairs ask → IsAsk c new again → AsksToGoOn any_text pairs revision last new → IsAsk c pairs (between ask again)
+between_asks : (c : Collection) (pairs new : List PairText) (revision : ℕ) (last : Numbers) (ask again : Ask) → IsAsk c pairs ask → IsAsk c new again → AsksToGoOn pairs revision last new → IsAsk c pairs (between ask again)
 between_asks c pairs new revision last ask again is new_is on = record {
   collection_is = new_is.collection_is;
   pairs_are = is.pairs_are;
@@ -84,7 +82,7 @@ between_asks c pairs new revision last ask again is new_is on = record {
   continuation_is = is.continuation_is;
 }
 
-goes_on : PairsAskOneThing → (c : Collection) (pairs new : List PairText) (revision : ℕ) (last : Item) (ask again : Ask) → IsAsk c pairs ask → IsAsk c new again → AsksToGoOn any_text pairs revision (numbers_of last) new → GoesOn ask again revision last
+goes_on : PairsAskOneThing → (c : Collection) (pairs new : List PairText) (revision : ℕ) (last : Item) (ask again : Ask) → IsAsk c pairs ask → IsAsk c new again → AsksToGoOn pairs revision (numbers_of last) new → GoesOn ask again revision last
 goes_on one c pairs new revision last ask again is new_is on =
     let same : AskTheSame (between ask again) ask = one c pairs (between ask again) ask (between_asks c pairs new revision (numbers_of last) ask again is new_is on) is in
     record {
@@ -117,7 +115,7 @@ module _ (one : PairsAskOneThing) (same : NextAsksTheSame) (texts : PairsAreText
         well = subst (AsksWell c) (sym pairs) goes.0;
         goes_on = λ again is_again.
             goes_on one c (pairs_of ask) (asked_pairs target) snapshot.revision link.last ask again is is_again
-            (subst (AsksToGoOn any_text (pairs_of ask) snapshot.revision last) (sym pairs) goes.1);
+            (subst (AsksToGoOn (pairs_of ask) snapshot.revision last) (sym pairs) goes.1);
       }
 
   pub next_is_read_again : NextIsReadAgain

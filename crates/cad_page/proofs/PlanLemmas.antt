@@ -18,7 +18,7 @@ use Rattle.cql_rewrite.specs.Costs.{bound, least}
 use Rattle.cql_rewrite.specs.Laws.{FeaturesAreWritten}
 use Rattle.cql_rewrite.specs.Meets.{HoldsCharacters, Written, meets}
 use Rattle.cad_answer.specs.Answers.{answers, if_asked, is_true_of, meets_bounds, meets_days}
-use Rattle.cad_answer.specs.Places.{geometry_of, lifespan_of, place_named, places_of, value_at}
+use Rattle.cad_answer.specs.Places.{geometry_of, lifespan_of, place_named, value_at}
 use Rattle.cad_ask.specs.declared.ask.Ask.{Ask}
 use Rattle.cad_page.specs.Pages.{restrictions}
 use Rattle.cad_page.specs.Plans.{FormCosts, FormStands, IsBoxFilter, IsFormOf, IsWithin, box_filter}
@@ -31,10 +31,10 @@ last_two true true false h = absurd (true≢false (sym h))
 last_two true false f h = absurd (true≢false (sym h))
 last_two false b f h = absurd (true≢false (sym h))
 
-covered : (ask : Ask) (x : Item) (form : Normal) (plan : Plan) → HoldsCharacters x → IsFormOf ask form → (IsTrue (meets x form) → IsTrue (is_candidate plan x)) → answers (places_of ask.collection) (restrictions ask) x ≡ true → is_candidate plan x ≡ true
-covered ask x form plan written is covers h = covers (is.stands (record { item = x; characters = written }) ∙ last_two (if_asked (meets_days (lifespan_of (places_of ask.collection) x)) ask.selection.datetime) (if_asked (meets_bounds (geometry_of (places_of ask.collection) x)) ask.selection.bbox) (if_asked (is_true_of x) ask.filter) h)
+covered : (ask : Ask) (x : Item) (form : Normal) (plan : Plan) → HoldsCharacters x → IsFormOf ask form → (IsTrue (meets x form) → IsTrue (is_candidate plan x)) → answers ask.collection (restrictions ask) x ≡ true → is_candidate plan x ≡ true
+covered ask x form plan written is covers h = covers (is.stands (record { item = x; characters = written }) ∙ last_two (if_asked (meets_days (lifespan_of ask.collection x)) ask.selection.datetime) (if_asked (meets_bounds (geometry_of ask.collection x)) ask.selection.bbox) (if_asked (is_true_of x) ask.filter) h)
 
-pub all_covered : (ask : Ask) (xs : List Item) (form : Normal) (plan : Plan) → FeaturesAreWritten ask.collection → AreFeaturesOf ask.collection xs → IsFormOf ask form → ((x : Item) → IsTrue (meets x form) → IsTrue (is_candidate plan x)) → All (λ x. answers (places_of ask.collection) (restrictions ask) x ≡ true → is_candidate plan x ≡ true) xs
+pub all_covered : (ask : Ask) (xs : List Item) (form : Normal) (plan : Plan) → FeaturesAreWritten ask.collection → AreFeaturesOf ask.collection xs → IsFormOf ask form → ((x : Item) → IsTrue (meets x form) → IsTrue (is_candidate plan x)) → All (λ x. answers ask.collection (restrictions ask) x ≡ true → is_candidate plan x ≡ true) xs
 all_covered ask xs form plan written listed is covers = λ k d h. covered ask (get_or xs k d) form plan (written (get_or xs k d) (listed.each k d h)) is (covers (get_or xs k d))
 
 -- ---- the form of a filter alone
@@ -51,7 +51,7 @@ no_bound t form place bounds e = subst (λ o. IsWithin t form (option_map (box_c
 
 pub form_alone : (ask : Ask) (form : Normal) → ask.selection.bbox ≡ None → FormStands form ask → FormCosts form ask → IsFormOf ask form
 form_alone ask form none stands costs = record {
-  stands = λ x. stands x ∙ unboxed x.item (places_of ask.collection).geometry ask.selection.bbox _ none;
+  stands = λ x. stands x ∙ unboxed x.item (place_named ask.collection (codes "geometry")) ask.selection.bbox _ none;
   filter_bound = costs;
   box_bound = λ t. no_bound t form (place_named ask.collection (codes "geometry")) ask.selection.bbox none;
 }
@@ -79,7 +79,7 @@ box_filter_is ask bounds place boxed asked at is says = record {
   says = λ x.
       says x ∙ box_is x place bounds
       ∙ ap (λ p. meets_bounds (shape_in (value_at p x)) bounds) at
-      ∙ ap (if_asked (meets_bounds (geometry_of (places_of ask.collection) x))) (sym asked);
+      ∙ ap (if_asked (meets_bounds (geometry_of ask.collection x))) (sym asked);
 }
 
 within_box : (t : List Written) (form : Normal) (boxed : Filter) (o : Option Filter) → o ≡ Some boxed → least t form ≤ bound t boxed → IsWithin t form o

@@ -19,7 +19,7 @@ use Rattle.cad_ask.specs.declared.ask.Ask.{Ask}
 use Rattle.cad_ask.specs.Laws.{AskTheSame}
 use Rattle.cad_snapshot.specs.Snapshots.{RevisionFeatures, features_at}
 use Rattle.cad_answer.specs.Answers.{Restrictions, if_asked, meets_days, meets_bounds, is_true_of, answers, answer}
-use Rattle.cad_answer.specs.Places.{places_of, lifespan_of, geometry_of}
+use Rattle.cad_answer.specs.Places.{lifespan_of, geometry_of}
 use Rattle.cad_run.specs.Slices.{identifier, slice, is_more}
 use Rattle.cad_page.specs.Pages.{restrictions, beginning, answer_in, rows_in, is_more_in}
 use Rattle.cad_page.specs.Bodies.{numbers_of, pairs_of, next_links, page_data}
@@ -33,10 +33,10 @@ same_filter agree x None (Some g) e = absurd cc
 same_filter agree x (Some f) None e = absurd cc
 same_filter agree x (Some f) (Some g) e = ap (λ s. s.yes) (agree f g x cc)
 
-same_answers : FiltersOfOneConditionAgree → (c : Collection) (a b : Ask) → AskTheSame a b → (x : Item) → answers (places_of c) (restrictions a) x ≡ answers (places_of c) (restrictions b) x
+same_answers : FiltersOfOneConditionAgree → (c : Collection) (a b : Ask) → AskTheSame a b → (x : Item) → answers c (restrictions a) x ≡ answers c (restrictions b) x
 same_answers agree c a b e x =
-    ap₂ ◌&&◌ (ap (if_asked (meets_days (lifespan_of (places_of c) x))) e.datetime)
-    (ap₂ ◌&&◌ (ap (if_asked (meets_bounds (geometry_of (places_of c) x))) e.bbox) (same_filter agree x a.filter b.filter e.condition))
+    ap₂ ◌&&◌ (ap (if_asked (meets_days (lifespan_of c x))) e.datetime)
+    (ap₂ ◌&&◌ (ap (if_asked (meets_bounds (geometry_of c x))) e.bbox) (same_filter agree x a.filter b.filter e.condition))
 
 filter_same : (p q : Item → Bool) → ((x : Item) → p x ≡ q x) → (xs : List Item) → filter p xs ≡ filter q xs
 filter_same p q e [] = refl
@@ -44,7 +44,7 @@ filter_same p q e (x ∷ xs) = ap₂ (λ (t : Bool) (l : List Item). cond t (x �
 
 same_answer : FiltersOfOneConditionAgree → (a b : Ask) (snapshot : RevisionFeatures) → AskTheSame a b → answer_in a snapshot ≡ answer_in b snapshot
 same_answer agree a b snapshot e =
-    filter_same (answers (places_of a.collection) (restrictions a)) (answers (places_of a.collection) (restrictions b)) (same_answers agree a.collection a b e) (features_at snapshot a.collection)
+    filter_same (answers a.collection (restrictions a)) (answers a.collection (restrictions b)) (same_answers agree a.collection a b e) (features_at snapshot a.collection)
     ∙ ap (λ (c : Collection). answer c (restrictions b) (features_at snapshot c)) e.collection
 
 -- ---- the part that is asked for

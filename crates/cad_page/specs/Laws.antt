@@ -2,7 +2,7 @@
 use Rattle.std.specs.Prelude.{◌≡◌, ℕ, ◌<◌, ◌^◌, ◌-◌, true, List, length, slice_get, Some, option_map}
 use Rattle.std.specs.List.{All}
 use Rattle.cql_types.specs.Conditions.{condition_in}
-use Rattle.cad_feature.specs.Features.{Item}
+use Rattle.cad_feature.specs.Features.{Item, AreFeaturesOf}
 use Rattle.cad_bodies.specs.Paths.{items_path}
 use Rattle.cad_query.specs.Identifiers.{IsVersionNumber}
 use Rattle.cad_query.specs.Identifiers as identifiers
@@ -13,7 +13,11 @@ use Rattle.cad_ask.specs.Answers.{IsAsk, AsksWell}
 use Rattle.cad_ask.specs.Laws.{AskTheSame}
 use Rattle.cad_snapshot.specs.Snapshots.{RevisionFeatures, features_at}
 use Rattle.cad_page.specs.Bodies.{numbers_of, next_in, page_data}
-use Rattle.cad_page.specs.Pages.{answer_in, rows_in, is_more_in}
+use Rattle.cad_lookup.specs.declared.plan.Plan.{Plan}
+use Rattle.cad_answer.specs.Answers.{answer}
+use Rattle.cad_run.specs.Slices.{slice, is_more}
+use Rattle.cad_page.specs.Pages.{restrictions, beginning, answer_in, rows_in, is_more_in}
+use Rattle.cad_page.specs.Plans.{CoversAnswer, IsChosen, IsOfMenu, candidates_in}
 
 -- what asks the same is answered by the same page
 abbrev pub TheSameIsAnswered : Type 0
@@ -22,6 +26,20 @@ TheSameIsAnswered = (a b : Ask) (snapshot : RevisionFeatures) → AskTheSame a b
 -- and the same features answer it, of which the page is a part
 abbrev pub TheSameHasOneAnswer : Type 0
 TheSameHasOneAnswer = (a b : Ask) (snapshot : RevisionFeatures) → AskTheSame a b → answer_in a snapshot ≡ answer_in b snapshot
+
+-- ---- whatever plan was chosen
+
+-- the plan's candidates have the whole answer: a page among them has exactly the asked slice, and tells truly whether more is left
+pub record FindsThePage (plan : Plan) (ask : Ask) (snapshot : RevisionFeatures) : Type 0 where
+  pub covers : CoversAnswer plan ask snapshot
+  pub rows : slice (beginning ask) ask.selection.limit (answer ask.collection (restrictions ask) (candidates_in plan ask snapshot)) ≡ rows_in ask snapshot
+  pub more : is_more (beginning ask) ask.selection.limit (answer ask.collection (restrictions ask) (candidates_in plan ask snapshot)) ≡ is_more_in ask snapshot
+
+-- each plan of the menu does, whichever form of what is asked the menu is made of; the plan that is chosen is one of them
+abbrev pub PlansOfTheMenuFindThePage : Type 0
+PlansOfTheMenuFindThePage =
+    (plan : Plan) (ask : Ask) (snapshot : RevisionFeatures) → AreFeaturesOf ask.collection (features_at snapshot ask.collection)
+    → (IsOfMenu plan ask snapshot → FindsThePage plan ask snapshot) × (IsChosen plan ask snapshot → IsOfMenu plan ask snapshot)
 
 -- ---- the next page
 

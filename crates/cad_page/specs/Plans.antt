@@ -1,10 +1,11 @@
 -- How the features that a request asks for are found (own profile).
-use Rattle.std.specs.Prelude.{◌≡◌, ◌≤◌, ◌&&◌, ⊤, ℕ, List, codes, Option, Some, None, option_map}
+use Rattle.std.specs.Prelude.{◌≡◌, ◌≤◌, ⊤, ℕ, List, codes, Option, Some, None, option_map}
+use Rattle.std.specs.List.{Contains}
 use Rattle.cad_feature.specs.Features.{Item}
 use Rattle.cad_lookup.specs.declared.plan.Plan.{Plan}
 use Rattle.cad_lookup.specs.Candidates.{candidates}
 use Rattle.cad_lookup.specs.Ways.{cost, counts_of, way_of}
-use Rattle.cad_rows.specs.Pages.{examined_of}
+use Rattle.cad_run.specs.Pages.{examined_of}
 use Rattle.cad_run.specs.Slices.{later}
 use Rattle.cql_box.specs.Boxes.{box_condition}
 use Rattle.cql_truth.specs.Sides.{yes}
@@ -12,10 +13,11 @@ use Rattle.cql_types.specs.declared.filter.Filter.{Filter}
 use Rattle.cql_rewrite.specs.declared.form.Normal.{Normal}
 use Rattle.cql_rewrite.specs.Costs.{bound, least}
 use Rattle.cql_rewrite.specs.Meets.{Written, meets}
-use Rattle.cql_rewrite.specs.Menus.{choice}
+use Rattle.cql_rewrite.specs.Menus.{choice, menu}
 use Rattle.cad_answer.specs.Answers.{answers, if_asked, is_true_of, meets_bounds}
-use Rattle.cad_answer.specs.Passing.{Covers}
-use Rattle.cad_answer.specs.Places.{geometry_of, place_named, places_of}
+use Rattle.cad_answer.specs.Examined.{AreTested}
+use Rattle.cad_answer.specs.Passing.{Covers, IsFormFor}
+use Rattle.cad_answer.specs.Places.{geometry_of, place_named}
 use Rattle.cad_ask.specs.declared.ask.Ask.{Ask}
 use Rattle.cad_snapshot.specs.Snapshots.{RevisionFeatures, features_at}
 use Rattle.cad_page.specs.Pages.{restrictions, beginning}
@@ -33,7 +35,7 @@ box_filter ask = option_map (box_condition (place_named ask.collection (codes "g
 
 -- a normal form of the filter and the box: met by the features that meet both, and within the bound of each
 pub record IsFormOf (ask : Ask) (form : Normal) : Type 0 where
-  pub stands : (x : Written) → meets x.item form ≡ (if_asked (is_true_of x.item) ask.filter && if_asked (meets_bounds (geometry_of (places_of ask.collection) x.item)) ask.selection.bbox)
+  pub stands : IsFormFor form ask.collection (restrictions ask)
   pub filter_bound : (t : List Written) → IsWithin t form ask.filter
   pub box_bound : (t : List Written) → IsWithin t form (box_filter ask)
 
@@ -42,6 +44,12 @@ pub record IsChosen (plan : Plan) (ask : Ask) (snapshot : RevisionFeatures) : Ty
   pub form : Normal
   pub is_form : IsFormOf ask form
   pub way : way_of plan ≡ choice (counts_of (features_at snapshot ask.collection)) form
+
+-- the plan is one of the menu of such a form
+pub record IsOfMenu (plan : Plan) (ask : Ask) (snapshot : RevisionFeatures) : Type 0 where
+  pub form : Normal
+  pub is_form : IsFormOf ask form
+  pub way : Contains (menu (counts_of (features_at snapshot ask.collection)) form) (way_of plan)
 
 -- what it costs to look at its candidates
 abbrev pub cost_in : Plan → Ask → RevisionFeatures → ℕ
@@ -60,14 +68,19 @@ candidates_in plan ask snapshot = candidates plan (features_at snapshot ask.coll
 -- how many of them are tested for the page: those after the one that it begins after, up to the one that shows that more are left
 abbrev pub examined_in : Plan → Ask → RevisionFeatures → ℕ
 examined_in plan ask snapshot =
-    examined_of (answers (places_of ask.collection) (restrictions ask)) ask.selection.limit (later (beginning ask) (candidates_in plan ask snapshot))
+    examined_of (answers ask.collection (restrictions ask)) ask.selection.limit (later (beginning ask) (candidates_in plan ask snapshot))
+
+-- so many of them are tested, in the subject's words
+abbrev pub AreTestedIn : Plan → Ask → RevisionFeatures → ℕ → Type 0
+AreTestedIn plan ask snapshot count =
+    AreTested (answers ask.collection (restrictions ask)) ask.selection.limit (later (beginning ask) (candidates_in plan ask snapshot)) count
 
 -- ---- words of the contracts
 
 -- the filter is the box
 pub record IsBoxFilter (boxed : Filter) (ask : Ask) : Type 0 where
   pub condition : box_filter ask ≡ Some boxed
-  pub says : (x : Item) → yes boxed x ≡ if_asked (meets_bounds (geometry_of (places_of ask.collection) x)) ask.selection.bbox
+  pub says : (x : Item) → yes boxed x ≡ if_asked (meets_bounds (geometry_of ask.collection x)) ask.selection.bbox
 
 -- the features that meet the form are those of which the filter is true
 abbrev pub FormStands : Normal → Ask → Type 0

@@ -1,10 +1,11 @@
 //! How a page is found.
 
 ghost use Rattle.std.specs.Prelude.{◌≡◌, IfOk, length};
-ghost use Rattle.cad_page.specs.Plans.{IsChosen, candidates_in, cost_in, examined_in};
+ghost use Rattle.cad_page.specs.Plans.{AreTestedIn, IsChosen, candidates_in, cost_in, examined_in};
 
 use crate::finding::{Planned, planned_asked};
 use cad_answer::Plan;
+use cad_answer::laws::examined_are_tested;
 use cad_ask::Ask;
 use cad_plan::estimate;
 use cad_run::candidate_count;
@@ -30,7 +31,9 @@ pub fn explain(alloc: Global, ask: &Ask, snapshot: &Snapshot) -> Result<Report, 
     ensures cost { IfOk result (λ report. report.cost ≡ cost_in report.plan ask.now snapshot.now) }
     ensures candidates { IfOk result (λ report. report.candidates ≡ length (candidates_in report.plan ask.now snapshot.now)) }
     ensures examined { IfOk result (λ report. report.examined ≡ examined_in report.plan ask.now snapshot.now) }
+    ensures tested { IfOk result (λ report. AreTestedIn report.plan ask.now snapshot.now report.examined) }
 {
+    examined_are_tested();
     let Planned { plan, page } = planned_asked(alloc, ask, snapshot)?;
     let layer = snapshot.layer(ask.collection);
     let cost = estimate(&plan, layer);

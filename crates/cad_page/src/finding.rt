@@ -1,19 +1,21 @@
 //! What a request asks of a snapshot.
 
-ghost use Rattle.std.specs.Prelude.{◌≡◌, IfOk, option_map};
+ghost use Rattle.std.specs.Prelude.{◌≡◌, IfOk, Some};
 ghost use Rattle.std.specs.List.{All};
 ghost use Rattle.cad_feature.specs.Features.{IsFeatureOf};
 ghost use Rattle.cad_answer.specs.Answers.{restrictions_of};
 ghost use Rattle.cad_answer.specs.Answers.{after_of};
 ghost use Rattle.cad_run.specs.Slices.{rows_of};
 ghost use Rattle.cad_page.specs.Pages.{restrictions, beginning, rows_in, is_more_in};
-ghost use Rattle.cad_page.specs.Plans.{CoversAnswer, FormStands, IsChosen, examined_in};
+ghost use Rattle.cad_page.specs.Plans.{CoversAnswer, FormCosts, FormStands, IsChosen, IsFormOf, examined_in};
 
-use crate::planning::{form_of, plan_asked};
+use crate::planning::{boxed_form, form_of, geometry_place, plan_for};
 use cad_answer::laws::covering_plans_have_the_answer;
-use cad_answer::{Condition, Page, PageQuery, Plan, page};
+use cad_answer::{Page, PageQuery, Plan, page};
 use cad_ask::Ask;
+use cad_shape::Bounds;
 use cad_snapshot::Snapshot;
+use cql_box::box_condition;
 use cql_rewrite::Normal;
 use std::alloc::{AllocError, Global};
 
@@ -24,10 +26,10 @@ pub(crate) struct Planned<'a> {
     pub(crate) page: Page<'a>,
 }
 
-// The query, with the condition that its filter comes to.
-fn query<'a, 'f>(ask: &Ask, condition: Option<Condition<'a, 'f>>) -> PageQuery<'a, 'f>
-    requires { option_map (λ c. c.filter.now) condition ≡ ask.now.filter }
+// The query, with the form of what is asked.
+fn query<'a, 'f>(ask: &'f Ask, form: &'a Normal<'f>) -> PageQuery<'a, 'f>
     ensures asked { restrictions_of result ≡ restrictions ask.now }
+    ensures form { result.normal.now ≡ form.now }
     ensures after { after_of result ≡ beginning ask.now }
     ensures limit { result.limit ≡ ask.now.selection.limit }
 {
@@ -38,35 +40,22 @@ fn query<'a, 'f>(ask: &Ask, condition: Option<Condition<'a, 'f>>) -> PageQuery<'
     PageQuery {
         days: ask.selection.datetime,
         bounds: ask.selection.bbox,
-        filter: condition,
+        filter: ask.filter.as_ref(),
+        normal: form,
         after,
         limit: ask.selection.limit,
     }
 }
 
-// The condition that the filter comes to, by its form.
-fn condition_of<'a, 'f>(ask: &'f Ask, form: &'a Normal<'f>) -> Option<Condition<'a, 'f>>
-    requires { FormStands form.now ask.now }
-    ensures { option_map (λ c. c.filter.now) result ≡ ask.now.filter }
-{
-    match &ask.filter {
-        None => None,
-        Some(filter) => Some(Condition {
-            filter,
-            normal: form,
-        }),
-    }
-}
-
-// The page of the plan's candidates that meet the condition too.
+// The page of the plan's candidates that meet the form too.
 fn page_where<'a>(
     alloc: Global,
     ask: &Ask,
     plan: &Plan,
+    form: &Normal,
     snapshot: &'a Snapshot,
-    condition: Option<Condition>,
 ) -> Result<Page<'a>, AllocError>
-    requires condition { option_map (λ c. c.filter.now) condition ≡ ask.now.filter }
+    requires form { IsFormOf ask.now form.now }
     requires covers { CoversAnswer plan.now ask.now snapshot.now }
     ensures rows { IfOk result (λ page. rows_of page ≡ rows_in ask.now snapshot.now) }
     ensures more { IfOk result (λ page. page.more ≡ is_more_in ask.now snapshot.now) }
@@ -75,11 +64,54 @@ fn page_where<'a>(
 {
     covering_plans_have_the_answer();
     let layer = snapshot.layer(ask.collection);
-    let page = page(alloc, plan, layer, query(ask, condition))?;
+    let page = page(alloc, plan, layer, query(ask, form))?;
     Ok(page)
 }
 
-/// The page that is asked for, with the plan that was chosen for it. The normal form of the filter is made once.
+// The page that is asked for, by this form of what is asked, with the plan that was chosen for it.
+fn planned_by<'a>(
+    alloc: Global,
+    ask: &Ask,
+    form: &Normal,
+    snapshot: &'a Snapshot,
+) -> Result<Planned<'a>, AllocError>
+    requires { IsFormOf ask.now form.now }
+    ensures rows { IfOk result (λ found. rows_of found.page ≡ rows_in ask.now snapshot.now) }
+    ensures more { IfOk result (λ found. found.page.more ≡ is_more_in ask.now snapshot.now) }
+    ensures examined { IfOk result (λ found. found.page.examined ≡ examined_in found.plan ask.now snapshot.now) }
+    ensures features { IfOk result (λ found. All (IsFeatureOf ask.now.collection) (rows_of found.page)) }
+    ensures chosen { IfOk result (λ found. IsChosen found.plan ask.now snapshot.now) }
+{
+    let plan = plan_for(alloc, ask, form, snapshot)?;
+    let page = page_where(alloc, ask, &plan, form, snapshot)?;
+    Ok(Planned { plan, page })
+}
+
+// The same where this box is asked for, which is joined to the form of the filter.
+fn planned_in_box<'a>(
+    alloc: Global,
+    ask: &Ask,
+    form: Normal,
+    bounds: Bounds,
+    snapshot: &'a Snapshot,
+) -> Result<Planned<'a>, AllocError>
+    requires boxed { ask.now.selection.bbox ≡ Some bounds }
+    requires stands { FormStands form ask.now }
+    requires costs { FormCosts form ask.now }
+    ensures rows { IfOk result (λ found. rows_of found.page ≡ rows_in ask.now snapshot.now) }
+    ensures more { IfOk result (λ found. found.page.more ≡ is_more_in ask.now snapshot.now) }
+    ensures examined { IfOk result (λ found. found.page.examined ≡ examined_in found.plan ask.now snapshot.now) }
+    ensures features { IfOk result (λ found. All (IsFeatureOf ask.now.collection) (rows_of found.page)) }
+    ensures chosen { IfOk result (λ found. IsChosen found.plan ask.now snapshot.now) }
+{
+    let boxed = box_condition(geometry_place(ask.collection), bounds);
+    let form = boxed_form(alloc, ask, form, &boxed)?;
+    let planned = planned_by(alloc, ask, &form, snapshot)?;
+    Ok(planned)
+}
+
+/// The page that is asked for, with the plan that was chosen for it. The normal form of what is asked is made once, for the choice
+/// and for the tests.
 pub(crate) fn planned_asked<'a>(
     alloc: Global,
     ask: &Ask,
@@ -92,9 +124,16 @@ pub(crate) fn planned_asked<'a>(
     ensures chosen { IfOk result (λ found. IsChosen found.plan ask.now snapshot.now) }
 {
     let form = form_of(alloc, ask)?;
-    let plan = plan_asked(alloc, ask, &form, snapshot)?;
-    let page = page_where(alloc, ask, &plan, snapshot, condition_of(ask, &form))?;
-    Ok(Planned { plan, page })
+    match ask.selection.bbox {
+        None => {
+            let planned = planned_by(alloc, ask, &form, snapshot)?;
+            Ok(planned)
+        }
+        Some(bounds) => {
+            let planned = planned_in_box(alloc, ask, form, bounds, snapshot)?;
+            Ok(planned)
+        }
+    }
 }
 
 /// The page that is asked for.

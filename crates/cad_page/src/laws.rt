@@ -1,9 +1,15 @@
 //! What holds of every page. Each contract is a law; the functions do nothing.
 
-ghost use Rattle.cad_page.specs.Laws.{NextIsReadAgain, TheSameHasOneAnswer, TheSameIsAnswered};
+ghost use Rattle.cql_rewrite.specs.Laws.{FeaturesAreWritten};
+ghost use Rattle.cad_schema.specs.declared.collection.Collection.{Collection as CollectionOf};
+ghost use Rattle.cad_page.specs.Laws.{NextIsReadAgain, PlansOfTheMenuFindThePage, TheSameHasOneAnswer, TheSameIsAnswered};
 
+use cad_answer::laws::covering_plans_have_the_answer;
+use cad_lookup::laws::ways_have_the_candidates;
 use cad_ask::laws::{next_asks_the_same, pairs_ask_one_thing};
 use cad_query::laws::{next_is_read_back, pairs_are_texts};
+use cad_schema::Collection;
+use cql_rewrite::laws::{choices_are_the_first_of_least, features_are_written, menus_cover};
 use cql_truth::laws::filters_of_one_condition_agree;
 
 /// What asks the same is answered by the same page, wherever its filter lies in memory.
@@ -18,6 +24,30 @@ pub fn the_same_has_one_answer()
     ensures { TheSameHasOneAnswer }
 {
     filters_of_one_condition_agree();
+}
+
+// The features of every collection hold characters alone.
+fn all_features_are_written()
+    ensures { (collection : CollectionOf) → FeaturesAreWritten collection }
+{
+    features_are_written(Collection::Parcels);
+    features_are_written(Collection::Rights);
+    features_are_written(Collection::Restrictions);
+    features_are_written(Collection::Units);
+    features_are_written(Collection::Parties);
+    features_are_written(Collection::Responsibilities);
+}
+
+/// By each plan of the menu the page is the same: exactly the asked slice, with the truth of whether more is left. The plan that
+/// is chosen is one of the menu.
+pub fn plans_of_the_menu_find_the_page()
+    ensures { PlansOfTheMenuFindThePage }
+{
+    all_features_are_written();
+    menus_cover();
+    choices_are_the_first_of_least();
+    covering_plans_have_the_answer();
+    ways_have_the_candidates();
 }
 
 /// The target of the link to the next page is read again as the same request, at the page's revision and after its last

@@ -27,7 +27,6 @@ pub use cad_ask::{Ask, AskFault, fault_body};
 pub use cad_bodies::{
     collection_body, collections_body, filter_fault_body, landing_body, queryables_body, word_body,
 };
-pub use cad_query::ParameterFault;
 pub use cad_snapshot::Snapshot;
 pub use cql_filter::Cause;
 pub use explaining::{Report, explain};

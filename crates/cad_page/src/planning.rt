@@ -1,6 +1,6 @@
-//! The plan for what is asked.
+//! The normal form of what is asked, and the plan for it.
 
-ghost use Rattle.std.specs.Prelude.{◌≡◌, IfOk, Some, codes};
+ghost use Rattle.std.specs.Prelude.{◌≡◌, IfOk, codes};
 ghost use Rattle.cad_answer.specs.Places.{place_named};
 ghost use Rattle.cad_page.specs.Plans.{CoversAnswer, FormCosts, FormStands, IsBoxFilter, IsChosen, IsFormOf};
 
@@ -8,9 +8,7 @@ use cad_answer::Plan;
 use cad_ask::Ask;
 use cad_plan::choose;
 use cad_schema::{Collection, find_property};
-use cad_shape::Bounds;
 use cad_snapshot::Snapshot;
-use cql_box::box_condition;
 use cql_rewrite::laws::features_are_written;
 use cql_rewrite::{Normal, both, normal};
 use cql_types::Filter;
@@ -30,15 +28,39 @@ pub(crate) fn form_of(alloc: Global, ask: &Ask) -> Result<Normal<'_>, AllocError
     }
 }
 
-fn geometry_place(collection: Collection) -> Option<usize>
+/// The place of the geometry in the schema of a collection, where it has one.
+pub(crate) fn geometry_place(collection: Collection) -> Option<usize>
     ensures { result ≡ place_named collection (codes "geometry") }
 {
     let (place, _) = find_property(collection, "geometry")?;
     Some(place)
 }
 
-// The plan that is chosen for this form of all that is asked.
-fn plan_for(
+/// The form of a filter, joined to that of the box, which is a filter too: one more part of an AND.
+pub(crate) fn boxed_form<'a>(
+    alloc: Global,
+    ask: &Ask,
+    filter_form: Normal<'a>,
+    boxed: &'a Filter,
+) -> Result<Normal<'a>, AllocError>
+    requires stands { FormStands filter_form ask.now }
+    requires costs { FormCosts filter_form ask.now }
+    requires boxed { IsBoxFilter boxed.now ask.now }
+    ensures { IfOk result (λ form. IsFormOf ask.now form) }
+{
+    let box_form = match normal(alloc, boxed) {
+        Ok(form) => form,
+        Err(error) => {
+            drop(filter_form);
+            return Err(error);
+        }
+    };
+    let form = both(alloc, filter_form, box_form)?;
+    Ok(form)
+}
+
+/// The plan that is chosen for this form of all that is asked.
+pub(crate) fn plan_for(
     alloc: Global,
     ask: &Ask,
     form: &Normal,
@@ -54,62 +76,4 @@ fn plan_for(
     let _ = layer.collection();
     let plan = choose(alloc, form, layer)?;
     Ok(plan)
-}
-
-// The plan that is chosen where a box is asked for, by the filter that it is: one more part of an AND.
-fn plan_of_both(
-    alloc: Global,
-    ask: &Ask,
-    boxed: &Filter,
-    snapshot: &Snapshot,
-) -> Result<Plan, AllocError>
-    requires { IsBoxFilter boxed.now ask.now }
-    ensures covers { IfOk result (λ plan. CoversAnswer plan ask.now snapshot.now) }
-    ensures chosen { IfOk result (λ plan. IsChosen plan ask.now snapshot.now) }
-{
-    let filter_form = form_of(alloc, ask)?;
-    let box_form = normal(alloc, boxed)?;
-    let form = both(alloc, filter_form, box_form)?;
-    let plan = plan_for(alloc, ask, &form, snapshot)?;
-    Ok(plan)
-}
-
-// The plan that is chosen where this box is asked for.
-fn plan_in_box(
-    alloc: Global,
-    ask: &Ask,
-    bounds: Bounds,
-    snapshot: &Snapshot,
-) -> Result<Plan, AllocError>
-    requires { ask.now.selection.bbox ≡ Some bounds }
-    ensures covers { IfOk result (λ plan. CoversAnswer plan ask.now snapshot.now) }
-    ensures chosen { IfOk result (λ plan. IsChosen plan ask.now snapshot.now) }
-{
-    let boxed = box_condition(geometry_place(ask.collection), bounds);
-    let plan = plan_of_both(alloc, ask, &boxed, snapshot)?;
-    Ok(plan)
-}
-
-/// The plan that is chosen where the filter has this form.
-pub(crate) fn plan_asked(
-    alloc: Global,
-    ask: &Ask,
-    form: &Normal,
-    snapshot: &Snapshot,
-) -> Result<Plan, AllocError>
-    requires stands { FormStands form.now ask.now }
-    requires costs { FormCosts form.now ask.now }
-    ensures covers { IfOk result (λ plan. CoversAnswer plan ask.now snapshot.now) }
-    ensures chosen { IfOk result (λ plan. IsChosen plan ask.now snapshot.now) }
-{
-    match ask.selection.bbox {
-        None => {
-            let plan = plan_for(alloc, ask, form, snapshot)?;
-            Ok(plan)
-        }
-        Some(bounds) => {
-            let plan = plan_in_box(alloc, ask, bounds, snapshot)?;
-            Ok(plan)
-        }
-    }
 }

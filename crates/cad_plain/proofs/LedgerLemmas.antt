@@ -1,16 +1,19 @@
 -- A plain ledger stands for its commands, and for one more when that is applied.
-use Rattle.std.proofs.Common.{◌≡◌, ◌≢◌, ◌+◌, List, [], ◌∷◌, ◌++◌, length, length-append, map, Option, Some, None, Bool, true, false, sym, ap, ◌∙◌}
+use Rattle.std.proofs.Common.{◌≡◌, ◌≢◌, ◌==◌, not, int_le, int_lt, ℤ, ◌+◌, List, [], ◌∷◌, ◌++◌, length, length-append, map, Option, Some, None, Bool, true, false, sym, ap, subst, ◌∙◌}
 use Rattle.cad_day.specs.declared.day.Day.{Day}
 use Rattle.cad_versions.specs.declared.body.Body.{Body}
 use Rattle.cad_versions.specs.declared.body.Class.{Class}
 use Rattle.cad_versions.specs.declared.command.Command.{Command}
 use Rattle.cad_versions.specs.declared.command.Command.TheVariants.{Enter, Amend, Retire}
 use Rattle.cad_versions.specs.declared.fault.RegisterFault.{RegisterFault}
-use Rattle.cad_versions.specs.declared.fault.RegisterFault.TheVariants.{OtherClass, DayNotAfter, UnknownReference, Full, Store}
+use Rattle.cad_versions.specs.declared.fault.RegisterFault.TheVariants.{OtherClass, DayNotAfter, UnknownReference, Full, Store, Damaged}
+use Rattle.cad_day.specs.Days.{number_of}
+use Rattle.cad_versions.specs.Class.{class_of, class_number}
 use Rattle.cad_versions.specs.Command.{object_named, body_added}
+use Rattle.cad_versions.specs.Keeping.{IsOfKeeping, NamesDamage}
 use Rattle.cad_versions.specs.VersionedObject.{VersionedObject}
 use Rattle.cad_versions.specs.Versions.{versions}
-use Rattle.cad_versions.specs.Refusals.{class_at, open_since, refuse_if, or_else, refuses_closing, refuses_object, refuses_body, refusal}
+use Rattle.cad_versions.specs.Refusals.{class_at, open_since, are_entered, is_full, refuse_if, or_else, refuses_closing, refuses_object, refuses_body, refusal}
 use Rattle.cad_versions.specs.Entries.{version_in, entries_after}
 use Rattle.cad_versions.specs.EntryLemmas.{versions_of_entries}
 use Rattle.cad_versions.specs.AcceptedLemmas.{accepted_then, entries_then}
@@ -36,37 +39,51 @@ applied old new cs c stands may counts kept =
       counted = next ∙ sym (length-append cs (c ∷ []));
     }
 
--- ---- the commands never ask for a fault of the store
+-- ---- the commands alone are never refused for a fault of what keeps them
 
-abbrev NoStore : Option RegisterFault → Type 0
-NoStore o = o ≢ Some Store
+abbrev IsOfCommands : Option RegisterFault → Type 0
+IsOfCommands None = Unit {0}
+IsOfCommands (Some why) = ¬ IsOfKeeping why
 
-both_no : (a b : Option RegisterFault) → NoStore a → NoStore b → NoStore (or_else a b)
-both_no None b h k = k
-both_no (Some f) b h k = h
+both_of : (a b : Option RegisterFault) → IsOfCommands a → IsOfCommands b → IsOfCommands (or_else a b)
+both_of None b h k = k
+both_of (Some why) b h k = h
 
-if_no : (b : Bool) (f : RegisterFault) → f ≢ Store → NoStore (refuse_if b f)
-if_no true f h = λ e. h (some_same f Store e)
-  where
-    some_same : (f g : RegisterFault) → Some f ≡ Some g → f ≡ g
-    some_same f g e = cc
-if_no false f h = λ e. absurd cc
+if_of : (b : Bool) (why : RegisterFault) → ¬ IsOfKeeping why → IsOfCommands (refuse_if b why)
+if_of true why h = h
+if_of false why h = tt
 
-closing_no : (is_late : Day → Bool) (since : Option Day) → NoStore (refuses_closing is_late since)
-closing_no is_late None = λ e. absurd cc
-closing_no is_late (Some first) = if_no (is_late first) (DayNotAfter first) (λ e. absurd cc)
+closing_of : (is_late : Day → Bool) (since : Option Day) → IsOfCommands (refuses_closing is_late since)
+closing_of is_late None = λ h. h
+closing_of is_late (Some first) = if_of (is_late first) (DayNotAfter first) (λ h. h)
 
-object_no : (class : Option Class) (since : Option Day) (c : Command) → NoStore (refuses_object class since c)
-object_no None since (Enter object first body) = λ e. absurd cc
-object_no (Some class) since (Enter object first body) = λ e. absurd cc
-object_no None since (Amend object first body) = λ e. absurd cc
-object_no (Some class) since (Amend object first body) = both_no _ _ (if_no _ OtherClass (λ e. absurd cc)) (closing_no _ since)
-object_no None since (Retire object last) = λ e. absurd cc
-object_no (Some class) since (Retire object last) = closing_no _ since
+object_of : (class : Option Class) (since : Option Day) (c : Command) → IsOfCommands (refuses_object class since c)
+object_of None since (Enter object first body) = tt
+object_of (Some class) since (Enter object first body) = λ h. h
+object_of None since (Amend object first body) = λ h. h
+object_of (Some class) since (Amend object first body) =
+    both_of (refuse_if (not (class_number class == class_number (class_of body))) OtherClass) (refuses_closing (λ begun. int_le (number_of first) (number_of begun)) since)
+    (if_of (not (class_number class == class_number (class_of body))) OtherClass (λ h. h)) (closing_of (λ begun. int_le (number_of first) (number_of begun)) since)
+object_of None since (Retire object last) = λ h. h
+object_of (Some class) since (Retire object last) = closing_of (λ begun. int_lt (number_of last) (number_of begun)) since
 
-body_no : (vs : List VersionedObject) (body : Option Body) → NoStore (refuses_body vs body)
-body_no vs None = λ e. absurd cc
-body_no vs (Some body) = both_no _ _ (if_no _ UnknownReference (λ e. absurd cc)) (if_no _ Full (λ e. absurd cc))
+body_of : (vs : List VersionedObject) (body : Option Body) → IsOfCommands (refuses_body vs body)
+body_of vs None = tt
+body_of vs (Some body) =
+    both_of (refuse_if (not (are_entered vs body)) UnknownReference) (refuse_if (is_full vs) Full)
+    (if_of (not (are_entered vs body)) UnknownReference (λ h. h)) (if_of (is_full vs) Full (λ h. h))
+
+refused_of : (vs : List VersionedObject) (c : Command) (why : RegisterFault) → refusal vs c ≡ Some why → ¬ IsOfKeeping why
+refused_of vs c why e = subst IsOfCommands e
+    (both_of (refuses_object (class_at vs (object_named c)) (open_since vs (object_named c)) c) (refuses_body vs (body_added c))
+    (object_of (class_at vs (object_named c)) (open_since vs (object_named c)) c) (body_of vs (body_added c)))
 
 pub refusal_no_store : (vs : List VersionedObject) (c : Command) → refusal vs c ≢ Some Store
-refusal_no_store vs c = both_no _ _ (object_no (class_at vs (object_named c)) (open_since vs (object_named c)) c) (body_no vs (body_added c))
+refusal_no_store vs c e = refused_of vs c Store e tt
+
+none_damaged : (P : ℤ → ℤ → Type 0) (why : RegisterFault) → ¬ IsOfKeeping why → NamesDamage P why
+none_damaged P (Damaged object number) none = absurd (none tt)
+none_damaged P why none = tt
+
+pub refusal_no_damage : (P : ℤ → ℤ → Type 0) (vs : List VersionedObject) (c : Command) (why : RegisterFault) → refusal vs c ≡ Some why → NamesDamage P why
+refusal_no_damage P vs c why e = none_damaged P why (refused_of vs c why e)

@@ -38,6 +38,10 @@ impl Ledger for PlainLedger {
 
     ghost lives = { λ _. Unit {0} };
 
+    ghost fails = { λ _ _. ⊥ };
+
+    ghost newest = { λ ledger. ledger.revision };
+
     ghost fails_to_apply = { λ _ _. IsMemory };
 
     ghost fails_to_list = { λ _ _. IsMemory };
@@ -45,6 +49,10 @@ impl Ledger for PlainLedger {
     ghost refuses_command = { λ _ _ _ _. ⊥ };
 
     ghost refuses_listing = { λ _ _ _. ⊥ };
+
+    ghost damaged_for_command = { λ _ _ _ _ _. ⊥ };
+
+    ghost damaged_for_listing = { λ _ _ _ _ _. ⊥ };
 
     ghost remains = { λ old new. new ≡ old };
 
@@ -57,6 +65,8 @@ impl Ledger for PlainLedger {
     ghost remains_here = { λ _. refl };
 
     ghost remains_then = { λ _ _ _ first later. later ∙ first };
+
+    ghost fails_before = { λ _ _ _ _ fails. fails };
 
     fn revision(&self) -> u64 {
         self.revision

@@ -25,6 +25,10 @@ impl Ledger for LimitedLedger {
 
     ghost lives = { λ _. Unit {0} };
 
+    ghost fails = { λ _ _. ⊥ };
+
+    ghost newest = { λ limited. limited.ledger.revision };
+
     ghost fails_to_apply = { λ _ _. IsMemory };
 
     ghost fails_to_list = { λ _ _. IsMemory };
@@ -32,6 +36,10 @@ impl Ledger for LimitedLedger {
     ghost refuses_command = { λ _ _ _ _. ⊥ };
 
     ghost refuses_listing = { λ _ _ _. ⊥ };
+
+    ghost damaged_for_command = { λ _ _ _ _ _. ⊥ };
+
+    ghost damaged_for_listing = { λ _ _ _ _ _. ⊥ };
 
     ghost remains = { λ old new. new.ledger ≡ old.ledger };
 
@@ -44,6 +52,8 @@ impl Ledger for LimitedLedger {
     ghost remains_here = { λ _. refl };
 
     ghost remains_then = { λ _ _ _ first later. later ∙ first };
+
+    ghost fails_before = { λ _ _ _ _ fails. fails };
 
     fn revision(&self) -> u64 {
         self.ledger.revision()

@@ -8,14 +8,14 @@ ghost use Rattle.cad_lookup.specs.Candidates.{is_candidate};
 ghost use Rattle.cad_lookup.specs.Ways.{all_features, cost, counts_of, join_of, min_of, near_block, no_feature, range_way, way_of, ways_in};
 ghost use Rattle.cql_rewrite.specs.Choices.{met as met_of};
 ghost use Rattle.cql_rewrite.specs.Meets.{meets};
-ghost use Rattle.cql_rewrite.specs.Menus.{cheaper, choice, is_narrow};
+ghost use Rattle.cql_rewrite.specs.Menus.{IsFirstOfLeast, cheaper, choice, is_narrow, menu};
 
 use cad_lookup::Plan;
 use cad_merged::Layer;
 use cad_range::Range;
 use cad_shape::{Shape, bounds};
 use cql_rewrite::Normal;
-use cql_rewrite::laws::menus_cover;
+use cql_rewrite::laws::{choices_are_the_first_of_least, menus_cover};
 use std::alloc::{AllocError, Global};
 
 /// A plan with its cost.
@@ -159,7 +159,7 @@ pub(crate) fn chosen(alloc: Global, form: &Normal, layer: &Layer) -> Result<Pric
             Ok(chosen)
         }
         Normal::Atom { .. } => Ok(all(layer)),
-        Normal::Folded { .. } => Ok(all(layer)),
+        Normal::Owned { .. } => Ok(all(layer)),
         Normal::Near {
             property,
             shape,
@@ -224,8 +224,10 @@ pub(crate) fn joined(alloc: Global, parts: &[Normal], layer: &Layer) -> Result<P
 /// its candidates, in the layer or not. An error is want of memory.
 pub fn choose(alloc: Global, form: &Normal, layer: &Layer) -> Result<Plan, AllocError>
     ensures way { IfOk result (λ plan. way_of plan ≡ choice (counts_of layer.now.features) form.now) }
+    ensures least { IfOk result (λ plan. IsFirstOfLeast (counts_of layer.now.features) (way_of plan) (menu (counts_of layer.now.features) form.now)) }
     ensures covers { IfOk result (λ plan. (x : Item) → IsTrue (meets x form.now) → IsTrue (is_candidate plan x)) }
 {
+    choices_are_the_first_of_least();
     menus_cover();
     let chosen = chosen(alloc, form, layer)?;
     Ok(chosen.plan)

@@ -88,7 +88,7 @@ fn plans_for(alloc: Global, form: &Normal, layer: &Layer) -> Result<Vec<Plan>, A
             let plans = only_all(alloc)?;
             Ok(plans)
         }
-        Normal::Folded { .. } => {
+        Normal::Owned { .. } => {
             let plans = only_all(alloc)?;
             Ok(plans)
         }

@@ -10,7 +10,7 @@ use cad_run::Layer;
 use cad_schema::{Collection, find_property};
 use cad_shape::Bounds;
 use cad_versions::Version;
-use cql_box::in_box;
+use cql_box::box_condition;
 use cql_filter::{FilterFault, read};
 use cql_types::Filter;
 use std::alloc::{AllocError, Global};
@@ -55,7 +55,10 @@ fn windowed(
                 Some((place, _)) => Some(place),
                 None => None,
             };
-            in_box(alloc, filter, geometry, bounds)
+            let mut parts = Vec::new(alloc);
+            parts.push(filter)?;
+            parts.push(box_condition(geometry, bounds))?;
+            Ok(Filter::And(parts))
         }
     }
 }

@@ -17,6 +17,7 @@
 //! - the plan by which its page is found, its cost, how many candidates it has, how many features are tested, the identifiers
 //!   that the page lists, and `and more` where another page follows:
 //!   `range(object with 3 with 3) cost 1 candidates 1 examined 1 gives 3.1`,
+//! - `another page by` and a plan, where a plan of the menu gives another page,
 //! - `refused` and the fault's name, where the query is none, and `no revision`, where the register has none such.
 //!
 //! A page's case is `page `, and a request as that of `explain`; the answer is the body of its page as it is sent and, behind a
@@ -34,6 +35,7 @@
 //! - `cases`: lines with cases
 //! - `answers`: what is answered of a filter's plans
 //! - `bodies`: bodies as they are sent
+//! - `menus`: the page of a request by each plan of its menu
 //! - `pages`: pages by every plan
 //! - `plans`: plans as they are printed, and their candidates
 //! - `ranges`: ranges as they are printed
@@ -44,6 +46,7 @@
 mod answers;
 mod bodies;
 mod cases;
+mod menus;
 mod pages;
 mod plans;
 mod ranges;

@@ -1,6 +1,7 @@
 //! What is answered of a request.
 
 use crate::bodies::{fault_answer, grown_answer, page_answer};
+use crate::menus::misleading_plan;
 use crate::plans::put_plan;
 use crate::sample::snapshot_at;
 use cad_page::{Ask, AskFault, Report, Snapshot, body, explain, next_link};
@@ -77,23 +78,24 @@ fn put_page(
     put_identifiers(body.as_str(), line)
 }
 
-fn put_finding(
-    alloc: Global,
-    ask: &Ask,
-    snapshot: &Snapshot,
-    line: &mut String,
-) -> Result<(), AllocError> {
-    put_explained(alloc, ask, snapshot, line)?;
-    put_page(alloc, ask, snapshot, line)?;
+// What the page lists, and whether another follows.
+fn listed(alloc: Global, ask: &Ask, snapshot: &Snapshot) -> Result<String, AllocError> {
+    let mut line = String::new(alloc);
+    put_page(alloc, ask, snapshot, &mut line)?;
     if next_link(alloc, ask, snapshot)?.is_some() {
         line.push_str(" and more")?;
     }
-    Ok(())
+    Ok(line)
 }
 
 fn finding_answer(alloc: Global, ask: &Ask, snapshot: &Snapshot) -> Result<String, AllocError> {
+    let listed = listed(alloc, ask, snapshot)?;
+    if let Some(plan) = misleading_plan(alloc, ask, snapshot, listed.as_str())? {
+        return format!(in alloc; "another page by {}", plan.as_str());
+    }
     let mut line = String::new(alloc);
-    put_finding(alloc, ask, snapshot, &mut line)?;
+    put_explained(alloc, ask, snapshot, &mut line)?;
+    line.push_str(listed.as_str())?;
     Ok(line)
 }
 

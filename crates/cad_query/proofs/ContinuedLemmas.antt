@@ -10,7 +10,7 @@ use Rattle.std.proofs.lemmas.List.Folds.{find-append, list_any-append}
 use Rattle.std.proofs.lemmas.Slice.Eq.{bytes_eq-Decides}
 use Rattle.std.proofs.lemmas.Fmt.{length-decimal-le}
 use Rattle.cad_query.specs.declared.fault.ParameterFault.{ParameterFault}
-use Rattle.cad_query.specs.declared.fault.ParameterFault.TheVariants.{Unknown, Repeated, Limit, Datetime, Bbox, FilterLang, Filter, Revision, After}
+use Rattle.cad_query.specs.declared.fault.ParameterFault.TheVariants.{Unknown, Repeated, Limit, Datetime, Bbox, FilterLang, Revision, After}
 use Rattle.cad_query.specs.Pairs.{PairText, given}
 use Rattle.cad_query.specs.Numerals.{limit_of, revision_of}
 use Rattle.cad_query.specs.Boxes.{box_of}
@@ -135,31 +135,29 @@ revision_of_decimal revision small =
 read_after : (last : Numbers) → Identifies (identifier_text last) last → identifier_named (identifier_text last) ≡ Some last
 read_after last is = (reading_is_identifying (identifier_text last) last).1 is
 
-still_none : (is_filter : List ℕ → Bool) (pairs : List PairText) (revision : ℕ) (last : Numbers) → revision < 10 ^ 18
-    → Identifies (identifier_text last) last → ((fault : ParameterFault) → have is_filter fault pairs ≡ false)
-    → (fault : ParameterFault) → have is_filter fault (continued revision last pairs) ≡ false
-still_none is_filter pairs revision last small is none Unknown = none_unknown pairs revision last (none Unknown)
-still_none is_filter pairs revision last small is none Repeated = none_twice pairs revision last (none Repeated)
-still_none is_filter pairs revision last small is none Limit =
+still_none : (pairs : List PairText) (revision : ℕ) (last : Numbers) → revision < 10 ^ 18
+    → Identifies (identifier_text last) last → ((fault : ParameterFault) → have fault pairs ≡ false)
+    → (fault : ParameterFault) → have fault (continued revision last pairs) ≡ false
+still_none pairs revision last small is none Unknown = none_unknown pairs revision last (none Unknown)
+still_none pairs revision last small is none Repeated = none_twice pairs revision last (none Repeated)
+still_none pairs revision last small is none Limit =
     ap (is_wrong (λ text. is_some (limit_of text))) (given_kept (codes "limit") pairs revision last refl) ∙ none Limit
-still_none is_filter pairs revision last small is none Datetime =
+still_none pairs revision last small is none Datetime =
     ap (is_wrong (λ text. is_some (days_of text))) (given_kept (codes "datetime") pairs revision last refl) ∙ none Datetime
-still_none is_filter pairs revision last small is none Bbox =
+still_none pairs revision last small is none Bbox =
     ap (is_wrong (λ text. is_some (box_of text))) (given_kept (codes "bbox") pairs revision last refl) ∙ none Bbox
-still_none is_filter pairs revision last small is none FilterLang =
+still_none pairs revision last small is none FilterLang =
     ap (is_wrong is_language) (given_kept (codes "filter-lang") pairs revision last refl) ∙ none FilterLang
-still_none is_filter pairs revision last small is none Filter =
-    ap (is_wrong is_filter) (given_kept (codes "filter") pairs revision last refl) ∙ none Filter
-still_none is_filter pairs revision last small is none Revision =
+still_none pairs revision last small is none Revision =
     ap (is_wrong (λ text. is_some (revision_of text))) (given_revision pairs revision last) ∙ ap (λ (o : Option ℕ). not (is_some o)) (revision_of_decimal revision small)
-still_none is_filter pairs revision last small is none After =
+still_none pairs revision last small is none After =
     ap (is_wrong (λ text. is_some (identifier_named text))) (given_after pairs revision last) ∙ ap (λ (o : Option Numbers). not (is_some o)) (read_after last is)
 
 pub continued_goes_on : ContinuedGoesOn
-continued_goes_on is_filter pairs revision last small is none =
+continued_goes_on pairs revision last small is none =
     let again = continued revision last pairs in
     record {
-      no_fault = (none_is_told is_filter again).1 (still_none is_filter pairs revision last small is ((none_is_told is_filter pairs).0 none));
+      no_fault = (none_is_told again).1 (still_none pairs revision last small is ((none_is_told pairs).0 none));
       same_limit = ap (option_and_then limit_of) (given_kept (codes "limit") pairs revision last refl);
       same_datetime = ap (option_and_then days_of) (given_kept (codes "datetime") pairs revision last refl);
       same_bbox = ap (option_and_then box_of) (given_kept (codes "bbox") pairs revision last refl);

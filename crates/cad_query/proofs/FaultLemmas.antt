@@ -5,19 +5,19 @@ use Rattle.std.proofs.lemmas.List.Folds.{find-append}
 use Rattle.cad_query.specs.declared.fault.ParameterFault.{ParameterFault}
 use Rattle.cad_query.specs.declared.fault.ParameterFault.TheVariants.{Unknown, Repeated, Limit, Datetime, Bbox, FilterLang}
 use Rattle.cad_query.specs.Pairs.{PairText}
-use Rattle.cad_query.specs.Parameters.{any_text, have, first_of, selection_faults}
+use Rattle.cad_query.specs.Parameters.{have, first_of, selection_faults}
 
 -- what is found in the first list, else in the second
 either : (pairs : List PairText) (faults others : List ParameterFault) (o p : Option ParameterFault)
-    → o ≡ first_of any_text faults pairs → p ≡ first_of any_text others pairs → option_or o p ≡ first_of any_text (faults ++ others) pairs
-either pairs faults others o p e f = rw (e, f) (sym (find-append (λ fault. have any_text fault pairs) faults others))
+    → o ≡ first_of faults pairs → p ≡ first_of others pairs → option_or o p ≡ first_of (faults ++ others) pairs
+either pairs faults others o p e f = rw (e, f) (sym (find-append (λ fault. have fault pairs) faults others))
 
 -- the faults of names, then of each parameter of a selection
 pub in_turn : (pairs : List PairText) (names limit datetime bbox language : Option ParameterFault)
-    → names ≡ first_of any_text (Unknown ∷ Repeated ∷ []) pairs → limit ≡ first_of any_text (Limit ∷ []) pairs
-    → datetime ≡ first_of any_text (Datetime ∷ []) pairs → bbox ≡ first_of any_text (Bbox ∷ []) pairs
-    → language ≡ first_of any_text (FilterLang ∷ []) pairs
-    → option_or names (option_or limit (option_or datetime (option_or bbox language))) ≡ first_of any_text selection_faults pairs
+    → names ≡ first_of (Unknown ∷ Repeated ∷ []) pairs → limit ≡ first_of (Limit ∷ []) pairs
+    → datetime ≡ first_of (Datetime ∷ []) pairs → bbox ≡ first_of (Bbox ∷ []) pairs
+    → language ≡ first_of (FilterLang ∷ []) pairs
+    → option_or names (option_or limit (option_or datetime (option_or bbox language))) ≡ first_of selection_faults pairs
 in_turn pairs names limit datetime bbox language a b c d e =
     either pairs (Unknown ∷ Repeated ∷ []) (Limit ∷ Datetime ∷ Bbox ∷ FilterLang ∷ []) _ _ a
     (either pairs (Limit ∷ []) (Datetime ∷ Bbox ∷ FilterLang ∷ []) _ _ b

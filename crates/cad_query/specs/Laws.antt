@@ -1,10 +1,9 @@
 -- What the definitions of parameters, identifiers and links say together.
-use Rattle.std.specs.Prelude.{◌≡◌, ◌↔◌, ℕ, ◌<◌, ◌^◌, ◌==◌, Bool, true, false, List, codes, Some, None, All, IsUtf8}
+use Rattle.std.specs.Prelude.{◌≡◌, ◌↔◌, ℕ, ◌<◌, ◌^◌, ◌==◌, false, List, codes, Some, None, All, IsUtf8}
 use Rattle.std.specs.List.{before_first, after_first}
 use Rattle.cad_query.specs.declared.fault.ParameterFault.{ParameterFault}
 use Rattle.cad_query.specs.Pairs.{PairText, pairs_of, written, given}
 use Rattle.cad_query.specs.Parts.{is_byte}
-use Rattle.cad_query.specs.Faults.{fault_number}
 use Rattle.cad_query.specs.Numerals.{limit_of, revision_of}
 use Rattle.cad_query.specs.Boxes.{box_of}
 use Rattle.cad_query.specs.Identifiers.{Numbers, Identifies, identifier_text, identifier_named}
@@ -13,17 +12,10 @@ use Rattle.cad_query.specs.Links.{continued, self_target, next_target}
 
 -- ---- faults
 
--- a fault is told exactly where the pairs have it and none with a lower number
-abbrev pub TheFirstIsTold : Type 0
-TheFirstIsTold =
-    (is_filter : List ℕ → Bool) (pairs : List PairText) (fault : ParameterFault)
-    → (first_fault is_filter pairs ≡ Some fault) ↔ ((have is_filter fault pairs ≡ true) × ((other : ParameterFault) → fault_number other < fault_number fault → have is_filter other pairs ≡ false))
-
 -- none is told exactly where the pairs have none
 abbrev pub NoneIsTold : Type 0
 NoneIsTold =
-    (is_filter : List ℕ → Bool) (pairs : List PairText)
-    → (first_fault is_filter pairs ≡ None) ↔ ((fault : ParameterFault) → have is_filter fault pairs ≡ false)
+    (pairs : List PairText) → (first_fault pairs ≡ None) ↔ ((fault : ParameterFault) → have fault pairs ≡ false)
 
 -- ---- texts that are written and read again
 
@@ -64,8 +56,8 @@ NextIsReadBack =
     → (path_of (next_target path pairs revision last) ≡ path) × (asked_pairs (next_target path pairs revision last) ≡ continued revision last pairs)
 
 -- pairs that ask the same, but begin at this revision after this identifier
-pub record AsksToGoOn (is_filter : List ℕ → Bool) (pairs : List PairText) (revision : ℕ) (last : Numbers) (again : List PairText) : Type 0 where
-  pub no_fault : first_fault is_filter again ≡ None
+pub record AsksToGoOn (pairs : List PairText) (revision : ℕ) (last : Numbers) (again : List PairText) : Type 0 where
+  pub no_fault : first_fault again ≡ None
   pub same_limit : asked_for limit_of (codes "limit") again ≡ asked_for limit_of (codes "limit") pairs
   pub same_datetime : asked_for days_of (codes "datetime") again ≡ asked_for days_of (codes "datetime") pairs
   pub same_bbox : asked_for box_of (codes "bbox") again ≡ asked_for box_of (codes "bbox") pairs
@@ -76,6 +68,6 @@ pub record AsksToGoOn (is_filter : List ℕ → Bool) (pairs : List PairText) (r
 -- the continued pairs of a page that was asked for without a fault go on with it
 abbrev pub ContinuedGoesOn : Type 0
 ContinuedGoesOn =
-    (is_filter : List ℕ → Bool) (pairs : List PairText) (revision : ℕ) (last : Numbers)
+    (pairs : List PairText) (revision : ℕ) (last : Numbers)
     → revision < 10 ^ 18 → Identifies (identifier_text last) last
-    → first_fault is_filter pairs ≡ None → AsksToGoOn is_filter pairs revision last (continued revision last pairs)
+    → first_fault pairs ≡ None → AsksToGoOn pairs revision last (continued revision last pairs)

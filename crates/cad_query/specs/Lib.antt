@@ -3,7 +3,7 @@ pub mod Parts
 pub mod Numerals
 pub mod Identifiers
 pub mod Boxes
-pub mod Faults
 pub mod Parameters
+pub mod FoundLemmas
 pub mod Links
 pub mod Laws

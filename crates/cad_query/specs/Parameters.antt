@@ -1,12 +1,12 @@
 -- The parameters of a request for features, and their faults (OGC 17-069r4, 7.15: limit, bbox, datetime; OGC 19-079r2, 6.4 to 6.6: filter, filter-lang; revision and after: own profile).
-use Rattle.std.specs.Prelude.{◌≡◌, ℕ, ◌||◌, not, Bool, true, false, List, [], ◌∷◌, ◌++◌, codes, Option, Some, None, is_some, option_map, unwrap_or}
+use Rattle.std.specs.Prelude.{◌≡◌, ℕ, ◌||◌, not, Bool, false, List, [], ◌∷◌, ◌++◌, codes, Option, Some, None, is_some, option_map, unwrap_or}
 use Rattle.std.specs.Option.{option_and_then}
 use Rattle.std.specs.Result.{result_ok}
 use Rattle.std.specs.List.{list_any, find}
 use Rattle.std.specs.Str.{bytes_eq}
 use Rattle.cad_day.specs.Moments.{Ends, asked, numbers_of as ends_of}
 use Rattle.cad_query.specs.declared.fault.ParameterFault.{ParameterFault}
-use Rattle.cad_query.specs.declared.fault.ParameterFault.TheVariants.{Unknown, Repeated, Limit, Datetime, Bbox, FilterLang, Filter, Revision, After}
+use Rattle.cad_query.specs.declared.fault.ParameterFault.TheVariants.{Unknown, Repeated, Limit, Datetime, Bbox, FilterLang, Revision, After}
 use Rattle.cad_query.specs.declared.selection.Selection.{Selection}
 use Rattle.cad_query.specs.declared.continuation.Continuation.{Continuation}
 use Rattle.cad_query.specs.Pairs.{PairText, given}
@@ -40,21 +40,20 @@ abbrev pub is_wrong : (List ℕ → Bool) → Option (List ℕ) → Bool
 is_wrong is_right None = false
 is_wrong is_right (Some text) = not (is_right text)
 
--- whether the pairs have the fault, where `is_filter` says which texts are filters
-abbrev pub have : (List ℕ → Bool) → ParameterFault → List PairText → Bool
-have is_filter Unknown pairs = list_any is_unknown pairs
-have is_filter Repeated pairs = has_twice pairs
-have is_filter Limit pairs = is_wrong (λ text. is_some (limit_of text)) (given (codes "limit") pairs)
-have is_filter Datetime pairs = is_wrong (λ text. is_some (days_of text)) (given (codes "datetime") pairs)
-have is_filter Bbox pairs = is_wrong (λ text. is_some (box_of text)) (given (codes "bbox") pairs)
-have is_filter FilterLang pairs = is_wrong is_language (given (codes "filter-lang") pairs)
-have is_filter Filter pairs = is_wrong is_filter (given (codes "filter") pairs)
-have is_filter Revision pairs = is_wrong (λ text. is_some (revision_of text)) (given (codes "revision") pairs)
-have is_filter After pairs = is_wrong (λ text. is_some (identifier_named text)) (given (codes "after") pairs)
+-- whether the pairs have the fault
+abbrev pub have : ParameterFault → List PairText → Bool
+have Unknown pairs = list_any is_unknown pairs
+have Repeated pairs = has_twice pairs
+have Limit pairs = is_wrong (λ text. is_some (limit_of text)) (given (codes "limit") pairs)
+have Datetime pairs = is_wrong (λ text. is_some (days_of text)) (given (codes "datetime") pairs)
+have Bbox pairs = is_wrong (λ text. is_some (box_of text)) (given (codes "bbox") pairs)
+have FilterLang pairs = is_wrong is_language (given (codes "filter-lang") pairs)
+have Revision pairs = is_wrong (λ text. is_some (revision_of text)) (given (codes "revision") pairs)
+have After pairs = is_wrong (λ text. is_some (identifier_named text)) (given (codes "after") pairs)
 
 -- the first of these faults that the pairs have
-abbrev pub first_of : (List ℕ → Bool) → List ParameterFault → List PairText → Option ParameterFault
-first_of is_filter faults pairs = find (λ fault. have is_filter fault pairs) faults
+abbrev pub first_of : List ParameterFault → List PairText → Option ParameterFault
+first_of faults pairs = find (λ fault. have fault pairs) faults
 
 -- those that are looked for before the filter, and those after it
 abbrev pub selection_faults : List ParameterFault
@@ -63,13 +62,9 @@ selection_faults = Unknown ∷ Repeated ∷ Limit ∷ Datetime ∷ Bbox ∷ Filt
 abbrev pub continuation_faults : List ParameterFault
 continuation_faults = Revision ∷ After ∷ []
 
--- the first fault of the pairs, by the numbers of the faults
-abbrev pub first_fault : (List ℕ → Bool) → List PairText → Option ParameterFault
-first_fault is_filter pairs = first_of is_filter (selection_faults ++ Filter ∷ continuation_faults) pairs
-
--- every text taken for a filter, where no filter is judged
-abbrev pub any_text : List ℕ → Bool
-any_text text = true
+-- the first fault of the pairs, whatever their filter is
+abbrev pub first_fault : List PairText → Option ParameterFault
+first_fault pairs = first_of (selection_faults ++ continuation_faults) pairs
 
 -- what the value under a name stands for, if one is given
 abbrev pub asked_for : {V : Type 0} → (List ℕ → Option V) → List ℕ → List PairText → Option V

@@ -5,7 +5,7 @@ ghost use Rattle.std.specs.Result.{result_err};
 ghost use Rattle.cad_query.specs.Pairs.{pair_text};
 ghost use Rattle.cad_query.specs.Numerals.{revision_of};
 ghost use Rattle.cad_query.specs.Identifiers.{identifier_named, numbers_of};
-ghost use Rattle.cad_query.specs.Parameters.{any_text, first_of, continuation_faults, asked_for, IsContinuation};
+ghost use Rattle.cad_query.specs.Parameters.{first_of, continuation_faults, asked_for, IsContinuation};
 
 use crate::fault::ParameterFault;
 use crate::identifier::read_identifier;
@@ -26,7 +26,7 @@ pub struct Continuation {
 impl Continuation {
     /// Where the pairs say that the page begins, or the first of the faults that are looked for after the filter.
     pub fn read(pairs: &[Pair]) -> Result<Continuation, ParameterFault>
-        ensures fault { result_err result ≡ first_of any_text continuation_faults (map pair_text pairs.now) }
+        ensures fault { result_err result ≡ first_of continuation_faults (map pair_text pairs.now) }
         ensures value { IfOk result (IsContinuation (map pair_text pairs.now)) }
     {
         let revision = revision(pairs)?;
@@ -36,7 +36,7 @@ impl Continuation {
 }
 
 fn revision(pairs: &[Pair]) -> Result<Option<u64>, ParameterFault>
-    ensures fault { result_err result ≡ first_of any_text (ParameterFault.Revision ∷ []) (map pair_text pairs.now) }
+    ensures fault { result_err result ≡ first_of (ParameterFault.Revision ∷ []) (map pair_text pairs.now) }
     ensures value { IfOk result (λ revision. revision ≡ asked_for revision_of (codes "revision") (map pair_text pairs.now)) }
 {
     match value_under(pairs, "revision") {
@@ -49,7 +49,7 @@ fn revision(pairs: &[Pair]) -> Result<Option<u64>, ParameterFault>
 }
 
 fn after(pairs: &[Pair]) -> Result<Option<Identifier>, ParameterFault>
-    ensures fault { result_err result ≡ first_of any_text (ParameterFault.After ∷ []) (map pair_text pairs.now) }
+    ensures fault { result_err result ≡ first_of (ParameterFault.After ∷ []) (map pair_text pairs.now) }
     ensures value { IfOk result (λ after. option_map numbers_of after ≡ asked_for identifier_named (codes "after") (map pair_text pairs.now)) }
 {
     match value_under(pairs, "after") {

@@ -1,12 +1,7 @@
 //! What the definitions of parameters, identifiers and links say together. Nothing runs here.
 
 ghost use Rattle.cad_query.specs.Identifiers.{ReadsWhatIsIdentified};
-ghost use Rattle.cad_query.specs.Laws.{TheFirstIsTold, NoneIsTold, PairsAreReadBack, PairsAreTexts, SelfIsReadBack, NextIsReadBack, ContinuedGoesOn};
-
-/// A fault is told exactly where the pairs have it and none with a lower number.
-pub fn the_first_is_told()
-    ensures { TheFirstIsTold }
-{}
+ghost use Rattle.cad_query.specs.Laws.{NoneIsTold, PairsAreReadBack, PairsAreTexts, SelfIsReadBack, NextIsReadBack, ContinuedGoesOn};
 
 /// No fault is told exactly where the pairs have none.
 pub fn none_is_told()

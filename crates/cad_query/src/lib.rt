@@ -1,11 +1,11 @@
 //! What a request for features asks by its parameters, and the links that a page of features carries.
 //!
-//! - `Pair`: a parameter; `read_pairs` and `write_pairs` read and write the pairs of a query
+//! - `Pair`: a parameter; `read_pairs` reads the pairs of a query
 //! - `read_identifier`: the `Identifier` of a version, of `cad_versions`, that a text as `3.1` names
 //! - `Selection`, `filter_text` and `Continuation`: what the pairs ask for; they are read in this order
-//! - `ParameterFault`: why pairs are refused, in the order in which its faults are looked for
+//! - `ParameterFault`: why pairs are refused, but for the filter, in the order in which its faults are looked for
 //! - `self_target` and `next_target`: the targets of the links to a page and to the one after it
-//! - `laws`: that each fault is told where it is the first, and that what is written is read again
+//! - `laws`: that no fault is told exactly where pairs have none, and that what is written is read again
 //!
 //! Of `limit=2&datetime=2012-05-01` the pairs are (`limit`, `2`) and (`datetime`, `2012-05-01`); they select at
 //! most 2 features of that day. Where the last one of the page at revision 10 is 2.1, `next_target` over
@@ -31,5 +31,5 @@ pub use fault::ParameterFault;
 pub use identifier::read_identifier;
 pub use links::{next_target, self_target};
 pub use names::filter_text;
-pub use pairs::{Pair, read_pairs, write_pairs};
+pub use pairs::{Pair, read_pairs};
 pub use selection::Selection;

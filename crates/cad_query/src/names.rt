@@ -6,7 +6,7 @@ ghost use Rattle.std.specs.List.{list_any};
 ghost use Rattle.std.specs.Str.{bytes_eq};
 ghost use Rattle.cad_query.specs.Pairs.{pair_text, given};
 ghost use Rattle.cad_query.specs.Parameters as spec;
-ghost use Rattle.cad_query.specs.Parameters.{any_text, first_of};
+ghost use Rattle.cad_query.specs.Parameters.{first_of};
 
 use crate::fault::ParameterFault;
 use crate::pairs::Pair;
@@ -14,7 +14,7 @@ use crate::pairs::Pair;
 /// Refuses a name that is unknown, and then one that comes twice.
 pub(crate) fn check_names(pairs: &[Pair]) -> Result<(), ParameterFault>
     ensures { result_err result
-        ≡ first_of any_text (ParameterFault.Unknown ∷ ParameterFault.Repeated ∷ []) (map pair_text pairs.now) }
+        ≡ first_of (ParameterFault.Unknown ∷ ParameterFault.Repeated ∷ []) (map pair_text pairs.now) }
 {
     if has_unknown(pairs) {
         return Err(ParameterFault::Unknown);

@@ -6,7 +6,7 @@ ghost use Rattle.cad_day.specs.Moments.{numbers_of as ends_of};
 ghost use Rattle.cad_query.specs.Pairs.{pair_text};
 ghost use Rattle.cad_query.specs.Numerals.{limit_of};
 ghost use Rattle.cad_query.specs.Boxes.{box_numbers, box_of};
-ghost use Rattle.cad_query.specs.Parameters.{any_text, first_of, selection_faults, days_of, asked_for, IsSelection};
+ghost use Rattle.cad_query.specs.Parameters.{first_of, selection_faults, days_of, asked_for, IsSelection};
 
 use crate::boxes::bounds_in;
 use crate::fault::ParameterFault;
@@ -30,7 +30,7 @@ pub struct Selection {
 impl Selection {
     /// What the pairs select, or the first of the faults that are looked for before the filter.
     pub fn read(pairs: &[Pair]) -> Result<Selection, ParameterFault>
-        ensures fault { result_err result ≡ first_of any_text selection_faults (map pair_text pairs.now) }
+        ensures fault { result_err result ≡ first_of selection_faults (map pair_text pairs.now) }
         ensures value { IfOk result (IsSelection (map pair_text pairs.now)) }
     {
         check_names(pairs)?;
@@ -47,7 +47,7 @@ impl Selection {
 }
 
 fn limit(pairs: &[Pair]) -> Result<u32, ParameterFault>
-    ensures fault { result_err result ≡ first_of any_text (ParameterFault.Limit ∷ []) (map pair_text pairs.now) }
+    ensures fault { result_err result ≡ first_of (ParameterFault.Limit ∷ []) (map pair_text pairs.now) }
     ensures value { IfOk result (λ n. n ≡ unwrap_or (asked_for limit_of (codes "limit") (map pair_text pairs.now)) 10) }
 {
     match value_under(pairs, "limit") {
@@ -57,7 +57,7 @@ fn limit(pairs: &[Pair]) -> Result<u32, ParameterFault>
 }
 
 fn datetime(pairs: &[Pair]) -> Result<Option<Interval>, ParameterFault>
-    ensures fault { result_err result ≡ first_of any_text (ParameterFault.Datetime ∷ []) (map pair_text pairs.now) }
+    ensures fault { result_err result ≡ first_of (ParameterFault.Datetime ∷ []) (map pair_text pairs.now) }
     ensures value { IfOk result (λ days. option_map ends_of days ≡ asked_for days_of (codes "datetime") (map pair_text pairs.now)) }
 {
     match value_under(pairs, "datetime") {
@@ -70,7 +70,7 @@ fn datetime(pairs: &[Pair]) -> Result<Option<Interval>, ParameterFault>
 }
 
 fn bbox(pairs: &[Pair]) -> Result<Option<Bounds>, ParameterFault>
-    ensures fault { result_err result ≡ first_of any_text (ParameterFault.Bbox ∷ []) (map pair_text pairs.now) }
+    ensures fault { result_err result ≡ first_of (ParameterFault.Bbox ∷ []) (map pair_text pairs.now) }
     ensures value { IfOk result (λ bounds. option_map box_numbers bounds ≡ asked_for box_of (codes "bbox") (map pair_text pairs.now)) }
 {
     match value_under(pairs, "bbox") {
@@ -83,7 +83,7 @@ fn bbox(pairs: &[Pair]) -> Result<Option<Bounds>, ParameterFault>
 }
 
 fn check_language(pairs: &[Pair]) -> Result<(), ParameterFault>
-    ensures { result_err result ≡ first_of any_text (ParameterFault.FilterLang ∷ []) (map pair_text pairs.now) }
+    ensures { result_err result ≡ first_of (ParameterFault.FilterLang ∷ []) (map pair_text pairs.now) }
 {
     match value_under(pairs, "filter-lang") {
         Some(text) => {

@@ -1,5 +1,6 @@
 //! Queries: what they ask for, and the links of their pages.
 
+use cad_ask::AskFault;
 use cad_query::{
     Continuation, Identifier, Pair, ParameterFault, Selection, filter_text, next_target,
     read_identifier, read_pairs, self_target,
@@ -22,6 +23,7 @@ pub fn asked(alloc: Global, query: &str) -> Result<String, AllocError> {
 }
 
 fn told(alloc: Global, fault: ParameterFault) -> Result<String, AllocError> {
+    let fault = AskFault::from(fault);
     format!(in alloc; "{} {} {}", fault.number(), fault.name(), fault.word())
 }
 

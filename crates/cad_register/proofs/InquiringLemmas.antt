@@ -7,12 +7,9 @@ use Rattle.sqlite.specs.Held.{Held, state}
 use Rattle.cad_tables.specs.Refusals.{Statement}
 use Rattle.cad_versions.specs.declared.command.Command.{Command}
 use Rattle.cad_versions.specs.declared.fault.RegisterFault.{RegisterFault}
-use Rattle.cad_versions.specs.declared.fault.RegisterFault.TheVariants as fault
 use Rattle.cad_versions.specs.VersionedObject.{VersionedObject}
 use Rattle.cad_versions.specs.AsOf.{as_of}
-use Rattle.cad_register.specs.Damage.{ReadsRows}
 use Rattle.cad_register.specs.Leaving.{AsksOnly}
-use Rattle.cad_register.specs.Naming.{NamesShown}
 use Rattle.cad_register.specs.Refusing.{Asks, IsForLines}
 use Rattle.cad_register.specs.Stands.{Tells, IsStoreFault, IsReadingFault}
 use Rattle.cad_register.specs.Inquiring.{Inquires}
@@ -20,13 +17,8 @@ use Rattle.cad_tables.specs.SettledLemmas.{settled_here, settled_then}
 use Rattle.cad_register.proofs.LeavingLemmas.{asks_nothing, asks_as, asks_then, reading_known}
 use Rattle.cad_register.proofs.StandLemmas.{IsDecided}
 use Rattle.cad_register.proofs.RefusingLemmas.{refuses_more, refuses_then}
-use Rattle.cad_register.proofs.NamingLemmas.{lines_named, named_more, named_then}
 
 module _ {S : Type 0} (g : Ghosts S) where
-  decided_names_none : (old new : Held S) (IsAsked : Statement → Type 0) (cause : RegisterFault) → IsDecided cause → NamesShown g old new IsAsked cause
-  decided_names_none old new IsAsked (fault.Damaged object number) is = absurd is
-  decided_names_none old new IsAsked cause is = tt
-
   -- nothing is asked
   pub inquires_nothing : {X : Type 0} (held : Held S) (IsAsked : Statement → Type 0) (Told : List Command → X → Type 0) (Refused : List Command → RegisterFault → Type 0) (x : X) → ((commands : List Command) → Told commands x)
       → Inquires g held held IsAsked Told Refused (Ok x)
@@ -35,7 +27,6 @@ module _ {S : Type 0} (g : Ghosts S) where
     asked = λ clean commands stands. settled_here g held stands.live;
     leaves = asks_nothing (state g held) (Ok x);
     known = tt;
-    damaged = tt;
   }
 
   module _ (old new : Held S) (IsAsked : Statement → Type 0) {X Y : Type 0} (Told : List Command → X → Type 0) (Refused : List Command → RegisterFault → Type 0) where
@@ -47,7 +38,6 @@ module _ {S : Type 0} (g : Ghosts S) where
         asked = answers.asked;
         leaves = asks_as (state g old) (state g new) (Ok x) (Ok y) (λ is. tt) answers.leaves;
         known = tt;
-        damaged = tt;
       }
 
       -- it is why the register itself refuses
@@ -57,7 +47,6 @@ module _ {S : Type 0} (g : Ghosts S) where
         asked = λ clean commands stands store. absurd (subst IsDecided store decided);
         leaves = asks_as (state g old) (state g new) (Ok x) (Err cause) (λ is. tt) answers.leaves;
         known = λ unknown. subst IsDecided unknown decided;
-        damaged = decided_names_none old new Others cause decided;
       }
 
       -- a refusal is told to the caller, who asks this and more
@@ -69,7 +58,6 @@ module _ {S : Type 0} (g : Ghosts S) where
         asked = λ clean commands stands store. refuses_more g old new IsAsked Others more (refuses.asked clean commands stands store);
         leaves = asks_as (state g old) (state g new) (Err cause) (Err cause) (λ is. is) refuses.leaves;
         known = refuses.known;
-        damaged = named_more g old new IsAsked Others more cause refuses.damaged;
       })
 
   -- a second question follows one that was answered
@@ -86,7 +74,6 @@ module _ {S : Type 0} (g : Ghosts S) where
         settled_then g old mid new (first.asked early commands stands) (second.asked clean commands (first.told early commands stands).1);
     leaves = asks_then (state g old) (state g mid) (state g new) x (Ok y) first.leaves second.leaves;
     known = tt;
-    damaged = tt;
   }
   inquires_then old mid new First Second Told Refused Makes Tells Fails Refuses x (Err cause) tells refuses first second = record {
     told = λ clean commands stands.
@@ -98,17 +85,15 @@ module _ {S : Type 0} (g : Ghosts S) where
         refuses_then g old mid new Second (first.asked early commands stands) (second.asked clean commands (first.told early commands stands).1 store);
     leaves = asks_then (state g old) (state g mid) (state g new) x (Err cause) first.leaves second.leaves;
     known = second.known;
-    damaged = named_then g old mid new Second x (Err cause) first.leaves second.leaves cause second.damaged;
   }
 
   -- a listing of the newest revision is such a question
   pub inquires_lines : (old new : Held S) (revision : ℕ) (r : Result (Vec VersionedObject Global) RegisterFault)
-      → (HasCleanDisk (state g new) → Tells (state g old) (state g new) r (λ commands found. revision ≤ length commands → found.items ≡ as_of revision commands) (λ commands cause. revision ≡ length commands → IsStoreFault cause)) → (HasCleanDisk (state g new) → Asks g old new (IsForLines revision) r) → AsksOnly (state g old) (state g new) r → IfErr r IsReadingFault → ReadsRows (state g old) (state g new) revision revision r
+      → (HasCleanDisk (state g new) → Tells (state g old) (state g new) r (λ commands found. revision ≤ length commands → found.items ≡ as_of revision commands) (λ commands cause. revision ≡ length commands → IsStoreFault cause)) → (HasCleanDisk (state g new) → Asks g old new (IsForLines revision) r) → AsksOnly (state g old) (state g new) r → IfErr r IsReadingFault
       → Inquires g old new (IsForLines revision) (λ commands found. revision ≤ length commands → found.items ≡ as_of revision commands) (λ commands cause. revision ≡ length commands → IsStoreFault cause) r
-  inquires_lines old new revision r told asked leaves cause reads = record {
+  inquires_lines old new revision r told asked leaves cause = record {
     told = told;
     asked = asked;
     leaves = leaves;
     known = IfErr-weaker r _ _ reading_known cause;
-    damaged = lines_named g old new revision r reads;
   }

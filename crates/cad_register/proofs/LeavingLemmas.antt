@@ -1,5 +1,5 @@
 -- One question after another leaves what each leaves.
-use Rattle.std.proofs.Common.{◌≡◌, ◌≢◌, ℕ, Vec, Result, Ok, Err, OnOk, IfErr, refl, sym, subst, ◌∙◌, List, arith}
+use Rattle.std.proofs.Common.{◌≡◌, ◌≢◌, ℕ, Vec, Result, Ok, Err, OnOk, IfErr, refl, sym, subst, ◌∙◌, List, arith, inl, inr}
 use Rattle.std.proofs.Math.Nat.{le_refl, le_trans}
 use Rattle.sqlite.specs.State.{State, IsUnchanged, HasCleanDisk, Survives}
 use Rattle.cad_tables.specs.Asking.{OnlyReads}
@@ -11,19 +11,28 @@ use Rattle.cad_register.specs.Damage.{AreShown, ListsRows, ReadsRows}
 use Rattle.cad_versions.specs.VersionedObject.{VersionedObject}
 use Rattle.std.specs.Global.{Global}
 use Rattle.sqlite_value.specs.Order.{Row}
+use Rattle.cad_register.specs.RemainingLemmas.{more_before}
 use Rattle.cad_register.proofs.SurvivingLemmas.{leaves_no_more}
 
 pub later_here : (s : State) → IsLater s s
-later_here s = record { clean = λ clean. clean; limit = refl; faults = le_refl s.faults }
+later_here s = record { clean = λ clean. clean; limit = refl; faults = le_refl s.faults; closes = λ clean live. inl live }
 
 pub later_then : (a b c : State) → IsLater a b → IsLater b c → IsLater a c
-later_then a b c p q = record { clean = λ clean. p.clean (q.clean clean); limit = q.limit ∙ p.limit; faults = le_trans p.faults q.faults }
+later_then a b c p q = record {
+  clean = λ clean. p.clean (q.clean clean);
+  limit = q.limit ∙ p.limit;
+  faults = le_trans p.faults q.faults;
+  closes = λ clean live. elim (p.closes (q.clean clean) live) [
+    | inl still ↦ elim (q.closes clean still) [ inl since ↦ inl since | inr more ↦ inr (more_before a.faults b.faults c.faults p.faults more) ]
+    | inr more ↦ inr (le_trans more q.faults)
+  ];
+}
 
 still_clean : (old new : State) (P : _) → Survives old new P → HasCleanDisk new → HasCleanDisk old
 still_clean old new P survives clean = omega (arith, survives.clean)
 
 pub later_by : (old new : State) (P : _) → Survives old new P → IsLater old new
-later_by old new P survives = record { clean = still_clean old new P survives; limit = survives.limit; faults = survives.counts }
+later_by old new P survives = record { clean = still_clean old new P survives; limit = survives.limit; faults = survives.counts; closes = survives.closes }
 
 pub as_before : (old new : State) → IsUnchanged old new → IsAsBefore old new
 as_before old new same = record { now = same.0.now_is; committed = same.0.committed_is; liveness = same.0.is_open ∙ sym same.0.was_open; mode = same.0.mode }

@@ -10,6 +10,7 @@ use Rattle.cad_day.specs.declared.day.Day.{Day}
 use Rattle.cad_day.specs.Days.{number_of}
 use Rattle.cad_versions.specs.declared.object_id.ObjectId.{ObjectId}
 use Rattle.cad_versions.specs.declared.body.Class.{Class}
+use Rattle.cad_versions.specs.Class.{class_of}
 use Rattle.cad_versions.specs.VersionedObject.{VersionedObject}
 use Rattle.cad_versions.specs.Versions.{is_of, is_open_of, history}
 use Rattle.cad_versions.specs.Refusals.{class_at, open_since}
@@ -23,7 +24,7 @@ use Rattle.cad_versions.specs.Versions.{versions}
 use Rattle.cad_register.specs.declared.columns.ReadFault.{ReadFault}
 use Rattle.cad_register.specs.declared.columns.ReadFault.TheVariants.{Damaged, Memory}
 use Rattle.cad_register.specs.declared.standing.ObjectState.{ObjectState}
-use Rattle.cad_register.specs.Naming.{IsBroken, IsFaultIn, fault_of_row}
+use Rattle.cad_register.specs.Naming.{IsBroken, HasNoClass, HasNoDay, IsFirstInVain, IsFaultIn, fault_of_row}
 use Rattle.cad_register.specs.Stands.{StandsFor, IsStoreFault}
 use Rattle.cad_register.specs.Outlines.{outline, class_of_version, class_of_first, if_open, opened_last, IsStanding}
 use Rattle.cad_register.proofs.PartLemmas.{day_cell}
@@ -47,9 +48,20 @@ last_at rows vs row is here =
     let long : length rows ≡ length vs = ap length is ∙ length-map vs outline in
     version_at rows vs (length vs - 1) row is (here ∙ ap (λ n. slice_get rows (n - 1)) long)
 
+-- a row without a class or a day is that of no version
+pub no_class_breaks : (row : Row) → HasNoClass row → IsBroken row
+no_class_breaks row none v e = none (class_of v.body) (ap (λ r. column r 1) e)
+
+pub no_day_breaks : (row : Row) → HasNoDay row → IsBroken row
+no_day_breaks row none v e = none.1 v.first (ap (λ r. column r 2) e)
+
+-- what is not so of the row at a place is so of none there
+pub none_at : (P : Row → Type 0) (rows : List Row) (i : ℕ) (row : Row) → Some row ≡ slice_get rows i → ¬ P row → (other : Row) → slice_get rows i ≡ Some other → ¬ P other
+none_at P rows i row here none other there h = let same : row ≡ other = let e = here ∙ there in cc in none (subst P (sym same) h)
+
 -- a row that tells nothing is a fault in the rows
-pub fault_in : (object : ObjectId) (rows : List Row) (i : ℕ) (row : Row) (f : ReadFault) (why : RegisterFault) → why ≡ fault_of_row object row f → Some row ≡ slice_get rows i → (f ≡ Damaged → IsBroken row) → IsFaultIn object rows why
-fault_in object rows i row Damaged why is here bad = subst (IsFaultIn object rows) (sym is) (refl, record { place = i; row = row; stands = sym here; numbered = refl; broken = bad refl })
+pub fault_in : (object : ObjectId) (rows : List Row) (i : ℕ) (row : Row) (f : ReadFault) (why : RegisterFault) → why ≡ fault_of_row object row f → Some row ≡ slice_get rows i → (f ≡ Damaged → IsBroken row × IsFirstInVain rows i row) → IsFaultIn object rows why
+fault_in object rows i row Damaged why is here bad = subst (IsFaultIn object rows) (sym is) (refl, record { place = i; row = row; stands = sym here; numbered = refl; broken = (bad refl).0; first = (bad refl).1 })
 fault_in object rows i row Memory why is here bad = subst (IsFaultIn object rows) (sym is) tt
 
 -- and there is none in the outlines of versions

@@ -8,14 +8,12 @@ use Rattle.cad_versions.specs.declared.command.Command.{Command}
 use Rattle.cad_versions.specs.declared.fault.RegisterFault.{RegisterFault}
 use Rattle.cad_versions.specs.declared.fault.RegisterFault.TheVariants.{UnknownRevision}
 use Rattle.cad_register.specs.Leaving.{AsksOnly}
-use Rattle.cad_register.specs.Naming.{NamesShown}
 use Rattle.cad_register.specs.Refusing.{Asks}
 use Rattle.cad_register.specs.Stands.{Tells}
 
--- the tables are asked these questions and no other; answered, this is told of the commands for which they stand, and refused, that; what the database refuses is one of the questions, and a row that is named was shown for one; all else is as it was
+-- the tables are asked these questions and no other; answered, this is told of the commands for which they stand, and refused, that; what the database refuses is one of the questions; all else is as it was
 pub record Inquires {S : Type 0} (g : Ghosts S) (old new : Held S) (IsAsked : Statement → Type 0) {X : Type 0} (Told : List Command → X → Type 0) (Refused : List Command → RegisterFault → Type 0) (result : Result X RegisterFault) : Type 0 where
   pub told : HasCleanDisk (state g new) → Tells (state g old) (state g new) result Told Refused
   pub asked : HasCleanDisk (state g new) → Asks g old new IsAsked result
   pub leaves : AsksOnly (state g old) (state g new) result
   pub known : IfErr result (λ cause. cause ≢ UnknownRevision)
-  pub damaged : IfErr result (NamesShown g old new IsAsked)

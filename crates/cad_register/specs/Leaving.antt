@@ -1,16 +1,18 @@
 -- What a call leaves that asks the database alone (SQLite, SELECT and Transaction).
-use Rattle.std.specs.Prelude.{◌≡◌, ◌≤◌, Result, Ok, Err, IsTrue}
+use Rattle.std.specs.Prelude.{◌≡◌, ◌⊎◌, ◌≤◌, Result, Ok, Err, IsTrue}
+use Rattle.sqlite_disk.specs.Disk.{MoreFaults}
 use Rattle.sqlite.specs.State.{State, HasCleanDisk}
 use Rattle.cad_tables.specs.Steps.{KeepsAll}
 use Rattle.cad_versions.specs.declared.fault.RegisterFault.{RegisterFault}
 use Rattle.cad_versions.specs.declared.fault.RegisterFault.TheVariants as fault
 use Rattle.cad_register.specs.Surviving.{LeavesNoMore}
 
--- a later moment of the same connection: its disk is clean only where it was, its limit of steps is the same, and no fault of the disk is forgotten
+-- a later moment of the same connection: its disk is clean only where it was, its limit of steps is the same, no fault of the disk is forgotten, and only one more of them closes it
 pub record IsLater (old new : State) : Type 0 where
   pub clean : HasCleanDisk new → HasCleanDisk old
   pub limit : new.step_limit ≡ old.step_limit
   pub faults : old.faults ≤ new.faults
+  pub closes : HasCleanDisk new → IsTrue old.is_open → IsTrue new.is_open ⊎ MoreFaults old.faults new.faults
 
 -- the connection shows what it showed
 pub record IsAsBefore (old new : State) : Type 0 where

@@ -1,5 +1,5 @@
 -- A land register as a ledger.
-use Rattle.std.specs.Prelude.{◌≡◌, ◌≤◌, ℕ, pos, List, [], ◌∷◌, length, IsTrue, None}
+use Rattle.std.specs.Prelude.{◌≡◌, ◌≤◌, ℕ, ℤ, pos, List, [], ◌∷◌, length, IsTrue, None, Err}
 use Rattle.sqlite_value.specs.declared.value.Value.TheVariants.{Int}
 use Rattle.sqlite_trees.specs.declared.store.Store.{Ghosts}
 use Rattle.sqlite.specs.declared.error.Error.{Error}
@@ -13,8 +13,10 @@ use Rattle.cad_versions.specs.declared.fault.RegisterFault.TheVariants as fault
 use Rattle.cad_versions.specs.Versions.{versions}
 use Rattle.cad_versions.specs.Refusals.{refusal}
 use Rattle.cad_register.specs.declared.register.Register.{Register}
-use Rattle.cad_register.specs.Refusing.{IsNotForMemory, RefusesToApply}
-use Rattle.cad_register.specs.Registers.{connection_of, state_of, IsRegisterOf, Remains}
+use Rattle.cad_register.specs.Damage.{ReadsRows}
+use Rattle.cad_register.specs.Naming.{FirstBreaks}
+use Rattle.cad_register.specs.Refusing.{IsNotForMemory, RefusesToApply, command_asked}
+use Rattle.cad_register.specs.Registers.{connection_of, state_of, revision_of, IsRegisterOf, Remains, HasFailed}
 use Rattle.cad_register.specs.Stands.{IsStoreFault}
 
 -- the connection is open
@@ -35,16 +37,30 @@ abbrev pub RefusesListing : {S : Type 0} → Ghosts S → Register S → Registe
 RefusesListing g old new revision =
     (e : Error) × IsNotForMemory e × FailsToQuery listing_text (Int (pos revision) ∷ []) (state_of g old) (state_of g new) e
 
+-- asked for the command, the database shows this damaged row, the first of all that it shows
+abbrev pub DamagedForCommand : {S : Type 0} → Ghosts S → Register S → Register S → Command → ℤ → ℤ → Type 0
+DamagedForCommand g old new command object number =
+    FirstBreaks g (connection_of new) (command_asked command (revision_of old)) object number (connection_of old)
+
+-- asked for the revision, it shows such a row
+abbrev pub DamagedForListing : {S : Type 0} → Ghosts S → Register S → Register S → ℕ → ℤ → ℤ → Type 0
+DamagedForListing g old new revision object number =
+    ReadsRows (state_of g old) (state_of g new) revision (revision_of old) (Err (fault.Damaged object number))
+
 -- the register as a ledger of its commands
 abbrev pub register_as_ledger : {S : Type 0} → Ghosts S → ledger.Ghosts (Register S)
 register_as_ledger g = record {
   stands_for = IsRegisterOf g;
   counts = λ register. HasCleanDisk (state_of g register);
   lives = IsOpen g;
+  fails = HasFailed g;
+  newest = revision_of;
   fails_to_apply = IsCut;
   fails_to_list = λ _ _. IsStoreFault;
   refuses_command = RefusesCommand g;
   refuses_listing = RefusesListing g;
+  damaged_for_command = DamagedForCommand g;
+  damaged_for_listing = DamagedForListing g;
   remains = Remains g;
 }
 

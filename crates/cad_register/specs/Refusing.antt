@@ -1,5 +1,5 @@
 -- What the database refuses of a command, by its own account.
-use Rattle.std.specs.Prelude.{◌≡◌, ◌≢◌, ◌⊎◌, ◌≤◌, ℕ, ◌+◌, pos, List, [], ◌∷◌, Option, Some, None, Result, MatchResult}
+use Rattle.std.specs.Prelude.{◌≡◌, ◌≢◌, ◌⊎◌, ◌≤◌, ℕ, ◌+◌, pos, nat_le, if◌then◌else◌, List, [], ◌∷◌, ◌++◌, Option, Some, None, Result, MatchResult}
 use Rattle.sqlite_value.specs.declared.value.Value.TheVariants.{Int}
 use Rattle.sqlite_trees.specs.declared.store.Store.{Ghosts}
 use Rattle.sqlite.specs.declared.error.Error.{Error}
@@ -68,6 +68,30 @@ IsForAddition (Some body) revision question = IsForBody body question ⊎ IsForR
 -- the object of the command, or what it adds
 abbrev pub IsForCommand : Command → ℕ → Statement → Type 0
 IsForCommand command revision question = IsForObject (object_named command) question ⊎ IsForAddition (body_added command) revision question
+
+-- ---- the same in the order in which they are asked (own profile)
+
+-- for the history of what is named, if anything is
+abbrev pub history_asked : Option ObjectId → List Statement
+history_asked None = []
+history_asked (Some object) = asking history_text (object_number object) ∷ []
+
+-- for the history of the unit, and then of the party
+abbrev pub body_asked : Body → List Statement
+body_asked body = history_asked (unit_named body) ++ history_asked (party_named body)
+
+-- for the lines of the revision, where as many commands were accepted as there may be versions
+abbrev pub room_asked : ℕ → List Statement
+room_asked revision = if nat_le most_versions revision then asking listing_text revision ∷ [] else []
+
+-- for what the body names, and then whether there is room
+abbrev pub addition_asked : Option Body → ℕ → List Statement
+addition_asked None revision = []
+addition_asked (Some body) revision = body_asked body ++ room_asked revision
+
+-- for the object of the command, and then for what it adds
+abbrev pub command_asked : Command → ℕ → List Statement
+command_asked command revision = history_asked (Some (object_named command)) ++ addition_asked (body_added command) revision
 
 -- ---- what is refused (own profile)
 

@@ -1,5 +1,6 @@
 -- What clauses see of a register.
 use Rattle.std.specs.Prelude.{◌≡◌, ◌⊎◌, ◌≤◌, ℕ, List, length, None}
+use Rattle.sqlite_disk.specs.Disk.{MoreFaults}
 use Rattle.sqlite_trees.specs.declared.store.Store.{Ghosts}
 use Rattle.sqlite.specs.State.{State}
 use Rattle.sqlite.specs.Held.{Held, state}
@@ -23,6 +24,10 @@ state_of g register = state g register.connection
 
 abbrev pub revision_of : {S : Type 0} → Register S → ℕ
 revision_of register = register.revision
+
+-- the disk failed in between, or refused
+abbrev pub HasFailed : {S : Type 0} → Ghosts S → Register S → Register S → Type 0
+HasFailed g old new = MoreFaults (state_of g old).faults (state_of g new).faults
 
 -- the register is that of the commands: its tables stand for them, and its revision counts them
 pub record IsRegisterOf {S : Type 0} (g : Ghosts S) (register : Register S) (commands : List Command) : Type 0 where

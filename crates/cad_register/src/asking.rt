@@ -1,6 +1,6 @@
 //! What the tables tell of a register.
 
-ghost use Rattle.std.specs.Prelude.{◌≡◌, ◌≤◌, ◌∷◌, [], List, length, pos, IfOk, IfErr, OnOk};
+ghost use Rattle.std.specs.Prelude.{◌≡◌, ◌≤◌, ◌∷◌, [], List, length, pos, Some, IfOk, IfErr, OnOk};
 ghost use Rattle.sqlite.specs.State.{HasCleanDisk, FailsToQuery};
 ghost use Rattle.sqlite.specs.declared.error.Error.{Error};
 ghost use Rattle.sqlite_value.specs.declared.value.Value.TheVariants.{Int};
@@ -15,7 +15,8 @@ ghost use Rattle.cad_register.specs.Outlines.{IsStanding};
 ghost use Rattle.cad_register.specs.Stands.{Tells, IsStoreFault, IsReadingFault};
 ghost use Rattle.cad_register.specs.Damage.{ReadsRows};
 ghost use Rattle.cad_register.specs.Leaving.{AsksOnly};
-ghost use Rattle.cad_register.specs.Refusing.{Asks, IsForObject, IsForLines, IsNotForMemory, register_fault_of};
+ghost use Rattle.cad_register.specs.Refusing.{Asks, IsForObject, IsForLines, IsNotForMemory, history_asked, register_fault_of};
+ghost use Rattle.cad_register.specs.Naming.{TellAll, NamesFirst};
 ghost use Rattle.cad_register.specs.Inquiring.{Inquires};
 
 use crate::listing::listed;
@@ -40,9 +41,11 @@ pub(crate) fn standing_of<S: Alter>(
     connection: &mut Connection<S>,
     object: ObjectId,
 ) -> Result<ObjectState, RegisterFault>
-    ensures { Inquires S.Store connection.old connection.new (IsForObject object)
+    ensures inquires { Inquires S.Store connection.old connection.new (IsForObject object)
         (λ commands standing. IsStanding (versions commands) object standing)
         (λ commands fault. IsStoreFault fault) result }
+    ensures shown { IfOk result (λ _. TellAll S.Store connection.new (history_asked (Some object)) connection.old connection.new) }
+    ensures damaged { IfErr result (NamesFirst S.Store connection.old connection.new (history_asked (Some object))) }
 {
     match cad_tables::history(connection, object.number()) {
         Ok(rows) => ObjectState::read(object, &rows),

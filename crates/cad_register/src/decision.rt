@@ -1,12 +1,14 @@
 //! Whether a command is accepted, by the rows of the objects that it names.
 
-ghost use Rattle.std.specs.Prelude.{◌≡◌, ◌≤◌, ◌<◌, ◌+◌, List, length, Some, None};
+ghost use Rattle.std.specs.Prelude.{◌≡◌, ◌≤◌, ◌<◌, ◌+◌, true, List, length, Some, None, IfOk, IfErr};
 ghost use Rattle.cad_versions.specs.declared.command.Command.{Command as CommandOf};
 ghost use Rattle.cad_versions.specs.Command.{object_named};
 ghost use Rattle.cad_versions.specs.Versions.{history, versions};
 ghost use Rattle.cad_versions.specs.Refusals.{is_entered as entered, are_entered as all_entered, is_full as filled, refuses_body, refusal};
 ghost use Rattle.cad_register.specs.Stands.{IsStoreFault, IsRefusal};
 ghost use Rattle.cad_register.specs.Refusing.{IsForNamed, IsForBody, IsForRoom, IsForAddition, IsForCommand};
+ghost use Rattle.cad_register.specs.Refusing.{history_asked, body_asked, room_asked, addition_asked, command_asked};
+ghost use Rattle.cad_register.specs.Naming.{TellAll, NamesFirst};
 ghost use Rattle.cad_register.specs.Inquiring.{Inquires};
 
 use crate::asking::{standing_of, versions_of};
@@ -20,9 +22,11 @@ fn is_entered<S: Alter>(
     class: Class,
     object: Option<ObjectId>,
 ) -> Result<bool, RegisterFault>
-    ensures { Inquires S.Store connection.old connection.new (IsForNamed object)
+    ensures inquires { Inquires S.Store connection.old connection.new (IsForNamed object)
         (λ commands known. known ≡ entered (versions commands) class object)
         (λ commands fault. IsStoreFault fault) result }
+    ensures shown { IfOk result (λ _. TellAll S.Store connection.new (history_asked object) connection.old connection.new) }
+    ensures damaged { IfErr result (NamesFirst S.Store connection.old connection.new (history_asked object)) }
 {
     match object {
         None => Ok(true),
@@ -38,9 +42,12 @@ fn is_entered<S: Alter>(
 
 /// Whether all that the body names was entered.
 fn are_entered<S: Alter>(connection: &mut Connection<S>, body: &Body) -> Result<bool, RegisterFault>
-    ensures { Inquires S.Store connection.old connection.new (IsForBody body.now)
+    ensures inquires { Inquires S.Store connection.old connection.new (IsForBody body.now)
         (λ commands known. known ≡ all_entered (versions commands) body.now)
         (λ commands fault. IsStoreFault fault) result }
+    ensures shown { IfOk result (λ known. known ≡ true →
+        TellAll S.Store connection.new (body_asked body.now) connection.old connection.new) }
+    ensures damaged { IfErr result (NamesFirst S.Store connection.old connection.new (body_asked body.now)) }
 {
     if is_entered(connection, Class::Unit, body.unit())? {
         let known = is_entered(connection, Class::Party, body.party())?;
@@ -56,9 +63,10 @@ fn is_full<S: Alter>(
     connection: &mut Connection<S>,
     revision: u32,
 ) -> Result<bool, RegisterFault>
-    ensures { Inquires S.Store connection.old connection.new (IsForRoom revision)
+    ensures inquires { Inquires S.Store connection.old connection.new (IsForRoom revision)
         (λ commands full. revision ≡ length commands → full ≡ filled (versions commands))
         (λ commands fault. revision ≡ length commands → IsStoreFault fault) result }
+    ensures damaged { IfErr result (NamesFirst S.Store connection.old connection.new (room_asked revision)) }
 {
     if revision < MOST_VERSIONS {
         return Ok(false);
@@ -74,11 +82,13 @@ fn check_addition<S: Alter>(
     revision: u32,
     body: &Body,
 ) -> Result<(), RegisterFault>
-    ensures { Inquires S.Store connection.old connection.new (IsForAddition (Some body.now) revision)
+    ensures inquires { Inquires S.Store connection.old connection.new (IsForAddition (Some body.now) revision)
         (λ commands _. revision ≡ length commands →
         refuses_body (versions commands) (Some body.now) ≡ None)
         (λ commands fault. revision ≡ length commands →
         IsRefusal (refuses_body (versions commands) (Some body.now)) fault) result }
+    ensures damaged { IfErr result
+        (NamesFirst S.Store connection.old connection.new (addition_asked (Some body.now) revision)) }
 {
     if !are_entered(connection, body)? {
         return Err(RegisterFault::UnknownReference);
@@ -96,12 +106,14 @@ pub(crate) fn decide<S: Alter>(
     revision: u32,
     command: &Command,
 ) -> Result<usize, RegisterFault>
-    ensures { Inquires S.Store connection.old connection.new (IsForCommand command.now revision)
+    ensures inquires { Inquires S.Store connection.old connection.new (IsForCommand command.now revision)
         (λ commands count. revision ≡ length commands →
         (refusal (versions commands) command.now ≡ None) ×
         (count ≡ length (history (object_named command.now) (versions commands))))
         (λ commands fault. revision ≡ length commands →
         IsRefusal (refusal (versions commands) command.now) fault) result }
+    ensures damaged { IfErr result
+        (NamesFirst S.Store connection.old connection.new (command_asked command.now revision)) }
 {
     let standing = standing_of(connection, command.object())?;
     if let Some(fault) = command.refused_by_object(standing.class, standing.open_since) {

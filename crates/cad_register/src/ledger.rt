@@ -1,7 +1,7 @@
 //! A land register as a ledger.
 
 ghost use Rattle.cad_register.specs.Ledgers.{register_as_ledger, cut_keeps, store_keeps};
-ghost use Rattle.cad_register.specs.RemainingLemmas.{remains_here, remains_then};
+ghost use Rattle.cad_register.specs.RemainingLemmas.{remains_here, remains_then, fails_before};
 
 use crate::register::Register;
 use cad_versions::{Command, Ledger, RegisterFault, Version};
@@ -14,6 +14,10 @@ impl<S: Alter> Ledger for Register<S> {
 
     ghost lives = { (register_as_ledger S.Store).lives };
 
+    ghost fails = { (register_as_ledger S.Store).fails };
+
+    ghost newest = { (register_as_ledger S.Store).newest };
+
     ghost fails_to_apply = { (register_as_ledger S.Store).fails_to_apply };
 
     ghost fails_to_list = { (register_as_ledger S.Store).fails_to_list };
@@ -21,6 +25,10 @@ impl<S: Alter> Ledger for Register<S> {
     ghost refuses_command = { (register_as_ledger S.Store).refuses_command };
 
     ghost refuses_listing = { (register_as_ledger S.Store).refuses_listing };
+
+    ghost damaged_for_command = { (register_as_ledger S.Store).damaged_for_command };
+
+    ghost damaged_for_listing = { (register_as_ledger S.Store).damaged_for_listing };
 
     ghost remains = { (register_as_ledger S.Store).remains };
 
@@ -33,6 +41,8 @@ impl<S: Alter> Ledger for Register<S> {
     ghost remains_here = { remains_here _ };
 
     ghost remains_then = { remains_then _ };
+
+    ghost fails_before = { fails_before _ };
 
     fn revision(&self) -> u64 {
         Register::revision(self)

@@ -44,8 +44,8 @@ impl<S: Alter> Register<S> {
     ghost use Rattle.cad_register.specs.Leaving.{IsLater};
     ghost use Rattle.cad_register.specs.Opening.{Created, Opened, OpenedOrCreated};
     ghost use Rattle.cad_register.specs.Stands.{IsStoreFault, IsReadingFault};
-    ghost use Rattle.cad_register.specs.Naming.{NamesShown};
-    ghost use Rattle.cad_register.specs.Refusing.{IsNotForMemory, RefusesToApply, IsForCommand};
+    ghost use Rattle.cad_register.specs.Naming.{NamesFirst};
+    ghost use Rattle.cad_register.specs.Refusing.{IsNotForMemory, RefusesToApply, command_asked};
     ghost use Rattle.cad_register.specs.Surviving.{Leaves, LeavesEither};
     ghost use Rattle.cad_register.specs.Registers.{connection_of, state_of, revision_of, IsRegisterOf, Remains, IsRefused};
 
@@ -172,9 +172,9 @@ impl<S: Alter> Register<S> {
             IsRefused commands command fault) }
         // Whatever the disk returns.
         ensures named { result ≢ Err RegisterFault.UnknownRevision }
-        // Whatever the disk returns, a row that is named is one that was asked for, and breaks a rule.
+        // Whatever the disk returns, a row that is named is the first of those asked for that breaks a rule.
         ensures damaged { IfErr result
-            (NamesShown S.Store (connection_of self.old) (connection_of self.new) (IsForCommand command (revision_of self.old))) }
+            (NamesFirst S.Store (connection_of self.old) (connection_of self.new) (command_asked command (revision_of self.old))) }
         // What the database itself refused, a question for what stands, a statement of the change or its commit.
         ensures store { HasCleanDisk (state_of S.Store self.new) →
             result ≡ Err RegisterFault.Store → (commands : List CommandOf) →

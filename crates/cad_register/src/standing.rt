@@ -3,7 +3,7 @@
 ghost use Rattle.std.specs.Prelude.{◌≡◌, ◌≢◌, List, length, map, IfOk, IfErr};
 ghost use Rattle.cad_versions.specs.VersionedObject.{VersionedObject};
 ghost use Rattle.cad_register.specs.Outlines.{outline, class_of_version, class_of_first, if_open, opened_last};
-ghost use Rattle.cad_register.specs.Naming.{IsBroken, IsFaultIn, fault_of_row};
+ghost use Rattle.cad_register.specs.Naming.{HasNoClass, HasNoDay, FirstHasClass, LastHasDay, TellStanding, IsFaultIn, fault_of_row};
 
 use crate::columns::{ReadFault, class_at, day_at, is_null, number_or_zero};
 use cad_day::Day;
@@ -21,7 +21,8 @@ pub(crate) struct ObjectState {
 fn row_class(row: &Row) -> Result<Class, ReadFault>
     ensures known { IfOk result (λ class. (v : VersionedObject) → row.now ≡ outline v →
         class ≡ class_of_version v) }
-    ensures damaged { IfErr result (λ fault. fault ≡ ReadFault.Damaged → IsBroken row.now) }
+    ensures told { IfOk result (λ _. ¬ HasNoClass row.now) }
+    ensures damaged { IfErr result (λ fault. fault ≡ ReadFault.Damaged → HasNoClass row.now) }
 {
     class_at(row, 1)
 }
@@ -30,7 +31,8 @@ fn row_class(row: &Row) -> Result<Class, ReadFault>
 fn row_opened(row: &Row) -> Result<Option<Day>, ReadFault>
     ensures known { IfOk result (λ day. (v : VersionedObject) → row.now ≡ outline v →
         day ≡ if_open v) }
-    ensures damaged { IfErr result (λ fault. fault ≡ ReadFault.Damaged → IsBroken row.now) }
+    ensures told { IfOk result (λ _. ¬ HasNoDay row.now) }
+    ensures damaged { IfErr result (λ fault. fault ≡ ReadFault.Damaged → HasNoDay row.now) }
 {
     if is_null(row, 3) {
         let first = day_at(row, 2)?;
@@ -56,6 +58,7 @@ fn row_fault(object: ObjectId, row: &Row, fault: ReadFault) -> RegisterFault
 fn first_class(object: ObjectId, rows: &[Row]) -> Result<Option<Class>, RegisterFault>
     ensures known { IfOk result (λ class. (vs : List VersionedObject) → rows.now ≡ map outline vs →
         class ≡ class_of_first vs) }
+    ensures told { IfOk result (λ _. FirstHasClass rows.now) }
     ensures damaged { IfErr result (IsFaultIn object rows.now) }
 {
     match rows.first() {
@@ -70,7 +73,8 @@ fn first_class(object: ObjectId, rows: &[Row]) -> Result<Option<Class>, Register
 fn last_opened(object: ObjectId, rows: &[Row]) -> Result<Option<Day>, RegisterFault>
     ensures known { IfOk result (λ day. (vs : List VersionedObject) → rows.now ≡ map outline vs →
         day ≡ opened_last vs) }
-    ensures damaged { IfErr result (IsFaultIn object rows.now) }
+    ensures told { IfOk result (λ _. LastHasDay rows.now) }
+    ensures damaged { FirstHasClass rows.now → IfErr result (IsFaultIn object rows.now) }
 {
     match rows.last() {
         None => Ok(None),
@@ -87,6 +91,7 @@ impl ObjectState {
         ensures known { IfOk result (λ s. (vs : List VersionedObject) → rows.now ≡ map outline vs →
             (s.class ≡ class_of_first vs) × (s.open_since ≡ opened_last vs) ×
             (s.count ≡ length vs)) }
+        ensures told { IfOk result (λ _. TellStanding rows.now) }
         ensures damaged { IfErr result (IsFaultIn object rows.now) }
     {
         let class = first_class(object, rows)?;

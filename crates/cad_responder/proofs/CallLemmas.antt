@@ -1,9 +1,11 @@
 -- What the calls of records and servers do, from what the calls inside them do.
-use Rattle.std.proofs.Common.{◌≡◌, inl, inr, ℕ, Bool, List, Option, Some, None, Result, Ok, Err, refl, sym, ap, ◌∙◌, subst}
+use Rattle.std.proofs.Common.{◌≡◌, ◌⊎◌, inl, inr, ℕ, ℤ, Bool, List, Option, Some, None, Result, Ok, Err, refl, sym, ap, ◌∙◌, subst}
 use Rattle.std.specs.Prelude.{string_bytes}
 use Rattle.cad_versions.specs.declared.command.Command.{Command}
 use Rattle.cad_versions.specs.declared.fault.RegisterFault.{RegisterFault}
 use Rattle.cad_versions.specs.declared.fault.RegisterFault.TheVariants.{Store, Memory}
+use Rattle.cad_versions.specs.Keeping.{IsShut, NamesDamage}
+use Rattle.cad_stream.specs.KeepingLemmas.{names_by}
 use Rattle.cad_versions.specs.declared.ledger.Ledger.{Ghosts}
 use Rattle.cad_snapshot.specs.Snapshots.{RevisionFeatures}
 use Rattle.cad_head.specs.Request.{Request}
@@ -20,7 +22,7 @@ use Rattle.cad_wanted.specs.declared.feature_request.FeatureRequest.{FeatureRequ
 use Rattle.cad_responder.specs.Contents.{content_told, content_in, content_wanted}
 use Rattle.cad_responder.specs.Replies.{reply_of, IsReply, Asks, FailsToAnswer}
 use Rattle.cad_responder.specs.Keeping.{StaysKept, kept_at}
-use Rattle.cad_responder.specs.Servers.{ledger_in, ledger_of, AreRecordsOf, IsServerOf, RefusesToAnswer, Recalls, Finds, Tells}
+use Rattle.cad_responder.specs.Servers.{ledger_in, ledger_of, AreRecordsOf, IsServerOf, RefusesToAnswer, DamagedForTelling, DamagedForAnswer, Recalls, Finds, Tells}
 use Rattle.cad_responder.proofs.KeptLemmas.{found_at}
 
 module _ {L : Type 0} (g : Ghosts L) where
@@ -64,6 +66,10 @@ module _ {L : Type 0} (g : Ghosts L) where
 
   -- ---- what is found
 
+  -- want of memory names no row
+  memory_names_none : (P : ℤ → ℤ → Type 0) (fault : RegisterFault) → fault ≡ Memory → NamesDamage P fault
+  memory_names_none P fault m = subst (NamesDamage P) (sym m) tt
+
   moved : (old new : Records L) → ledger_in new ≡ ledger_in old → StaysKept old.kept new.kept
       → (commands : List Command) → AreRecordsOf g old commands → AreRecordsOf g new commands
   moved old new same kept commands records = record {
@@ -79,7 +85,8 @@ module _ {L : Type 0} (g : Ghosts L) where
       store = λ counts. tt;
       still = λ counts. remains_same here old new r.same;
       kept = λ counts. moved old new r.same r.kept;
-      unchanged = λ counts lives. tt;
+      damaged = tt;
+      unchanged = λ counts. tt;
       clean = subst g.counts r.same;
     };
   }
@@ -109,7 +116,8 @@ module _ {L : Type 0} (g : Ghosts L) where
       store = λ counts s. absurd (not_store fault m s);
       still = λ counts. tt;
       kept = λ counts. tt;
-      unchanged = λ counts lives. moved old new r.same r.kept;
+      damaged = memory_names_none (g.damaged_for_listing (ledger_in old) (ledger_in new) revision) fault m;
+      unchanged = λ counts commands records. inl (moved old new r.same r.kept commands records);
       clean = subst g.counts r.same;
     };
   })
@@ -127,10 +135,11 @@ module _ {L : Type 0} (g : Ghosts L) where
           store = λ counts s. absurd (not_store fault m s);
           still = λ counts. tt;
           kept = λ counts. tt;
-          unchanged = λ counts lives commands records. record {
+          damaged = memory_names_none (g.damaged_for_listing (ledger_in old) (ledger_in new) revision) fault m;
+          unchanged = λ counts commands records. inl (record {
             ledger = subst (λ (l : L). g.stands_for l commands) (sym same) (stays (counted counts) commands records.ledger);
             kept = kept commands records.kept;
-          };
+          });
           clean = λ counts. clean (counted counts);
         };
       })
@@ -144,7 +153,8 @@ module _ {L : Type 0} (g : Ghosts L) where
       store = λ counts. tt;
       still = λ counts. subst (λ (l : L). g.remains l (ledger_in new)) r.same (f.reads.still counts);
       kept = λ counts commands records. f.reads.kept counts commands (moved old mid r.same r.kept commands records);
-      unchanged = λ counts lives. tt;
+      damaged = tt;
+      unchanged = λ counts. tt;
       clean = λ counts. subst g.counts r.same (f.reads.clean counts);
     };
   }
@@ -155,7 +165,10 @@ module _ {L : Type 0} (g : Ghosts L) where
       store = λ counts s. subst (λ (l : L). g.refuses_listing l (ledger_in new) revision) r.same (f.reads.store counts s);
       still = λ counts. tt;
       kept = λ counts. tt;
-      unchanged = λ counts lives commands records. f.reads.unchanged counts lives commands (moved old mid r.same r.kept commands records);
+      damaged = subst (λ (l : L). NamesDamage (g.damaged_for_listing l (ledger_in new) revision) fault) r.same f.reads.damaged;
+      unchanged = λ counts commands records.
+          subst (λ (l : L). AreRecordsOf g new commands ⊎ IsShut g.lives g.fails l fault (ledger_in new)) r.same
+          (f.reads.unchanged counts commands (moved old mid r.same r.kept commands records));
       clean = λ counts. subst g.counts r.same (f.reads.clean counts);
     };
   }
@@ -165,7 +178,7 @@ module _ {L : Type 0} (g : Ghosts L) where
   -- what the trait says of an answer
   abbrev IsAnswered : Server L → Request → Result Answer RegisterFault → Server L → Type 0
   IsAnswered old request result new =
-      Answered (IsServerOf g) (λ (s : Server L). g.counts (ledger_of s)) (λ (s : Server L). g.lives (ledger_of s)) IsReply ends_after Asks (FailsToAnswer g.fails_to_list) (RefusesToAnswer g) (λ (o n : Server L). g.remains (ledger_of o) (ledger_of n)) old request result new
+      Answered (IsServerOf g) (λ (s : Server L). g.counts (ledger_of s)) (λ (s : Server L). g.lives (ledger_of s)) (λ (o n : Server L). g.fails (ledger_of o) (ledger_of n)) IsReply ends_after Asks (FailsToAnswer g.fails_to_list) (RefusesToAnswer g) (DamagedForAnswer g) (λ (o n : Server L). g.remains (ledger_of o) (ledger_of n)) old request result new
 
   pub answered_err : (old new : Server L) (request : Request) (wanted : Wanted) (fault : RegisterFault) (given : Result Answer RegisterFault) → given ≡ Err fault → IsWanted (asked request) wanted
       → Tells g wanted old.records (Err fault) new.records → IsAnswered old request given new
@@ -184,6 +197,7 @@ module _ {L : Type 0} (g : Ghosts L) where
     store = λ counts s. (wanted, is, t.reads.store counts s);
     still = λ counts. tt;
     kept = λ counts. tt;
+    damaged = names_by (DamagedForTelling g wanted old.records new.records) (DamagedForAnswer g old new request) (λ object number named. (wanted, is, named)) fault t.reads.damaged;
     unchanged = t.reads.unchanged;
     clean = t.reads.clean;
   })
@@ -203,7 +217,8 @@ module _ {L : Type 0} (g : Ghosts L) where
     store = λ counts. tt;
     still = t.reads.still;
     kept = t.reads.kept;
-    unchanged = λ counts lives. tt;
+    damaged = tt;
+    unchanged = λ counts. tt;
     clean = t.reads.clean;
   }
     where

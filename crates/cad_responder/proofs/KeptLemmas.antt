@@ -11,7 +11,7 @@ use Rattle.cad_versions.specs.declared.command.Command.{Command}
 use Rattle.cad_versions.specs.VersionedObject.{VersionedObject}
 use Rattle.cad_versions.specs.declared.fault.RegisterFault.{RegisterFault}
 use Rattle.cad_versions.specs.declared.ledger.Ledger.{Ghosts}
-use Rattle.cad_versions.specs.Ledgers.{Applied}
+use Rattle.cad_versions.specs.LedgerCalls.{Applies}
 use Rattle.cad_versions.specs.AsOf.{as_of}
 use Rattle.cad_versions.specs.Laws.{RevisionsStay}
 use Rattle.cad_versions.specs.Refusals.{AreAccepted}
@@ -21,7 +21,7 @@ use Rattle.cad_responder.specs.Contents.{snapshot_of, snapshot_at}
 use Rattle.cad_responder.specs.declared.records.Records.{Records}
 use Rattle.cad_responder.specs.declared.kept.Kept.{Kept}
 use Rattle.cad_responder.specs.Keeping.{IsKept, AreKept, KeepsOf, LetsEnteredGo, LetsOldestGo, StaysKept, kept_at, or_else}
-use Rattle.cad_responder.specs.Servers.{ledger_in, AreRecordsOf, Keeps}
+use Rattle.cad_responder.specs.Servers.{ledger_in, AreRecordsOf, Enters, Keeps}
 
 -- the snapshot of these versions is one value
 pub built : (revision : ℕ) (versions : List VersionedObject) (s : RevisionFeatures) → IsSnapshotOf revision versions s → s ≡ snapshot_of revision versions
@@ -129,35 +129,40 @@ next_kept commands command newest revision s next is_newest is_revision kept fol
 -- a command that the ledger enters is entered into the records
 module _ {L : Type 0} (g : Ghosts L) where
   pub entered : RevisionsStay → (command : Command) (result : Result ℕ RegisterFault) (old new : Records L) → new.kept ≡ old.kept
-      → Applied g.stands_for g.counts g.lives g.fails_to_apply g.refuses_command old.ledger command result new.ledger
-      → Applied (AreRecordsOf g) (λ (r : Records L). g.counts (ledger_in r)) (λ (r : Records L). g.lives (ledger_in r)) g.fails_to_apply (λ (o n : Records L). g.refuses_command (ledger_in o) (ledger_in n)) old command result new
+      → Applies g old.ledger command result new.ledger
+      → Enters g old command result new
   entered stay command (Ok revision) old new same a = record {
     accepted = λ counts commands records.
         let t = a.accepted counts commands records.ledger in
         (t.0, t.1, record { ledger = t.2; kept = subst (KeepsOf (commands ++ command ∷ [])) (sym same) (keeps_later stay commands command old.kept records.kept) });
     refused = λ counts. tt;
     store = λ counts e commands records. a.store counts e commands records.ledger;
-    unchanged = λ counts lives. tt;
+    damaged = tt;
+    unchanged = λ counts. tt;
     clean = a.clean;
   }
   entered stay command (Err fault) old new same a = record {
     accepted = λ counts. tt;
     refused = λ counts commands records. a.refused counts commands records.ledger;
     store = λ counts e commands records. a.store counts e commands records.ledger;
-    unchanged = λ counts lives commands records. record { ledger = a.unchanged counts lives commands records.ledger; kept = subst (KeepsOf commands) (sym same) records.kept };
+    damaged = a.damaged;
+    unchanged = λ counts commands records. elim (a.unchanged counts commands records.ledger) [
+      | inl still ↦ inl (record { ledger = still; kept = subst (KeepsOf commands) (sym same) records.kept })
+      | inr shut ↦ inr shut
+    ];
     clean = a.clean;
   }
 
   -- and what is kept of the revision since is right
   pub then_kept : ((ledger : L) (commands : List Command) → g.stands_for ledger commands → AreAccepted [] commands)
       → (command : Command) (revision : ℕ) (given : Result ℕ RegisterFault) (old mid new : Records L) (next : RevisionFeatures) → given ≡ Ok revision
-      → Applied (AreRecordsOf g) (λ (r : Records L). g.counts (ledger_in r)) (λ (r : Records L). g.lives (ledger_in r)) g.fails_to_apply (λ (o n : Records L). g.refuses_command (ledger_in o) (ledger_in n)) old command given mid
+      → Enters g old command given mid
       → ((commands : List Command) → AreRecordsOf g old commands → AreAccepted [] (commands ++ command ∷ []) → IsKept (commands ++ command ∷ []) (next.revision, next))
       → Keeps g next mid new
-      → Applied (AreRecordsOf g) (λ (r : Records L). g.counts (ledger_in r)) (λ (r : Records L). g.lives (ledger_in r)) g.fails_to_apply (λ (o n : Records L). g.refuses_command (ledger_in o) (ledger_in n)) old command (Ok revision) new
+      → Enters g old command (Ok revision) new
   then_kept were_accepted command revision given old mid new next is given_so follows keeps =
-      let a : Applied (AreRecordsOf g) (λ (r : Records L). g.counts (ledger_in r)) (λ (r : Records L). g.lives (ledger_in r)) g.fails_to_apply (λ (o n : Records L). g.refuses_command (ledger_in o) (ledger_in n)) old command (Ok revision) mid
-      = subst (λ (r : Result ℕ RegisterFault). Applied (AreRecordsOf g) (λ (r : Records L). g.counts (ledger_in r)) (λ (r : Records L). g.lives (ledger_in r)) g.fails_to_apply (λ (o n : Records L). g.refuses_command (ledger_in o) (ledger_in n)) old command r mid) is given_so in
+      let a : Enters g old command (Ok revision) mid
+      = subst (λ (r : Result ℕ RegisterFault). Enters g old command r mid) is given_so in
       let counted : g.counts (ledger_in new) → g.counts (ledger_in mid) = subst g.counts keeps.same in
       record {
         accepted = λ counts commands records.
@@ -172,6 +177,7 @@ module _ {L : Type 0} (g : Ghosts L) where
             );
         refused = λ counts. tt;
         store = λ counts e commands records. subst (λ l. g.refuses_command (ledger_in old) l command (length commands)) (sym keeps.same) (a.store (counted counts) e commands records);
-        unchanged = λ counts lives. tt;
+        damaged = tt;
+        unchanged = λ counts. tt;
         clean = λ counts. a.clean (counted counts);
       }

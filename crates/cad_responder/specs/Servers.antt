@@ -1,9 +1,10 @@
 -- What clauses see of a server, and what its calls do (own profile).
-use Rattle.std.specs.Prelude.{◌≡◌, ◌≤◌, ◌⊎◌, ℕ, List, length, Option, None, IfSome, Result, IfOk, IfErr, OnOk, OnErr}
+use Rattle.std.specs.Prelude.{◌≡◌, ◌≤◌, ◌⊎◌, ℕ, ℤ, List, length, Option, None, IfSome, Result, IfOk, IfErr, OnOk}
 use Rattle.cad_versions.specs.declared.command.Command.{Command}
 use Rattle.cad_versions.specs.declared.fault.RegisterFault.{RegisterFault}
 use Rattle.cad_versions.specs.declared.fault.RegisterFault.TheVariants.{Store, Memory}
-use Rattle.cad_versions.specs.Keeping.{MayClose}
+use Rattle.cad_versions.specs.Keeping.{IsShut, NamesDamage}
+use Rattle.cad_versions.specs.Ledgers.{Applied}
 use Rattle.cad_versions.specs.declared.ledger.Ledger.{Ghosts}
 use Rattle.cad_snapshot.specs.Snapshots.{RevisionFeatures}
 use Rattle.cad_head.specs.Request.{Request}
@@ -59,12 +60,34 @@ module _ {L : Type 0} (g : Ghosts L) where
   abbrev pub RefusesToAnswer : Server L → Server L → Request → Type 0
   RefusesToAnswer old new request = (wanted : Wanted) × IsWanted (asked request) wanted × RefusesToTell wanted old.records new.records
 
-  -- reading what is kept changes nothing, and where something is read the ledger remains what it was; the store refuses that alone
-  pub record Reads {T : Type 0} (Refused : Type 0) (old : Records L) (result : Result T RegisterFault) (new : Records L) : Type 0 where
+  -- asked for the revision at which this is sought, the one that is asked for or the newest as the ledger tells it, what keeps the ledger shows a damaged row of this object and this number
+  abbrev pub DamagedForFinding : FeatureRequest → Records L → Records L → ℤ → ℤ → Type 0
+  DamagedForFinding sought old new object number =
+      g.damaged_for_listing (ledger_in old) (ledger_in new) (revision_sought sought (g.newest (ledger_in old))) object number
+
+  -- the same of what is wanted
+  abbrev pub DamagedForTelling : Wanted → Records L → Records L → ℤ → ℤ → Type 0
+  DamagedForTelling (wants.Told told) old new object number = ⊥
+  DamagedForTelling (wants.Features sought) old new object number = DamagedForFinding sought old new object number
+
+  -- the same of what a request asks for
+  abbrev pub DamagedForAnswer : Server L → Server L → Request → ℤ → ℤ → Type 0
+  DamagedForAnswer old new request object number =
+      (wanted : Wanted) × IsWanted (asked request) wanted × DamagedForTelling wanted old.records new.records object number
+
+  -- a command is entered into the records as into their ledger
+  abbrev pub Enters : Records L → Command → Result ℕ RegisterFault → Records L → Type 0
+  Enters =
+      Applied AreRecordsOf (λ records. g.counts (ledger_in records)) (λ records. g.lives (ledger_in records)) (λ old new. g.fails (ledger_in old) (ledger_in new))
+      g.fails_to_apply (λ old new. g.refuses_command (ledger_in old) (ledger_in new)) (λ old new. g.damaged_for_command (ledger_in old) (ledger_in new))
+
+  -- reading what is kept changes nothing, or what keeps the ledger failed and is closed; where something is read the ledger remains what it was; the store refuses that alone, and a row that is named as damaged is such a one
+  pub record Reads {T : Type 0} (Refused : Type 0) (IsDamaged : ℤ → ℤ → Type 0) (old : Records L) (result : Result T RegisterFault) (new : Records L) : Type 0 where
     pub store : g.counts (ledger_in new) → IfErr result (λ fault. fault ≡ Store → Refused)
+    pub damaged : IfErr result (NamesDamage IsDamaged)
     pub still : g.counts (ledger_in new) → OnOk result (g.remains (ledger_in old) (ledger_in new))
     pub kept : g.counts (ledger_in new) → OnOk result ((commands : List Command) → AreRecordsOf old commands → AreRecordsOf new commands)
-    pub unchanged : g.counts (ledger_in new) → IfErr result (λ fault. MayClose fault → g.lives (ledger_in new)) → OnErr result ((commands : List Command) → AreRecordsOf old commands → AreRecordsOf new commands)
+    pub unchanged : g.counts (ledger_in new) → IfErr result (λ fault. (commands : List Command) → AreRecordsOf old commands → AreRecordsOf new commands ⊎ IsShut g.lives g.fails (ledger_in old) fault (ledger_in new))
     pub clean : g.counts (ledger_in new) → g.counts (ledger_in old)
 
   -- less is kept, and the ledger is not touched
@@ -89,13 +112,13 @@ module _ {L : Type 0} (g : Ghosts L) where
   pub record Finds (revision : ℕ) (sought : FeatureRequest) (old : Records L) (result : Result Told RegisterFault) (new : Records L) : Type 0 where
     pub told : g.counts (ledger_in new) → IfOk result (λ told. (commands : List Command) → AreRecordsOf old commands → revision ≤ length commands → content_told told ≡ content_in sought (snapshot_at revision commands))
     pub cause : g.counts (ledger_in new) → IfErr result (λ fault. (commands : List Command) → AreRecordsOf old commands → revision ≤ length commands → (fault ≡ Memory) ⊎ g.fails_to_list revision commands fault)
-    pub reads : Reads (g.refuses_listing (ledger_in old) (ledger_in new) revision) old result new
+    pub reads : Reads (g.refuses_listing (ledger_in old) (ledger_in new) revision) (g.damaged_for_listing (ledger_in old) (ledger_in new) revision) old result new
 
   -- what is sought is told, at the revision that is asked for or the newest
   pub record Seeks (sought : FeatureRequest) (old : Records L) (result : Result Told RegisterFault) (new : Records L) : Type 0 where
     pub told : g.counts (ledger_in new) → IfOk result (λ told. (commands : List Command) → AreRecordsOf old commands → content_told told ≡ content_of sought commands)
     pub cause : g.counts (ledger_in new) → IfErr result (λ fault. (commands : List Command) → AreRecordsOf old commands → (fault ≡ Memory) ⊎ FailsToFind g.fails_to_list commands sought fault)
-    pub reads : Reads (RefusesToFind sought old new) old result new
+    pub reads : Reads (RefusesToFind sought old new) (DamagedForFinding sought old new) old result new
 
   -- what is wanted is told, and where no features are wanted, whatever tables stand there
   pub record Tells (wanted : Wanted) (old : Records L) (result : Result Told RegisterFault) (new : Records L) : Type 0 where
@@ -103,4 +126,4 @@ module _ {L : Type 0} (g : Ghosts L) where
     pub cause : g.counts (ledger_in new) → IfErr result (λ fault. (commands : List Command) → AreRecordsOf old commands → (fault ≡ Memory) ⊎ FailsToTell g.fails_to_list commands wanted fault)
     pub plain : IfOk result (λ told. AsksForFeatures wanted ⊎ ((commands : List Command) → content_told told ≡ content_wanted wanted commands))
     pub asking : IfErr result (λ fault. (fault ≡ Memory) ⊎ AsksForFeatures wanted)
-    pub reads : Reads (RefusesToTell wanted old new) old result new
+    pub reads : Reads (RefusesToTell wanted old new) (DamagedForTelling wanted old new) old result new

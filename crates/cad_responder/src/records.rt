@@ -51,10 +51,9 @@ impl<L: Ledger + Drop> Drop for Records<L> {
 impl<L: Ledger> Records<L> {
     ghost use Rattle.std.specs.Prelude.{◌≡◌, List, [], ◌∷◌, ◌++◌, length, None, IfOk, IfErr, IfSome};
     ghost use Rattle.cad_versions.specs.declared.command.Command.{Command as CommandOf};
-    ghost use Rattle.cad_versions.specs.Ledgers.{Applied};
     ghost use Rattle.cad_versions.specs.Refusals.{AreAccepted};
     ghost use Rattle.cad_responder.specs.Keeping.{IsKept, kept_at};
-    ghost use Rattle.cad_responder.specs.Servers.{bound_in, ledger_in, AreRecordsOf, Forgets, Keeps, Recalls, Finds, Seeks, Tells};
+    ghost use Rattle.cad_responder.specs.Servers.{bound_in, ledger_in, AreRecordsOf, Enters, Forgets, Keeps, Recalls, Finds, Seeks, Tells};
 
     /// A ledger of which nothing was read yet, or the ledger back where there is no memory.
     pub(crate) fn new(alloc: Global, ledger: L, most_changes: usize) -> Result<Records<L>, L>
@@ -90,9 +89,7 @@ impl<L: Ledger> Records<L> {
 
     /// Enters a command, and answers the revision since, or refuses it and stays as it was.
     pub(crate) fn enter(&mut self, command: Command) -> Result<u64, RegisterFault>
-        ensures { Applied (AreRecordsOf L.Ledger) (λ records. L.Ledger.counts (ledger_in records)) (λ records. L.Ledger.lives (ledger_in records))
-            L.Ledger.fails_to_apply (λ old new. L.Ledger.refuses_command (ledger_in old) (ledger_in new))
-            self.old command result self.new }
+        ensures { Enters L.Ledger self.old command result self.new }
     {
         let next = self.after(&command);
         let revision = self.apply(command)?;
@@ -104,9 +101,7 @@ impl<L: Ledger> Records<L> {
 
     /// Has the ledger apply the command: what is kept stays right.
     fn apply(&mut self, command: Command) -> Result<u64, RegisterFault>
-        ensures { Applied (AreRecordsOf L.Ledger) (λ records. L.Ledger.counts (ledger_in records)) (λ records. L.Ledger.lives (ledger_in records))
-            L.Ledger.fails_to_apply (λ old new. L.Ledger.refuses_command (ledger_in old) (ledger_in new))
-            self.old command result self.new }
+        ensures { Enters L.Ledger self.old command result self.new }
     {
         revisions_stay();
         self.ledger.apply(command)

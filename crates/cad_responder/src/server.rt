@@ -80,7 +80,7 @@ impl<L: Ledger> Server<L> {
 impl<L: Ledger> Responder for Server<L> {
     ghost use Rattle.cad_resource.specs.Asking.{ends_after};
     ghost use Rattle.cad_responder.specs.Replies.{IsReply, bad_head_reply, Asks, FailsToAnswer};
-    ghost use Rattle.cad_responder.specs.Servers.{ledger_of, IsServerOf, RefusesToAnswer};
+    ghost use Rattle.cad_responder.specs.Servers.{ledger_of, IsServerOf, RefusesToAnswer, DamagedForAnswer};
     ghost use Rattle.cad_responder.specs.Refusing.{failing_keeps};
 
     ghost stands_for = { IsServerOf L.Ledger };
@@ -88,6 +88,8 @@ impl<L: Ledger> Responder for Server<L> {
     ghost counts = { λ server. L.Ledger.counts (ledger_of server) };
 
     ghost lives = { λ server. L.Ledger.lives (ledger_of server) };
+
+    ghost fails = { λ old new. L.Ledger.fails (ledger_of old) (ledger_of new) };
 
     ghost replies = { IsReply };
 
@@ -105,6 +107,10 @@ impl<L: Ledger> Responder for Server<L> {
 
     ghost refuses_command = { λ old new. L.Ledger.refuses_command (ledger_of old) (ledger_of new) };
 
+    ghost damaged_for_answer = { DamagedForAnswer L.Ledger };
+
+    ghost damaged_for_command = { λ old new. L.Ledger.damaged_for_command (ledger_of old) (ledger_of new) };
+
     ghost remains = { λ old new. L.Ledger.remains (ledger_of old) (ledger_of new) };
 
     ghost answer_keeps = { failing_keeps L.Ledger.list_keeps };
@@ -114,6 +120,8 @@ impl<L: Ledger> Responder for Server<L> {
     ghost remains_here = { λ server. L.Ledger.remains_here (ledger_of server) };
 
     ghost remains_then = { λ old mid new. L.Ledger.remains_then (ledger_of old) (ledger_of mid) (ledger_of new) };
+
+    ghost fails_before = { λ old mid new. L.Ledger.fails_before (ledger_of old) (ledger_of mid) (ledger_of new) };
 
     fn answer(
         &mut self,

@@ -4,5 +4,4 @@ pub mod Held
 pub mod Has
 pub mod Heights
 pub mod Rest
-pub mod Pages
 pub mod AllRows

@@ -1,10 +1,12 @@
 -- What is left in segments of which the last stands first.
-use Rattle.std.proofs.Common.{◌≡◌, ◌∙◌, ℕ, ℤ, ◌+◌, ◌-◌, ◌<◌, ◌^◌, false, refl, List, [], ◌∷◌, ◌++◌, length, take, ap, sym, arith, MatchOption, Bor, Option, Some, None, slice_index_or, slice_set}
+use Rattle.std.proofs.Common.{◌≡◌, ◌∙◌, ℕ, ℤ, ◌+◌, ◌-◌, ◌<◌, ◌^◌, false, refl, List, [], ◌∷◌, ◌++◌, length, take, ap, sym, subst, arith, MatchOption, Bor, Option, Some, None, slice_index_or, slice_set}
 use Rattle.std.specs.List.{AllByRecursion}
+use Rattle.std.specs.List.Sorted.{IsStrictlySortedBy}
+use Rattle.std.proofs.lemmas.List.Kept.{IsStrictlySortedBy-filter}
 use Rattle.std.proofs.lemmas.List.{append_assoc, append-nil, length-set, nil_from_length, take-set, take_all, take_more, take_more_set}
 use Rattle.std.proofs.lemmas.List.Elements.{filter-append}
 use Rattle.cad_versions.specs.ListLemmas.{filter_fewer}
-use Rattle.cad_feature.specs.Features.{Item}
+use Rattle.cad_feature.specs.Features.{Item, by_identifier}
 use Rattle.cad_lookup.specs.declared.plan.Plan.{Plan}
 use Rattle.cad_lookup.specs.Candidates.{is_candidate, candidates}
 use Rattle.cad_extents.specs.declared.extents.Extents.{Extents}
@@ -60,6 +62,11 @@ module _ (plan : Plan) (last : Option (ℤ × ℤ)) where
   pub few_wanted : (xs left : List Item) (count : ℕ) → count ≡ length xs → count < 2 ^ 64 → left ≡ wanted xs → length left < 2 ^ 64
   few_wanted xs left count counted small is =
       omega (arith, counted, small, ap length is, filter_fewer (is_later last) (candidates plan xs), filter_fewer (is_candidate plan) xs)
+
+  pub ascending_wanted : (xs left : List Item) → IsStrictlySortedBy by_identifier xs → left ≡ wanted xs → IsStrictlySortedBy by_identifier left
+  ascending_wanted xs left up is =
+      subst (IsStrictlySortedBy by_identifier) (sym is)
+      (IsStrictlySortedBy-filter by_identifier (is_later last) (candidates plan xs) (IsStrictlySortedBy-filter by_identifier (is_candidate plan) xs up))
 
 -- ---- from the front
 

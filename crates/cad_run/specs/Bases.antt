@@ -1,11 +1,24 @@
 -- What is left of the candidates of a base.
-use Rattle.std.specs.Prelude.{List}
-use Rattle.cad_feature.specs.Features.{Item}
-use Rattle.cad_rows.specs.AllRows.{rows_of}
+use Rattle.std.specs.Prelude.{◌<◌, ◌≤◌, ◌^◌, List, length}
+use Rattle.std.proofs.Common.{arith}
+use Rattle.std.specs.List.Sorted.{IsStrictlySortedBy}
+use Rattle.cad_feature.specs.Features.{Item, by_identifier}
+use Rattle.cad_rows.specs.AllRows.{rows_of, rows_increase}
+use Rattle.cad_rows.specs.AllRows as all
 use Rattle.cad_rows.specs.Rest.{left_in}
 use Rattle.cad_run.specs.declared.bases.Bases.{Bases}
+use Rattle.cad_run.specs.AscendingLemmas.{fewer_items, items_ascend}
 use Rattle.cad_run.specs.Positions.{items_at}
 
 -- the features at the positions that are left
 abbrev pub rows_left : Bases → List Item
 rows_left b = items_at b.features.now (rows_of (left_in b.rows))
+
+pub rows_ascend : (b : Bases) → IsStrictlySortedBy by_identifier (rows_left b)
+rows_ascend b = items_ascend b.features.now b.ascending (rows_of (left_in b.rows)) (rows_increase (left_in b.rows))
+
+pub rows_few : (b : Bases) → length (rows_left b) ≤ 2 ^ 32
+rows_few b = omega (arith, fewer_items b.features.now (rows_of (left_in b.rows)), all.rows_bounded (left_in b.rows))
+
+pub rows_bounded : (b : Bases) → length (rows_left b) < 2 ^ 64
+rows_bounded b = omega (arith, rows_few b)

@@ -1,6 +1,8 @@
 pub mod Slices
+pub mod Pages
 pub mod LaterLemmas
 pub mod Positions
+pub mod AscendingLemmas
 pub mod Parts
 pub mod Bases
 pub mod Peeked

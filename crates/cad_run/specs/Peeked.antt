@@ -1,4 +1,4 @@
--- What is left of a stream whose first feature is looked at before it is taken, and where a change stands among it.
+-- What is left of a source whose first feature is looked at before it is taken, and where a change stands among it.
 use Rattle.std.specs.Prelude.{Bool, true, not, List, [], ◌∷◌, if◌then◌else◌}
 use Rattle.std.specs.Option.{option_copied}
 use Rattle.std.specs.Ordering.{is_eq, is_gt}
@@ -6,7 +6,7 @@ use Rattle.cad_feature.specs.Features.{Item, by_identifier}
 use Rattle.cad_run.specs.declared.peeked.Peeked.{Peeked}
 use Rattle.cad_run.specs.Positions.{found_then}
 
--- what is left of the stream, behind the one that was looked at
+-- what is left of the source, behind the one that was looked at
 abbrev pub peeked_left : {S : Type 0} → (S → List Item) → Peeked S → List Item
 peeked_left left p = found_then (option_copied p.front) (left p.source)
 

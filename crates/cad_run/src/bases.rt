@@ -1,8 +1,12 @@
 //! The candidates among features with indexes.
 
+ghost use Rattle.std.specs.List.Sorted.{IsStrictlySortedBy};
+ghost use Rattle.std.proofs.Props.{props};
+ghost use Rattle.cad_feature.specs.Features.{by_identifier};
+
 use crate::after::first_after;
+use crate::feature_source::FeatureSource;
 use crate::planned::source_of;
-use crate::stream::Stream;
 use cad_feature::Feature;
 use cad_index::Base;
 use cad_lookup::Plan;
@@ -15,6 +19,7 @@ use std::alloc::{AllocError, Global};
 pub(crate) struct Bases<'a> {
     features: &'a [Feature],
     rows: Rows<'a>,
+    ghost ascending: { IsStrictlySortedBy by_identifier features.now } by { Prim.hlevel props },
 }
 
 impl<'a> Bases<'a> {
@@ -41,12 +46,16 @@ impl<'a> Bases<'a> {
     }
 }
 
-impl<'a> Stream<'a> for Bases<'a> {
-    ghost use Rattle.cad_run.specs.Bases.{rows_left};
+impl<'a> FeatureSource<'a> for Bases<'a> {
+    ghost use Rattle.cad_run.specs.Bases.{rows_ascend, rows_bounded, rows_left};
 
     ghost left = { rows_left };
 
-    fn take(&mut self) -> Option<&'a Feature> {
+    ghost ascends = { rows_ascend };
+
+    ghost bounded = { rows_bounded };
+
+    fn next(&mut self) -> Option<&'a Feature> {
         while let Some(row) = self.rows.next() {
             let row = row as usize;
             if row < self.features.len() {

@@ -1,6 +1,9 @@
 //! The candidates of a layer, in the order of identifiers.
 
 ghost use Rattle.std.specs.Prelude.{◌≡◌, ◌<◌, ◌^◌, ◌-◌, [], ◌∷◌, length, take, IfOk, MatchOption, option_map};
+ghost use Rattle.std.specs.List.Sorted.{IsStrictlySortedBy};
+ghost use Rattle.std.proofs.Props.{props};
+ghost use Rattle.cad_feature.specs.Features.{by_identifier};
 ghost use Rattle.cad_lookup.specs.Candidates.{candidates};
 ghost use Rattle.cad_merged.specs.Segments.{joined};
 ghost use Rattle.cad_run.specs.SegmentLeft.{all_left};
@@ -20,6 +23,7 @@ use std::alloc::{AllocError, Global};
 pub struct Candidates<'a, 'p> {
     /// The last first.
     sources: Vec<SegmentCandidates<'a, 'p>>,
+    ghost ascending: { IsStrictlySortedBy by_identifier (all_left sources.items) } by { Prim.hlevel props },
     ghost few: { length (all_left sources.items) < 2 ^ 64 },
 }
 
@@ -75,7 +79,8 @@ impl<'a, 'p> Candidates<'a, 'p> {
     ) -> Result<Candidates<'a, 'p>, AllocError>
         ensures { IfOk result (λ left. candidates_left left ≡ later (option_map identifier after) (candidates plan.now layer.now.features)) }
     {
-        // A counter holds how many features there are, and so how many candidates are left.
+        // Features ascend, and a counter holds how many there are: so it is of the candidates that are left.
+        let _collection = layer.collection();
         let _count = layer.count();
         let sources = sources_of(alloc, plan, layer.segments(), after)?;
         Ok(Candidates { sources })
@@ -83,9 +88,11 @@ impl<'a, 'p> Candidates<'a, 'p> {
 }
 
 impl<'a> FeatureSource<'a> for Candidates<'a, '_> {
-    ghost use Rattle.cad_run.specs.Left.{candidates_left, left_bounded};
+    ghost use Rattle.cad_run.specs.Left.{candidates_left, left_ascends, left_bounded};
 
     ghost left = { candidates_left };
+
+    ghost ascends = { left_ascends };
 
     ghost bounded = { left_bounded };
 

@@ -9,7 +9,7 @@ use cad_lookup::Plan;
 use cad_merged::Layer;
 use std::alloc::{AllocError, Global};
 
-fn count_left<'a, S: FeatureSource<'a> + Drop>(source: S) -> u64
+fn count_left<'a, S: FeatureSource<'a>>(source: S) -> u64
     ensures { result ≡ length (S.left source) }
 {
     let mut source = source;

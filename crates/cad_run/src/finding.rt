@@ -1,7 +1,7 @@
 //! A page of the features of a source.
 
 ghost use Rattle.std.specs.Prelude.{◌≡◌, filter, length, nat_lt, take, IfOk};
-ghost use Rattle.cad_rows.specs.Pages.{examined_of};
+ghost use Rattle.cad_run.specs.Pages.{examined_of};
 ghost use Rattle.cad_run.specs.Slices.{rows_of};
 
 use crate::feature_source::FeatureSource;
@@ -12,7 +12,7 @@ use std::alloc::{AllocError, Global};
 
 /// The first features that pass, at most `limit` of them. It stops at the one that shows that more are left. An error is want of
 /// memory.
-pub(crate) fn find<'a, S: FeatureSource<'a> + Drop, T: FeatureTest>(
+pub(crate) fn find<'a, S: FeatureSource<'a>, T: FeatureTest>(
     alloc: Global,
     source: S,
     test: &T,
@@ -24,7 +24,7 @@ pub(crate) fn find<'a, S: FeatureSource<'a> + Drop, T: FeatureTest>(
 {
     let mut kept = Kept::new(source);
     let mut rows = Vec::new(alloc);
-    while let Some(feature) = kept.next_kept(test)? {
+    while let Some(feature) = kept.kept(test)? {
         if rows.len() == limit {
             return Ok(Page {
                 rows,

@@ -10,9 +10,9 @@ ghost use Rattle.cad_run.specs.Peeked.{peeked_left};
 
 use crate::after::features_later;
 use crate::bases::Bases;
+use crate::feature_source::FeatureSource;
 use crate::peeked::Peeked;
 use crate::replaced::is_replaced;
-use crate::stream::Stream;
 use cad_feature::Feature;
 use cad_lookup::Plan;
 use cad_merged::Indexed;
@@ -70,12 +70,16 @@ impl<'a> IndexedCandidates<'a> {
     }
 }
 
-impl<'a> Stream<'a> for IndexedCandidates<'a> {
-    ghost use Rattle.cad_run.specs.IndexedLeft.{indexed_left};
+impl<'a> FeatureSource<'a> for IndexedCandidates<'a> {
+    ghost use Rattle.cad_run.specs.IndexedLeft.{indexed_ascends, indexed_bounded, indexed_left};
 
     ghost left = { indexed_left };
 
-    fn take(&mut self) -> Option<&'a Feature> {
+    ghost ascends = { indexed_ascends };
+
+    ghost bounded = { indexed_bounded };
+
+    fn next(&mut self) -> Option<&'a Feature> {
         self.drop_replaced();
         let Some(older) = self.olders.peek() else {
             return self.bases.next();

@@ -1,7 +1,7 @@
 //! Features that pass a test, counted.
 
 ghost use Rattle.std.specs.Prelude.{◌≡◌, ◌+◌, ◌^◌, ◌<◌, ◌≤◌, ℕ, suc, [], ◌∷◌, filter, length, IfOk, MatchOption};
-ghost use Rattle.cad_rows.specs.Pages.{examined_of};
+ghost use Rattle.cad_run.specs.Pages.{examined_of};
 
 use crate::feature_source::FeatureSource;
 use crate::feature_test::FeatureTest;
@@ -10,14 +10,14 @@ use std::alloc::AllocError;
 
 /// A source whose features are tested, and how many were.
 #[derive(Drop)]
-pub(crate) struct Kept<S> {
+pub struct Kept<S> {
     source: S,
     examined: u64,
 }
 
 impl<'a, S: FeatureSource<'a>> Kept<S> {
     /// A source of which nothing was tested yet.
-    pub(crate) fn new(source: S) -> Self
+    pub fn new(source: S) -> Self
         ensures source { result.source ≡ source }
         ensures examined { result.examined ≡ 0 }
     {
@@ -28,17 +28,14 @@ impl<'a, S: FeatureSource<'a>> Kept<S> {
     }
 
     /// How many features were tested.
-    pub(crate) fn examined(&self) -> u64
+    pub fn examined(&self) -> u64
         ensures { result ≡ self.now.examined }
     {
         self.examined
     }
 
     /// The next feature that passes; those before it are taken with it. An error is want of memory.
-    pub(crate) fn next_kept<T: FeatureTest>(
-        &mut self,
-        test: &T,
-    ) -> Result<Option<&'a Feature>, AllocError>
+    pub fn kept<T: FeatureTest>(&mut self, test: &T) -> Result<Option<&'a Feature>, AllocError>
         requires few { self.old.examined + length (S.left self.old.source) < 2 ^ 64 }
         ensures rows { IfOk result (λ r. MatchOption r (filter (T.passes test.now) (S.left self.old.source) ≡ []) (λ x. filter (T.passes test.now) (S.left self.old.source) ≡ x.now ∷ filter (T.passes test.now) (S.left self.new.source))) }
         ensures more { IfOk result (λ r. MatchOption r (Unit {0}) (λ x. (n : ℕ) → self.old.examined + examined_of (T.passes test.now) (suc n) (S.left self.old.source) ≡ self.new.examined + examined_of (T.passes test.now) n (S.left self.new.source))) }

@@ -2,10 +2,12 @@
 //!
 //! - [`page`]: the first of a plan's candidates that pass a test, after one that is named, and whether more are left: a
 //!   [`Page`], with how many were tested
-//! - [`Candidates`], a [`FeatureSource`]: a plan's candidates, taken one after the other
+//! - [`FeatureSource`]: features that are taken one after the other, in the order of identifiers
+//! - [`Candidates`]: a plan's candidates as such a source
+//! - [`Kept`]: the features of any source that a test keeps, and how many were tested
+//! - [`RowSource`]: positions one after the other; of these a base's candidates are made
 //! - [`candidate_count`]: how many candidates a plan has
 //! - [`FeatureTest`]: a test of features
-//! - [`RowSource`], [`Kept`]: positions one after the other, and those of them that a test keeps
 //! - [`Layer`], [`Plan`]: the features with their indexes, and which of them are looked at
 //!
 //! Of the parcels 1.1, 1.2, 2.1, 3.1 and 4.1 and the plan of the range of `object` up to 2, the page of one after 1.1 that has
@@ -31,14 +33,14 @@ mod presence;
 mod replaced;
 mod rows;
 mod segment_candidates;
-mod stream;
 
 pub use cad_lookup::Plan;
 pub use cad_merged::Layer;
-pub use cad_rows::{Kept, RowSource};
+pub use cad_rows::RowSource;
 pub use candidates::Candidates;
 pub use counting::candidate_count;
 pub use feature_source::FeatureSource;
 pub use feature_test::FeatureTest;
+pub use kept::Kept;
 pub use paging::page;
 pub use rows::Page;

@@ -2,7 +2,7 @@
 
 ghost use Rattle.std.specs.Prelude.{◌≡◌, IfOk, filter, option_map};
 ghost use Rattle.cad_lookup.specs.Candidates.{candidates};
-ghost use Rattle.cad_rows.specs.Pages.{examined_of};
+ghost use Rattle.cad_run.specs.Pages.{examined_of};
 ghost use Rattle.cad_run.specs.Slices.{identifier, slice, is_more, later, rows_of};
 
 use crate::candidates::Candidates;

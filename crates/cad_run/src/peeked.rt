@@ -1,21 +1,21 @@
-//! A stream whose first feature is looked at before it is taken.
+//! A source whose first feature is looked at before it is taken.
 
-use crate::stream::Stream;
+use crate::feature_source::FeatureSource;
 use cad_feature::Feature;
 use std::cmp::Ordering;
 
-/// What is left of a stream, behind the feature that was looked at and not taken yet.
+/// What is left of a source, behind the feature that was looked at and not taken yet.
 #[derive(Drop)]
 pub(crate) struct Peeked<'a, S> {
     source: S,
     front: Option<&'a Feature>,
 }
 
-impl<'a, S: Stream<'a>> Peeked<'a, S> {
+impl<'a, S: FeatureSource<'a>> Peeked<'a, S> {
     ghost use Rattle.std.specs.Prelude.{◌≡◌, [], ◌∷◌, MatchOption};
     ghost use Rattle.cad_run.specs.Peeked.{peeked_left, stands_first, without};
 
-    /// The stream, of which nothing was looked at yet.
+    /// The source, of which nothing was looked at yet.
     pub(crate) fn new(source: S) -> Self
         ensures { peeked_left S.left result ≡ S.left source }
     {
@@ -32,7 +32,7 @@ impl<'a, S: Stream<'a>> Peeked<'a, S> {
         ensures none { MatchOption result (peeked_left S.left self.old ≡ []) (λ x. peeked_left S.left self.old ≡ x.now ∷ S.left self.new.source) }
     {
         if self.front.is_none() {
-            self.front = self.source.take();
+            self.front = self.source.next();
         }
         self.front
     }

@@ -10,6 +10,7 @@ use Rattle.cad_head.specs.Front.{front_bytes, IsHeadAt}
 use Rattle.cad_versions.specs.declared.command.Command.{Command}
 use Rattle.cad_versions.specs.declared.fault.RegisterFault.{RegisterFault}
 use Rattle.cad_versions.specs.declared.fault.RegisterFault.TheVariants.{Memory}
+use Rattle.cad_stream.specs.KeepingLemmas.{names_by, shut_by}
 use Rattle.cad_head.specs.Request.{Request, request_at, request_of}
 use Rattle.cad_stream.specs.declared.answer.Answer.{Answer}
 use Rattle.cad_stream.specs.declared.connection.Fed.{Fed}
@@ -21,7 +22,7 @@ use Rattle.cad_stream.specs.Replies.{IsPlainReply, AreReplies, ArePlainReplies, 
 use Rattle.cad_stream.specs.Conversations.{HeadAt, heads_at}
 use Rattle.cad_stream.specs.ReplyLemmas.{replies_join, replies_go_on}
 use Rattle.cad_stream.specs.Answering.{Answered}
-use Rattle.cad_stream.specs.Feeding.{bytes_left, Under, Stays, IsNext, RepliesTo, Feeds}
+use Rattle.cad_stream.specs.Feeding.{bytes_left, Under, DamagedLater, Stays, IsNext, RepliesTo, Feeds}
 use Rattle.cad_stream.proofs.StreamLemmas.{fits_some, passes_push, passes_join}
 
 -- the spans of a head show its request
@@ -39,10 +40,14 @@ module _ {R : Type 0} (g : Ghosts R) where
   abbrev pub RemainsThen : Type 0
   RemainsThen = (old mid new : R) → g.remains old mid → g.remains mid new → g.remains old new
 
+  -- what failed since it remained what it was, failed since before
+  abbrev pub FailsBefore : Type 0
+  FailsBefore = (old mid new : R) → g.remains old mid → g.fails mid new → g.fails old new
+
   -- the answer to the request that spans show is that to the head
   pub answered_head : (bytes : List ℕ) (old new : R) (request : Request) (head : RequestHead) (used : ℕ) (answer : Answer) → request ≡ request_of head → Fits bytes head (drop used bytes)
       → used ≡ length (print_request head)
-      → Answered g.stands_for g.counts g.lives g.replies g.closes g.asks g.fails_to_answer g.refuses_answer g.remains old request (Ok answer) new
+      → Answered g.stands_for g.counts g.lives g.fails g.replies g.closes g.asks g.fails_to_answer g.refuses_answer g.damaged_for_answer g.remains old request (Ok answer) new
       → IsNext g bytes old (Ok (next.Answered answer used)) new
   answered_head bytes old new request head used answer same fits size a = record {
     next = (
@@ -57,15 +62,16 @@ module _ {R : Type 0} (g : Ghosts R) where
     asking = tt;
     stays = record {
       kept = a.kept;
-      unchanged = λ counts lives. tt;
+      unchanged = λ counts. tt;
       store = λ counts. tt;
+      damaged = tt;
       still = a.still;
       clean = a.clean;
     };
   }
 
   pub failed_head : RemainsHere → (bytes : List ℕ) (old new : R) (request : Request) (head : RequestHead) (rest : List ℕ) (fault : RegisterFault) → request ≡ request_of head → Fits bytes head rest
-      → Answered g.stands_for g.counts g.lives g.replies g.closes g.asks g.fails_to_answer g.refuses_answer g.remains old request (Err fault) new
+      → Answered g.stands_for g.counts g.lives g.fails g.replies g.closes g.asks g.fails_to_answer g.refuses_answer g.damaged_for_answer g.remains old request (Err fault) new
       → IsNext g bytes old (Err fault) new
   failed_head here bytes old new request head rest fault same fits a = record {
     next = tt;
@@ -81,6 +87,9 @@ module _ {R : Type 0} (g : Ghosts R) where
       kept = λ _. tt;
       unchanged = a.unchanged;
       store = λ counts e. (old, (λ commands stands. stands), here old, ([], head, rest, (bytes, refl, fits), subst (g.refuses_answer old new) same (a.store counts e)));
+      damaged = names_by (g.damaged_for_answer old new request) (DamagedLater g bytes old new)
+          (λ object number named. (old, (λ counts. here old), ([], head, rest, (bytes, refl, fits), subst (λ (r : Request). g.damaged_for_answer old new r object number) same named)))
+          fault a.damaged;
       still = λ counts. tt;
       clean = a.clean;
     };
@@ -118,16 +127,18 @@ module _ {R : Type 0} (g : Ghosts R) where
   asks_later bytes old now used out fault h (inr asks) = inr (comes_later g.asks bytes old now used out h asks)
 
   -- what is answered is no more than what was read, and the call that failed left the commands
-  pub fails_here : RemainsThen → (bytes : List ℕ) (old now new : R) (used : ℕ) (out : List ℕ) (fault : RegisterFault) → HasReplied bytes old used out now
+  pub fails_here : RemainsThen → FailsBefore → (bytes : List ℕ) (old now new : R) (used : ℕ) (out : List ℕ) (fault : RegisterFault) → HasReplied bytes old used out now
       → IsNext g (drop used bytes) now (Err fault) new → RepliesTo g bytes old (Err fault) new
-  fails_here then bytes old now new used out fault h n = record {
+  fails_here then before bytes old now new used out fault h n = record {
     replied = tt;
     within = tt;
     cause = fails_later bytes old now new used out fault h n;
     asking = asks_later bytes old now used out fault h n.asking;
     stays = record {
       kept = λ counts. tt;
-      unchanged = λ counts lives commands stands. n.stays.unchanged counts lives commands (h.stands (n.stays.clean counts) commands stands);
+      unchanged = λ counts commands stands.
+          let clean = n.stays.clean counts in
+          shut_by g.lives g.fails old now new fault (g.stands_for new commands) (before old now new (h.still clean)) (n.stays.unchanged counts commands (h.stands clean commands stands));
       store = λ counts e.
           let clean = n.stays.clean counts in
           let refused = n.stays.store counts e in (
@@ -136,6 +147,13 @@ module _ {R : Type 0} (g : Ghosts R) where
             then old now refused.0 (h.still clean) refused.2,
             comes_later (g.refuses_answer refused.0 new) bytes old now used out h refused.3,
           );
+      damaged = names_by (DamagedLater g (drop used bytes) now new) (DamagedLater g bytes old new)
+          (λ object number named. (
+            named.0,
+            (λ counts. then old now named.0 (h.still (n.stays.clean counts)) (named.1 counts)),
+            comes_later (λ request. g.damaged_for_answer named.0 new request object number) bytes old now used out h named.2,
+          ))
+          fault n.stays.damaged;
       still = λ counts. tt;
       clean = λ counts. h.clean (n.stays.clean counts);
     };
@@ -146,8 +164,9 @@ module _ {R : Type 0} (g : Ghosts R) where
       → Stays g (drop used bytes) now (Ok next) new → Stays g bytes old (Ok result) new
   stays_well then bytes old now new used out next result h s = record {
     kept = λ counts commands stands. s.kept counts commands (h.stands (s.clean counts) commands stands);
-    unchanged = λ counts lives. tt;
+    unchanged = λ counts. tt;
     store = λ counts. tt;
+    damaged = tt;
     still = λ counts. then old now new (h.still (s.clean counts)) (s.still counts);
     clean = λ counts. h.clean (s.clean counts);
   }
@@ -272,8 +291,9 @@ module _ {R : Type 0} (g : Ghosts R) where
     asking = tt;
     stays = record {
       kept = λ counts commands stands. stands;
-      unchanged = λ counts lives. tt;
+      unchanged = λ counts. tt;
       store = λ counts. tt;
+      damaged = tt;
       still = λ counts. here old;
       clean = λ counts. counts;
     };
@@ -293,6 +313,7 @@ module _ {R : Type 0} (g : Ghosts R) where
           kept = λ counts. tt;
           unchanged = s.stays.unchanged;
           store = s.stays.store;
+          damaged = s.stays.damaged;
           still = λ counts. tt;
           clean = s.stays.clean;
         };

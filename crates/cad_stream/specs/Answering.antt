@@ -1,23 +1,24 @@
 -- What answering a request does (RFC 9110, section 3.4: messages; own profile: revisions and refusals).
-use Rattle.std.specs.Prelude.{◌≡◌, ◌⊎◌, ℕ, List, Bool, Result, IfOk, IfErr, OnOk, OnErr}
+use Rattle.std.specs.Prelude.{◌≡◌, ◌⊎◌, ℕ, ℤ, List, Bool, Result, IfOk, IfErr, OnOk}
 use Rattle.cad_versions.specs.declared.command.Command.{Command}
 use Rattle.cad_versions.specs.declared.fault.RegisterFault.{RegisterFault}
 use Rattle.cad_versions.specs.declared.fault.RegisterFault.TheVariants.{Store, Memory}
-use Rattle.cad_versions.specs.Keeping.{MayClose}
+use Rattle.cad_versions.specs.Keeping.{IsShut, NamesDamage}
 use Rattle.cad_head.specs.Request.{Request}
 use Rattle.cad_stream.specs.Replies.{IsPlainReply}
 use Rattle.cad_stream.specs.declared.answer.Answer.{Answer}
 
-module _ {R : Type 0} (StandsFor : R → List Command → Type 0) (Counts Lives : R → Type 0) where
-  -- the answer is a reply with the commands in force, and where the request does not ask for what they say, whatever they are; what answers remains what it was; there is none for want of memory, or for what keeps the commands, and for that only where the request asks for what they say; nothing changes
-  pub record Answered (IsReply : List Command → Request → List ℕ → Type 0) (Closes : Request → Bool) (Asks : Request → Type 0) (FailsToAnswer : List Command → Request → RegisterFault → Type 0) (Refuses : R → R → Request → Type 0) (Remains : R → R → Type 0) (old : R) (request : Request) (result : Result Answer RegisterFault) (new : R) : Type 0 where
+module _ {R : Type 0} (StandsFor : R → List Command → Type 0) (Counts Lives : R → Type 0) (Fails : R → R → Type 0) where
+  -- the answer is a reply with the commands in force, and where the request does not ask for what they say, whatever they are; what answers remains what it was; there is none for want of memory, or for what keeps the commands, and for that only where the request asks for what they say; nothing changes, or what keeps them failed and is closed; a row that is named as damaged is such a one, whatever the commands are
+  pub record Answered (IsReply : List Command → Request → List ℕ → Type 0) (Closes : Request → Bool) (Asks : Request → Type 0) (FailsToAnswer : List Command → Request → RegisterFault → Type 0) (Refuses : R → R → Request → Type 0) (IsDamaged : R → R → Request → ℤ → ℤ → Type 0) (Remains : R → R → Type 0) (old : R) (request : Request) (result : Result Answer RegisterFault) (new : R) : Type 0 where
     pub replied : Counts new → IfOk result (λ answer. (commands : List Command) → StandsFor old commands → IsReply commands request answer.bytes.items)
     pub plain : IfOk result (λ answer. IsPlainReply Asks IsReply request answer.bytes.items)
     pub ends : IfOk result (λ answer. answer.ends ≡ Closes request)
     pub cause : Counts new → IfErr result (λ fault. (commands : List Command) → StandsFor old commands → (fault ≡ Memory) ⊎ FailsToAnswer commands request fault)
     pub asking : IfErr result (λ fault. (fault ≡ Memory) ⊎ Asks request)
     pub store : Counts new → IfErr result (λ fault. fault ≡ Store → Refuses old new request)
+    pub damaged : IfErr result (NamesDamage (IsDamaged old new request))
     pub still : Counts new → OnOk result (Remains old new)
     pub kept : Counts new → OnOk result ((commands : List Command) → StandsFor old commands → StandsFor new commands)
-    pub unchanged : Counts new → IfErr result (λ fault. MayClose fault → Lives new) → OnErr result ((commands : List Command) → StandsFor old commands → StandsFor new commands)
+    pub unchanged : Counts new → IfErr result (λ fault. (commands : List Command) → StandsFor old commands → StandsFor new commands ⊎ IsShut Lives Fails old fault new)
     pub clean : Counts new → Counts old

@@ -1,12 +1,12 @@
 -- What a piece of a connection's bytes brings (RFC 9112, section 9.3.2: pipelining; own profile: refusals).
-use Rattle.std.specs.Prelude.{◌≡◌, ◌⊎◌, ℕ, ◌≤◌, false, List, [], ◌++◌, length, drop, Option, Some, option_map, Result, IfOk, IfErr, OnOk, OnErr}
+use Rattle.std.specs.Prelude.{◌≡◌, ◌⊎◌, ℕ, ℤ, ◌≤◌, false, List, [], ◌++◌, length, drop, Option, Some, option_map, Result, IfOk, IfErr, OnOk}
 use Rattle.httparse.specs.Grammar.{RequestHead, print_request}
 use Rattle.cad_head.specs.Heads.{Fits, IsHopeless, IsIncomplete}
 use Rattle.cad_head.specs.Pieces.{may_settle}
 use Rattle.cad_versions.specs.declared.command.Command.{Command}
 use Rattle.cad_versions.specs.declared.fault.RegisterFault.{RegisterFault}
 use Rattle.cad_versions.specs.declared.fault.RegisterFault.TheVariants.{Store, Memory}
-use Rattle.cad_versions.specs.Keeping.{MayClose}
+use Rattle.cad_versions.specs.Keeping.{IsShut, NamesDamage}
 use Rattle.cad_head.specs.Request.{request_of}
 use Rattle.cad_stream.specs.declared.connection.Connection.{Connection}
 use Rattle.cad_stream.specs.declared.connection.Fed.{Fed}
@@ -37,11 +37,18 @@ module _ {R : Type 0} (g : Ghosts R) where
       (before : R) × ((commands : List Command) → g.stands_for old commands → g.stands_for before commands) × g.remains old before
       × ComeTo g.closes (g.refuses_answer before new) bytes
 
-  -- a call for the requests of these bytes stays with the commands, and what is answered counts if what is answered later does
+  -- a row of this object and this number is damaged that is shown for a request to which the bytes come, once those before it were answered and changed nothing
+  abbrev pub DamagedLater : List ℕ → R → R → ℤ → ℤ → Type 0
+  DamagedLater bytes old new object number =
+      (before : R) × (g.counts new → g.remains old before)
+      × ComeTo g.closes (λ request. g.damaged_for_answer before new request object number) bytes
+
+  -- a call for the requests of these bytes stays with the commands, or what keeps them failed and is closed; what is answered counts if what is answered later does
   pub record Stays {T : Type 0} (bytes : List ℕ) (old : R) (result : Result T RegisterFault) (new : R) : Type 0 where
     pub kept : g.counts new → OnOk result ((commands : List Command) → g.stands_for old commands → g.stands_for new commands)
-    pub unchanged : g.counts new → IfErr result (λ fault. MayClose fault → g.lives new) → OnErr result ((commands : List Command) → g.stands_for old commands → g.stands_for new commands)
+    pub unchanged : g.counts new → IfErr result (λ fault. (commands : List Command) → g.stands_for old commands → g.stands_for new commands ⊎ IsShut g.lives g.fails old fault new)
     pub store : g.counts new → IfErr result (λ fault. fault ≡ Store → RefusesLater bytes old new)
+    pub damaged : IfErr result (NamesDamage (DamagedLater bytes old new))
     pub still : g.counts new → OnOk result (g.remains old new)
     pub clean : g.counts new → g.counts old
 

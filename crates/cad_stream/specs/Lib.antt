@@ -5,3 +5,4 @@ pub mod Feeding
 pub mod Conversations
 pub mod Laws
 pub mod ReplyLemmas
+pub mod KeepingLemmas

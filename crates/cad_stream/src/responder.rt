@@ -7,7 +7,7 @@ use std::alloc::AllocError;
 
 /// What answers the requests of connections, and enters the land office's commands between them.
 pub trait Responder {
-    ghost use Rattle.std.specs.Prelude.{◌≡◌, ℕ, List, Bool, IfOk};
+    ghost use Rattle.std.specs.Prelude.{◌≡◌, ℕ, ℤ, List, Bool, IfOk};
     ghost use Rattle.httparse.specs.Spans.{IsRequestWithin};
     ghost use Rattle.cad_versions.specs.declared.command.Command.{Command as CommandOf};
     ghost use Rattle.cad_versions.specs.declared.fault.RegisterFault.{RegisterFault as Fault};
@@ -24,6 +24,9 @@ pub trait Responder {
 
     // It may be asked again, as a database that is open.
     ghost lives: { Self → Type 0 };
+
+    // What keeps the commands failed in between, as the disk of a database.
+    ghost fails: { Self → Self → Type 0 };
 
     // These bytes are the reply to a request, with these commands in force.
     ghost replies: { List CommandOf → Request → List ℕ → Type 0 };
@@ -46,12 +49,19 @@ pub trait Responder {
     // What keeps the commands refuses to tell what a request asks for.
     ghost refuses_answer: { Self → Self → Request → Type 0 };
 
+    // Asked for what the request asks for, what keeps the commands shows a damaged row of this object and this number, as they
+    // are stored.
+    ghost damaged_for_answer: { Self → Self → Request → ℤ → ℤ → Type 0 };
+
     // Where it was this one before requests were answered, it is that one since: what keeps the commands shows the same,
     // and so does what decides whether it refuses.
     ghost remains: { Self → Self → Type 0 };
 
     // What keeps the commands refuses the command, asked at this revision.
     ghost refuses_command: { Self → Self → CommandOf → ℕ → Type 0 };
+
+    // So it shows such a row, asked for the command.
+    ghost damaged_for_command: { Self → Self → CommandOf → ℤ → ℤ → Type 0 };
 
     /// The reply to the request that `spans` show in the bytes of a head.
     fn answer(
@@ -61,7 +71,7 @@ pub trait Responder {
         spans: &RequestSpans,
     ) -> Result<Answer, RegisterFault>
         requires { IsRequestWithin bytes.now headers.now spans.now }
-        ensures { Answered stands_for counts lives replies closes asks fails_to_answer refuses_answer remains
+        ensures { Answered stands_for counts lives fails replies closes asks fails_to_answer refuses_answer damaged_for_answer remains
             self.old (request_at bytes.now headers.now spans.now) result self.new };
 
     /// The reply to bytes that no request can begin with.
@@ -70,7 +80,7 @@ pub trait Responder {
 
     /// Enters a command, and answers the revision since, or refuses it and stays as it was.
     fn enter(&mut self, command: Command) -> Result<u64, RegisterFault>
-        ensures { Applied stands_for counts lives fails_to_enter refuses_command self.old command result self.new };
+        ensures { Applied stands_for counts lives fails fails_to_enter refuses_command damaged_for_command self.old command result self.new };
 
     /// A request has one reply. The contract is a law; the function does nothing.
     fn one_reply()
@@ -88,4 +98,7 @@ pub trait Responder {
     ghost remains_here: { (responder : Self) → remains responder responder };
 
     ghost remains_then: { (old mid new : Self) → remains old mid → remains mid new → remains old new };
+
+    // What failed since it remained what it was, failed since before.
+    ghost fails_before: { (old mid new : Self) → remains old mid → fails mid new → fails old new };
 }

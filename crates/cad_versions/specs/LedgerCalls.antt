@@ -8,4 +8,4 @@ use Rattle.cad_versions.specs.Ledgers.{Applied}
 module _ {L : Type 0} (g : Ghosts L) where
   -- a call of `apply` on the ledger
   abbrev pub Applies : L → Command → Result ℕ RegisterFault → L → Type 0
-  Applies = Applied g.stands_for g.counts g.lives g.fails_to_apply g.refuses_command
+  Applies = Applied g.stands_for g.counts g.lives g.fails g.fails_to_apply g.refuses_command g.damaged_for_command

@@ -6,7 +6,7 @@ use crate::version::Version;
 
 /// A ledger of commands that were accepted one after the other.
 pub trait Ledger {
-    ghost use Rattle.std.specs.Prelude.{◌≡◌, ℕ, List, [], length};
+    ghost use Rattle.std.specs.Prelude.{◌≡◌, ℕ, ℤ, List, [], length};
     ghost use Rattle.cad_versions.specs.declared.command.Command.{Command as CommandOf};
     ghost use Rattle.cad_versions.specs.declared.fault.RegisterFault.{RegisterFault as Fault};
     ghost use Rattle.cad_versions.specs.Keeping.{IsOfKeeping};
@@ -22,6 +22,12 @@ pub trait Ledger {
     // It may be asked again, as a database that is open.
     ghost lives: { Self → Type 0 };
 
+    // What keeps it failed in between, as the disk of a database.
+    ghost fails: { Self → Self → Type 0 };
+
+    // The revision that it tells, whatever it stands for.
+    ghost newest: { Self → ℕ };
+
     // Why a command is refused that the commands before it allow.
     ghost fails_to_apply: { List CommandOf → CommandOf → Fault → Type 0 };
 
@@ -34,22 +40,29 @@ pub trait Ledger {
     // What keeps the ledger itself refuses to list the revision.
     ghost refuses_listing: { Self → Self → ℕ → Type 0 };
 
+    // Asked for the command, what keeps it shows a damaged row of this object and this number, as they are stored.
+    ghost damaged_for_command: { Self → Self → CommandOf → ℤ → ℤ → Type 0 };
+
+    // So it shows such a row, asked for the revision.
+    ghost damaged_for_listing: { Self → Self → ℕ → ℤ → ℤ → Type 0 };
+
     // Where the ledger was this one before revisions were listed, it is that one since: what it shows is the same, and
     // what decides whether it is refused a call.
     ghost remains: { Self → Self → Type 0 };
 
     /// How many commands were accepted.
     fn revision(&self) -> u64
-        ensures { (commands : List CommandOf) → stands_for self.now commands →
-            result ≡ length commands };
+        ensures counted { (commands : List CommandOf) → stands_for self.now commands →
+            result ≡ length commands }
+        ensures told { result ≡ newest self.now };
 
     /// Applies the command, and answers the revision since, or refuses it and stays as it was.
     fn apply(&mut self, command: Command) -> Result<u64, RegisterFault>
-        ensures { Applied stands_for counts lives fails_to_apply refuses_command self.old command result self.new };
+        ensures { Applied stands_for counts lives fails fails_to_apply refuses_command damaged_for_command self.old command result self.new };
 
     /// The versions at a revision, by object and number. A closing of a later revision is not seen.
     fn as_of(&mut self, revision: u64) -> Result<Vec<Version>, RegisterFault>
-        ensures { Listed stands_for counts lives fails_to_list refuses_listing remains self.old revision result self.new };
+        ensures { Listed stands_for counts lives fails fails_to_list refuses_listing damaged_for_listing remains self.old revision result self.new };
 
     // What it fails for beside the commands is a fault of what keeps them.
     ghost apply_keeps: { (commands : List CommandOf) (command : CommandOf) (fault : Fault) →
@@ -66,4 +79,7 @@ pub trait Ledger {
     ghost remains_here: { (ledger : Self) → remains ledger ledger };
 
     ghost remains_then: { (old mid new : Self) → remains old mid → remains mid new → remains old new };
+
+    // What failed since it remained what it was, failed since before.
+    ghost fails_before: { (old mid new : Self) → remains old mid → fails mid new → fails old new };
 }

@@ -22,7 +22,6 @@ use Rattle.cad_ask.specs.AnswerLemmas.{asks_well}
 use Rattle.cad_snapshot.specs.Snapshots.{RevisionFeatures, features_at}
 use Rattle.cad_answer.specs.Answers.{answers}
 use Rattle.cad_answer.specs.Laws.{last_of, AreWalk, WalksAreWhole}
-use Rattle.cad_answer.specs.Places.{places_of}
 use Rattle.cad_run.specs.Slices.{identifier, is_later, later, is_more}
 use Rattle.cad_page.specs.Bodies.{numbers_of}
 use Rattle.cad_page.specs.Laws.{TheSameHasOneAnswer, GoesOn, NextIsReadAgain}
@@ -198,7 +197,7 @@ first laws visit ask asks made =
 -- ---- the whole answer
 
 answer_ascends : (ask : Ask) (snapshot : RevisionFeatures) → IsStrictlySortedBy by_identifier (features_at snapshot ask.collection) → IsStrictlySortedBy by_identifier (answer_in ask snapshot)
-answer_ascends ask snapshot up = IsStrictlySortedBy-filter by_identifier (answers (places_of ask.collection) (restrictions ask)) (features_at snapshot ask.collection) up
+answer_ascends ask snapshot up = IsStrictlySortedBy-filter by_identifier (answers ask.collection (restrictions ask)) (features_at snapshot ask.collection) up
 
 same_part : TheSameHasOneAnswer → (a b : Ask) (snapshot : RevisionFeatures) → AskTheSame a b → later (beginning a) (answer_in a snapshot) ≡ later (beginning b) (answer_in b snapshot)
 same_part answer a b snapshot same =

@@ -8,6 +8,7 @@ use Rattle.cad_shape.specs.declared.shape.Shape.{Shape}
 use Rattle.cql_lexer.specs.declared.token.Comparison.{Comparison}
 use Rattle.cql_lexer.specs.declared.token.SpatialRelation.{SpatialRelation}
 use Rattle.cql_types.specs.declared.filter.DayTerm.{DayTerm}
+use Rattle.cql_types.specs.declared.filter.FlagTerm.{FlagTerm}
 use Rattle.cql_types.specs.declared.filter.ShapeTerm.{ShapeTerm}
 use Rattle.cql_types.specs.declared.filter.TextTerm.{TextTerm}
 use Rattle.cql_types.specs.declared.filter.WholeTerm.{WholeTerm}
@@ -17,7 +18,7 @@ use Rattle.cql_types.specs.declared.filter.Filter.TheFolds.{fold-roll-Filter}
 use Rattle.cql_types.specs.declared.filter.Filter.TheOpen.{Filter-F}
 use Rattle.cql_rewrite.specs.Atoms.{HasPlainAtoms, HavePlainAtoms, IsAtom, atom_step, has_plain_atoms, is_atom, plain_step}
 use Rattle.cql_rewrite.specs.declared.form.Normal.{Normal}
-use Rattle.cql_rewrite.specs.declared.form.Normal.TheVariants.{And, Atom, Folded, Near, Or, Range, rolls-And, rolls-Atom, rolls-Folded, rolls-Near, rolls-Or, rolls-Range}
+use Rattle.cql_rewrite.specs.declared.form.Normal.TheVariants.{And, Atom, Owned, Near, Or, Range, rolls-And, rolls-Atom, rolls-Owned, rolls-Near, rolls-Or, rolls-Range}
 use Rattle.cql_rewrite.specs.declared.form.Normal.TheFolds.{fold-roll-Normal}
 use Rattle.cql_rewrite.specs.declared.form.Normal.TheOpen.{Normal-F}
 use Rattle.cql_rewrite.proofs.Forms.{all_at, all_more, all_remove, list_all-map}
@@ -48,6 +49,12 @@ atom_InText a items = ap is_atom (sym (filter.rolls-InText a items)) ∙ fold-ro
 pub atom_InDay : (a : DayTerm) (items : Vec DayTerm Global) → IsAtom (filter.InDay a items)
 atom_InDay a items = ap is_atom (sym (filter.rolls-InDay a items)) ∙ fold-roll-Filter Bool atom_step (Filter-F.InDay a items)
 
+pub atom_InFlag : (a : FlagTerm) (items : Vec FlagTerm Global) → IsAtom (filter.InFlag a items)
+atom_InFlag a items = ap is_atom (sym (filter.rolls-InFlag a items)) ∙ fold-roll-Filter Bool atom_step (Filter-F.InFlag a items)
+
+pub atom_CompareFlag : (by : Comparison) (a b : FlagTerm) → IsAtom (filter.CompareFlag by a b)
+atom_CompareFlag by a b = ap is_atom (sym (filter.rolls-CompareFlag by a b)) ∙ fold-roll-Filter Bool atom_step (Filter-F.CompareFlag by a b)
+
 pub atom_Spatial : (by : SpatialRelation) (a b : ShapeTerm) → IsAtom (filter.Spatial by a b)
 atom_Spatial by a b = ap is_atom (sym (filter.rolls-Spatial by a b)) ∙ fold-roll-Filter Bool atom_step (Filter-F.Spatial by a b)
 
@@ -59,8 +66,8 @@ plain_Range r = ap has_plain_atoms (sym (rolls-Range r)) ∙ fold-roll-Normal Bo
 pub plain_Atom : (f : Bor Filter) (side : Bool) → has_plain_atoms (Atom f side) ≡ is_atom f.now
 plain_Atom f side = ap has_plain_atoms (sym (rolls-Atom f side)) ∙ fold-roll-Normal Bool plain_step (Normal-F.Atom f side)
 
-pub plain_Folded : (f : Filter) (side : Bool) → has_plain_atoms (Folded f side) ≡ is_atom f
-plain_Folded f side = ap has_plain_atoms (sym (rolls-Folded f side)) ∙ fold-roll-Normal Bool plain_step (Normal-F.Folded f side)
+pub plain_Owned : (f : Filter) (side : Bool) → has_plain_atoms (Owned f side) ≡ is_atom f
+plain_Owned f side = ap has_plain_atoms (sym (rolls-Owned f side)) ∙ fold-roll-Normal Bool plain_step (Normal-F.Owned f side)
 
 pub plain_Near : (f : Bor Filter) (property : ℕ) (shape : Bor Shape) → has_plain_atoms (Near f property shape) ≡ is_atom f.now
 plain_Near f property shape = ap has_plain_atoms (sym (rolls-Near f property shape)) ∙ fold-roll-Normal Bool plain_step (Normal-F.Near f property shape)

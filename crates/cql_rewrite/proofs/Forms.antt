@@ -9,7 +9,7 @@ use Rattle.cql_truth.specs.Values.{text_in}
 use Rattle.cad_feature.specs.declared.range.Range.{Range as RangeOf}
 use Rattle.cad_range.specs.Ranges.{lies_in}
 use Rattle.cql_rewrite.specs.declared.form.Normal.{Normal}
-use Rattle.cql_rewrite.specs.declared.form.Normal.TheVariants.{Constant, Range, Like, Folded, Near, And, Or, rolls-Constant, rolls-Range, rolls-Like, rolls-Folded, rolls-Near, rolls-And, rolls-Or}
+use Rattle.cql_rewrite.specs.declared.form.Normal.TheVariants.{Constant, Range, Like, Owned, Near, And, Or, rolls-Constant, rolls-Range, rolls-Like, rolls-Owned, rolls-Near, rolls-And, rolls-Or}
 use Rattle.cql_rewrite.specs.declared.form.Normal.TheFolds.{fold-roll-Normal}
 use Rattle.cql_rewrite.specs.declared.form.Normal.TheOpen.{Normal-F}
 use Rattle.std.proofs.Common.{◌<◌, zero, suc, length, get_or, Option, Some, None, Bor, arith}
@@ -47,8 +47,8 @@ told_by_second a true h = rw (h refl) refl
 told_by_second true false h = refl
 told_by_second false false h = refl
 
-pub meets_Folded : (x : Item) (f : Filter) (side : Bool) → meets x (Folded f side) ≡ in_side side x f
-meets_Folded x f side = ap (meets x) (sym (rolls-Folded f side)) ∙ fold-roll-Normal Bool (meet_step x) (Normal-F.Folded f side)
+pub meets_Owned : (x : Item) (f : Filter) (side : Bool) → meets x (Owned f side) ≡ in_side side x f
+meets_Owned x f side = ap (meets x) (sym (rolls-Owned f side)) ∙ fold-roll-Normal Bool (meet_step x) (Normal-F.Owned f side)
 
 pub meets_And : (x : Item) (v : Vec Normal Global) → meets x (And v) ≡ list_all (meets x) v.items
 meets_And x v = ap (meets x) (sym (rolls-And v)) ∙ fold-roll-Normal Bool (meet_step x) (Normal-F.And v) ∙ list_all-map (λ b. b) (meets x) v.items

@@ -1,5 +1,6 @@
 pub mod AtomLemmas
 pub mod Covered
+pub mod FirstLeast
 pub mod FoldedLemmas
 pub mod Forms
 pub mod FrontLemmas

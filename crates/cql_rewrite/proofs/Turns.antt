@@ -22,10 +22,11 @@ use Rattle.cql_types.specs.declared.filter.ShapeTerm.{ShapeTerm}
 use Rattle.cql_types.specs.declared.filter.WholeTerm.{WholeTerm}
 use Rattle.cql_types.specs.declared.filter.TextTerm.{TextTerm}
 use Rattle.cql_types.specs.declared.filter.DayTerm.{DayTerm}
-use Rattle.cql_truth.specs.Nodes.{sides_Between, sides_InWhole, sides_InText, sides_InDay, sides_CompareWhole, sides_CompareText, sides_CompareDay}
-use Rattle.cql_truth.specs.Sides.{between, equal_to, compared, wholes, texts, days}
+use Rattle.cql_types.specs.declared.filter.FlagTerm.{FlagTerm}
+use Rattle.cql_truth.specs.Nodes.{sides_Between, sides_InWhole, sides_InText, sides_InDay, sides_InFlag, sides_CompareWhole, sides_CompareText, sides_CompareDay}
+use Rattle.cql_truth.specs.Sides.{between, equal_to, compared, wholes, texts, days, flags}
 use Rattle.cql_truth.specs.Arithmetic.{whole_in, whole_value}
-use Rattle.cql_truth.specs.Values.{text_in, text_value, day_value}
+use Rattle.cql_truth.specs.Values.{text_in, text_value, day_value, flag_value}
 use Rattle.cql_text.specs.Order.{text_cmp}
 use Rattle.std.proofs.lemmas.Cmp.{int_cmp_total, nat_list_cmp_total}
 use Rattle.std.specs.Ordering.{int_cmp}
@@ -35,7 +36,7 @@ use Rattle.cad_feature.specs.Limits.{with_value}
 use Rattle.cql_rewrite.specs.declared.form.Normal.{Normal}
 use Rattle.cql_rewrite.proofs.Least.{count_alike, least_under}
 use Rattle.cql_rewrite.specs.Meets.{Written, in_side, joined_by, meets, side_of}
-use Rattle.cql_rewrite.specs.Terms.{day_sides, is_plain_days, is_plain_texts, is_plain_wholes, side_of_test, text_sides, turned_of, whole_sides}
+use Rattle.cql_rewrite.specs.Terms.{day_sides, flag_sides, is_plain_days, is_plain_texts, is_plain_wholes, side_of_test, text_sides, turned_of, whole_sides}
 use Rattle.cql_rewrite.proofs.MemberLemmas.{member_costs}
 use Rattle.cql_rewrite.specs.Costs.{any_equal, count_in, is_plain_in_days, is_plain_in_texts, is_plain_in_wholes, like_bound, bound, bound_on, bound_step, bounds_joined, count_if, every, how_many, is_plain_between, IsCounted, least, near_bound}
 use Rattle.cql_truth.specs.ListLemmas.{list_any-map}
@@ -207,6 +208,16 @@ pub text_members_cost : (side : Bool) (t : List Written) (n : Normal) (f : Filte
     (side ≡ true → is_plain_in_texts a items.items ≡ true → least t n ≤ count_in true t (text_sides comparison.Equal) a items.items) → least t n ≤ bound_on side t f
 text_members_cost side t n f a items e h = member_costs (text_sides comparison.Equal) a side (is_plain_in_texts a items.items) t n f items.items
     (ap (bound t) (e ∙ sym (filter.rolls-InText a items)) ∙ fold-roll-Filter ℕ (bound_step t) (Filter-F.InText a items)) h
+
+pub flag_members : (x : Item) (a : FlagTerm) (items : Vec FlagTerm Global) → in_side true x (filter.InFlag a items) ≡ any_equal (flag_sides comparison.Equal) x a items.items
+flag_members x a items = ap (side_of true) (sides_InFlag x a items) ∙ list_any-map (λ s. s.yes) (equal_to (flags comparison.Equal) (flag_value x) (flag_value x a)) items.items
+
+-- a flag has no range, so the bound of an IN over flags is all
+pub flag_members_cost : (side : Bool) (t : List Written) (n : Normal) (f : Filter) (a : FlagTerm) (items : Vec FlagTerm Global) → f ≡ filter.InFlag a items → least t n ≤ bound_on side t f
+flag_members_cost false t n f a items e = least_under t n
+flag_members_cost true t n f a items e =
+    let b : bound t f ≡ every t = ap (bound t) (e ∙ sym (filter.rolls-InFlag a items)) ∙ fold-roll-Filter ℕ (bound_step t) (Filter-F.InFlag a items) in
+    rw b (least_under t n)
 
 pub day_members : (x : Item) (a : DayTerm) (items : Vec DayTerm Global) → in_side true x (filter.InDay a items) ≡ any_equal (day_sides comparison.Equal) x a items.items
 day_members x a items = ap (side_of true) (sides_InDay x a items) ∙ list_any-map (λ s. s.yes) (equal_to (days comparison.Equal) (day_value x) (day_value x a)) items.items

@@ -15,7 +15,7 @@ use Rattle.cql_truth.specs.Sides.{yes}
 use Rattle.cql_rewrite.specs.declared.form.Normal.{Normal}
 use Rattle.cql_rewrite.specs.Costs.{is_near_by, least}
 use Rattle.cql_rewrite.specs.Meets.{HoldsCharacters, Written, meets}
-use Rattle.cql_rewrite.specs.Menus.{choice, menu}
+use Rattle.cql_rewrite.specs.Menus.{IsFirstOfLeast, choice, menu}
 
 -- the features of a collection hold characters alone
 abbrev pub FeaturesAreWritten : Collection → Type 0
@@ -24,6 +24,10 @@ FeaturesAreWritten collection = (x : Item) → IsFeatureOf collection x → Hold
 -- the choice of a form's menu costs no more than `least`
 abbrev pub ChoicesCostTheLeast : Type 0
 ChoicesCostTheLeast = (t : List Written) (n : Normal) → cost (counts_of (map (λ x. x.item) t)) (choice (counts_of (map (λ x. x.item) t)) n) ≤ least t n
+
+-- the choice of a form's menu is one of the menu, costs no more than any of it, and less than each that stands before it
+abbrev pub ChoicesAreTheFirstOfLeast : Type 0
+ChoicesAreTheFirstOfLeast = (counts : Counts) (n : Normal) → IsFirstOfLeast counts (choice counts n) (menu counts n)
 
 -- each way of a form's menu has each feature that meets the form, and so has the choice
 abbrev pub MenusCover : Type 0

@@ -1,5 +1,6 @@
 -- The ways to look for the features that meet a normal form, and the choice among them (own profile).
-use Rattle.std.specs.Prelude.{Bool, true, false, if◌then◌else◌, nat_lt, List, [], ◌∷◌, ◌++◌, map, filter}
+use Rattle.std.specs.Prelude.{◌≡◌, ◌<◌, ◌≤◌, Bool, true, false, if◌then◌else◌, nat_lt, List, [], ◌∷◌, ◌++◌, map, filter}
+use Rattle.std.specs.List.{All}
 use Rattle.cad_cells.specs.Blocks.{block_around}
 use Rattle.cad_shape.specs.Shapes.{shape_corners}
 use Rattle.cad_lookup.specs.Ways.{Way, all_features, no_feature, in_range, near_block, meet_of, join_of, ways_in, range_way, Counts, cost}
@@ -22,6 +23,14 @@ first_least counts w (v ∷ vs) = first_least counts (cheaper counts w v) vs
 abbrev pub chosen : Counts → List Way → Way
 chosen counts [] = all_features
 chosen counts (w ∷ ws) = first_least counts w ws
+
+-- what a choice is, in the subject's words: one of these ways, which costs less than each that stands before it, and no more than any that stands behind it
+pub record IsFirstOfLeast (counts : Counts) (w : Way) (ws : List Way) : Type 0 where
+  pub before : List Way
+  pub behind : List Way
+  pub stands : ws ≡ before ++ w ∷ behind
+  pub less : All (λ v. cost counts w < cost counts v) before
+  pub no_more : All (λ v. cost counts w ≤ cost counts v) behind
 
 -- ---- the menu
 
@@ -54,7 +63,7 @@ menu_step counts (Normal-F.Constant false) = all_features ∷ no_feature ∷ []
 menu_step counts (Normal-F.Range r) = all_features ∷ range_way r ∷ []
 menu_step counts (Normal-F.Like pattern r) = all_features ∷ range_way r ∷ []
 menu_step counts (Normal-F.Atom f side) = all_features ∷ []
-menu_step counts (Normal-F.Folded f side) = all_features ∷ []
+menu_step counts (Normal-F.Owned f side) = all_features ∷ []
 menu_step counts (Normal-F.Near f property shape) = all_features ∷ near_block property (block_around (shape_corners shape.now)) ∷ []
 menu_step counts (Normal-F.And parts) = and_menu (map (chosen counts) parts.items)
 menu_step counts (Normal-F.Or parts) = or_menu (map (chosen counts) parts.items)

@@ -9,14 +9,16 @@ use Rattle.cql_lexer.specs.declared.token.Comparison.{Comparison}
 use Rattle.cql_lexer.specs.declared.token.Comparison.TheVariants as comparison
 use Rattle.cql_types.specs.declared.filter.Filter.{Filter}
 use Rattle.cql_types.specs.declared.filter.DayTerm.{DayTerm}
+use Rattle.cql_types.specs.declared.filter.FlagTerm.{FlagTerm}
+use Rattle.cql_types.specs.declared.filter.FlagTerm.TheVariants as flag
 use Rattle.cql_types.specs.declared.filter.TextTerm.{TextTerm}
 use Rattle.cql_types.specs.declared.filter.WholeTerm.{WholeTerm}
 use Rattle.cql_types.specs.declared.filter.WholeTerm.TheVariants as whole
 use Rattle.cql_types.specs.declared.filter.TextTerm.TheVariants as text
 use Rattle.cql_types.specs.declared.filter.DayTerm.TheVariants as day
 use Rattle.cql_truth.specs.Arithmetic.{whole_value}
-use Rattle.cql_truth.specs.Sides.{Sides, among, compared, days, is_like, sides, stands, texts, told, wholes}
-use Rattle.cql_truth.specs.Values.{day_value, text_value}
+use Rattle.cql_truth.specs.Sides.{Sides, among, compared, days, flags, is_like, sides, stands, texts, told, wholes}
+use Rattle.cql_truth.specs.Values.{day_value, flag_value, text_value}
 use Rattle.cql_rewrite.specs.declared.form.Normal.{Normal}
 use Rattle.cql_rewrite.specs.declared.plain.Plain.{Plain}
 use Rattle.cql_rewrite.specs.declared.plain.Plain.TheVariants as plain
@@ -32,6 +34,9 @@ text_sides by x a b = compared (texts by) (text_value x a) (text_value x b)
 
 abbrev pub day_sides : Comparison → Item → DayTerm → DayTerm → Sides
 day_sides by x a b = compared (days by) (day_value x a) (day_value x b)
+
+abbrev pub flag_sides : Comparison → Item → FlagTerm → FlagTerm → Sides
+flag_sides by x a b = compared (flags by) (flag_value x a) (flag_value x b)
 
 abbrev pub like_sides : Item → TextTerm → TextTerm → Sides
 like_sides x a pattern = compared is_like (text_value x a) (text_value x pattern)
@@ -64,6 +69,11 @@ abbrev pub is_plain_days : Comparison → DayTerm → DayTerm → Bool
 is_plain_days by (day.Property i) (day.Constant d) = is_ranged by
 is_plain_days by (day.Constant d) (day.Property i) = is_ranged by
 is_plain_days by a b = false
+
+-- two flags, one of which is a literal
+abbrev pub is_plain_flags : FlagTerm → FlagTerm → Bool
+is_plain_flags (flag.Property i) (flag.Property j) = false
+is_plain_flags a b = true
 
 -- ---- what a comparison comes to
 

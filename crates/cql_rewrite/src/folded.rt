@@ -159,7 +159,7 @@ pub(crate) fn atom<'a>(
 {
     let settled = settled_filter(alloc, filter)?;
     match settled {
-        Some(filter) => Ok(Normal::Folded { filter, side }),
+        Some(filter) => Ok(Normal::Owned { filter, side }),
         None => Ok(Normal::Atom { filter, side }),
     }
 }

@@ -21,8 +21,9 @@ pub enum Normal<'a> {
         filter: &'a Filter,
         side: bool,
     },
-    /// The same of a condition in which the case of each constant is folded beforehand.
-    Folded {
+    /// The same of a condition that the form holds itself: one in which the case of each constant is folded beforehand, or an
+    /// equality of an IN.
+    Owned {
         filter: Filter,
         side: bool,
     },

@@ -1,6 +1,7 @@
 //! What holds of normal forms. Each contract is a law; the functions do nothing.
 
 ghost use Rattle.cql_rewrite.specs.Laws.{
+  ChoicesAreTheFirstOfLeast,
   ChoicesCostTheLeast,
   FeaturesAreWritten,
   MenusCover,
@@ -19,6 +20,12 @@ pub fn features_are_written(collection: Collection)
 /// The choice of a form's menu costs no more than the least of which `normal` speaks, over any list of features.
 pub fn choices_cost_the_least()
     ensures { ChoicesCostTheLeast }
+{}
+
+/// The choice of a form's menu is one of the menu, costs no more than any of it, and less than each that stands before it,
+/// however features are counted.
+pub fn choices_are_the_first_of_least()
+    ensures { ChoicesAreTheFirstOfLeast }
 {}
 
 /// Each way of a form's menu has each feature that meets the form, however features are counted, and so has the choice.

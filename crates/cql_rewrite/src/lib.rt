@@ -10,6 +10,7 @@
 
 mod between;
 mod comparison;
+mod flags;
 mod folded;
 mod form;
 pub mod laws;

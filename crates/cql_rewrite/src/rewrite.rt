@@ -8,6 +8,7 @@ ghost use Rattle.cql_rewrite.specs.Meets.{Written, in_side, joined_by, meets};
 
 use crate::between::between;
 use crate::comparison::formed;
+use crate::flags::flag_members;
 use crate::form::Normal;
 use crate::likes::likeness;
 use crate::members::members;
@@ -83,10 +84,13 @@ fn normal_side(alloc: Global, filter: &Filter, side: bool) -> Result<Normal<'_>,
             let form = members(alloc, filter, value, items, side)?;
             Ok(form)
         }
-        Filter::CompareFlag { .. }
-        | Filter::InFlag { .. }
-        | Filter::IsNull(_)
-        | Filter::Temporal { .. } => Ok(Normal::Atom { filter, side }),
+        Filter::InFlag { value, items } => {
+            let form = flag_members(alloc, filter, value, items, side)?;
+            Ok(form)
+        }
+        Filter::CompareFlag { .. } | Filter::IsNull(_) | Filter::Temporal { .. } => {
+            Ok(Normal::Atom { filter, side })
+        }
     }
 }
 

@@ -118,7 +118,7 @@ pub fn test(alloc: Global, form: &Normal, feature: &Feature) -> Result<bool, All
             Ok(lies_in(range, feature) && is_liked_at(feature, range.property, pattern))
         }
         Normal::Atom { filter, side } => is_said(alloc, filter, *side, feature),
-        Normal::Folded { filter, side } => is_said(alloc, filter, *side, feature),
+        Normal::Owned { filter, side } => is_said(alloc, filter, *side, feature),
         Normal::Near {
             filter,
             property,

@@ -65,6 +65,8 @@ impl Responder for Echo {
 
     ghost lives = { λ _. Unit {0} };
 
+    ghost fails = { λ _ _. ⊥ };
+
     ghost replies = { IsReply };
 
     ghost closes = { closes_connection_of };
@@ -81,6 +83,10 @@ impl Responder for Echo {
 
     ghost refuses_command = { λ _ _ _ _. ⊥ };
 
+    ghost damaged_for_answer = { λ _ _ _ _ _. ⊥ };
+
+    ghost damaged_for_command = { λ _ _ _ _ _. ⊥ };
+
     ghost remains = { λ old new. new ≡ old };
 
     ghost answer_keeps = { λ _ _. lost_keeps };
@@ -90,6 +96,8 @@ impl Responder for Echo {
     ghost remains_here = { λ _. refl };
 
     ghost remains_then = { λ _ _ _ first later. later ∙ first };
+
+    ghost fails_before = { λ _ _ _ _ fails. fails };
 
     fn answer(
         &mut self,

@@ -5,7 +5,6 @@ use Rattle.cad_lookup.specs.Candidates.{is_candidate, candidates}
 use Rattle.cad_run.specs.Slices.{is_later, later, slice, is_more}
 use Rattle.cad_answer.specs.Answers.{after_of, restrictions_of, answers}
 use Rattle.cad_answer.specs.Passing.{passes_query}
-use Rattle.cad_answer.specs.Places.{places_of}
 use Rattle.cad_answer.proofs.AnswerLemmas.{all_rows, kept_alike, passes_each, same_examined}
 use Rattle.cad_answer.proofs.paging.page.Goals as goal
 
@@ -13,41 +12,42 @@ pub returns-clause-rows : goal.returns-clause-rows
 returns-clause-rows c =
     let layer = c.args.layer.now in
     let query = c.args.query in
-    let same = c.of.ensures ∙ ap places_of c.collection-collection.ensures.collection in
-    let agrees = λ (x : Item). passes_query c.of.result query x ≡ answers (places_of layer.collection) (restrictions_of query) x in
+    let place = c.lifespan_place.result in
+    let agrees = λ (x : Item). passes_query place query x ≡ answers layer.collection (restrictions_of query) x in
     c.in_ok-page.ensures.rows
     ∙ ap (slice (after_of query) query.limit)
-    (kept_alike (passes_query c.of.result query) (answers (places_of layer.collection) (restrictions_of query)) (candidates c.args.plan.now layer.features)
+    (kept_alike (passes_query place query) (answers layer.collection (restrictions_of query)) (candidates c.args.plan.now layer.features)
     (All-filter (is_candidate c.args.plan.now) agrees layer.features
-    (passes_each c.collection-collection.result (places_of layer.collection) c.of.result query layer.features c.features_are_written.ensures c.collection-collection.ensures.listed same)))
+    (passes_each c.collection-collection.result layer.collection place query layer.features c.features_are_written.ensures c.collection-collection.ensures.listed c.collection-collection.ensures.collection c.lifespan_place.ensures c.requires)))
 
 pub returns-clause-more : goal.returns-clause-more
 returns-clause-more c =
     let layer = c.args.layer.now in
     let query = c.args.query in
-    let same = c.of.ensures ∙ ap places_of c.collection-collection.ensures.collection in
-    let agrees = λ (x : Item). passes_query c.of.result query x ≡ answers (places_of layer.collection) (restrictions_of query) x in
+    let place = c.lifespan_place.result in
+    let agrees = λ (x : Item). passes_query place query x ≡ answers layer.collection (restrictions_of query) x in
     c.in_ok-page.ensures.more
     ∙ ap (is_more (after_of query) query.limit)
-    (kept_alike (passes_query c.of.result query) (answers (places_of layer.collection) (restrictions_of query)) (candidates c.args.plan.now layer.features)
+    (kept_alike (passes_query place query) (answers layer.collection (restrictions_of query)) (candidates c.args.plan.now layer.features)
     (All-filter (is_candidate c.args.plan.now) agrees layer.features
-    (passes_each c.collection-collection.result (places_of layer.collection) c.of.result query layer.features c.features_are_written.ensures c.collection-collection.ensures.listed same)))
+    (passes_each c.collection-collection.result layer.collection place query layer.features c.features_are_written.ensures c.collection-collection.ensures.listed c.collection-collection.ensures.collection c.lifespan_place.ensures c.requires)))
 
 pub returns-clause-examined : goal.returns-clause-examined
 returns-clause-examined c =
     let layer = c.args.layer.now in
     let query = c.args.query in
-    let same = c.of.ensures ∙ ap places_of c.collection-collection.ensures.collection in
-    let agrees = λ (x : Item). passes_query c.of.result query x ≡ answers (places_of layer.collection) (restrictions_of query) x in
+    let place = c.lifespan_place.result in
+    let agrees = λ (x : Item). passes_query place query x ≡ answers layer.collection (restrictions_of query) x in
     c.in_ok-page.ensures.examined
-    ∙ same_examined (passes_query c.of.result query) (answers (places_of layer.collection) (restrictions_of query)) (later (after_of query) (candidates c.args.plan.now layer.features))
+    ∙ same_examined (passes_query place query) (answers layer.collection (restrictions_of query)) (later (after_of query) (candidates c.args.plan.now layer.features))
     (All-filter (is_later (after_of query)) agrees (candidates c.args.plan.now layer.features) (All-filter (is_candidate c.args.plan.now) agrees layer.features
-    (passes_each c.collection-collection.result (places_of layer.collection) c.of.result query layer.features c.features_are_written.ensures c.collection-collection.ensures.listed same)))
+    (passes_each c.collection-collection.result layer.collection place query layer.features c.features_are_written.ensures c.collection-collection.ensures.listed c.collection-collection.ensures.collection c.lifespan_place.ensures c.requires)))
     query.limit
 
 pub returns-clause-features : goal.returns-clause-features
 returns-clause-features c =
     let layer = c.args.layer.now in
     let query = c.args.query in
+    let place = c.lifespan_place.result in
     let each = rw c.collection-collection.ensures.collection at c.collection-collection.ensures.listed.each in
-    rw c.in_ok-page.ensures.rows (all_rows (IsFeatureOf layer.collection) (passes_query c.of.result query) (is_candidate c.args.plan.now) (after_of query) query.limit layer.features each)
+    rw c.in_ok-page.ensures.rows (all_rows (IsFeatureOf layer.collection) (passes_query place query) (is_candidate c.args.plan.now) (after_of query) query.limit layer.features each)

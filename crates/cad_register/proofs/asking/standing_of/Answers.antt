@@ -1,23 +1,23 @@
 use Rattle.std.proofs.Common.{◌≡◌, ◌∙◌, length, map, subst, sym, ap}
-use Rattle.std.proofs.lemmas.Result.{IfErr-weaker}
+use Rattle.std.proofs.lemmas.Result.{IfErr-weaker, IfOk-weaker}
 use Rattle.sqlite.specs.Held.{state}
 use Rattle.cad_tables.specs.Listing.{HaveNoTies, number_order, lines_of_object, history as known, outline_of}
 use Rattle.cad_tables.specs.Texts.{history_text}
 use Rattle.cad_tables.specs.Faults.{fault_of}
 use Rattle.cad_versions.specs.Objects.{object_number}
 use Rattle.cad_versions.specs.HistoryLemmas.{histories}
-use Rattle.cad_register.specs.Refusing.{asking, register_fault_of, IsForObject}
+use Rattle.cad_register.specs.Refusing.{asking, register_fault_of}
 use Rattle.cad_register.proofs.OrderLemmas.{history_untied, history_rows}
 use Rattle.cad_register.proofs.StandingLemmas.{standing_told}
 use Rattle.cad_register.proofs.StandLemmas.{stands_kept, stands_same}
 use Rattle.cad_tables.specs.SettledLemmas.{settled_here, settled_by}
 use Rattle.cad_register.proofs.RefusingLemmas.{not_for_memory}
-use Rattle.cad_register.proofs.LeavingLemmas.{asks_answered, asks_refused, store_known}
-use Rattle.cad_register.proofs.NamingLemmas.{rows_named, rows_known, store_named, faults_settle}
+use Rattle.cad_register.proofs.LeavingLemmas.{as_before, asks_answered, asks_refused, store_known}
+use Rattle.cad_register.proofs.NamingLemmas.{rows_named, rows_tell, rows_known, store_named, faults_settle}
 use Rattle.cad_register.proofs.asking.standing_of.Goals as goal
 
-pub returns-in-Ok : goal.returns-in-Ok
-returns-in-Ok g c =
+pub returns-in-Ok-clause-inquires : goal.returns-in-Ok-clause-inquires
+returns-in-Ok-clause-inquires g c =
     let held = c.args.connection.now in
     let later = c.history.new.conn in
     let old = state g.S.Store held in
@@ -35,11 +35,10 @@ returns-in-Ok g c =
       asked = λ clean cs stands. faults_settle g.S.Store held later object c.deref.result.now c.read.result (settled_by g.S.Store held later _ (c.in-Ok.ensures.reads.same clean) c.history.ensures.reads.survives) c.read.ensures.damaged;
       leaves = asks_answered old new _ _ c.in-Ok.ensures.reads;
       known = IfErr-weaker c.read.result _ _ (rows_known object c.deref.result.now) c.read.ensures.damaged;
-      damaged = IfErr-weaker c.read.result _ _ (λ why bad. rows_named g.S.Store held later object c.number.result n c.deref.result.now (λ clean. rw c.deref.ensures.value (c.in-Ok.ensures.shown clean)) why bad) c.read.ensures.damaged;
     }
 
-pub returns-in-Err : goal.returns-in-Err
-returns-in-Err g c =
+pub returns-in-Err-clause-inquires : goal.returns-in-Err-clause-inquires
+returns-in-Err-clause-inquires g c =
     let held = c.args.connection.now in
     let later = c.history.new.conn in
     let old = state g.S.Store held in
@@ -60,5 +59,23 @@ returns-in-Err g c =
           };
       leaves = asks_refused old new _ c.store_fault.result cause c.in-Err.ensures.reads;
       known = store_known c.store_fault.result cause;
-      damaged = store_named g.S.Store held later (IsForObject c.args.object) c.store_fault.result cause;
     }
+
+pub returns-in-Ok-clause-shown : goal.returns-in-Ok-clause-shown
+returns-in-Ok-clause-shown g c =
+    let held = c.args.connection.now in
+    let later = c.history.new.conn in
+    IfOk-weaker c.read.result _ _
+    (λ s tell. rows_tell g.S.Store held later c.args.object c.number.result c.number.ensures.value c.deref.result.now
+    (λ clean. (as_before (state g.S.Store held) (state g.S.Store later) (c.in-Ok.ensures.reads.same clean), rw c.deref.ensures.value (c.in-Ok.ensures.shown clean))) tell) c.read.ensures.told
+
+pub returns-in-Ok-clause-damaged : goal.returns-in-Ok-clause-damaged
+returns-in-Ok-clause-damaged g c =
+    let held = c.args.connection.now in
+    let later = c.history.new.conn in
+    IfErr-weaker c.read.result _ _
+    (λ why bad. rows_named g.S.Store held later c.args.object c.number.result c.number.ensures.value c.deref.result.now
+    (λ clean. (as_before (state g.S.Store held) (state g.S.Store later) (c.in-Ok.ensures.reads.same clean), rw c.deref.ensures.value (c.in-Ok.ensures.shown clean))) why bad) c.read.ensures.damaged
+
+pub returns-in-Err-clause-damaged : goal.returns-in-Err-clause-damaged
+returns-in-Err-clause-damaged g c = store_named _ c.store_fault.result c.store_fault.ensures.cause

@@ -1,5 +1,5 @@
 use Rattle.std.proofs.Common.{◌≡◌, ◌+◌, ◌-◌, ◌≤◌, ◌<◌, ◌^◌, ◌++◌, filter, length}
-use Rattle.cad_rows.specs.Pages.{examined_of}
+use Rattle.cad_run.specs.Pages.{examined_of}
 use Rattle.cad_run.specs.Slices.{lent}
 use Rattle.cad_run.proofs.finding.find.Given as goal
 

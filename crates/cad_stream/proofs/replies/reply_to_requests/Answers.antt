@@ -8,7 +8,7 @@ returns-in_err-answer_next g c =
     let failed = err_from_is_err_and c.from_residual.result c.from_residual.ensures.1 in
     let fault : failed.0 ≡ c.in_err-answer_next.field-0.0 = failed.2 in
     let told = rw c.after.ensures at c.in_err-answer_next.ensures in
-    rw (failed.1, fault) (fails_here g.R.Responder g.met.R.Responder.remains_then c.args.bytes.now _ _ _ c.loop-replies.used _ _ c.loop-replies.invariant.replied told)
+    rw (failed.1, fault) (fails_here g.R.Responder g.met.R.Responder.remains_then g.met.R.Responder.fails_before c.args.bytes.now _ _ _ c.loop-replies.used _ _ c.loop-replies.invariant.replied told)
 
 pub returns-in-Waiting : goal.returns-in-Waiting
 returns-in-Waiting g c =

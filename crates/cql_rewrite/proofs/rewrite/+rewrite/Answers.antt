@@ -2,9 +2,9 @@ use Rattle.std.proofs.Common.{◌∙◌, ap, refl, arith}
 use Rattle.std.proofs.lemmas.Grind.{common_steps}
 use Rattle.cql_truth.specs.Nodes.{sides_Between, sides_Like, sides_CompareWhole, sides_CompareText, sides_CompareDay}
 use Rattle.cql_rewrite.proofs.Least.{and_next, and_done, or_next}
-use Rattle.cql_rewrite.proofs.Turns.{turns_And, turns_Not, turns_Or, whole_costs, text_costs, day_costs, between_costs, near_costs, not_costs, and_costs, or_costs, like_costs, whole_members, text_members, day_members, whole_members_cost, text_members_cost, day_members_cost}
+use Rattle.cql_rewrite.proofs.Turns.{turns_And, turns_Not, turns_Or, whole_costs, text_costs, day_costs, between_costs, near_costs, not_costs, and_costs, or_costs, like_costs, whole_members, text_members, day_members, whole_members_cost, text_members_cost, day_members_cost, flag_members, flag_members_cost}
 use Rattle.cql_rewrite.specs.Atoms.{is_atom}
-use Rattle.cql_rewrite.proofs.AtomLemmas.{atom_Between, atom_CompareDay, atom_CompareText, atom_CompareWhole, atom_InDay, atom_InText, atom_InWhole, atom_Like}
+use Rattle.cql_rewrite.proofs.AtomLemmas.{atom_Between, atom_CompareDay, atom_CompareText, atom_CompareWhole, atom_InDay, atom_InFlag, atom_InText, atom_InWhole, atom_Like}
 use Rattle.cql_rewrite.proofs.rewrite.+rewrite.Goals as goal
 
 pub normal_parts-loop-part-preserved : goal.normal_parts-loop-part-preserved
@@ -70,14 +70,16 @@ pub normal_side-returns-in_ok-form-in-Not-clause-costs : goal.normal_side-return
 normal_side-returns-in_ok-form-in-Not-clause-costs m c = λ t. rw c.in-Not.is (not_costs c.args.side t c.in_ok-form-in-Not.form c.in-Not.part)
 
 pub normal_side-returns-in_ok-form-in-And-clause-stands : goal.normal_side-returns-in_ok-form-in-And-clause-stands
-normal_side-returns-in_ok-form-in-And-clause-stands m c = λ x. let h = c.in_ok-form-in-And.ensures.stands x in let k = turns_And c.args.side x.item c.in-And.parts in cc
+normal_side-returns-in_ok-form-in-And-clause-stands m c = λ x.
+    rw c.in-And.is ((rw c.deref-in-And.ensures.value at (c.in_ok-form-in-And.ensures.stands x)) ∙ turns_And c.args.side x.item c.in-And.parts)
 
 pub normal_side-returns-in_ok-form-in-And-clause-costs : goal.normal_side-returns-in_ok-form-in-And-clause-costs
 normal_side-returns-in_ok-form-in-And-clause-costs m c = λ t.
     rw c.in-And.is (and_costs c.args.side t c.in_ok-form-in-And.form c.in-And.parts (rw c.deref-in-And.ensures.value at (c.in_ok-form-in-And.ensures.costs t)))
 
 pub normal_side-returns-in_ok-form-in-Or-clause-stands : goal.normal_side-returns-in_ok-form-in-Or-clause-stands
-normal_side-returns-in_ok-form-in-Or-clause-stands m c = λ x. let h = c.in_ok-form-in-Or.ensures.stands x in let k = turns_Or c.args.side x.item c.in-Or.parts in cc
+normal_side-returns-in_ok-form-in-Or-clause-stands m c = λ x.
+    rw c.in-Or.is ((rw c.deref-in-Or.ensures.value at (c.in_ok-form-in-Or.ensures.stands x)) ∙ turns_Or c.args.side x.item c.in-Or.parts)
 
 pub normal_side-returns-in_ok-form-in-Or-clause-costs : goal.normal_side-returns-in_ok-form-in-Or-clause-costs
 normal_side-returns-in_ok-form-in-Or-clause-costs m c = λ t.
@@ -132,6 +134,16 @@ normal_side-returns-in_ok-form-in-InDay-clause-costs m c = λ t.
     day_members_cost c.args.side t c.in_ok-form-in-InDay.form c.args.filter.now k.value k.items k.is
     (λ e h. rw c.deref-in-InDay.ensures.value at (c.in_ok-form-in-InDay.ensures.costs e (rw c.deref-in-InDay.ensures.value h) t))
 
+pub normal_side-returns-in_ok-form-in-InFlag-clause-stands : goal.normal_side-returns-in_ok-form-in-InFlag-clause-stands
+normal_side-returns-in_ok-form-in-InFlag-clause-stands m c = λ x.
+    let k = c.in-InFlag in
+    c.in_ok-form-in-InFlag.ensures.stands x.item (rw (k.is, c.deref-in-InFlag.ensures.value) (flag_members x.item k.value k.items))
+
+pub normal_side-returns-in_ok-form-in-InFlag-clause-costs : goal.normal_side-returns-in_ok-form-in-InFlag-clause-costs
+normal_side-returns-in_ok-form-in-InFlag-clause-costs m c = λ t.
+    let k = c.in-InFlag in
+    flag_members_cost c.args.side t c.in_ok-form-in-InFlag.form c.args.filter.now k.value k.items k.is
+
 pub normal_side-returns-in_ok-form-in-Like-clause-stands : goal.normal_side-returns-in_ok-form-in-Like-clause-stands
 normal_side-returns-in_ok-form-in-Like-clause-stands m c = λ x. c.in_ok-form-in-Like.ensures.stands x (rw (c.in-Like.is, sides_Like) refl)
 
@@ -160,6 +172,9 @@ normal_side-returns-in_ok-form-in-InText-clause-atoms m c = let k = c.in-InText 
 
 pub normal_side-returns-in_ok-form-in-InDay-clause-atoms : goal.normal_side-returns-in_ok-form-in-InDay-clause-atoms
 normal_side-returns-in_ok-form-in-InDay-clause-atoms m c = let k = c.in-InDay in c.in_ok-form-in-InDay.ensures.atoms (ap is_atom k.is ∙ atom_InDay k.value k.items)
+
+pub normal_side-returns-in_ok-form-in-InFlag-clause-atoms : goal.normal_side-returns-in_ok-form-in-InFlag-clause-atoms
+normal_side-returns-in_ok-form-in-InFlag-clause-atoms m c = let k = c.in-InFlag in c.in_ok-form-in-InFlag.ensures.atoms (ap is_atom k.is ∙ atom_InFlag k.value k.items)
 
 pub normal_side-returns-in_ok-form-in-Like-clause-atoms : goal.normal_side-returns-in_ok-form-in-Like-clause-atoms
 normal_side-returns-in_ok-form-in-Like-clause-atoms m c = let k = c.in-Like in c.in_ok-form-in-Like.ensures.atoms (ap is_atom k.is ∙ atom_Like k.value k.pattern)

@@ -3,7 +3,7 @@ use Rattle.cad_versions.specs.declared.fault.RegisterFault.TheVariants.{Store}
 use Rattle.cad_versions.specs.Refusals.{refusal}
 use Rattle.cad_versions.specs.Entries.{version_in}
 use Rattle.cad_plain.specs.declared.ledger.PlainLedger.{PlainLedger}
-use Rattle.cad_plain.proofs.LedgerLemmas.{decided, applied, refusal_no_store}
+use Rattle.cad_plain.proofs.LedgerLemmas.{decided, applied, refusal_no_store, refusal_no_damage}
 use Rattle.cad_plain.proofs.ledger.PlainLedgerLedger.apply.Goals as goal
 
 pub returns-in-Some : goal.returns-in-Some
@@ -13,7 +13,8 @@ returns-in-Some c =
       accepted = λ _. tt;
       refused = λ _ commands stands. inl (decided c.args.self.now commands c.args.command (Some c.in-Some.fault) stands refused);
       store = λ _ e commands stands. let same : c.in-Some.fault ≡ Store = cc in absurd (refusal_no_store _ c.args.command (refused ∙ ap (λ f. Some f) same));
-      unchanged = λ _ _ commands stands. stands;
+      damaged = refusal_no_damage _ _ c.args.command c.in-Some.fault refused;
+      unchanged = λ _ commands stands. inl stands;
       clean = λ _. tt;
     }
 
@@ -27,6 +28,7 @@ returns c =
       accepted = λ _ commands stands. (decided old commands c.args.command None stands may, next ∙ ap (λ n. n + 1) stands.counted, applied old new commands c.args.command stands may next c.in_ok-enact.ensures);
       refused = λ _. tt;
       store = λ _ e. absurd cc;
-      unchanged = λ _ _. tt;
+      damaged = tt;
+      unchanged = λ _. tt;
       clean = λ _. tt;
     }

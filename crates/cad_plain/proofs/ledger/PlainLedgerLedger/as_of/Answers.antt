@@ -17,6 +17,7 @@ returns c =
       store = λ _ e. absurd cc;
       still = λ _. refl;
       kept = λ _ commands stands. stands;
-      unchanged = λ _ _. tt;
+      damaged = tt;
+      unchanged = λ _. tt;
       clean = λ _. tt;
     }

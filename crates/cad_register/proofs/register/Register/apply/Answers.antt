@@ -13,11 +13,11 @@ use Rattle.cad_register.proofs.SurvivingLemmas.{leaves_standing, leaves_then}
 use Rattle.cad_register.proofs.register.Register.apply.Goals as goal
 
 pub returns-in-Err-clause-refused : goal.returns-in-Err-clause-refused
-returns-in-Err-clause-refused g c clean cs register = refused_as cs c.args.command c.in-Err.fault ((c.in-Err.ensures.told clean cs register.stands).0 register.counted)
+returns-in-Err-clause-refused g c clean cs register = refused_as cs c.args.command c.in-Err.fault ((c.in-Err.ensures.inquires.told clean cs register.stands).0 register.counted)
 
 pub returns-clause-accepted : goal.returns-clause-accepted
 returns-clause-accepted g c clean cs register =
-    let told = c.in-Ok.ensures.told (c.in_ok-enact.ensures.later.clean clean) cs register.stands in
+    let told = c.in-Ok.ensures.inquires.told (c.in_ok-enact.ensures.later.clean clean) cs register.stands in
     let decided = told.0 register.counted in
     let next : c.args.self.now.revision + 1 ≡ length cs + 1 = ap (λ n. n + 1) register.counted in
     let fits = numbered cs c.args.command c.in-Ok.count c.next_number.result decided.0 decided.1 c.next_number.ensures.next in (
@@ -33,7 +33,7 @@ pub returns-in_err-enact-clause-store : goal.returns-in_err-enact-clause-store
 returns-in_err-enact-clause-store g c clean e cs register =
     let p = err_from_is_err_and c.from_residual.result c.from_residual.ensures.1 in
     let early = c.in_err-enact.ensures.later.clean clean in
-    let same = c.in-Ok.ensures.asked early cs register.stands in
+    let same = c.in-Ok.ensures.inquires.asked early cs register.stands in
     let is : c.in_err-enact.field-0.0 ≡ fault.Store = let known = p.0 in let given = p.1 in cc in
     let next : c.args.self.now.revision + 1 ≡ length cs + 1 = ap (λ n. n + 1) register.counted in
     inr (c.decide-decided.new.connection, same, subst (RefusesChange g.S.Store c.decide-decided.new.connection c.enact.new.connection c.args.command) next (c.in_err-enact.ensures.store clean (ap Err is)))
@@ -42,12 +42,12 @@ pub returns-in-Err-clause-keeps : goal.returns-in-Err-clause-keeps
 returns-in-Err-clause-keeps g c =
     let settled = g.met.S.Store.settled c.args.self.now.connection.store in
     let cause = c.in-Err.fault in
-    keeps_either g.S.Store c.args.self.now _ c.args.command (Err cause) (keeps_asked g.S.Store c.args.self.now c.decide-decided.new.connection (Err cause) settled c.in-Err.ensures.leaves)
+    keeps_either g.S.Store c.args.self.now _ c.args.command (Err cause) (keeps_asked g.S.Store c.args.self.now c.decide-decided.new.connection (Err cause) settled c.in-Err.ensures.inquires.leaves)
 
 pub returns-then-self-ge-MOST_REVISION-clause-keeps : goal.returns-then-self-ge-MOST_REVISION-clause-keeps
 returns-then-self-ge-MOST_REVISION-clause-keeps g c =
     let settled = g.met.S.Store.settled c.args.self.now.connection.store in
-    let asks = asks_as (state g.S.Store c.args.self.now.connection) (state g.S.Store c.decide-decided.new.connection) _ (Err fault.NotARegister) (λ own. tt) c.in-Ok.ensures.leaves in
+    let asks = asks_as (state g.S.Store c.args.self.now.connection) (state g.S.Store c.decide-decided.new.connection) _ (Err fault.NotARegister) (λ own. tt) c.in-Ok.ensures.inquires.leaves in
     keeps_either g.S.Store c.args.self.now _ c.args.command (Err fault.NotARegister) (keeps_asked g.S.Store c.args.self.now c.decide-decided.new.connection (Err fault.NotARegister) settled asks)
 
 pub returns-in_err-enact-clause-keeps : goal.returns-in_err-enact-clause-keeps
@@ -56,13 +56,13 @@ returns-in_err-enact-clause-keeps g c =
     let mid = state g.S.Store c.decide-decided.new.connection in
     let settled = g.met.S.Store.settled c.args.self.now.connection.store in
     let p = err_from_is_err_and c.from_residual.result c.from_residual.ensures.1 in
-    rw (p.1, p.2) (keeps_refused g.S.Store c.args.self.now c.enact.new.connection mid c.in-Ok.count c.in_err-enact.field-0.0 c.in_err-enact.ensures.cause c.in-Ok.ensures.leaves c.in_err-enact.ensures.later c.in_err-enact.ensures.unchanged (LeavesEither c.args.command) (λ clean cs register.
+    rw (p.1, p.2) (keeps_refused g.S.Store c.args.self.now c.enact.new.connection mid c.in-Ok.count c.in_err-enact.field-0.0 c.in_err-enact.ensures.cause c.in-Ok.ensures.inquires.leaves c.in_err-enact.ensures.later c.in_err-enact.ensures.unchanged (LeavesEither c.args.command) (λ clean cs register.
     let early = c.in_err-enact.ensures.later.clean clean in
-    let told = c.in-Ok.ensures.told early cs register.stands in
+    let told = c.in-Ok.ensures.inquires.told early cs register.stands in
     let decided = told.0 register.counted in
     let next : c.args.self.now.revision + 1 ≡ length cs + 1 = ap (λ n. n + 1) register.counted in
     let fits = numbered cs c.args.command c.in-Ok.count c.next_number.result decided.0 decided.1 c.next_number.ensures.next in
-    let leaves = leaves_then old mid cs (c.in-Ok.ensures.leaves.left early) (leaves_standing old cs settled register.stands) in
+    let leaves = leaves_then old mid cs (c.in-Ok.ensures.inquires.leaves.left early) (leaves_standing old cs settled register.stands) in
     let room : length cs < most_revision = omega (arith, register.counted) in
     c.in_err-enact.ensures.crash clean cs told.1 leaves decided.0 fits next room))
 
@@ -75,18 +75,18 @@ returns-clause-keeps g c =
       unchanged = λ clean live. tt;
       crash = λ clean cs register.
           let early = c.in_ok-enact.ensures.later.clean clean in
-          let told = c.in-Ok.ensures.told early cs register.stands in
+          let told = c.in-Ok.ensures.inquires.told early cs register.stands in
           let decided = told.0 register.counted in
           let next : c.args.self.now.revision + 1 ≡ length cs + 1 = ap (λ n. n + 1) register.counted in
           let fits = numbered cs c.args.command c.in-Ok.count c.next_number.result decided.0 decided.1 c.next_number.ensures.next in
-          let leaves = leaves_then old mid cs (c.in-Ok.ensures.leaves.left early) (leaves_standing old cs (g.met.S.Store.settled c.args.self.now.connection.store) register.stands) in
+          let leaves = leaves_then old mid cs (c.in-Ok.ensures.inquires.leaves.left early) (leaves_standing old cs (g.met.S.Store.settled c.args.self.now.connection.store) register.stands) in
           let room : length cs < most_revision = omega (arith, register.counted) in
           c.in_ok-enact.ensures.crash clean cs told.1 leaves decided.0 fits next room;
     }
 
 pub returns-clause-durable : goal.returns-clause-durable
 returns-clause-durable g c clean cs register =
-    let told = c.in-Ok.ensures.told (c.in_ok-enact.ensures.later.clean clean) cs register.stands in
+    let told = c.in-Ok.ensures.inquires.told (c.in_ok-enact.ensures.later.clean clean) cs register.stands in
     let decided = told.0 register.counted in
     let next : c.args.self.now.revision + 1 ≡ length cs + 1 = ap (λ n. n + 1) register.counted in
     let fits = numbered cs c.args.command c.in-Ok.count c.next_number.result decided.0 decided.1 c.next_number.ensures.next in

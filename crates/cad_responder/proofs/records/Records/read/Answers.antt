@@ -27,7 +27,8 @@ returns g c =
               kept = c.keep_read.ensures.kept commands (c.make_room.ensures.kept commands records.kept)
                   (subst (λ n. IsKept commands (n, s)) (sym c.in_ok-snapshot.ensures.of_revision) (shown.0, is ∙ ap (snapshot_of c.args.revision) shown.1));
             };
-        unchanged = λ counts lives. tt;
+        damaged = tt;
+        unchanged = λ counts. tt;
         clean = λ counts. listed.clean (counted counts);
       };
     }
