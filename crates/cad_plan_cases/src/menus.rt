@@ -34,7 +34,10 @@ fn days_condition(lifespan: Option<usize>, days: Interval) -> Filter {
         Some(place) => Filter::Temporal {
             by: Relation::Intersects,
             left: SpanTerm::Property(place),
-            right: SpanTerm::Interval(end_of(days.from), end_of(days.to)),
+            right: SpanTerm::Interval {
+                from: end_of(days.from),
+                to: end_of(days.to),
+            },
         },
     }
 }
@@ -121,17 +124,18 @@ fn another_page(
 fn another_page_by(
     alloc: Global,
     ask: &Ask,
-    forms: (&Normal, &Normal),
+    form: &Normal,
+    tested: &Normal,
     layer: &Layer,
     wanted: &str,
 ) -> Result<Option<String>, AllocError> {
-    let plans = menu(alloc, forms.0, layer)?;
+    let plans = menu(alloc, form, layer)?;
     let after = match ask.continuation.after {
         None => None,
         Some(last) => Some((last.object, last.number)),
     };
     let asked = Asked {
-        form: forms.1,
+        form: tested,
         after,
         limit: ask.selection.limit,
     };
@@ -155,6 +159,20 @@ fn tested_form<'a>(
     }
 }
 
+// The same, with the box and the days as filters.
+fn misleading_with(
+    alloc: Global,
+    ask: &Ask,
+    boxed: &Filter,
+    days: &Filter,
+    layer: &Layer,
+    wanted: &str,
+) -> Result<Option<String>, AllocError> {
+    let form = form_with(alloc, ask, boxed)?;
+    let tested = tested_form(alloc, ask, boxed, days)?;
+    another_page_by(alloc, ask, &form, &tested, layer, wanted)
+}
+
 /// The first plan of the request's menu by which its page has others than the wanted identifiers, if there is one.
 pub fn misleading_plan(
     alloc: Global,
@@ -164,8 +182,6 @@ pub fn misleading_plan(
 ) -> Result<Option<String>, AllocError> {
     let boxed = box_of(ask);
     let days = days_of(ask);
-    let form = form_with(alloc, ask, &boxed)?;
-    let tested = tested_form(alloc, ask, &boxed, &days)?;
     let layer = snapshot.layer(ask.collection);
-    another_page_by(alloc, ask, (&form, &tested), layer, wanted)
+    misleading_with(alloc, ask, &boxed, &days, layer, wanted)
 }
