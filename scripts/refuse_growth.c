@@ -1,9 +1,23 @@
 // Refuses one growth of a program, for scripts/refused. Loaded before the C library (LD_PRELOAD), it counts the calls of
 // malloc and realloc, answers the one whose number REFUSE gives with nothing, and writes the count to the file COUNTED.
-#define _GNU_SOURCE
-#include <dlfcn.h>
-#include <stdio.h>
-#include <stdlib.h>
+//
+// The calls of the C library are declared here (x86-64, Linux), so that the toolchain's own clang, which has no headers, compiles it.
+typedef unsigned long size_t;
+typedef struct file FILE;
+
+#define NULL ((void *)0)
+
+void *dlsym(void *handle, const char *name);
+int fclose(FILE *file);
+FILE *fopen(const char *path, const char *mode);
+int fprintf(FILE *file, const char *form, ...);
+char *getenv(const char *name);
+unsigned long strtoul(const char *text, char **end, int base);
+void *malloc(size_t size);
+void *realloc(void *old, size_t size);
+
+// The call that stands behind this library's own.
+#define NEXT(name) ((__typeof__(&name))dlsym((void *)-1L, #name))
 
 static unsigned long count, refused;
 
@@ -17,13 +31,13 @@ static int is_refused(void) { return ++count == refused; }
 
 void *malloc(size_t size) {
     static void *(*next)(size_t);
-    if (!next) next = (void *(*)(size_t))dlsym(RTLD_NEXT, "malloc");
+    if (!next) next = NEXT(malloc);
     return is_refused() ? NULL : next(size);
 }
 
 void *realloc(void *old, size_t size) {
     static void *(*next)(void *, size_t);
-    if (!next) next = (void *(*)(void *, size_t))dlsym(RTLD_NEXT, "realloc");
+    if (!next) next = NEXT(realloc);
     return is_refused() ? NULL : next(old, size);
 }
 

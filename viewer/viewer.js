@@ -426,15 +426,17 @@ async function beyond(known, asked, signal) {
   const isAny = async (...box) => (await page(targetOf("parcels", { ...asked, bbox: box.join(","), limit: 1 }), signal)).numberReturned > 0;
   const side = async (from, sign, lies) => {
     let step = 10000;
-    while (Math.abs(from) + step < FARTHEST && (await lies(from + sign * step))) {
-      from += sign * step;
+    // nothing lies farther out than coordinates reach
+    const outward = () => Math.max(-FARTHEST, Math.min(FARTHEST, from + sign * step));
+    while (Math.abs(outward()) < FARTHEST && (await lies(outward()))) {
+      from = outward();
       step *= 2;
     }
     for (let turn = 0; turn < 4; turn++) {
       step = Math.ceil(step / 2);
-      if (await lies(from + sign * step)) from += sign * step;
+      if (await lies(outward())) from = outward();
     }
-    return from + sign * step;
+    return outward();
   };
   const far = FARTHEST;
   return {

@@ -13,7 +13,7 @@ use Rattle.cad_clients.specs.declared.clients.Clients.{Clients}
 use Rattle.cad_clients.specs.declared.served.Served.TheVariants.{Stays, Over as Served-Over, Unknown}
 use Rattle.cad_clients.specs.Notes.{IsSending}
 use Rattle.cad_clients.specs.Slots.{client_at}
-use Rattle.cad_clients.specs.Steps.{is_over, fed_by, fed_in, IsEnough, HasTurn, HasTurns, IsServed}
+use Rattle.cad_clients.specs.Steps.{is_over, any_over, fed_by, fed_in, IsEnough, HasTurn, HasTurns, IsServed}
 
 -- how many pieces the desk took
 abbrev pub pieces : Bool → ℕ
@@ -40,6 +40,7 @@ pub record HaveCome (c made : ℕ) (has_fed : Bool) (turns : List Turned) (next 
   pub count : length turns ≡ made
   pub fed : fed_in turns ≡ pieces has_fed
   pub there : (turns ≡ []) ⊎ IsSome (client_at next c)
+  pub none_over : any_over turns ≡ false
 
 module _ {R : Type 0} (g : Ghosts R) (c now : ℕ) where
   -- a connection that is not over is there after its turn
@@ -68,7 +69,7 @@ module _ {R : Type 0} (g : Ghosts R) (c now : ℕ) (old : Desk R) (clients : Cli
   stays made has_fed from to before after new next had enough =
       let few = pieces_few has_fed in
       let fed = had.4.2.fed in
-      (had.0, had.1, had.2, had.3, (had.4.0, had.4.1, omega (arith, few, fed), enough))
+      (had.0, had.1, had.2, had.3, (had.4.0, had.4.1, omega (arith, few, fed), enough, had.4.2.none_over))
 
   module _ (made : ℕ) (has_fed : Bool) (from to left before after last : Option (List ℕ)) (mid new : Desk R) (between next : Clients) (had : HadTurns made has_fed from to before after mid between) where
     -- and then there was no connection
@@ -99,7 +100,7 @@ module _ {R : Type 0} (g : Ghosts R) (c now : ℕ) (old : Desk R) (clients : Cli
           had.1 ++ turn.1,
           Consumes-trans from to left had.0 turn.0 had.2 turn.2,
           Appends-trans before after last had.1 turn.1 had.3 turn.3,
-          (had.4.0, mid, between, had.0, had.1, turn.0, turn.1, had.4.1, turn.4, refl, refl, omega (arith, few, fed)),
+          (had.4.0, mid, between, had.0, had.1, turn.0, turn.1, had.4.1, turn.4, refl, refl, omega (arith, few, fed), had.4.2.none_over),
         )
 
     -- and the connection goes on
@@ -118,6 +119,7 @@ module _ {R : Type 0} (g : Ghosts R) (c now : ℕ) (old : Desk R) (clients : Cli
               count = omega (arith, count);
               fed = ap (λ (n : ℕ). fed_by turned + n) had.4.2.fed ∙ fed;
               there = inr (still_there g c now turned mid new between next turn.0 turn.1 goes_on turn.4);
+              none_over = rw goes_on had.4.2.none_over;
             },
           ),
         )

@@ -1,5 +1,5 @@
 -- What is done for the open connections at a desk (own profile).
-use Rattle.std.specs.Prelude.{◌≡◌, ◌⊎◌, ◌+◌, ◌≤◌, ℕ, IsSomeAnd, length, Bool, true, false, if◌then◌else◌, List, [], ◌∷◌, ◌++◌, Option, None, Some, Result, Ok, Err}
+use Rattle.std.specs.Prelude.{◌≡◌, ◌⊎◌, ◌+◌, ◌≤◌, ℕ, IsSomeAnd, length, Bool, true, false, ◌||◌, if◌then◌else◌, List, [], ◌∷◌, ◌++◌, Option, None, Some, Result, Ok, Err}
 use Rattle.cad_stream.specs.declared.responder.Responder.{Ghosts}
 use Rattle.cad_desk.specs.declared.desk.Desk.{Desk}
 use Rattle.cad_desk.specs.declared.event.Event.TheVariants.{Open}
@@ -25,6 +25,11 @@ is_over other = false
 -- the connection that is left after a turn
 abbrev pub left_after : Turned → Client → Option Client
 left_after turned client = if is_over turned then None else Some client
+
+-- at one of these turns it was over
+abbrev pub any_over : List Turned → Bool
+any_over [] = false
+any_over (turned ∷ turns) = is_over turned || any_over turns
 
 -- how many pieces the desk took at a turn, and in these turns
 abbrev pub fed_by : Turned → ℕ
@@ -66,17 +71,17 @@ module _ {R : Type 0} (g : Ghosts R) (c now : ℕ) where
       × HasTurns old clients before mid between front out × HasTurn mid between (Some turned) new next piece sent
       × (read ≡ front ++ piece) × (written ≡ out ++ sent)
 
-  -- connection c has turns, and then this comes of a turn of it
+  -- connection c has turns at which it is not over, and then this comes of a turn of it
   abbrev pub EndsWith : Desk R → Clients → Turned → Desk R → Clients → List ℕ → List ℕ → Type 0
   EndsWith old clients last new next read written =
       (before : List Turned) × (mid : Desk R) × (between : Clients) × (front : List ℕ) × (out : List ℕ) × (piece : List ℕ) × (sent : List ℕ)
       × HasTurns old clients before mid between front out × HasTurn mid between (Some last) new next piece sent
-      × (read ≡ front ++ piece) × (written ≡ out ++ sent) × (fed_in before ≤ 1)
+      × (read ≡ front ++ piece) × (written ≡ out ++ sent) × (fed_in before ≤ 1) × (any_over before ≡ false)
 
-  -- connection c is served by turns of its own, in which the desk takes one piece at most: as many as it has for now, or up to the one at which it is over; none, where there is no such connection
+  -- connection c is served by turns of its own, in which the desk takes one piece at most: as many as it has for now, at none of which it is over, or up to the one at which it is; none, where there is no such connection
   abbrev pub IsServed : Desk R → Clients → Served → Desk R → Clients → List ℕ → List ℕ → Type 0
   IsServed old clients Stays new next read written =
-      (turns : List Turned) × HasTurns old clients turns new next read written × (fed_in turns ≤ 1) × IsEnough c turns next
+      (turns : List Turned) × HasTurns old clients turns new next read written × (fed_in turns ≤ 1) × IsEnough c turns next × (any_over turns ≡ false)
   IsServed old clients (Served-Over ending) new next read written = EndsWith old clients (Over ending) new next read written
   IsServed old clients Unknown new next read written = HasTurn old clients None new next read written
 

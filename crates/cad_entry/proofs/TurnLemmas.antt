@@ -9,8 +9,8 @@ use Rattle.cad_office.specs.declared.print.Answer.{Answer}
 use Rattle.cad_office.specs.declared.print.Answer.TheVariants.{Refused}
 use Rattle.cad_entry.specs.declared.entry.Entry.{Entry}
 use Rattle.cad_entry.specs.declared.turned.EntryTurned.{EntryTurned}
-use Rattle.cad_entry.specs.declared.turned.EntryTurned.TheVariants.{Wrote, Took, Added, Answered, Stops, Waits, Over}
-use Rattle.cad_entry.specs.Turns.{unread, unwritten, IsAsking, IsUnheld, MayEnd, IsLineEnd, IsFed, IsTaken, IsEntryTurn}
+use Rattle.cad_entry.specs.declared.turned.EntryTurned.TheVariants.{Wrote, Took, Added, Answered, Lost, Stops, Waits, Over}
+use Rattle.cad_entry.specs.Turns.{unread, unwritten, IsAsking, IsUnheld, MayEnd, IsLineEnd, IsFed, IsSending, IsTaken, IsEntryTurn, SendsSome}
 
 -- the bytes up to the end of a line, its LF, and what follows
 pub line_and_rest : (at count : ℕ) (bytes : List ℕ) → drop count (drop at bytes) ≡ 10 ∷ drop (count + 1) (drop at bytes) → drop at bytes ≡ take count (drop at bytes) ++ 10 ∷ drop (at + (count + 1)) bytes
@@ -28,7 +28,8 @@ module _ {R : Type 0} (g : Ghosts R) (AtEnd : Type 0) (old new : Desk R) (entry 
   last_turn Added ends all read written line = ((refl, refl), (written, inr (all, read, line)))
   last_turn (Answered answer) ends all read written line = ((refl, refl), (written, inr (all, read, line)))
   last_turn Stops ends all read written line = ((refl, refl), (written, inr (all, read, line)))
-  last_turn Over ends all read written line = (refl, inr (written, inr (all, read, line)))
+  last_turn (Lost answer) ends all read written line = ((refl, refl), (written, inr (all, read, line)))
+  last_turn Over ends all read written line = absurd ends
   last_turn Wrote ends all read written line = absurd ends
   last_turn Took ends all read written line = absurd ends
   last_turn Waits ends all read written line = absurd ends
@@ -38,32 +39,41 @@ module _ {R : Type 0} (g : Ghosts R) (AtEnd : Type 0) (old new : Desk R) (entry 
   fed_turn Added ends written some fed = ((refl, refl), (written, inl (some, fed)))
   fed_turn (Answered answer) ends written some fed = ((refl, refl), (written, inl (some, fed)))
   fed_turn Stops ends written some fed = ((refl, refl), (written, inl (some, fed)))
-  fed_turn Over ends written some fed = (refl, inr (written, inl (some, fed)))
+  fed_turn (Lost answer) ends written some fed = ((refl, refl), (written, inl (some, fed)))
+  fed_turn Over ends written some fed = absurd ends
   fed_turn Wrote ends written some fed = absurd ends
   fed_turn Took ends written some fed = absurd ends
   fed_turn Waits ends written some fed = absurd ends
 
-  taken : (turned : EntryTurned) → IsTaken g ⊥ old entry turned new next → IsTaken g AtEnd old entry turned new next
+module _ {R : Type 0} (g : Ghosts R) (One Other : Type 0) (leads : One → Other) (old new : Desk R) (entry next : Entry) where
+  taken : (turned : EntryTurned) → IsTaken g One old entry turned new next → IsTaken g Other old entry turned new next
   taken turned t = (
     t.0,
     elim t.1 [
       | inl fed ↦ inl fed
-      | inr last ↦ absurd last.0
+      | inr last ↦ inr (leads last.0, last.1, last.2)
     ],
   )
 
-  -- a turn that does not need the end of the input
-  pub unended_turn : (turned : EntryTurned) (read written : List ℕ) → IsEntryTurn g ⊥ old entry turned new next read written → IsEntryTurn g AtEnd old entry turned new next read written
-  unended_turn Wrote read written t = t
-  unended_turn Took read written t = t
-  unended_turn Waits read written t = t
-  unended_turn Added read written t = (t.0, taken Added t.1)
-  unended_turn (Answered answer) read written t = (t.0, taken (Answered answer) t.1)
-  unended_turn Stops read written t = (t.0, taken Stops t.1)
-  unended_turn Over read written t = (
-    t.0,
-    elim t.1 [
-      | inl over ↦ inl over
-      | inr last ↦ inr (taken Over last)
-    ],
-  )
+  -- a turn, whatever is known of the end of the input
+  pub turn_where : (turned : EntryTurned) (read written : List ℕ) → IsEntryTurn g One old entry turned new next read written → IsEntryTurn g Other old entry turned new next read written
+  turn_where Wrote read written t = t
+  turn_where Took read written t = t
+  turn_where Waits read written t = t
+  turn_where Added read written t = (t.0, taken Added t.1)
+  turn_where (Answered answer) read written t = (t.0, taken (Answered answer) t.1)
+  turn_where (Lost answer) read written t = (t.0, taken (Lost answer) t.1)
+  turn_where Stops read written t = (t.0, taken Stops t.1)
+  turn_where Over read written t = t
+
+-- an answer is written on
+pub sent_turn : {R : Type 0} (g : Ghosts R) (AtEnd : Type 0) (desk : Desk R) (entry next : Entry) (turned : EntryTurned) (written : List ℕ) → IsSending entry → SendsSome entry turned next written
+    → IsEntryTurn g AtEnd desk entry turned desk next [] written
+sent_turn g AtEnd desk entry next Wrote written sending s = (refl, s.0, s.1, s.2, s.3, refl)
+sent_turn g AtEnd desk entry next Waits written sending s = ((refl, s.0), inl sending, refl, s.1)
+sent_turn g AtEnd desk entry next Over written sending s = (s, inl (inl sending), refl)
+sent_turn g AtEnd desk entry next Took written sending s = absurd s
+sent_turn g AtEnd desk entry next Added written sending s = absurd s
+sent_turn g AtEnd desk entry next (Answered answer) written sending s = absurd s
+sent_turn g AtEnd desk entry next (Lost answer) written sending s = absurd s
+sent_turn g AtEnd desk entry next Stops written sending s = absurd s

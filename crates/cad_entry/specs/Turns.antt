@@ -13,7 +13,7 @@ use Rattle.cad_office.specs.Keeping.{AnswersLine}
 use Rattle.cad_office.specs.Lines.{BuffersLine}
 use Rattle.cad_entry.specs.declared.entry.Entry.{Entry}
 use Rattle.cad_entry.specs.declared.turned.EntryTurned.{EntryTurned}
-use Rattle.cad_entry.specs.declared.turned.EntryTurned.TheVariants.{Wrote, Took, Added, Answered, Stops, Waits, Over}
+use Rattle.cad_entry.specs.declared.turned.EntryTurned.TheVariants.{Wrote, Took, Added, Answered, Lost, Stops, Waits, Over}
 use Rattle.cad_entry.specs.Buffering.{IsOfOneLine}
 use Rattle.cad_entry.specs.Entries.{EntersAtDesk}
 
@@ -55,6 +55,18 @@ pub record IsNewEntry (entry : Entry) : Type 0 where
 abbrev pub Reads : Option (List ℕ) → Option (List ℕ) → (List ℕ → Type 0) → Type 0
 Reads old new P = (read : List ℕ) × Consumes old new read × P read
 
+-- a line has begun
+abbrev pub IsBegun : Entry → Type 0
+IsBegun entry = (text : List ℕ) × HasBegun text entry
+
+-- an answer is written on, or its socket takes nothing for now, or the write failed; no more is done
+abbrev pub SendsSome : Entry → EntryTurned → Entry → List ℕ → Type 0
+SendsSome entry Wrote next written =
+    (0 < length written) × (unwritten entry ≡ written ++ unwritten next) × (unread next ≡ unread entry) × (next.line ≡ entry.line)
+SendsSome entry Waits next written = (written ≡ []) × (next ≡ entry)
+SendsSome entry Over next written = written ≡ []
+SendsSome entry other next written = ⊥
+
 -- there was no memory to hold the line
 abbrev pub IsUnheld : LineState → Type 0
 IsUnheld Buffered = ⊥
@@ -74,6 +86,7 @@ abbrev pub MayEnd : EntryTurned → Type 0
 MayEnd Wrote = ⊥
 MayEnd Took = ⊥
 MayEnd Waits = ⊥
+MayEnd Over = ⊥
 MayEnd other = ⊤
 
 module _ {R : Type 0} (g : Ghosts R) where
@@ -82,8 +95,9 @@ module _ {R : Type 0} (g : Ghosts R) where
   EndsLine text old Added new next = (text ≡ []) × (new ≡ old) × (unwritten next ≡ []) × HasBegun [] next
   EndsLine text old (Answered answer) new next = IsAsking text answer × AnswersLine (EntersAtDesk g) text old answer new × (unwritten next ≡ printed answer) × HasBegun [] next
   EndsLine text old Stops new next = (text ≡ codes "stop") × (new ≡ old)
-  -- no memory for the answer
-  EndsLine text old Over new next = (answer : Answer) × IsAsking text answer × AnswersLine (EntersAtDesk g) text old answer new
+  -- no memory for the text of the answer
+  EndsLine text old (Lost answer) new next = IsAsking text answer × AnswersLine (EntersAtDesk g) text old answer new
+  EndsLine text old Over new next = ⊥
   EndsLine text old Wrote new next = ⊥
   EndsLine text old Took new next = ⊥
   EndsLine text old Waits new next = ⊥
@@ -119,6 +133,6 @@ module _ {R : Type 0} (g : Ghosts R) (AtEnd : Type 0) where
   IsEntryTurn old entry (Answered answer) new next read written = IsQuiet read written × IsTaken old entry (Answered answer) new next
   IsEntryTurn old entry Stops new next read written = IsQuiet read written × IsTaken old entry Stops new next
   IsEntryTurn old entry Waits new next read written = IsQuiet read written × MayWait entry × (new ≡ old) × (next ≡ entry)
-  -- a write or a read failed, or the office sends no more; or there is no memory for an answer
-  IsEntryTurn old entry Over new next read written =
-      (written ≡ []) × (((MayWait entry ⊎ (has_ended entry ≡ true)) × (new ≡ old)) ⊎ IsTaken old entry Over new next)
+  IsEntryTurn old entry (Lost answer) new next read written = IsQuiet read written × IsTaken old entry (Lost answer) new next
+  -- a write or a read failed, or the office sends no more: no line is taken
+  IsEntryTurn old entry Over new next read written = (written ≡ []) × (MayWait entry ⊎ (has_ended entry ≡ true)) × (new ≡ old)

@@ -1,16 +1,19 @@
 //! The land office's connection between its socket and the desk.
 
-ghost use Rattle.std.specs.Prelude.{◌≤◌, length};
+ghost use Rattle.std.specs.Prelude.{◌≡◌, ◌≤◌, length, IsTrue};
 
 use crate::answering::answer_line;
 use crate::buffering::{add_all, asks_to_stop, first_end};
-use crate::turned::EntryTurned;
+use crate::turned::{EntryServed, EntryTurned, end_at};
 use cad_desk::Desk;
 use cad_io::{PIECE_LEN, after};
 use cad_office::{Line, print_answer};
 use cad_stream::Responder;
 use std::alloc::Global;
 use std::io::{Error, ErrorKind, Read, Write};
+
+/// The most turns of the office before the others have theirs.
+const TURNS: u32 = 8;
 
 /// What the office's connection holds between its socket and the desk: bytes that were read and not taken, the line that has
 /// begun, and the answer to the line before it, as far as that was not written.
@@ -30,11 +33,19 @@ fn is_blocked(error: &Error) -> bool {
     error.kind() == ErrorKind::WouldBlock
 }
 
+/// Whether bytes were written.
+fn has_written(turned: EntryTurned) -> bool
+    ensures { IsTrue result → turned ≡ EntryTurned.Wrote }
+{
+    matches!(turned, EntryTurned::Wrote)
+}
+
 impl Entry {
-    ghost use Rattle.std.specs.Prelude.{◌≡◌, ◌<◌, ◌↔◌, [], IsTrue};
+    ghost use Rattle.std.specs.Prelude.{◌↔◌, []};
     ghost use Rattle.std.specs.Io.KnownBytes.{IsAtEnd};
     ghost use Rattle.cad_io.specs.Known.{ReadsAndWrites, Writes};
-    ghost use Rattle.cad_entry.specs.Turns.{IsNewEntry, IsFed, IsEntryTurn, IsLineEnd, MayEnd, Reads, unread, unwritten};
+    ghost use Rattle.cad_entry.specs.Turns.{IsNewEntry, IsFed, IsEntryTurn, IsLineEnd, IsSending, MayEnd, Reads, SendsSome, unread, unwritten};
+    ghost use Rattle.cad_entry.specs.Serving.{IsEntryServed};
 
     /// The connection of an office of which nothing was read.
     pub fn new(alloc: Global) -> Entry
@@ -52,20 +63,15 @@ impl Entry {
 
     /// Whether an answer has not gone out.
     pub fn is_sending(&self) -> bool
-        ensures { IsTrue result ↔ (0 < length (unwritten self.now)) }
+        ensures { IsTrue result ↔ IsSending self.now }
     {
         self.output_at < self.output.len()
     }
 
-    /// One write.
-    fn write_some<W: Write, R: Responder>(
-        &mut self,
-        writer: &mut W,
-        desk: &mut Desk<R>,
-    ) -> EntryTurned
-        requires { 0 < length (unwritten self.old) }
-        ensures { Writes (W.contents writer.old) (W.contents writer.new)
-            (IsEntryTurn R.Responder ⊥ desk.old self.old result desk.new self.new []) }
+    /// One write of an answer that has not gone out.
+    pub fn send<W: Write>(&mut self, writer: &mut W) -> EntryTurned
+        requires { IsSending self.old }
+        ensures { Writes (W.contents writer.old) (W.contents writer.new) (SendsSome self.old result self.new) }
     {
         match writer.write(after(&self.output, self.output_at)) {
             Ok(0) => EntryTurned::Over,
@@ -96,7 +102,7 @@ impl Entry {
         let answer = answer_line(alloc, &self.line, desk);
         let mut output = Vec::new(alloc);
         if print_answer(&mut output, answer).is_err() {
-            return EntryTurned::Over;
+            return EntryTurned::Lost(answer);
         }
         self.line.clear();
         self.output = output;
@@ -176,7 +182,7 @@ impl Entry {
             (IsEntryTurn R.Responder (IsAtEnd (I.remaining reader.new)) desk.old self.old result desk.new self.new) }
     {
         if self.output_at < self.output.len() {
-            return self.write_some(writer, desk);
+            return self.send(writer);
         }
         if self.ends {
             return EntryTurned::Over;
@@ -185,5 +191,30 @@ impl Entry {
             return self.feed_some(alloc, desk);
         }
         self.read_some(alloc, reader, desk)
+    }
+
+    /// Serves the office: some turns, up to one that ends its work or at which its socket gives and takes nothing, and not beyond
+    /// the first answer that went out. A refusal by the register's database ends its work before its answer is written.
+    pub fn serve<I: Read, W: Write, R: Responder>(
+        &mut self,
+        alloc: Global,
+        reader: &mut I,
+        writer: &mut W,
+        desk: &mut Desk<R>,
+    ) -> EntryServed
+        ensures { ReadsAndWrites (I.remaining reader.old) (I.remaining reader.new)
+            (W.contents writer.old) (W.contents writer.new)
+            (IsEntryServed R.Responder desk.old self.old result desk.new self.new) }
+    {
+        for _ in 0..TURNS {
+            let turned = self.turn(alloc, reader, writer, desk);
+            if let Some(served) = end_at(turned) {
+                return served;
+            }
+            if has_written(turned) && !self.is_sending() {
+                return EntryServed::Goes;
+            }
+        }
+        EntryServed::Goes
     }
 }

@@ -1,1 +1,4 @@
 pub mod Doors
+pub mod Works
+pub mod Hosting
+pub mod Laws

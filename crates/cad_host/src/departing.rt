@@ -1,12 +1,15 @@
 //! Sockets of connections that are over.
 
 use mio::net::TcpStream;
-use std::alloc::Global;
+use std::alloc::{AllocError, Global};
 use std::io::{ErrorKind, Read};
 use std::net::Shutdown;
 
-/// The most sockets that are kept.
+/// The most sockets that are kept while clients are served.
 const ROOM: usize = 64;
+
+/// The most that are kept once all clients are let go, each of whom may have a socket beside these.
+const LAST_ROOM: usize = ROOM + cad_clients::ROOM as usize;
 
 /// For how many seconds one is kept.
 const SECONDS: u64 = 2;
@@ -35,18 +38,29 @@ fn goes_on(socket: &TcpStream) -> bool {
 }
 
 impl Departing {
-    pub(crate) fn new(alloc: Global) -> Departing {
-        Departing {
-            sockets: Vec::new(alloc),
+    /// None yet, and memory for all that may be kept.
+    pub(crate) fn new(alloc: Global) -> Result<Departing, AllocError> {
+        Ok(Departing {
+            sockets: Vec::with_capacity(alloc, LAST_ROOM)?,
+        })
+    }
+
+    /// No more is written to it. Where so many are kept, it is closed at once.
+    fn add_within(&mut self, socket: TcpStream, now: u64, room: usize) {
+        let _ = socket.shutdown(Shutdown::Write);
+        if self.sockets.len() < room {
+            drop(self.sockets.push((socket, now)));
         }
     }
 
-    /// No more is written to it. Where as many are kept as may be, or memory is refused, it is closed at once.
+    /// No more is written to it. Where as many are kept as may be while clients are served, it is closed at once.
     pub(crate) fn add(&mut self, socket: TcpStream, now: u64) {
-        let _ = socket.shutdown(Shutdown::Write);
-        if self.sockets.len() < ROOM {
-            drop(self.sockets.push((socket, now)));
-        }
+        self.add_within(socket, now, ROOM);
+    }
+
+    /// No more is written to it, nor to any other: there is room for those of all clients.
+    pub(crate) fn add_last(&mut self, socket: TcpStream, now: u64) {
+        self.add_within(socket, now, LAST_ROOM);
     }
 
     /// Closes those whose clients send no more, and those that were kept long enough.

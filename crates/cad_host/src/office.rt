@@ -1,81 +1,67 @@
 //! The land office and its socket.
 
+ghost use Rattle.std.specs.Prelude.{◌≡◌};
+ghost use Rattle.cad_host.specs.Hosting.{end_of_office};
+
+use crate::stopped::Stopped;
 use cad_desk::Desk;
-use cad_entry::{Entry, EntryTurned};
-use cad_office::Answer;
+use cad_entry::{Entry, EntryServed, EntryTurned};
 use cad_stream::Responder;
-use cad_versions::RegisterFault;
 use mio::net::UnixStream;
 use std::alloc::Global;
 
-/// The most turns of the office before the clients have theirs.
-const TURNS: u32 = 8;
-
-/// What came of serving the office.
-#[derive(Clone, Copy, Debug, PartialEq, Eq)]
-pub(crate) enum Told {
-    /// It may go on at once.
-    Goes,
-    /// Its socket gives or takes nothing for now.
-    Waits,
-    /// It is over.
-    Over,
-    /// It asked to stop.
-    Stops,
-    /// The register's database refused a command.
-    StoreRefused,
+/// Why hosting ends by what came of serving the office, if it does.
+pub(crate) fn end_of(served: EntryServed) -> Option<Stopped>
+    ensures { result ≡ end_of_office served }
+{
+    match served {
+        EntryServed::Goes | EntryServed::Waits | EntryServed::Over => None,
+        EntryServed::Stops => Some(Stopped::Asked),
+        EntryServed::StoreRefused => Some(Stopped::StoreRefused),
+    }
 }
 
 /// The land office and its socket.
 #[derive(Drop)]
 pub(crate) struct Office {
     socket: UnixStream,
-    entry: Entry,
-    store_refused: bool,
+    pub(crate) entry: Entry,
 }
 
 impl Office {
-    pub(crate) fn new(alloc: Global, socket: UnixStream) -> Office {
+    ghost use Rattle.cad_entry.specs.Turns.{IsBegun};
+    ghost use Rattle.cad_host.specs.Hosting.{BegunAfter};
+    ghost use Rattle.cad_host.specs.Works.{Hosts};
+
+    pub(crate) fn new(alloc: Global, socket: UnixStream) -> Office
+        ensures { IsBegun result.entry }
+    {
         Office {
             socket,
             entry: Entry::new(alloc),
-            store_refused: false,
         }
     }
 
-    /// A turn, or what ends the office's work.
-    fn turn<R: Responder>(&mut self, alloc: Global, desk: &mut Desk<R>) -> Told {
-        match self
-            .entry
-            .turn(alloc, &mut &self.socket, &mut &self.socket, desk)
-        {
-            EntryTurned::Answered(Answer::Refused(RegisterFault::Store)) => {
-                self.store_refused = true;
-                Told::Goes
-            }
-            EntryTurned::Wrote
-            | EntryTurned::Took
-            | EntryTurned::Added
-            | EntryTurned::Answered(_) => Told::Goes,
-            EntryTurned::Stops => Told::Stops,
-            EntryTurned::Waits => Told::Waits,
-            EntryTurned::Over => Told::Over,
-        }
+    /// Some turns of the office.
+    pub(crate) fn serve<R: Responder>(&mut self, alloc: Global, desk: &mut Desk<R>) -> EntryServed
+        requires { IsBegun self.old.entry }
+        ensures begun { BegunAfter result self.new.entry }
+        ensures hosts { Hosts R.Responder (end_of_office result) desk.old desk.new }
+    {
+        self.entry
+            .serve(alloc, &mut &self.socket, &mut &self.socket, desk)
     }
 
-    /// Some turns of the office, up to the first answer that went out.
-    pub(crate) fn serve<R: Responder>(&mut self, alloc: Global, desk: &mut Desk<R>) -> Told {
-        for _ in 0..TURNS {
-            let was_sending = self.entry.is_sending();
-            let told = self.turn(alloc, desk);
-            let is_sending = self.entry.is_sending();
-            if self.store_refused && !is_sending {
-                return Told::StoreRefused;
-            }
-            if told != Told::Goes || was_sending && !is_sending {
-                return told;
-            }
+    /// Whether an answer has not gone out.
+    pub(crate) fn is_sending(&self) -> bool {
+        self.entry.is_sending()
+    }
+
+    /// A write of the answer that has not gone out. Nothing is read.
+    pub(crate) fn send(&mut self) -> EntryTurned {
+        if !self.entry.is_sending() {
+            return EntryTurned::Waits;
         }
-        Told::Goes
+        self.entry.send(&mut &self.socket)
     }
 }

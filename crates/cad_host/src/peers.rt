@@ -1,6 +1,10 @@
 //! The clients, each with its socket.
 
+ghost use Rattle.std.specs.Prelude.{◌≡◌};
+ghost use Rattle.cad_host.specs.Hosting.{end_of_client};
+
 use crate::departing::Departing;
+use crate::stopped::Stopped;
 use cad_channel::{Ending, Turned};
 use cad_clients::{AccessLog, Clients, Limits, ROOM, Served};
 use cad_desk::{Desk, DeskFault};
@@ -25,11 +29,22 @@ pub(crate) struct Peers {
     departing: Departing,
 }
 
-fn refused_by_store(ending: Ending) -> bool {
-    ending == Ending::Refused(DeskFault::Register(RegisterFault::Store))
+/// Why hosting ends by what came of serving a client, if it does.
+fn end_of(served: Served) -> Option<Stopped>
+    ensures { result ≡ end_of_client served }
+{
+    match served {
+        Served::Over(Ending::Refused(DeskFault::Register(RegisterFault::Store))) => Some(
+            Stopped::StoreRefused,
+        ),
+        Served::Over(_) | Served::Stays | Served::Unknown => None,
+    }
 }
 
 impl Peers {
+    ghost use Rattle.std.specs.Prelude.{None};
+    ghost use Rattle.cad_host.specs.Works.{Hosts};
+
     /// No client.
     pub(crate) fn new(alloc: Global) -> Result<Peers, AllocError> {
         let mut sockets = Vec::new(alloc);
@@ -39,7 +54,7 @@ impl Peers {
         Ok(Peers {
             clients: Clients::new(alloc)?,
             sockets,
-            departing: Departing::new(alloc),
+            departing: Departing::new(alloc)?,
         })
     }
 
@@ -73,7 +88,17 @@ impl Peers {
         }
     }
 
-    /// Serves a client. `false`: the register's database refused.
+    /// The same where all clients are let go.
+    fn part_last(&mut self, c: u32, now: u64) {
+        let Some(slot) = self.sockets.get_mut(c as usize) else {
+            return;
+        };
+        if let Some(socket) = slot.take() {
+            self.departing.add_last(socket, now);
+        }
+    }
+
+    /// Serves a client. Why hosting ends by that, if it does.
     pub(crate) fn serve_one<R: Responder, L: AccessLog>(
         &mut self,
         alloc: Global,
@@ -81,64 +106,77 @@ impl Peers {
         now: u64,
         desk: &mut Desk<R>,
         log: &mut L,
-    ) -> bool {
+    ) -> Option<Stopped>
+        ensures { Hosts R.Responder result desk.old desk.new }
+    {
         let Some(Some(socket)) = self.sockets.get(c as usize) else {
-            return true;
+            return None;
         };
         let served = self
             .clients
             .serve(alloc, c, now, &mut &*socket, &mut &*socket, desk, log);
         match served {
-            Served::Stays => true,
-            Served::Unknown => {
-                self.part(c, now);
-                true
-            }
-            Served::Over(ending) => {
-                self.part(c, now);
-                !refused_by_store(ending)
-            }
+            Served::Stays => {}
+            Served::Unknown | Served::Over(_) => self.part(c, now),
         }
+        end_of(served)
     }
 
-    /// A write of what has not gone out to a client.
-    fn send_one<R: Responder>(&mut self, alloc: Global, c: u32, now: u64, desk: &mut Desk<R>) {
+    /// A write of what has not gone out to a client, if its socket may take something.
+    fn send_one<R: Responder>(&mut self, alloc: Global, c: u32, now: u64, desk: &mut Desk<R>)
+        ensures { Hosts R.Responder None desk.old desk.new }
+    {
+        if !self.clients.is_ready(c) || !self.clients.is_sending(c) {
+            return;
+        }
         let Some(Some(socket)) = self.sockets.get(c as usize) else {
             return;
         };
         let turned = self
             .clients
             .turn(alloc, c, now, &mut &*socket, &mut &*socket, desk);
-        if let Some(Turned::Over(_)) = turned {
+        if matches!(turned, Some(Turned::Over(_))) {
             self.part(c, now);
         }
     }
 
     /// Writes what has not gone out, to each client once. Nothing is read or answered.
-    pub(crate) fn send_ready<R: Responder>(&mut self, alloc: Global, now: u64, desk: &mut Desk<R>) {
+    pub(crate) fn send_ready<R: Responder>(&mut self, alloc: Global, now: u64, desk: &mut Desk<R>)
+        ensures { Hosts R.Responder None desk.old desk.new }
+    {
         for c in 0..ROOM {
-            if self.clients.is_ready(c) && self.clients.is_sending(c) {
-                self.send_one(alloc, c, now, desk);
-            }
+            self.send_one(alloc, c, now, desk);
         }
     }
 
+    /// Drops a client that is overdue.
+    fn drop_one<R: Responder>(&mut self, c: u32, now: u64, desk: &mut Desk<R>)
+        ensures { Hosts R.Responder None desk.old desk.new }
+    {
+        if !self.clients.is_overdue(c, now, &LIMITS) {
+            return;
+        }
+        self.clients.close(c, desk);
+        self.part(c, now);
+    }
+
     /// Drops the clients that are overdue, and the sockets of those that are over for a while.
-    pub(crate) fn drop_overdue<R: Responder>(&mut self, now: u64, desk: &mut Desk<R>) {
+    pub(crate) fn drop_overdue<R: Responder>(&mut self, now: u64, desk: &mut Desk<R>)
+        ensures { Hosts R.Responder None desk.old desk.new }
+    {
         self.departing.sweep(now);
         for c in 0..ROOM {
-            if self.clients.is_overdue(c, now, &LIMITS) {
-                self.clients.close(c, desk);
-                self.part(c, now);
-            }
+            self.drop_one(c, now, desk);
         }
     }
 
     /// Lets all clients go.
-    pub(crate) fn part_all<R: Responder>(&mut self, now: u64, desk: &mut Desk<R>) {
+    pub(crate) fn part_all<R: Responder>(&mut self, now: u64, desk: &mut Desk<R>)
+        ensures { Hosts R.Responder None desk.old desk.new }
+    {
         for c in 0..ROOM {
             self.clients.close(c, desk);
-            self.part(c, now);
+            self.part_last(c, now);
         }
     }
 
@@ -156,17 +194,23 @@ impl Peers {
         registry: &Registry,
         now: u64,
         desk: &mut Desk<R>,
-    ) -> Option<u32> {
+    ) -> Option<u32>
+        ensures { Hosts R.Responder None desk.old desk.new }
+    {
         let _ = socket.set_nodelay(true);
         let Some(c) = self.clients.free_number() else {
             self.turn_away(socket, now);
             return None;
         };
         let both = Interest::READABLE | Interest::WRITABLE;
-        let is_registered = registry
+        if registry
             .register(&mut socket, Token(c as usize), both)
-            .is_ok();
-        if !is_registered || self.clients.open(alloc, c, now, desk).is_err() {
+            .is_err()
+        {
+            self.turn_away(socket, now);
+            return None;
+        }
+        if self.clients.open(alloc, c, now, desk).is_err() {
             self.turn_away(socket, now);
             return None;
         }

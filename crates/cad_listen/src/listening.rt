@@ -6,7 +6,7 @@ ghost use Rattle.cad_listen.specs.Listening.{IsServedNext, IsTold, Listens};
 use crate::failure::{Failure, failure_in, line};
 use crate::status::{FAILED, GOOD, NO_REGISTER};
 use cad_desk::Desk;
-use cad_io::{Counted, write_whole};
+use cad_io::{Counted, CountedWriter, write_whole};
 use cad_serve::{Ending, ServeFault, serve};
 use cad_stream::Responder;
 use std::alloc::Global;
@@ -26,7 +26,8 @@ fn serve_next<R: Responder>(
         return Err(ServeFault::Read);
     };
     let mut reader = Counted::new(&stream);
-    serve(alloc, &mut reader, &mut &stream, desk, number)
+    let mut writer = CountedWriter::new(&stream);
+    serve(alloc, &mut reader, &mut writer, desk, number)
 }
 
 /// Serves the next connection, and tells what went wrong with it. Where that write fails, the failure stands all the same.

@@ -1,5 +1,5 @@
 -- By each plan of the menu of what is asked the page is the same.
-use Rattle.std.proofs.Common.{◌≡◌, ◌∙◌, ◌×◌, ap, refl, sym, subst, ℕ, zero, suc, ◌<◌, Bool, true, ◌&&◌, List, [], ◌∷◌, ◌++◌, length, get_or, IsTrue, arith}
+use Rattle.std.proofs.Common.{◌≡◌, ◌∙◌, ap, refl, sym, subst, ℕ, zero, suc, ◌<◌, Bool, true, ◌&&◌, List, [], ◌∷◌, ◌++◌, length, get_or, IsTrue, arith}
 use Rattle.std.specs.List.{Contains, list_all}
 use Rattle.std.proofs.lemmas.Bool.{and_parts}
 use Rattle.cad_schema.specs.declared.collection.Collection.{Collection}

@@ -7,7 +7,7 @@ ghost use Rattle.cad_answer.specs.Answers.{restrictions_of};
 ghost use Rattle.cad_answer.specs.Answers.{after_of};
 ghost use Rattle.cad_run.specs.Slices.{rows_of};
 ghost use Rattle.cad_page.specs.Pages.{restrictions, beginning, rows_in, is_more_in};
-ghost use Rattle.cad_page.specs.Plans.{CoversAnswer, FormCosts, FormStands, IsChosen, IsFormOf, examined_in};
+ghost use Rattle.cad_page.specs.Plans.{CoversAnswer, IsBoxFilter, IsChosen, IsFormOf, examined_in};
 
 use crate::planning::{boxed_form, form_of, geometry_place, plan_for};
 use cad_answer::laws::covering_plans_have_the_answer;
@@ -17,6 +17,7 @@ use cad_shape::Bounds;
 use cad_snapshot::Snapshot;
 use cql_box::box_condition;
 use cql_rewrite::Normal;
+use cql_types::Filter;
 use std::alloc::{AllocError, Global};
 
 /// A page, with the plan by which it was found.
@@ -48,11 +49,11 @@ fn query<'a, 'f>(ask: &'f Ask, form: &'a Normal<'f>) -> PageQuery<'a, 'f>
 }
 
 // The page of the plan's candidates that meet the form too.
-fn page_where<'a>(
+fn page_where<'a, 'f>(
     alloc: Global,
-    ask: &Ask,
+    ask: &'f Ask,
     plan: &Plan,
-    form: &Normal,
+    form: &Normal<'f>,
     snapshot: &'a Snapshot,
 ) -> Result<Page<'a>, AllocError>
     requires form { IsFormOf ask.now form.now }
@@ -69,10 +70,10 @@ fn page_where<'a>(
 }
 
 // The page that is asked for, by this form of what is asked, with the plan that was chosen for it.
-fn planned_by<'a>(
+fn planned_by<'a, 'f>(
     alloc: Global,
-    ask: &Ask,
-    form: &Normal,
+    ask: &'f Ask,
+    form: &Normal<'f>,
     snapshot: &'a Snapshot,
 ) -> Result<Planned<'a>, AllocError>
     requires { IsFormOf ask.now form.now }
@@ -87,17 +88,34 @@ fn planned_by<'a>(
     Ok(Planned { plan, page })
 }
 
-// The same where this box is asked for, which is joined to the form of the filter.
+// The same where a box is asked for, by the filter that it is, whose form is joined to that of the filter.
+fn planned_with<'a>(
+    alloc: Global,
+    ask: &Ask,
+    boxed: &Filter,
+    snapshot: &'a Snapshot,
+) -> Result<Planned<'a>, AllocError>
+    requires { IsBoxFilter boxed.now ask.now }
+    ensures rows { IfOk result (λ found. rows_of found.page ≡ rows_in ask.now snapshot.now) }
+    ensures more { IfOk result (λ found. found.page.more ≡ is_more_in ask.now snapshot.now) }
+    ensures examined { IfOk result (λ found. found.page.examined ≡ examined_in found.plan ask.now snapshot.now) }
+    ensures features { IfOk result (λ found. All (IsFeatureOf ask.now.collection) (rows_of found.page)) }
+    ensures chosen { IfOk result (λ found. IsChosen found.plan ask.now snapshot.now) }
+{
+    let filter_form = form_of(alloc, ask)?;
+    let form = boxed_form(alloc, ask, filter_form, boxed)?;
+    let planned = planned_by(alloc, ask, &form, snapshot)?;
+    Ok(planned)
+}
+
+// The same where this box is asked for.
 fn planned_in_box<'a>(
     alloc: Global,
     ask: &Ask,
-    form: Normal,
     bounds: Bounds,
     snapshot: &'a Snapshot,
 ) -> Result<Planned<'a>, AllocError>
-    requires boxed { ask.now.selection.bbox ≡ Some bounds }
-    requires stands { FormStands form ask.now }
-    requires costs { FormCosts form ask.now }
+    requires { ask.now.selection.bbox ≡ Some bounds }
     ensures rows { IfOk result (λ found. rows_of found.page ≡ rows_in ask.now snapshot.now) }
     ensures more { IfOk result (λ found. found.page.more ≡ is_more_in ask.now snapshot.now) }
     ensures examined { IfOk result (λ found. found.page.examined ≡ examined_in found.plan ask.now snapshot.now) }
@@ -105,8 +123,7 @@ fn planned_in_box<'a>(
     ensures chosen { IfOk result (λ found. IsChosen found.plan ask.now snapshot.now) }
 {
     let boxed = box_condition(geometry_place(ask.collection), bounds);
-    let form = boxed_form(alloc, ask, form, &boxed)?;
-    let planned = planned_by(alloc, ask, &form, snapshot)?;
+    let planned = planned_with(alloc, ask, &boxed, snapshot)?;
     Ok(planned)
 }
 
@@ -123,14 +140,14 @@ pub(crate) fn planned_asked<'a>(
     ensures features { IfOk result (λ found. All (IsFeatureOf ask.now.collection) (rows_of found.page)) }
     ensures chosen { IfOk result (λ found. IsChosen found.plan ask.now snapshot.now) }
 {
-    let form = form_of(alloc, ask)?;
     match ask.selection.bbox {
         None => {
+            let form = form_of(alloc, ask)?;
             let planned = planned_by(alloc, ask, &form, snapshot)?;
             Ok(planned)
         }
         Some(bounds) => {
-            let planned = planned_in_box(alloc, ask, form, bounds, snapshot)?;
+            let planned = planned_in_box(alloc, ask, bounds, snapshot)?;
             Ok(planned)
         }
     }

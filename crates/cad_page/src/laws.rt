@@ -5,8 +5,8 @@ ghost use Rattle.cad_schema.specs.declared.collection.Collection.{Collection as 
 ghost use Rattle.cad_page.specs.Laws.{NextIsReadAgain, PlansOfTheMenuFindThePage, TheSameHasOneAnswer, TheSameIsAnswered};
 
 use cad_answer::laws::covering_plans_have_the_answer;
-use cad_lookup::laws::ways_have_the_candidates;
 use cad_ask::laws::{next_asks_the_same, pairs_ask_one_thing};
+use cad_lookup::laws::ways_have_the_candidates;
 use cad_query::laws::{next_is_read_back, pairs_are_texts};
 use cad_schema::Collection;
 use cql_rewrite::laws::{choices_are_the_first_of_least, features_are_written, menus_cover};

@@ -3,3 +3,4 @@ pub mod Outcomes
 pub mod Serving
 pub mod Listening
 pub mod Entering
+pub mod DeskLemmas

@@ -5,17 +5,16 @@ ghost use Rattle.cad_program.specs.Serving.{AnswersOver, AnswersSample, EndsServ
 
 use crate::outcome::Outcome;
 use cad_desk::Desk;
-use cad_io::CountedRead;
+use cad_io::{CountedRead, CountedWrite};
 use cad_responder::Server;
 use cad_sample::fill;
 use cad_serve::serve;
 use cad_stream::Responder;
 use cad_versions::{Ledger, RegisterFault};
 use std::alloc::Global;
-use std::io::Write;
 
 /// Serves a connection of the desk, and says how that ends a run.
-pub fn serve_one<P: Responder, R: CountedRead, W: Write>(
+pub fn serve_one<P: Responder, R: CountedRead, W: CountedWrite>(
     alloc: Global,
     reader: &mut R,
     writer: &mut W,
@@ -28,7 +27,7 @@ pub fn serve_one<P: Responder, R: CountedRead, W: Write>(
 }
 
 /// Serves a connection over the ledger, and gives the ledger back.
-pub fn answer_over<L: Ledger, R: CountedRead, W: Write>(
+pub fn answer_over<L: Ledger, R: CountedRead, W: CountedWrite>(
     alloc: Global,
     ledger: L,
     reader: &mut R,
@@ -48,7 +47,7 @@ pub fn answer_over<L: Ledger, R: CountedRead, W: Write>(
 }
 
 /// Serves a connection over the sample register, which is entered into the ledger first, and gives the ledger back.
-pub fn answer_sample<L: Ledger, R: CountedRead, W: Write>(
+pub fn answer_sample<L: Ledger, R: CountedRead, W: CountedWrite>(
     alloc: Global,
     mut ledger: L,
     reader: &mut R,

@@ -1,6 +1,6 @@
 //! What a request for features asks by its parameters, and the links that a page of features carries.
 //!
-//! - `Pair`: a parameter; `read_pairs` and `write_pairs` read and write the pairs of a query
+//! - `Pair`: a parameter; `read_pairs` reads the pairs of a query
 //! - `read_identifier`: the `Identifier` of a version, of `cad_versions`, that a text as `3.1` names
 //! - `Selection`, `filter_text` and `Continuation`: what the pairs ask for; they are read in this order
 //! - `ParameterFault`: why pairs are refused, but for the filter, in the order in which its faults are looked for
@@ -31,5 +31,5 @@ pub use fault::ParameterFault;
 pub use identifier::read_identifier;
 pub use links::{next_target, self_target};
 pub use names::filter_text;
-pub use pairs::{Pair, read_pairs, write_pairs};
+pub use pairs::{Pair, read_pairs};
 pub use selection::Selection;

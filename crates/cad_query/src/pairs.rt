@@ -35,7 +35,7 @@ pub fn read_pairs(alloc: Global, query: &[u8]) -> Result<Vec<Pair>, AllocError>
 }
 
 /// The pairs written as a query, in their order.
-pub fn write_pairs(alloc: Global, pairs: &[Pair]) -> Result<String, AllocError>
+pub(crate) fn write_pairs(alloc: Global, pairs: &[Pair]) -> Result<String, AllocError>
     ensures { IfOk result (λ text. string_bytes text ≡ written (map pair_text pairs.now)) }
 {
     let mut form = Serializer::new(String::new(alloc));

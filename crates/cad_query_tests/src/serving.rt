@@ -2,7 +2,7 @@
 //! what serving does is the same over any.
 
 use cad_desk::{Desk, Event};
-use cad_io::Counted;
+use cad_io::{Counted, CountedWriter};
 use cad_serve::{Ending, ServeFault, serve};
 use desk_echo::Echo;
 use std::test::Fail;
@@ -44,7 +44,7 @@ fn stops_where_reading_does(rt: HostRuntime) -> Result<(), Fail> {
     for bytes in 0..=REQUEST.len() {
         for (piece, stop) in READINGS {
             let mut reader = Counted::new(Peer::new(REQUEST.as_bytes(), piece, bytes, stop));
-            let mut writer = Taker::new(512, 512, Stop::Fails);
+            let mut writer = CountedWriter::new(Taker::new(512, 512, Stop::Fails));
             let served = serve(alloc, &mut reader, &mut writer, &mut desk, 1);
             let wanted = match stop {
                 Stop::Fails => Err(ServeFault::Read),
@@ -57,7 +57,10 @@ fn stops_where_reading_does(rt: HostRuntime) -> Result<(), Fail> {
                 reads_of(bytes, piece).saturating_add(1),
                 "after {bytes}"
             );
-            assert!(rt; writer.has_taken(reply.as_bytes()), "after {bytes}");
+            assert!(rt;
+                writer.writer().has_taken(reply.as_bytes()),
+                "after {bytes}"
+            );
         }
     }
     Ok(())
@@ -70,7 +73,7 @@ fn reads_nothing_behind_the_end(rt: HostRuntime) -> Result<(), Fail> {
     let mut desk = Desk::new(alloc, Echo::new(alloc));
     for (piece, stop) in READINGS {
         let mut reader = Counted::new(Peer::new(LAST.as_bytes(), piece, LAST.len(), stop));
-        let mut writer = Taker::new(1, 512, Stop::Fails);
+        let mut writer = CountedWriter::new(Taker::new(1, 512, Stop::Fails));
         let served = serve(alloc, &mut reader, &mut writer, &mut desk, 1);
         assert_eq!(rt; served, Ok(Ending::WeEnded), "{piece} a read");
         assert_eq!(rt;
@@ -78,7 +81,10 @@ fn reads_nothing_behind_the_end(rt: HostRuntime) -> Result<(), Fail> {
             reads_of(LAST.len(), piece),
             "{piece} a read"
         );
-        assert!(rt; writer.has_taken(LAST_REPLY.as_bytes()), "{piece} a read");
+        assert!(rt;
+            writer.writer().has_taken(LAST_REPLY.as_bytes()),
+            "{piece} a read"
+        );
     }
     Ok(())
 }
@@ -96,7 +102,7 @@ fn stops_where_writing_does(rt: HostRuntime) -> Result<(), Fail> {
                 REQUEST.len(),
                 Stop::Ends,
             ));
-            let mut writer = Taker::new(piece, most, stop);
+            let mut writer = CountedWriter::new(Taker::new(piece, most, stop));
             let served = serve(alloc, &mut reader, &mut writer, &mut desk, 1);
             let wanted = if most == REPLY.len() {
                 Ok(Ending::PeerEnded)
@@ -104,7 +110,10 @@ fn stops_where_writing_does(rt: HostRuntime) -> Result<(), Fail> {
                 Err(ServeFault::Write)
             };
             assert_eq!(rt; served, wanted, "after {most}");
-            assert!(rt; writer.has_taken(&REPLY.as_bytes()[..most]), "after {most}");
+            assert!(rt;
+                writer.writer().has_taken(&REPLY.as_bytes()[..most]),
+                "after {most}"
+            );
         }
     }
     Ok(())
@@ -124,10 +133,10 @@ fn replies_twice_on_one_desk(rt: HostRuntime) -> Result<(), Fail> {
             REQUEST.len(),
             Stop::Ends,
         ));
-        let mut writer = Taker::new(512, 512, Stop::Fails);
+        let mut writer = CountedWriter::new(Taker::new(512, 512, Stop::Fails));
         let served = serve(alloc, &mut reader, &mut writer, &mut desk, 1);
         assert_eq!(rt; served, Ok(Ending::PeerEnded));
-        assert!(rt; writer.has_taken(REPLY.as_bytes()));
+        assert!(rt; writer.writer().has_taken(REPLY.as_bytes()));
     }
     assert!(rt; desk.step(Event::Close(2)).is_ok());
     Ok(())
@@ -145,11 +154,11 @@ fn ends_where_the_turns_are_spent(rt: HostRuntime) -> Result<(), Fail> {
     let alloc = rt.alloc();
     let mut desk = Desk::new(alloc, Echo::new(alloc));
     let mut reader = Counted::new(Endless::new(SHORT.as_bytes()));
-    let mut writer = Copies::new(SHORT_REPLY.as_bytes());
+    let mut writer = CountedWriter::new(Copies::new(SHORT_REPLY.as_bytes()));
     let served = serve(alloc, &mut reader, &mut writer, &mut desk, 1);
     assert_eq!(rt; served, Err(ServeFault::TurnsSpent));
     assert_eq!(rt; reader.reader().reads(), 100_000);
-    assert_eq!(rt; writer.count(), Some(3703));
+    assert_eq!(rt; writer.writer().count(), Some(3703));
     assert!(rt; desk.step(Event::Open(1)).is_ok());
     Ok(())
 }

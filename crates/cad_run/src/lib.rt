@@ -5,6 +5,7 @@
 //! - [`FeatureSource`]: features that are taken one after the other, in the order of identifiers
 //! - [`Candidates`]: a plan's candidates as such a source
 //! - [`Kept`]: the features of any source that a test keeps, and how many were tested
+//! - [`RowSource`]: positions one after the other; of these a base's candidates are made
 //! - [`candidate_count`]: how many candidates a plan has
 //! - [`FeatureTest`]: a test of features
 //! - [`Layer`], [`Plan`]: the features with their indexes, and which of them are looked at
@@ -35,6 +36,7 @@ mod segment_candidates;
 
 pub use cad_lookup::Plan;
 pub use cad_merged::Layer;
+pub use cad_rows::RowSource;
 pub use candidates::Candidates;
 pub use counting::candidate_count;
 pub use feature_source::FeatureSource;

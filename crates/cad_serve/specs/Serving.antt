@@ -1,5 +1,5 @@
 -- What serving a connection reads, writes and asks of the desk (RFC 9112, section 9.3: persistence).
-use Rattle.std.specs.Prelude.{◌≡◌, ◌⊎◌, ℕ, ◌*◌, ◌<◌, ◌≤◌, Bool, true, false, List, [], ◌∷◌, ◌++◌, length, Option, Some, None, IsSome, Result, Ok, Err}
+use Rattle.std.specs.Prelude.{◌≡◌, ◌⊎◌, ⊤, ℕ, ◌*◌, ◌<◌, ◌≤◌, Bool, true, false, List, [], ◌∷◌, ◌++◌, length, Option, Some, None, IsSome, Result, Ok, Err}
 use Rattle.std.specs.Global.{Vec}
 use Rattle.std.specs.List.{flat_map}
 use Rattle.cad_stream.specs.declared.responder.Responder.{Ghosts}
@@ -14,6 +14,7 @@ use Rattle.cad_serve.specs.declared.ending.Ending.{Ending}
 use Rattle.cad_serve.specs.declared.ending.Ending.TheVariants.{PeerEnded, WeEnded, Refused}
 use Rattle.cad_serve.specs.declared.serve_fault.ServeFault.{ServeFault}
 use Rattle.cad_serve.specs.declared.serve_fault.ServeFault.TheVariants.{Read, Write, TurnsSpent}
+use Rattle.cad_io.specs.Known.{Writes}
 use Rattle.cad_io.specs.Pieces.{piece_len}
 use Rattle.cad_io.specs.Writing.{IsFront, IsCutShort}
 use Rattle.cad_serve.specs.Writing.{fixed_head}
@@ -41,6 +42,28 @@ IsOpen c desk = IsSome (rest_at (connections_of desk) c)
 -- what was written for a refusal: the head that tells it, or a front of that where its write failed
 abbrev pub IsRefusedSo : DeskFault → List ℕ → Type 0
 IsRefusedSo fault written = IsFront written (fixed_head fault)
+
+-- what a writer holds before and after, of whose writes so many have failed
+module _ (failures : ℕ) (before after : Option (List ℕ)) where
+  -- unless one has, the last that was written is the whole head that tells this fault
+  abbrev pub IsToldWhole : DeskFault → Type 0
+  IsToldWhole fault = failures ≡ 0 → Writes before after (λ written. (front : List ℕ) × (written ≡ front ++ fixed_head fault))
+
+  -- the desk refused, and the head that tells it is written whole
+  abbrev pub TellsEnding : Ending → Type 0
+  TellsEnding PeerEnded = ⊤
+  TellsEnding WeEnded = ⊤
+  TellsEnding (Refused fault) = IsToldWhole fault
+
+  -- the same of what came of serving, and of a turn
+  abbrev pub TellsRefusal : Result Ending ServeFault → Type 0
+  TellsRefusal (Ok ending) = TellsEnding ending
+  TellsRefusal (Err fault) = ⊤
+
+  abbrev pub TellsRefusedTurn : Result (Option Ending) ServeFault → Type 0
+  TellsRefusedTurn (Ok None) = ⊤
+  TellsRefusedTurn (Ok (Some ending)) = TellsEnding ending
+  TellsRefusedTurn (Err fault) = ⊤
 
 module _ {R : Type 0} (g : Ghosts R) (c : ℕ) where
   -- the desk closes the connection

@@ -2,18 +2,17 @@
 
 ghost use Rattle.std.specs.Prelude.{◌≡◌, None, Some, Ok, Err, false};
 ghost use Rattle.std.specs.Io.KnownBytes.{IsAtEnd};
-ghost use Rattle.cad_serve.specs.Serving.{most_turns, Closes, IsOpen, IsPiece, IsRefusedSo, IsSent, IsServed, IsTaken, IsTurn};
+ghost use Rattle.cad_serve.specs.Serving.{most_turns, Closes, IsOpen, IsPiece, IsRefusedSo, IsSent, IsServed, IsTaken, IsToldWhole, IsTurn, TellsRefusal, TellsRefusedTurn};
 ghost use Rattle.cad_io.specs.Counting.{CountsReads};
 ghost use Rattle.cad_io.specs.Known.{ReadsAndWrites, Writes};
 
 use crate::ending::Ending;
 use crate::serve_fault::ServeFault;
-use crate::writing::write_fixed_head;
+use crate::writing::write_counted_head;
 use cad_desk::{Desk, DeskFault, Event, Reply};
-use cad_io::{CountedRead, PIECE_LEN, write_whole};
+use cad_io::{CountedRead, CountedWrite, PIECE_LEN, write_counted};
 use cad_stream::Responder;
 use std::alloc::Global;
-use std::io::Write;
 
 /// The most reads of a connection.
 const TURNS: u32 = 100_000;
@@ -26,16 +25,17 @@ fn close<R: Responder>(desk: &mut Desk<R>, c: u32)
 }
 
 /// Tells the fault, if it has a head. Where that write fails, the fault stands all the same.
-fn refuse<W: Write>(writer: &mut W, fault: DeskFault) -> Ending
+fn refuse<W: CountedWrite>(writer: &mut W, fault: DeskFault) -> Ending
     ensures refused { result ≡ Ending.Refused fault }
     ensures head { Writes (W.contents writer.old) (W.contents writer.new) (IsRefusedSo fault) }
+    ensures told { IsToldWhole (W.failures writer.new) (W.contents writer.old) (W.contents writer.new) fault }
 {
-    let _ = write_fixed_head(writer, fault);
+    let _ = write_counted_head(writer, fault);
     Ending::Refused(fault)
 }
 
 /// Writes what the desk sends. Where that fails, a connection that goes on is closed.
-fn send<W: Write, R: Responder>(
+fn send<W: CountedWrite, R: Responder>(
     writer: &mut W,
     desk: &mut Desk<R>,
     c: u32,
@@ -46,7 +46,7 @@ fn send<W: Write, R: Responder>(
     ensures { Writes (W.contents writer.old) (W.contents writer.new)
         (IsSent R.Responder c bytes.now ends desk.old result desk.new) }
 {
-    if write_whole(writer, bytes).is_err() {
+    if write_counted(writer, bytes).is_err() {
         if !ends {
             close(desk, c);
         }
@@ -59,7 +59,7 @@ fn send<W: Write, R: Responder>(
 }
 
 /// Has the desk take a piece, and writes what it sends. `None`: the connection goes on.
-fn take_piece<W: Write, R: Responder>(
+fn take_piece<W: CountedWrite, R: Responder>(
     alloc: Global,
     writer: &mut W,
     desk: &mut Desk<R>,
@@ -68,8 +68,9 @@ fn take_piece<W: Write, R: Responder>(
 ) -> Result<Option<Ending>, ServeFault>
     requires open { IsOpen c desk.old }
     requires piece { IsPiece piece.now }
-    ensures { Writes (W.contents writer.old) (W.contents writer.new)
+    ensures taken { Writes (W.contents writer.old) (W.contents writer.new)
         (IsTaken R.Responder c desk.old result desk.new piece.now) }
+    ensures told { TellsRefusedTurn (W.failures writer.new) (W.contents writer.old) (W.contents writer.new) result }
 {
     let Ok(bytes) = Vec::from_slice(alloc, piece) else {
         close(desk, c);
@@ -83,7 +84,7 @@ fn take_piece<W: Write, R: Responder>(
 }
 
 /// One read, and what the desk sends for it. `None`: the connection goes on.
-fn turn<I: CountedRead, W: Write, R: Responder>(
+fn turn<I: CountedRead, W: CountedWrite, R: Responder>(
     alloc: Global,
     reader: &mut I,
     writer: &mut W,
@@ -94,6 +95,7 @@ fn turn<I: CountedRead, W: Write, R: Responder>(
     ensures turn { ReadsAndWrites (I.remaining reader.old) (I.remaining reader.new)
         (W.contents writer.old) (W.contents writer.new) (IsTurn R.Responder c desk.old result desk.new) }
     ensures all { result ≡ Ok (Some Ending.PeerEnded) → IsAtEnd (I.remaining reader.new) }
+    ensures told { TellsRefusedTurn (W.failures writer.new) (W.contents writer.old) (W.contents writer.new) result }
     ensures counted { CountsReads 1 (result ≡ Ok None) (I.reads reader.old) (I.reads reader.new) }
 {
     let mut buffer = [0; PIECE_LEN];
@@ -113,8 +115,8 @@ fn turn<I: CountedRead, W: Write, R: Responder>(
 /// Serves connection `c` of the desk: opens it, reads its bytes in pieces of at most 4,096, has the desk take each
 /// and writes what it sends, until the peer sends no more, a reply ends the connection, the desk refuses, a read or a
 /// write fails, or 100,000 reads were made. The connection is closed then, if the desk opened it and it is still open.
-/// Where memory is refused or the register refuses, a fixed head tells it.
-pub fn serve<I: CountedRead, W: Write, R: Responder>(
+/// Where memory is refused or the register refuses, a fixed head tells it: the whole of it, unless a write failed.
+pub fn serve<I: CountedRead, W: CountedWrite, R: Responder>(
     alloc: Global,
     reader: &mut I,
     writer: &mut W,
@@ -124,6 +126,7 @@ pub fn serve<I: CountedRead, W: Write, R: Responder>(
     ensures served { ReadsAndWrites (I.remaining reader.old) (I.remaining reader.new)
         (W.contents writer.old) (W.contents writer.new) (IsServed R.Responder c desk.old result desk.new) }
     ensures all { result ≡ Ok Ending.PeerEnded → IsAtEnd (I.remaining reader.new) }
+    ensures told { TellsRefusal (W.failures writer.new) (W.contents writer.old) (W.contents writer.new) result }
     ensures counted { CountsReads most_turns (result ≡ Err ServeFault.TurnsSpent) (I.reads reader.old) (I.reads reader.new) }
 {
     if let Err(fault) = desk.step(Event::Open(c)) {

@@ -1,11 +1,12 @@
 //! The heads that are sent without memory.
 
-ghost use Rattle.std.specs.Prelude.{◌≡◌};
+ghost use Rattle.std.specs.Prelude.{◌≡◌, is_err};
+ghost use Rattle.cad_io.specs.Counting.{CountsFailure};
 ghost use Rattle.cad_io.specs.Writing.{IsWritten};
 ghost use Rattle.cad_serve.specs.Writing.{fixed_head as fixed_head_of};
 
 use cad_desk::DeskFault;
-use cad_io::{WriteFailed, write_whole};
+use cad_io::{CountedWrite, WriteFailed, write_counted, write_whole};
 use std::io::Write;
 
 /// The head that tells that a growth was refused.
@@ -33,4 +34,15 @@ pub fn write_fixed_head<W: Write>(writer: &mut W, fault: DeskFault) -> Result<()
     ensures { IsWritten (W.contents writer.old) (W.contents writer.new) (fixed_head_of fault) result }
 {
     write_whole(writer, fixed_head(fault).as_bytes())
+}
+
+/// The same by a writer that counts its failures.
+pub(crate) fn write_counted_head<W: CountedWrite>(
+    writer: &mut W,
+    fault: DeskFault,
+) -> Result<(), WriteFailed>
+    ensures written { IsWritten (W.contents writer.old) (W.contents writer.new) (fixed_head_of fault) result }
+    ensures counted { CountsFailure (is_err result) (W.failures writer.old) (W.failures writer.new) }
+{
+    write_counted(writer, fixed_head(fault).as_bytes())
 }

@@ -42,7 +42,7 @@ fn host_desk<N: Net + Clock, R: Responder, W: Write, E: Write>(
     log: &mut Log<E>,
     desk: &mut Desk<R>,
 ) -> Outcome
-    ensures { EndsHosting (asked_at doors) (W.contents writer.old) (W.contents writer.new) result }
+    ensures { EndsHosting (asked_at doors) (W.contents writer.old) (W.contents writer.new) R.Responder desk.old result desk.new }
 {
     let Some(bound) = bound_for(doors.asked(), doors.address()) else {
         return Outcome::Address;
@@ -63,7 +63,7 @@ pub fn host_over<N: Net + Clock, L: Ledger, W: Write, E: Write>(
     writer: &mut W,
     log: &mut Log<E>,
 ) -> (Outcome, L)
-    ensures { HostsOver (asked_at doors) (W.contents writer.old) (W.contents writer.new) ledger result }
+    ensures { HostsOver (asked_at doors) (W.contents writer.old) (W.contents writer.new) L.Ledger ledger result }
 {
     match Server::new(alloc, ledger) {
         Ok(server) => {

@@ -6,7 +6,7 @@ ghost use Rattle.cadastre.specs.Entering.{RunsOffice};
 ghost use Rattle.cadastre.specs.Asking.{RunsAsk};
 ghost use Rattle.cadastre.specs.Opening.{opening_fault};
 
-use cad_io::{Counted, CountedRead};
+use cad_io::{Counted, CountedRead, CountedWrite, CountedWriter};
 use cad_program::{Outcome, answer_over, enter_commands};
 use cad_register::{Register, RegisterFault};
 use sqlite::{Alter, Connection, Error, ErrorCode, File, FileStore};
@@ -61,7 +61,7 @@ pub fn run_office(rt: &HostRuntime, file: &str) -> Outcome {
 }
 
 /// Serves a connection over the register of a database, and gives the database's connection back.
-pub fn run_ask_over<S: Alter, R: CountedRead, W: Write>(
+pub fn run_ask_over<S: Alter, R: CountedRead, W: CountedWrite>(
     alloc: Global,
     connection: Connection<S>,
     reader: &mut R,
@@ -108,7 +108,7 @@ pub fn run_ask(rt: &HostRuntime, file: &str) -> Outcome {
         rt.alloc(),
         connection,
         &mut Counted::new(rt.stdin()),
-        &mut rt.stdout(),
+        &mut CountedWriter::new(rt.stdout()),
     );
     let _ = connection.close();
     outcome

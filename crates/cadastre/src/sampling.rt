@@ -4,15 +4,14 @@ ghost use Rattle.std.specs.Io.KnownBytes.{IsAtEnd};
 ghost use Rattle.std.specs.Prelude.{◌≡◌};
 ghost use Rattle.cadastre.specs.Sampling.{RunsSample};
 
-use cad_io::{Counted, CountedRead};
+use cad_io::{Counted, CountedRead, CountedWrite, CountedWriter};
 use cad_program::{Outcome, answer_sample};
 use cad_register::{Register, RegisterFault};
 use sqlite::{Alter, Connection};
 use std::alloc::Global;
-use std::io::Write;
 
 /// Serves a connection over the sample register, which is made in the database and entered first, and gives the database's connection back.
-pub fn run_sample_over<S: Alter, R: CountedRead, W: Write>(
+pub fn run_sample_over<S: Alter, R: CountedRead, W: CountedWrite>(
     alloc: Global,
     connection: Connection<S>,
     reader: &mut R,
@@ -39,7 +38,7 @@ pub fn run_sample(rt: &HostRuntime) -> Outcome {
         rt.alloc(),
         connection,
         &mut Counted::new(rt.stdin()),
-        &mut rt.stdout(),
+        &mut CountedWriter::new(rt.stdout()),
     );
     outcome
 }

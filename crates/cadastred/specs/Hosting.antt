@@ -5,6 +5,7 @@ use Rattle.sqlite.specs.Held.{Held}
 use Rattle.cad_versions.specs.declared.fault.RegisterFault.{RegisterFault}
 use Rattle.cad_register.specs.declared.register.Register.{Register}
 use Rattle.cad_register.specs.Registers.{connection_of}
+use Rattle.cad_register.specs.Ledgers.{register_as_ledger}
 use Rattle.cad_register.specs.Opening.{OpenedOrCreated}
 use Rattle.cad_host.specs.declared.doors.Doors.{Doors}
 use Rattle.cad_host.specs.declared.log.Log.{Log}
@@ -19,7 +20,7 @@ module _ {S E : Type 0} (g : Ghosts S) (doors : Doors) (before after : Option (L
   -- the register is hosted, and the database's connection is given back
   pub record EndsHosted (register : Register S) (ended : Outcome × Held S) : Type 0 where
     pub left : Register S
-    pub hosts : HostsOver (asked_at doors) before after register (ended.0, left)
+    pub hosts : HostsOver (asked_at doors) before after (register_as_ledger g) register (ended.0, left)
     pub back : ended.1 ≡ connection_of left
 
   -- no register is had: the run ends for this cause and nothing is told or logged

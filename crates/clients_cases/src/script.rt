@@ -63,6 +63,7 @@ fn turned_name(turned: EntryTurned) -> &'static str {
         EntryTurned::Took => "took",
         EntryTurned::Added => "added",
         EntryTurned::Answered(_) => "answered",
+        EntryTurned::Lost(_) => "lost",
         EntryTurned::Stops => "stops",
         EntryTurned::Waits => "waits",
         EntryTurned::Over => "over",

@@ -4,7 +4,7 @@ use crate::answers::{Memory, refusal};
 use crate::bytes::json_of;
 use crate::lines::{Failure, Served};
 use cad_desk::Desk;
-use cad_io::Counted;
+use cad_io::{Counted, CountedWriter};
 use cad_serve::{Ending, ServeFault, serve};
 use cad_stream::Responder;
 use std::alloc::{AllocError, Global};
@@ -105,7 +105,7 @@ pub fn answer_served<R: Responder>(
     served: &Served,
     memory: Memory,
 ) -> Result<String, AllocError> {
-    let mut writer = writer_of(alloc, served)?;
+    let mut writer = CountedWriter::new(writer_of(alloc, served)?);
     let ended = serve(
         alloc,
         &mut Counted::new(reader_of(served)),
@@ -115,6 +115,6 @@ pub fn answer_served<R: Responder>(
     );
     let mut line = ending(alloc, ended, memory)?;
     line.push_str(" ")?;
-    line.push_str(json_of(alloc, &writer.bytes)?.as_str())?;
+    line.push_str(json_of(alloc, &writer.writer().bytes)?.as_str())?;
     Ok(line)
 }

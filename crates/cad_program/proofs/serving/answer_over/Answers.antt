@@ -1,6 +1,6 @@
 use Rattle.std.proofs.Common.{ap, ◌∙◌, inr}
 use Rattle.cad_responder.specs.Servers.{ledger_of}
-use Rattle.cad_program.proofs.DeskLemmas.{desk_over}
+use Rattle.cad_program.specs.DeskLemmas.{desk_over}
 use Rattle.cad_program.proofs.serving.answer_over.Goals as goal
 
 pub returns-in-Ok : goal.returns-in-Ok

@@ -1,5 +1,6 @@
 use Rattle.std.proofs.Common.{arith, refl}
 use Rattle.cad_serve.proofs.ServeLemmas.{opens_open, begins, turned, turned_open, ended, failed, spent, not_opened}
+use Rattle.cad_serve.proofs.ToldLemmas.{told_later}
 use Rattle.cad_serve.proofs.serving.serve.Goals as goal
 
 pub returns-in-Err-clause-served : goal.returns-in-Err-clause-served
@@ -41,3 +42,12 @@ pub returns-clause-served : goal.returns-clause-served
 returns-clause-served g c =
     spent g.R.Responder c.args.c c.loop-turn_count.turn_count _ _ _ _ c.args.desk.now c.loop-turn_count.desk c.close.new.desk (omega (arith, c.loop-turn_count-test.false, c.loop-turn_count.invariant.few))
     c.loop-turn_count.invariant.turned c.close.ensures
+
+pub returns-in-Err-clause-told : goal.returns-in-Err-clause-told
+returns-in-Err-clause-told g c = rw c.refuse.ensures.refused c.refuse.ensures.told
+
+pub returns-in-Ok-Some-clause-told : goal.returns-in-Ok-Some-clause-told
+returns-in-Ok-Some-clause-told g c =
+    let told = rw c.in-Ok-Some.field-0-is at c.in-Ok-Some.ensures.told in
+    let before = c.loop-turn_count.invariant.turned in
+    told_later _ _ _ _ before.1 c.in-Ok-Some.ending before.3 told

@@ -6,7 +6,7 @@ use Rattle.cad_clients.proofs.clients.Clients.serve.Goals as goal
 use Rattle.cad_clients.proofs.clients.Clients.serve.Goals.{in-Wrote, in-Fed, else-has_fed-via-then-has_fed+else-not-is_sending, else-has_fed-via-else-has_fed}
 
 pub loop-init : goal.loop-init
-loop-init g c = ([], [], Consumes-nil _, Appends-nil _, ([], (refl, refl, refl, refl), record { count = refl; fed = refl; there = inl refl }))
+loop-init g c = ([], [], Consumes-nil _, Appends-nil _, ([], (refl, refl, refl, refl), record { count = refl; fed = refl; there = inl refl; none_over = refl }))
 
 pub returns-then-not-is_sending-clause-served : goal.returns-then-not-is_sending-clause-served
 returns-then-not-is_sending-clause-served g c =

@@ -4,7 +4,7 @@ use Rattle.cad_entry.proofs.TurnLemmas.{last_turn}
 use Rattle.cad_entry.proofs.entry.Entry.read_some.Goals as goal
 
 pub returns-in_default : goal.returns-in_default
-returns-in_default g c = (take c.in-Ok.count c.read.new.buf, c.in-Ok.ensures.bytes.0, (refl, inl (inl (inr (c.requires.nothing_unwritten, c.requires.nothing_unread)), refl)))
+returns-in_default g c = (take c.in-Ok.count c.read.new.buf, c.in-Ok.ensures.bytes.0, (refl, inl (inr (c.requires.nothing_unwritten, c.requires.nothing_unread)), refl))
 
 pub returns-in-Ok-eq0 : goal.returns-in-Ok-eq0
 returns-in-Ok-eq0 g c =

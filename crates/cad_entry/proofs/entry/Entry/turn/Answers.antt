@@ -1,14 +1,17 @@
 use Rattle.std.proofs.Common.{◌<◌, [], length, arith, length-drop}
 use Rattle.std.proofs.KnownBytes.{Appends-nil, Consumes-nil}
 use Rattle.std.proofs.lemmas.List.{drop_all}
-use Rattle.cad_entry.specs.Turns.{unread}
-use Rattle.cad_entry.proofs.TurnLemmas.{fed_turn, unended_turn}
+use Rattle.cad_entry.specs.Turns.{unread, unwritten}
+use Rattle.cad_entry.proofs.TurnLemmas.{fed_turn, sent_turn}
 use Rattle.cad_entry.proofs.entry.Entry.turn.Goals as goal
 
 pub returns-then-self-len : goal.returns-then-self-len
 returns-then-self-len g c =
-    let w = c.write_some.ensures in
-    ([], w.0, Consumes-nil _, w.1, unended_turn g.R.Responder _ c.args.desk.now c.write_some.new.desk c.args.self.now c.write_some.new.self c.write_some.result [] w.0 w.2)
+    let w = c.send.ensures in
+    let entry = c.args.self.now in
+    let sending : 0 < length (unwritten entry) =
+    (let left = length-drop entry.output_at entry.output.items in let e = c.len.ensures in let f = c.if-self-len.true in omega (arith, left, e, f)) in
+    ([], w.0, Consumes-nil _, w.1, sent_turn g.R.Responder _ c.args.desk.now entry c.send.new.self c.send.result w.0 sending w.2)
 
 pub returns-then-self-len-2 : goal.returns-then-self-len-2
 returns-then-self-len-2 g c =

@@ -1,0 +1,125 @@
+//! Registers in two files, of any kind: the database and its log.
+
+use cad_register::{Command, Register, RegisterFault, Revision};
+use sqlite::{Alter, Connection, FileStore, Files, Options};
+use sqlite_disk::Disk;
+use std::alloc::Global;
+use std::test::Fail;
+
+/// The database in the files, or the files back. Before it commits, it copies what the log holds into the database file, so that a
+/// command writes to both.
+fn connected<D: Disk + Drop>(
+    alloc: Global,
+    files: Files<D>,
+) -> Result<Connection<FileStore<D>>, Files<D>> {
+    if !files.may_be_used() {
+        return Err(files);
+    }
+    let options = Options {
+        checkpoint_frames: 1,
+        ..Options::new(1)
+    };
+    match Connection::open_files(alloc, files, options) {
+        Ok(connection) => Ok(connection),
+        Err((_, left)) => Err(left.into_files()),
+    }
+}
+
+/// The register in the database, or the database back.
+fn found<S: Alter + Drop>(
+    alloc: Global,
+    connection: Connection<S>,
+) -> Result<Register<S>, Connection<S>> {
+    match Register::open(alloc, connection) {
+        Ok(register) => Ok(register),
+        Err((_, connection)) => Err(connection),
+    }
+}
+
+/// A register of no commands in the database.
+fn begun<S: Alter + Drop>(alloc: Global, connection: Connection<S>) -> Result<Register<S>, Fail> {
+    Ok(Register::create(alloc, connection).ok().ok_or("created")?)
+}
+
+/// The files of a register, as they stand.
+fn files_of<D: Disk + Drop>(register: Register<FileStore<D>>) -> Files<D> {
+    register.release().into_store().close()
+}
+
+/// The register in the files, if there is one.
+pub(crate) fn opened<D: Disk + Drop>(
+    alloc: Global,
+    files: Files<D>,
+) -> Option<Register<FileStore<D>>> {
+    let connection = connected(alloc, files).ok()?;
+    found(alloc, connection).ok()
+}
+
+/// A register of no commands, in files of no bytes.
+pub(crate) fn made<D: Disk + Drop>(
+    alloc: Global,
+    files: Files<D>,
+) -> Result<Register<FileStore<D>>, Fail> {
+    let connection = connected(alloc, files).ok().ok_or("connected")?;
+    begun(alloc, connection)
+}
+
+/// Whether a register is opened in the files.
+pub(crate) fn is_opened<D: Disk + Drop>(alloc: Global, files: Files<D>) -> bool {
+    opened(alloc, files).is_some()
+}
+
+/// What the register answers to a command.
+fn answered<S: Alter>(
+    register: &mut Register<S>,
+    command: Command,
+) -> Result<Revision, RegisterFault> {
+    register.apply(command)
+}
+
+/// Files of no bytes, in which a register of one command is made.
+pub(crate) fn made_of_one<D: Disk + Drop>(
+    alloc: Global,
+    files: Files<D>,
+    command: Command,
+) -> Result<Files<D>, Fail> {
+    let mut register = made(alloc, files)?;
+    if answered(&mut register, command) != Ok(1) {
+        return Err("entered")?;
+    }
+    Ok(files_of(register))
+}
+
+/// What the register in the files answers to a command, and the files as they stand then.
+pub(crate) fn applied<D: Disk + Drop>(
+    alloc: Global,
+    files: Files<D>,
+    command: Command,
+) -> Result<(Result<Revision, RegisterFault>, Files<D>), Fail> {
+    let mut register = opened(alloc, files).ok_or("opened")?;
+    let answer = answered(&mut register, command);
+    Ok((answer, files_of(register)))
+}
+
+/// The revision of a register, and the versions that it lists then.
+fn listed<S: Alter>(alloc: Global, register: &mut Register<S>) -> Result<String, Fail> {
+    let revision = register.revision();
+    let Ok(versions) = register.as_of(revision) else {
+        return Err("listed")?;
+    };
+    let mut text = format!(in alloc; "{revision}: ")?;
+    for version in &versions {
+        let object = version.object.number();
+        let number = version.number;
+        let first = version.first.number();
+        let last = version.last.map(|last| last.number());
+        text.push_str(format!(in alloc; "{object}.{number} {first} {last:?};")?.as_str())?;
+    }
+    Ok(text)
+}
+
+/// The revision of the register in the files, and the versions that it lists then.
+pub(crate) fn listed_in<D: Disk + Drop>(alloc: Global, files: Files<D>) -> Result<String, Fail> {
+    let mut register = opened(alloc, files).ok_or("opened")?;
+    listed(alloc, &mut register)
+}

@@ -1,0 +1,13 @@
+//! Tests of the register over files in memory that can fail at any call.
+//!
+//! - `files`: registers in two files, of any kind
+//! - `stops`: what a file that fails behind so many calls leaves of a command
+//!
+//! They stand apart from the other tests of the land office, since what a database over another kind of file costs the prover is
+//! to be had once.
+#![tactic(auto)]
+
+#[cfg(test)]
+mod files;
+#[cfg(test)]
+mod stops;

@@ -1,0 +1,203 @@
+//! What a stop in the middle of a command leaves of a register.
+
+use crate::files::{applied, is_opened, listed_in, made_of_one};
+use cad_commands::read_command;
+use cad_register::Command;
+use sqlite::Files;
+use sqlite_disk::{Crash, Disk, Fuse, Memory};
+use std::alloc::Global;
+use std::process::Abort;
+use std::test::Fail;
+
+/// The calls of a file before which a run of a command has ended.
+const MOST_CALLS: u64 = 1000;
+
+/// The command that the register holds before, and how it lists then.
+const FIRST: &str = r#"{"do":"enter","object":11,"first":"2000-01-01","unit":{}}"#;
+
+const BEFORE: &str = "1: 11.1 10957 None;";
+
+/// A command of each kind, and how the register lists after it. 1970-01-01 is day 0.
+const COMMANDS: [(&str, &str); 3] = [
+    (
+        r#"{"do":"enter","object":12,"first":"2003-01-01","unit":{}}"#,
+        "2: 11.1 10957 None;12.1 12053 None;",
+    ),
+    (
+        r#"{"do":"amend","object":11,"first":"2001-01-01","unit":{}}"#,
+        "2: 11.1 10957 Some(11322);11.2 11323 None;",
+    ),
+    (
+        r#"{"do":"retire","object":11,"last":"2001-01-01"}"#,
+        "2: 11.1 10957 Some(11323);",
+    ),
+];
+
+fn command_of(alloc: Global, line: &str) -> Result<Command, Fail> {
+    Ok(
+        read_command(alloc, line.as_bytes())
+            .ok()
+            .ok_or("a command")?,
+    )
+}
+
+/// A file of these bytes, which a crash leaves, and which fails behind so many calls.
+fn file_of(alloc: Global, bytes: &[u8], calls: u64) -> Result<Fuse<Memory>, Fail> {
+    let mut file = Memory::new(alloc);
+    file.write_at(0, bytes)?;
+    file.sync()?;
+    Ok(Fuse::new(file, calls))
+}
+
+/// A database file and its log, as bytes.
+#[derive(Drop)]
+struct Stored {
+    log: Vec<u8>,
+    db: Vec<u8>,
+}
+
+impl Stored {
+    /// What stands in the files.
+    fn of(alloc: Global, files: &Files<Fuse<Memory>>) -> Result<Stored, Fail> {
+        Ok(Stored {
+            log: Vec::from_slice(alloc, files.log.inner().bytes())?,
+            db: Vec::from_slice(alloc, files.db.inner().bytes())?,
+        })
+    }
+
+    /// Files of these bytes, of which one fails behind so many calls.
+    fn files(
+        &self,
+        alloc: Global,
+        failing: Failing,
+        calls: u64,
+    ) -> Result<Files<Fuse<Memory>>, Fail> {
+        let (log_calls, db_calls) = match failing {
+            Failing::Log => (calls, u64::MAX),
+            Failing::Database => (u64::MAX, calls),
+        };
+        Ok(Files {
+            log: file_of(alloc, &self.log, log_calls)?,
+            db: file_of(alloc, &self.db, db_calls)?,
+        })
+    }
+}
+
+/// Which of the two files fails.
+#[derive(Clone, Copy, Debug, PartialEq, Eq)]
+enum Failing {
+    Log,
+    Database,
+}
+
+/// A register of one command.
+fn stored_of_one(alloc: Global) -> Result<Stored, Fail> {
+    let files = Files {
+        log: file_of(alloc, &[], u64::MAX)?,
+        db: file_of(alloc, &[], u64::MAX)?,
+    };
+    Stored::of(
+        alloc,
+        &made_of_one(alloc, files, command_of(alloc, FIRST)?)?,
+    )
+}
+
+/// What is found in files of these bytes.
+fn found_in(alloc: Global, log: &[u8], db: &[u8]) -> Result<String, Fail> {
+    let files = Files {
+        log: file_of(alloc, log, u64::MAX)?,
+        db: file_of(alloc, db, u64::MAX)?,
+    };
+    listed_in(alloc, files)
+}
+
+/// What is found where a stop left of each file all that was written, or what was synced alone.
+fn found_after(alloc: Global, files: Files<Fuse<Memory>>) -> Result<[String; 4], Fail> {
+    let written = Stored::of(alloc, &files)?;
+    let mut files = files;
+    files.log.crash();
+    files.db.crash();
+    let synced = Stored::of(alloc, &files)?;
+    Ok([
+        found_in(alloc, &written.log, &written.db)?,
+        found_in(alloc, &written.log, &synced.db)?,
+        found_in(alloc, &synced.log, &written.db)?,
+        found_in(alloc, &synced.log, &synced.db)?,
+    ])
+}
+
+/// The least number of calls behind which the register is open.
+fn opening_calls(alloc: Global, stored: &Stored, failing: Failing) -> Result<u64, Fail> {
+    for calls in 0..MOST_CALLS {
+        if is_opened(alloc, stored.files(alloc, failing, calls)?) {
+            return Ok(calls);
+        }
+    }
+    Err("the register is opened by more calls")?
+}
+
+fn has_failed(file: &mut Fuse<Memory>) -> bool {
+    !file.may_be_used() || file.len().is_err()
+}
+
+/// Runs a command over files of which one fails behind so many calls, and looks at what a stop leaves then. Whether a call failed.
+fn run(
+    rt: &impl Abort,
+    alloc: Global,
+    files: Files<Fuse<Memory>>,
+    line: &str,
+    after: &str,
+) -> Result<bool, Fail> {
+    let (answer, mut files) = applied(alloc, files, command_of(alloc, line)?)?;
+    let is_failed = has_failed(&mut files.log) || has_failed(&mut files.db);
+    let is_entered = answer == Ok(2);
+    assert!(rt; is_failed || is_entered, "{line}: {answer:?}");
+    for found in &found_after(alloc, files)? {
+        let is_right = found.as_str() == after || !is_entered && found.as_str() == BEFORE;
+        assert!(rt; is_right, "{line}: {answer:?}, and {found}");
+    }
+    Ok(is_failed)
+}
+
+/// How many stops of the file a run of the command has, one after each of its calls behind those that open the register.
+fn stops(
+    rt: &impl Abort,
+    alloc: Global,
+    stored: &Stored,
+    failing: Failing,
+    opening: u64,
+    line: &str,
+    after: &str,
+) -> Result<u64, Fail> {
+    for calls in opening..MOST_CALLS {
+        let files = stored.files(alloc, failing, calls)?;
+        if !run(rt, alloc, files, line, after)? {
+            return Ok(calls - opening);
+        }
+    }
+    Err("a run makes more calls")?
+}
+
+/// The stops of one of the two files, behind each number of calls until a run meets no failure. Opened again, the register is the
+/// one before the command or the one after it, and the one after it where the command was answered by its revision.
+fn stop_each(rt: &impl Abort, alloc: Global, failing: Failing) -> Result<(), Fail> {
+    let stored = stored_of_one(alloc)?;
+    let opening = opening_calls(alloc, &stored, failing)?;
+    for (line, after) in COMMANDS {
+        let met = stops(rt, alloc, &stored, failing, opening, line, after)?;
+        assert!(rt; met > 1, "{failing:?} {line}: {met}");
+    }
+    Ok(())
+}
+
+#[test]
+fn a_log_that_stops_leaves_the_register_before_or_after(rt: HostRuntime) -> Result<(), Fail> {
+    stop_each(&rt, rt.alloc(), Failing::Log)
+}
+
+#[test]
+fn a_database_file_that_stops_leaves_the_register_before_or_after(
+    rt: HostRuntime,
+) -> Result<(), Fail> {
+    stop_each(&rt, rt.alloc(), Failing::Database)
+}

@@ -1,0 +1,4 @@
+pub mod WorkLemmas
+pub mod ClientLemmas
+pub mod OfficeLemmas
+pub mod StandLemmas

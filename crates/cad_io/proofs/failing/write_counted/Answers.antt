@@ -1,0 +1,15 @@
+use Rattle.std.proofs.Common.{◌∙◌, arith, length-drop}
+use Rattle.std.proofs.lemmas.Bool.Decides.{nat_tests}
+use Rattle.cad_io.specs.WritingLemmas.{appends_more}
+use Rattle.cad_io.proofs.failing.write_counted.Goals as goal
+
+pub loop-done-preserved : goal.loop-done-preserved
+loop-done-preserved g c =
+    let told = rw (c.after.ensures) at c.in-Ok.ensures.bytes in
+    let few = rw (c.after.ensures) at c.in-Ok.ensures.bound in
+    let done = c.loop-done.done in
+    record {
+      within = omega (arith, few, length-drop c.loop-done.done c.args.bytes.now);
+      written = appends_more _ _ _ c.args.bytes.now c.loop-done.done c.in-Ok.count c.loop-done.invariant.written told;
+      kept = c.in-Ok.ensures.counted.kept (grind (arith, nat_tests, c.in-Ok.count-test)) ∙ c.loop-done.invariant.kept;
+    }
