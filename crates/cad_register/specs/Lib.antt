@@ -17,4 +17,5 @@ pub mod Keeping
 pub mod Opening
 pub mod Ledgers
 pub mod RemainingLemmas
+pub mod Images
 pub mod Laws

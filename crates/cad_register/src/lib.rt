@@ -1,6 +1,7 @@
 //! The land register: versions in SQLite, and the register at any revision.
 //!
 //! - `Register`: made by `create`, `open` or `open_or_create` over a connection, changed by `apply`, read by `as_of`.
+//! - `open_file`: opens the database of a file over what it held.
 //! - `laws`: what holds of every register, and of the rows that it is kept in.
 //! - The types of versions, commands and faults are those of `cad_versions`.
 //!
@@ -17,6 +18,7 @@ mod cells;
 mod changing;
 mod columns;
 mod decision;
+mod file;
 mod found;
 mod kept;
 pub mod laws;
@@ -29,4 +31,5 @@ mod standing;
 mod writing;
 
 pub use cad_versions::{Body, Class, Command, ObjectId, RegisterFault, Share, Version, Words};
+pub use file::open_file;
 pub use register::{Register, Revision};
