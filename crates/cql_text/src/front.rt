@@ -76,8 +76,8 @@ fn is_only_any(pattern: &str) -> bool
     first_part(left).is_none()
 }
 
-/// The least text above all that begin with the front, or `None` where none is.
-pub fn end_of_front(alloc: Global, front: &str) -> Result<Option<String>, AllocError>
+// The least text above all that begin with the front, or `None` where none is.
+fn end_of_front(alloc: Global, front: &str) -> Result<Option<String>, AllocError>
     ensures { IfOk result (λ end. IsFrontRange (chars front.now) (option_map text_of end)) }
 {
     let end = after_front(alloc, front)?;

@@ -4,7 +4,6 @@
 //! - [`fold`]: a text with its case folded: `Straße` and `STRASSE` both become `strasse`.
 //! - [`compare`]: the order of texts, by code points.
 //! - [`like_range`]: the range of the texts that begin with a pattern's front
-//! - [`end_of_front`]: the least text above all that begin with a front
 //! - [`laws`]: what holds of patterns, folding and the order, beyond what each call says.
 #![tactic(auto)]
 
@@ -15,6 +14,6 @@ mod order;
 mod pattern;
 
 pub use folding::fold;
-pub use front::{LikeRange, end_of_front, like_range};
+pub use front::{LikeRange, like_range};
 pub use order::compare;
 pub use pattern::like;
