@@ -1,7 +1,8 @@
 //! A row of the table that breaks a rule.
 
-use crate::register::{created, fill, in_memory};
-use cad_register::{Register, RegisterFault, Version};
+use crate::register::{amend, created, enter, fill, in_memory, ownership};
+use cad_register::{Command, Register, RegisterFault, Version};
+use sqlite::MemStore;
 use std::alloc::{AllocError, Global};
 use std::test::Fail;
 
@@ -196,6 +197,21 @@ const CHANGES: &str =
 10 30.1 CREATE TABLE kept (object, number, class, first, last, entered, closed, name, code, label, area, unit, party, share_num, share_den, required, spot_x, spot_y, shape); INSERT INTO kept SELECT * FROM version; DROP TABLE version; CREATE TABLE version (object, number, class, first, last, entered, closed, name, code, label, area, unit, party, share_num, share_den, required, spot_x, spot_y, shape); INSERT INTO version SELECT * FROM kept; UPDATE version SET share_num = '1' WHERE object = 30
 10 31.1 CREATE TABLE kept (object, number, class, first, last, entered, closed, name, code, label, area, unit, party, share_num, share_den, required, spot_x, spot_y, shape); INSERT INTO kept SELECT * FROM version; DROP TABLE version; CREATE TABLE version (object, number, class, first, last, entered, closed, name, code, label, area, unit, party, share_num, share_den, required, spot_x, spot_y, shape); INSERT INTO version SELECT * FROM kept; UPDATE version SET required = 'x' WHERE object = 31";
 
+/// A line for each change of the table: the object of a command that says a right on unit 10 of party 20, which is 40 where it enters
+/// one, the row that the command is told of as damaged or how else it ends, and the change.
+const COMMANDS: &str = r"# The object itself, then the unit, then the party.
+30 30.1 UPDATE version SET class = 9 WHERE object = 30 OR object = 10 OR object = 20
+40 10.1 UPDATE version SET class = 9 WHERE object = 10 OR object = 20
+40 20.1 UPDATE version SET class = 9 WHERE object = 20
+# Of an object the first row for its class, then the last for its first day.
+1 1.1 UPDATE version SET class = 9 WHERE object = 1
+1 1.1 UPDATE version SET class = 9 WHERE object = 1 AND number = 1; UPDATE version SET first = -719529 WHERE object = 1 AND number = 2
+1 1.2 UPDATE version SET first = -719529 WHERE object = 1
+# A command asks for nothing else.
+1 OtherClass UPDATE version SET first = -719529 WHERE object = 1 AND number = 1
+1 OtherClass UPDATE version SET class = 9 WHERE object = 1 AND number = 2
+40 11 UPDATE version SET name = '' WHERE object = 10";
+
 /// The row that is told of, or how else the listing ended.
 fn named(alloc: Global, listed: Result<Vec<Version>, RegisterFault>) -> Result<String, AllocError> {
     match listed {
@@ -205,15 +221,41 @@ fn named(alloc: Global, listed: Result<Vec<Version>, RegisterFault>) -> Result<S
     }
 }
 
-/// What a listing of the sample at the revision tells after the change.
-fn told_after(alloc: Global, revision: u64, change: &str) -> Result<String, Fail> {
+/// The register of the sample after the change.
+fn changed(alloc: Global, change: &str) -> Result<Register<MemStore>, Fail> {
     let connection = in_memory(alloc).ok_or("in memory")?;
     let mut register = created(alloc, connection).ok_or("created")?;
     fill(alloc, &mut register)?;
     let mut connection = register.release();
     connection.execute_batch(change)?;
-    let mut register = Register::open(alloc, connection).ok().ok_or("opened")?;
+    Ok(Register::open(alloc, connection).ok().ok_or("opened")?)
+}
+
+/// What a listing of the sample at the revision tells after the change.
+fn told_after(alloc: Global, revision: u64, change: &str) -> Result<String, Fail> {
+    let mut register = changed(alloc, change)?;
     Ok(named(alloc, register.as_of(revision))?)
+}
+
+/// The command that says the right of the object.
+fn right_of(alloc: Global, object: u32) -> Result<Command, Fail> {
+    if object == 40 {
+        enter(object, 14610, ownership(alloc)?)
+    } else {
+        amend(object, 18262, ownership(alloc)?)
+    }
+}
+
+/// The row that the command is told of after the change, or how else it ended.
+fn applied_after(alloc: Global, command: Command, change: &str) -> Result<String, Fail> {
+    let mut register = changed(alloc, change)?;
+    match register.apply(command) {
+        Ok(revision) => Ok(format!(in alloc; "{revision}")?),
+        Err(RegisterFault::Damaged { object, number }) => {
+            Ok(format!(in alloc; "{object}.{number}")?)
+        }
+        Err(fault) => Ok(format!(in alloc; "{fault:?}")?),
+    }
 }
 
 #[test]
@@ -224,6 +266,20 @@ fn the_first_damaged_row_is_named(rt: HostRuntime) -> Result<(), Fail> {
             let (revision, rest) = line.split_once(' ').ok_or("a revision")?;
             let (wanted, change) = rest.split_once(' ').ok_or("a row")?;
             let told = told_after(alloc, revision.parse()?, change)?;
+            assert_eq!(rt; told.as_str(), wanted, "{change}");
+        }
+    }
+    Ok(())
+}
+
+#[test]
+fn the_first_damaged_row_that_a_command_asks_for_is_named(rt: HostRuntime) -> Result<(), Fail> {
+    let alloc = rt.alloc();
+    for line in COMMANDS.lines() {
+        if !line.starts_with('#') {
+            let (object, rest) = line.split_once(' ').ok_or("an object")?;
+            let (wanted, change) = rest.split_once(' ').ok_or("a row")?;
+            let told = applied_after(alloc, right_of(alloc, object.parse()?)?, change)?;
             assert_eq!(rt; told.as_str(), wanted, "{change}");
         }
     }

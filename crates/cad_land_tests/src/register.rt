@@ -37,7 +37,7 @@ fn words(alloc: Global, text: &str) -> Result<Words, Fail> {
     Ok(Words::new(text).ok().ok_or("words")?)
 }
 
-fn enter(number: u32, first: i32, body: Body) -> Result<Command, Fail> {
+pub(crate) fn enter(number: u32, first: i32, body: Body) -> Result<Command, Fail> {
     Ok(Command::Enter {
         object: object(number)?,
         first: day(first)?,
@@ -45,7 +45,7 @@ fn enter(number: u32, first: i32, body: Body) -> Result<Command, Fail> {
     })
 }
 
-fn amend(number: u32, first: i32, body: Body) -> Result<Command, Fail> {
+pub(crate) fn amend(number: u32, first: i32, body: Body) -> Result<Command, Fail> {
     Ok(Command::Amend {
         object: object(number)?,
         first: day(first)?,
@@ -224,7 +224,7 @@ fn ana(alloc: Global) -> Result<Body, Fail> {
     })
 }
 
-fn ownership(alloc: Global) -> Result<Body, Fail> {
+pub(crate) fn ownership(alloc: Global) -> Result<Body, Fail> {
     Ok(Body::Right {
         unit: object(10)?,
         party: Some(object(20)?),
