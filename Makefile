@@ -36,7 +36,7 @@ cases:
 	scripts/check_api_examples
 	scripts/count_promises
 
-# The whole gate: the cases held against a second reading, every proof from nothing, the must-fail edits, the tests, each program as two compilers build it, and the programs on files of the office, with stops at each call of them, at an address and at an office's socket.
+# The whole gate: the cases held against a second reading, every proof from nothing, the must-fail edits, the tests, each program as two compilers build it, and the programs on files of the office, with stops at each call of them and growths refused in a database, at an address and at an office's socket.
 test: cases
 	scripts/check_wrong_bodies
 	scripts/crate_rows --check
@@ -48,6 +48,7 @@ test: cases
 	scripts/check_damage
 	scripts/check_serve
 	scripts/check_stops
+	scripts/refused 500
 	scripts/check_host
 
 # Asks COUNT filters, drawn at random by SEED, of the programs of cases and of the second readings.
@@ -73,6 +74,7 @@ tests-refuse:
 refused:
 	cd crates/cql_cases && $(RT) run < stdin | cmp - stdout
 	cd crates/cad_cases && $(RT) run < stdin | cmp - stdout
+	cd crates/cad_register_cases && $(RT) run < stdin | cmp - stdout
 	cd crates/desk_cases && $(RT) run < stdin | cmp - stdout
 	scripts/refused
 

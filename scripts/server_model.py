@@ -3,9 +3,10 @@
 
 It tells what a desk over a ledger in memory, which holds the sample register, answers to events, one a line: `open C`,
 `bytes C JSON`, `close C`, `office COMMAND`, `serve C JSON`, `restart`, after which no connection is known, and `sample` and
-`empty`, which begin anew. `changes N` bounds what the server keeps beside its bases, which changes no answer. Lines and answers are those of crates/cad_cases. Filters and features are judged by
-scripts/filter_model.py and scripts/filter_meaning.py. scripts/check_server_cases holds the stored answers of crates/cad_cases
-against it, and scripts/refused those of runs in which memory is refused once.
+`empty`, which begin anew. `changes N` bounds what the server keeps beside its bases, which changes no answer. Lines and answers are
+those of crates/cad_cases and, over a register in a database, of crates/cad_register_cases. Filters and features are judged by
+scripts/filter_model.py and scripts/filter_meaning.py. scripts/check_server_cases holds the stored answers of both against it, and
+scripts/refused those of runs in which memory is refused once.
 
     scripts/server_model.py [N] < EVENTS    N: the event, from 1 on, that is refused for want of memory
 """
