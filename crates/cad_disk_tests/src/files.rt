@@ -1,10 +1,18 @@
-//! Registers in two files, of any kind: the database and its log.
+//! Registers in two files: the database and its log, of any kind.
 
 use cad_register::{Command, Register, RegisterFault, Revision};
 use sqlite::{Alter, Connection, FileStore, Files, Options};
-use sqlite_disk::Disk;
+use sqlite_disk::{Disk, Fuse, Memory};
 use std::alloc::Global;
 use std::test::Fail;
+
+/// Two files of no bytes, which never fail.
+pub(crate) fn empty_files(alloc: Global) -> Files<Fuse<Memory>> {
+    Files {
+        log: Fuse::new(Memory::new(alloc), u64::MAX),
+        db: Fuse::new(Memory::new(alloc), u64::MAX),
+    }
+}
 
 /// The database in the files, or the files back. Before it commits, it copies what the log holds into the database file, so that a
 /// command writes to both.
@@ -47,10 +55,7 @@ fn files_of<D: Disk + Drop>(register: Register<FileStore<D>>) -> Files<D> {
 }
 
 /// The register in the files, if there is one.
-pub(crate) fn opened<D: Disk + Drop>(
-    alloc: Global,
-    files: Files<D>,
-) -> Option<Register<FileStore<D>>> {
+fn opened<D: Disk + Drop>(alloc: Global, files: Files<D>) -> Option<Register<FileStore<D>>> {
     let connection = connected(alloc, files).ok()?;
     found(alloc, connection).ok()
 }
@@ -62,6 +67,15 @@ pub(crate) fn made<D: Disk + Drop>(
 ) -> Result<Register<FileStore<D>>, Fail> {
     let connection = connected(alloc, files).ok().ok_or("connected")?;
     begun(alloc, connection)
+}
+
+/// The register, whose files are closed and opened again.
+pub(crate) fn opened_again<D: Disk + Drop>(
+    alloc: Global,
+    register: Register<FileStore<D>>,
+) -> Result<Register<FileStore<D>>, Fail> {
+    let files = register.release().close_files().ok().ok_or("closed")?;
+    Ok(opened(alloc, files).ok_or("opened")?)
 }
 
 /// Whether a register is opened in the files.

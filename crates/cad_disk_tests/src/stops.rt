@@ -1,6 +1,6 @@
 //! What a stop in the middle of a command leaves of a register.
 
-use crate::files::{applied, is_opened, listed_in, made_of_one};
+use crate::files::{applied, empty_files, is_opened, listed_in, made_of_one};
 use cad_commands::read_command;
 use cad_register::Command;
 use sqlite::Files;
@@ -92,14 +92,8 @@ enum Failing {
 
 /// A register of one command.
 fn stored_of_one(alloc: Global) -> Result<Stored, Fail> {
-    let files = Files {
-        log: file_of(alloc, &[], u64::MAX)?,
-        db: file_of(alloc, &[], u64::MAX)?,
-    };
-    Stored::of(
-        alloc,
-        &made_of_one(alloc, files, command_of(alloc, FIRST)?)?,
-    )
+    let files = made_of_one(alloc, empty_files(alloc), command_of(alloc, FIRST)?)?;
+    Stored::of(alloc, &files)
 }
 
 /// What is found in files of these bytes.
