@@ -1,7 +1,8 @@
 # The toolchain's command; `rt doc` prints the page to read first.
 RT ?= rt
-# How many crates `make sample` and `make check` prove side by side.
-JOBS ?= $(shell nproc)
+# How many crates are built side by side; where nothing is said, as scripts/build finds right.
+JOBS ?=
+BUILD = RT="$(RT)" scripts/build $(if $(JOBS),--jobs $(JOBS))
 # What `make explain` is asked: a query as a request has it, and of which collection.
 QUERY ?=
 COLLECTION ?= parcels
@@ -11,17 +12,17 @@ export QUERY COLLECTION
 
 # Proves and builds the program and all that it stands on, and answers the request in crates/cadastre/stdin. Crates that do not wait for each other are proved side by side.
 sample:
-	cd crates/cadastre && $(RT) all check --jobs $(JOBS)
+	$(BUILD) --below cadastre
 	cd crates/cadastre && $(RT) run -- sample < stdin
 
 # Proves and builds the program for many clients, and tells how it is called.
 cadastred:
-	cd crates/cadastred && $(RT) all check --jobs $(JOBS)
+	$(BUILD) --below cadastred
 	cd crates/cadastred && $(RT) run -- --help
 
 # Tells how the page of a query is found over the sample register, by a program of cases: `make explain QUERY='filter=object+%3D+3'`.
 explain:
-	cd crates/cad_plan_cases && $(RT) all check --jobs $(JOBS)
+	$(BUILD) --below cad_plan_cases
 	@cd crates/cad_plan_cases && printf 'explain %s?%s\n' "$$COLLECTION" "$$QUERY" | $(RT) run
 
 # Holds the stored answers of the cases of filters, of the server, of clients, of days and of parameters, and the examples of docs/FILTERS.md,
@@ -60,7 +61,7 @@ random:
 
 # Every crate, over what earlier checks kept.
 check:
-	$(RT) all check --jobs $(JOBS)
+	$(BUILD)
 
 # Has the prover refuse the wrong bodies, those that the gate tries and those of folder wrong-bodies/: all, or SAMPLE of them, chosen by SEED.
 wrong-bodies: check
