@@ -22,8 +22,8 @@ cadastred:
 
 # Tells how the page of a query is found over the sample register, by a program of cases: `make explain QUERY='filter=object+%3D+3'`.
 explain:
-	$(BUILD) --below cad_plan_cases
-	@cd crates/cad_plan_cases && printf 'explain %s?%s\n' "$$COLLECTION" "$$QUERY" | $(RT) run
+	$(BUILD) --below page_cases
+	@cd crates/page_cases && printf 'explain %s?%s\n' "$$COLLECTION" "$$QUERY" | $(RT) run
 
 # Holds the stored answers of the cases of filters, of the server, of clients, of days and of parameters, and the examples of docs/FILTERS.md,
 # against second readings of the rules, the examples of docs/API.md against the server's cases, and docs/PROMISES.md against the crates;
@@ -55,8 +55,7 @@ test: cases
 # Asks COUNT filters, drawn at random by SEED, of the programs of cases and of the second readings.
 random:
 	cd crates/cql_cases && $(RT) run < stdin | cmp - stdout
-	cd crates/cql_rewrite_cases && $(RT) run < stdin | cmp - stdout
-	cd crates/cad_plan_cases && $(RT) run < stdin | cmp - stdout
+	cd crates/page_cases && $(RT) run < stdin | cmp - stdout
 	scripts/check_random_filters $(SEED) $(COUNT)
 
 # Every crate, over what earlier checks kept.
@@ -76,7 +75,6 @@ refused:
 	cd crates/cql_cases && $(RT) run < stdin | cmp - stdout
 	cd crates/cad_cases && $(RT) run < stdin | cmp - stdout
 	cd crates/cad_register_cases && $(RT) run < stdin | cmp - stdout
-	cd crates/desk_cases && $(RT) run < stdin | cmp - stdout
 	scripts/refused
 
 # Breaks each rule of a stored row by Python's SQLite, and has the program say so.
@@ -136,4 +134,4 @@ deb: sample cadastred
 	scripts/package
 
 clean:
-	rm -rf crates/*/out packaging/out
+	rm -rf crates/*/out packaging/out .build

@@ -1,8 +1,8 @@
 #!/usr/bin/env python3
-"""A second reading of the rules of normal forms: what crates/cql_rewrite_cases answers, from scripts/filter_meaning.py and the
+"""A second reading of the rules of normal forms: what crates/cql_cases answers to `normal`, from scripts/filter_meaning.py and the
 rules of ranges, and not from the crates.
 
-    scripts/normal_model.py <crates/cql_rewrite_cases/stdin     prints the answers
+    scripts/stored_cases.py cql_cases in normal | scripts/normal_model.py      prints the answers
 
 A form is ("constant", b), ("range", property, low, high), ("front", property, low, high) of a LIKE that stays a condition,
 ("and", parts), ("or", parts), ("equality",) of flags or ("other",). An end is None, ("with", value) or ("without", value). Of NOT the opposite form is

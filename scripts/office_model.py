@@ -1,14 +1,16 @@
 #!/usr/bin/env python3
 """A second reading of the land office's rules, in Python and not from the crates.
 
-It tells what the office answers to lines, over a ledger in memory that is empty at first, by docs/OFFICE.md. scripts/check_further_cases
-holds the stored answers of crates/office_cases against it.
+It tells what the office answers to lines, over a ledger in memory that is empty at first, by docs/OFFICE.md; and of those behind the line
+`= features`, over a ledger of their own, also the features of the last revision as JSON, by scripts/server_model.py.
+scripts/check_further_cases holds the stored answers of crates/office_cases against it.
 
     scripts/office_model.py < LINES
 """
 import json
 import sys
 
+import server_model
 from filter_model import day_of, is_ring
 
 # Digits without end are read as numbers.
@@ -224,6 +226,22 @@ def answers(text):
         yield f"revision {revision}"
 
 
-if __name__ == "__main__":
-    for answer in answers(sys.stdin.buffer.read()):
+def shown(text):
+    """The features of the last revision that the lines make, each behind the name of its collection."""
+    register = server_model.Register()
+    for line in text.split(b"\n"):
+        if line:
+            register.apply(json.loads(line))
+    for name in server_model.CLASSES:
+        for identifier, told, _ in server_model.features(register.as_of(register.revision), name):
+            yield f"{name} {server_model.compact(server_model.feature_tree(identifier, told)).decode()}"
+
+
+def main():
+    lines, _, behind = sys.stdin.buffer.read().partition(b"\n= features\n")
+    for answer in (*answers(lines), *answers(behind), *shown(behind)):
         print(answer)
+
+
+if __name__ == "__main__":
+    main()

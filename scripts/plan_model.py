@@ -1,8 +1,8 @@
 #!/usr/bin/env python3
-"""A second reading of the rules of plans: what crates/cad_plan_cases answers, from scripts/normal_model.py, the parameters of
+"""A second reading of the rules of plans: what crates/page_cases answers of filters and pages, from scripts/normal_model.py, the parameters of
 scripts/server_model.py and the table of menus and costs, and not from the crates.
 
-    scripts/plan_model.py <crates/cad_plan_cases/stdin     prints the answers
+    scripts/stored_cases.py page_cases in - asks self next body word fault | scripts/plan_model.py      prints the answers
     scripts/plan_model.py docs/FILTERS.md                  fails where a row of its table of what is looked at tells another number
 
 A plan is ("all",), ("empty",), ("range", property, low, high), ("near", property, box), ("meet", plans) or ("join", plans); a

@@ -1,10 +1,10 @@
 #!/usr/bin/env python3
 """A second reading of rings, regions and the relations of shapes, in Python and not from the crate.
 
-It answers the cases of crates/cad_shape_cases. Points where lines cross are solved for as fractions, and a point is
+It answers the cases of shapes of crates/land_cases. Points where lines cross are solved for as fractions, and a point is
 judged by the edges above it, where the crate looks at those right of it.
 
-    scripts/shape_model.py < crates/cad_shape_cases/stdin | cmp - crates/cad_shape_cases/stdout
+    scripts/stored_cases.py land_cases in - day asked interval relations | scripts/shape_model.py      prints the answers
 """
 import re
 import sys

@@ -1,10 +1,10 @@
 #!/usr/bin/env python3
 """A second reading of what filters say of features, in Python and not from the crates.
 
-It answers the cases of crates/cql_truth_cases: of which features a filter is true, of which false, and of which
+It answers the cases of crates/cql_cases behind `truth`: of which features a filter is true, of which false, and of which
 neither. Its own code reads days, texts, sums and shapes; trees are those of filter_model.py.
 
-    scripts/truth_model.py < crates/cql_truth_cases/stdin | cmp - crates/cql_truth_cases/stdout
+    scripts/stored_cases.py cql_cases in truth | scripts/truth_model.py      prints the answers
 """
 import sys
 from fractions import Fraction

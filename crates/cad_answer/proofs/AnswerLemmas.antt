@@ -10,7 +10,7 @@ use Rattle.cql_rewrite.specs.Laws.{FeaturesAreWritten}
 use Rattle.cql_rewrite.specs.Meets.{HoldsCharacters}
 use Rattle.cad_answer.specs.declared.query.PageQuery.{PageQuery}
 use Rattle.cad_run.specs.Slices.{is_later, later, slice}
-use Rattle.cad_answer.specs.Answers.{restrictions_of, if_asked, meets_days, meets_bounds, is_true_of, answers}
+use Rattle.cad_answer.specs.Answers.{restrictions_of, if_given, meets_days, meets_bounds, is_true_of, answers}
 use Rattle.cad_answer.specs.Passing.{IsFormFor, passes_query}
 use Rattle.cad_answer.specs.Places.{lifespan_of, geometry_of, place_named}
 
@@ -62,8 +62,8 @@ and_comm a b = grind arith
 
 passes_is : (collection : Collection) (query : PageQuery) (x : Item) → HoldsCharacters x → IsFormFor query.normal.now collection (restrictions_of query) → passes_query (place_named collection (codes "lifespan")) query x ≡ answers collection (restrictions_of query) x
 passes_is collection query x written form =
-    ap (λ b. if_asked (meets_days (lifespan_of collection x)) query.days && b)
-    (form (record { item = x; characters = written }) ∙ and_comm (if_asked (is_true_of x) (restrictions_of query).filter) (if_asked (meets_bounds (geometry_of collection x)) query.bounds))
+    ap (λ b. if_given (meets_days (lifespan_of collection x)) query.days && b)
+    (form (record { item = x; characters = written }) ∙ and_comm (if_given (is_true_of x) (restrictions_of query).filter) (if_given (meets_bounds (geometry_of collection x)) query.bounds))
 
 pub passes_each : (own collection : Collection) (place : Option ℕ) (query : PageQuery) (xs : List Item) → FeaturesAreWritten own → AreFeaturesOf own xs → own ≡ collection → place ≡ place_named own (codes "lifespan") → IsFormFor query.normal.now collection (restrictions_of query)
     → All (λ x. passes_query place query x ≡ answers collection (restrictions_of query) x) xs

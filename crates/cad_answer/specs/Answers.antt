@@ -10,7 +10,7 @@ use Rattle.cad_shape.specs.Tests.{shapes_meet}
 use Rattle.cad_schema.specs.declared.collection.Collection.{Collection}
 use Rattle.cad_feature.specs.Features.{Item}
 use Rattle.cql_types.specs.declared.filter.Filter.{Filter}
-use Rattle.cql_truth.specs.Sides.{yes}
+use Rattle.cql_meaning.specs.Sides.{yes}
 use Rattle.cad_run.specs.Slices.{identifier}
 use Rattle.cad_answer.specs.declared.query.PageQuery.{PageQuery}
 use Rattle.cad_answer.specs.Places.{lifespan_of, geometry_of}
@@ -29,9 +29,9 @@ abbrev pub after_of : PageQuery → Option (ℤ × ℤ)
 after_of query = option_map identifier query.after
 
 -- what is not asked restricts nothing
-abbrev pub if_asked : {A : Type 0} → (A → Bool) → Option A → Bool
-if_asked test None = true
-if_asked test (Some a) = test a
+abbrev pub if_given : {A : Type 0} → (A → Bool) → Option A → Bool
+if_given test None = true
+if_given test (Some a) = test a
 
 -- a lifespan meets the asked days where T_INTERSECTS holds of them (OGC 17-069r4, 7.15.4: parameter datetime)
 abbrev pub meets_days : Option Interval → Interval → Bool
@@ -49,8 +49,8 @@ is_true_of x f = yes f x
 
 abbrev pub answers : Collection → Restrictions → Item → Bool
 answers collection asked x =
-    if_asked (meets_days (lifespan_of collection x)) asked.days
-    && (if_asked (meets_bounds (geometry_of collection x)) asked.bounds && if_asked (is_true_of x) asked.filter)
+    if_given (meets_days (lifespan_of collection x)) asked.days
+    && (if_given (meets_bounds (geometry_of collection x)) asked.bounds && if_given (is_true_of x) asked.filter)
 
 -- those features of the collection that all asked restrictions let pass, in their order
 abbrev pub answer : Collection → Restrictions → List Item → List Item

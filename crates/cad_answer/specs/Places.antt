@@ -7,7 +7,7 @@ use Rattle.cad_schema.specs.declared.property.PropertyKind.{PropertyKind}
 use Rattle.cad_feature.specs.Features.{Item, datum_at}
 use Rattle.cad_schema.specs.Schema.{schema_of, find}
 use Rattle.cad_feature.specs.Values.{Datum, null}
-use Rattle.cql_truth.specs.Values.{span_in, shape_in}
+use Rattle.cql_meaning.specs.Values.{span_in, shape_in}
 
 -- the place of the collection's property of that name
 abbrev pub place_named : Collection → List ℕ → Option ℕ

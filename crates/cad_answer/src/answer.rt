@@ -2,7 +2,7 @@
 
 ghost use Rattle.std.specs.Prelude.{◌≡◌, IfOk};
 ghost use Rattle.cad_answer.specs.Answers as spec;
-ghost use Rattle.cad_answer.specs.Answers.{if_asked};
+ghost use Rattle.cad_answer.specs.Answers.{if_given};
 ghost use Rattle.cad_answer.specs.Passing.{passes_query};
 
 use crate::lifespans::lifespan;
@@ -13,7 +13,7 @@ use cql_rewrite::test;
 use std::alloc::{AllocError, Global};
 
 fn meets_days(days: Option<Interval>, lifespan: Option<Interval>) -> bool
-    ensures { result ≡ if_asked (spec.meets_days lifespan) days }
+    ensures { result ≡ if_given (spec.meets_days lifespan) days }
 {
     match (days, lifespan) {
         (None, _) => true,

@@ -2,7 +2,7 @@
 
 ghost use Rattle.std.specs.Prelude.{◌≡◌, MatchOption, codes};
 ghost use Rattle.cad_feature.specs.Values.{datum_of, null};
-ghost use Rattle.cql_truth.specs.Values.{span_in};
+ghost use Rattle.cql_meaning.specs.Values.{span_in};
 ghost use Rattle.cad_answer.specs.Places.{place_named, value_at as value_in};
 
 use cad_day::Interval;

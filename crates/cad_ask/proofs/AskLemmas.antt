@@ -15,18 +15,18 @@ use Rattle.cql_filter.specs.Answer as Answer
 use Rattle.cql_filter.specs.declared.cause.FilterFault.{FilterFault}
 use Rattle.cql_filter.specs.declared.cause.FilterFault.TheVariants as filter_fault
 use Rattle.cql_filter.specs.Laws as filter_laws
-use Rattle.cad_query.specs.declared.fault.ParameterFault.{ParameterFault}
-use Rattle.cad_query.specs.Pairs.{PairText}
-use Rattle.cad_query.specs.Parameters.{have, first_of, selection_faults, continuation_faults, first_fault}
-use Rattle.cad_query.specs.Links.{continued}
-use Rattle.cad_query.specs.Laws.{ContinuedGoesOn}
+use Rattle.cad_parameters.specs.declared.fault.ParameterFault.{ParameterFault}
+use Rattle.cad_parameters.specs.Pairs.{PairText}
+use Rattle.cad_parameters.specs.Parameters.{have, first_of, selection_faults, continuation_faults, first_fault}
+use Rattle.cad_parameters.specs.Links.{continued}
+use Rattle.cad_parameters.specs.Laws.{ContinuedGoesOn}
 use Rattle.cad_ask.specs.declared.ask.Ask.{Ask}
 use Rattle.cad_ask.specs.declared.fault.AskFault.{AskFault}
 use Rattle.cad_ask.specs.declared.fault.AskFault.TheVariants as fault
 use Rattle.cad_ask.specs.Faults.{of_filter as fault_of_filter, of_parameter, selection_fault}
 use Rattle.cad_ask.specs.Answers.{filter_given, IsFilterFault, FiltersWell, AsksWell, IsFirstFault, of_selection, of_filter, of_continuation, AnswersFilter, Answers, OrMemory}
 use Rattle.cad_ask.specs.Laws.{HasOneFirstFault, HasFaultOrAsks, NextAsksTheSame}
-use Rattle.cad_ask.specs.AnswerLemmas.{asks_well}
+use Rattle.cad_ask.specs.lemmas.AnswerLemmas.{asks_well}
 
 -- ---- answers
 

@@ -9,11 +9,11 @@ use Rattle.cql_filter.specs.Causes.{place_of}
 use Rattle.cql_filter.specs.Filters.{IsAccepted}
 use Rattle.cql_filter.specs.Filters as filters
 use Rattle.cql_filter.specs.Laws as filter_laws
-use Rattle.cad_query.specs.declared.fault.ParameterFault.{ParameterFault}
-use Rattle.cad_query.specs.declared.fault.ParameterFault.TheVariants as parameter
-use Rattle.cad_query.specs.FoundLemmas.{IsAmong, found_holds, none_holds, none_is_found}
-use Rattle.cad_query.specs.Pairs.{PairText}
-use Rattle.cad_query.specs.Parameters.{have, first_of, selection_faults, continuation_faults}
+use Rattle.cad_parameters.specs.declared.fault.ParameterFault.{ParameterFault}
+use Rattle.cad_parameters.specs.declared.fault.ParameterFault.TheVariants as parameter
+use Rattle.cad_parameters.specs.lemmas.FoundLemmas.{IsAmong, found_holds, none_holds, none_is_found}
+use Rattle.cad_parameters.specs.Pairs.{PairText}
+use Rattle.cad_parameters.specs.Parameters.{have, first_of, selection_faults, continuation_faults}
 use Rattle.cad_ask.specs.declared.fault.AskFault.{AskFault}
 use Rattle.cad_ask.specs.declared.fault.AskFault.TheVariants as fault
 use Rattle.cad_ask.specs.Faults.{fault_number, of_parameter, selection_fault, continuation_fault}
@@ -196,9 +196,9 @@ module _ (c : Collection) (pairs : List PairText) where
               → IsAccepted (schema_of c) text ⊎ ((cause : Cause) × filters.IsFirstFault (schema_of c) text cause) → ⊥
           decide text e (inl accepted) = other (first (is_given (Some text) e accepted))
           decide text e (inr refused) =
-              let told_at = fault.Filter (place_of refused.0) refused.0 in
-              let has : HasFault c pairs told_at = inr (record { content = text; cause = refused.0; content_is = e; first = refused.1; told = refl }) in
-              omega (arith, high, least told_at has)
+              let features_given = fault.Filter (place_of refused.0) refused.0 in
+              let has : HasFault c pairs features_given = inr (record { content = text; cause = refused.0; content_is = e; first = refused.1; told = refl }) in
+              omega (arith, high, least features_given has)
 
           given : (o : Option (List ℕ)) → filter_given pairs ≡ o → ⊥
           given None e = other (first (is_given None e tt))

@@ -5,15 +5,15 @@ use Rattle.cad_day.specs.declared.interval.Interval.{Interval}
 use Rattle.cad_day.specs.Days.{number_of}
 use Rattle.cad_day.specs.Moments.{numbers_of as ends_of}
 use Rattle.cad_shape.specs.declared.boxes.Bounds.{Bounds}
-use Rattle.cad_shape.specs.SameLemmas.{same_bounds}
-use Rattle.cad_day.specs.SameLemmas.{same_day}
+use Rattle.cad_shape.specs.lemmas.SameLemmas.{same_bounds}
+use Rattle.cad_day.specs.lemmas.SameLemmas.{same_day}
 use Rattle.cad_schema.specs.declared.collection.Collection.{Collection}
 use Rattle.cad_schema.specs.Schema.{schema_of}
 use Rattle.cad_day.specs.Intervals.{same_interval}
 use Rattle.cql_types.specs.declared.filter.Filter.{Filter}
 use Rattle.cql_types.specs.Conditions.{condition_in}
 use Rattle.cql_filter.specs.Laws.{HasOneFilter}
-use Rattle.cad_query.specs.Boxes.{box_numbers}
+use Rattle.cad_parameters.specs.Boxes.{box_numbers}
 use Rattle.cad_ask.specs.Answers.{filter_given, IsFilterGiven}
 use Rattle.cad_ask.specs.Laws.{PairsAskOneThing}
 

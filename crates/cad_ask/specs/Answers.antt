@@ -7,9 +7,9 @@ use Rattle.cql_filter.specs.declared.cause.Cause.{Cause}
 use Rattle.cql_filter.specs.Causes.{place_of}
 use Rattle.cql_filter.specs.Filters.{IsAccepted, IsFilterOf}
 use Rattle.cql_filter.specs.Filters as filters
-use Rattle.cad_query.specs.Pairs.{PairText, pair_text, given}
-use Rattle.cad_query.specs.declared.fault.ParameterFault.{ParameterFault}
-use Rattle.cad_query.specs.Parameters.{have, IsSelection, IsContinuation}
+use Rattle.cad_parameters.specs.Pairs.{PairText, pair_text, given}
+use Rattle.cad_parameters.specs.declared.fault.ParameterFault.{ParameterFault}
+use Rattle.cad_parameters.specs.Parameters.{have, IsSelection, IsContinuation}
 use Rattle.cad_ask.specs.declared.ask.Ask.{Ask}
 use Rattle.cad_ask.specs.declared.fault.AskFault.{AskFault}
 use Rattle.cad_ask.specs.declared.fault.AskFault.TheVariants as fault

@@ -1,7 +1,7 @@
 -- Why a query is refused, as JSON (own profile).
 use Rattle.serde_json.specs.Data.{Data}
 use Rattle.cql_filter.specs.Causes.{name_of}
-use Rattle.cad_bodies.specs.Faults.{word_data, filter_fault_data}
+use Rattle.cad_json.specs.Faults.{word_data, filter_fault_data}
 use Rattle.cad_ask.specs.declared.fault.AskFault.{AskFault}
 use Rattle.cad_ask.specs.declared.fault.AskFault.TheVariants.{Filter}
 use Rattle.cad_ask.specs.Faults.{fault_word}

@@ -3,30 +3,30 @@ use Rattle.std.specs.Prelude.{ℕ, List, codes, Option, option_map}
 use Rattle.cql_filter.specs.declared.cause.FilterFault.{FilterFault}
 use Rattle.cql_filter.specs.declared.cause.FilterFault.TheVariants as filter
 use Rattle.cql_filter.specs.Causes.{place_of}
-use Rattle.cad_query.specs.declared.fault.ParameterFault.{ParameterFault}
-use Rattle.cad_query.specs.declared.fault.ParameterFault.TheVariants as parameter
-use Rattle.cad_query.specs.Pairs.{PairText}
-use Rattle.cad_query.specs.Parameters.{first_of, selection_faults, continuation_faults}
+use Rattle.cad_parameters.specs.declared.fault.ParameterFault.{ParameterFault}
+use Rattle.cad_parameters.specs.declared.fault.ParameterFault.TheVariants as parameter
+use Rattle.cad_parameters.specs.Pairs.{PairText}
+use Rattle.cad_parameters.specs.Parameters.{first_of, selection_faults, continuation_faults}
 use Rattle.cad_ask.specs.declared.fault.AskFault.{AskFault}
 use Rattle.cad_ask.specs.declared.fault.AskFault.TheVariants.{Unknown, Repeated, Limit, Datetime, Bbox, FilterLang, Filter, Revision, After, Memory}
 
-abbrev pub fault_told : AskFault → ℕ × List ℕ
-fault_told Unknown = (1, codes "Unknown")
-fault_told Repeated = (2, codes "Repeated")
-fault_told Limit = (3, codes "Limit")
-fault_told Datetime = (4, codes "Datetime")
-fault_told Bbox = (5, codes "Bbox")
-fault_told FilterLang = (6, codes "FilterLang")
-fault_told (Filter place cause) = (7, codes "Filter")
-fault_told Revision = (8, codes "Revision")
-fault_told After = (9, codes "After")
-fault_told Memory = (10, codes "Memory")
+abbrev pub fault_number_and_name : AskFault → ℕ × List ℕ
+fault_number_and_name Unknown = (1, codes "Unknown")
+fault_number_and_name Repeated = (2, codes "Repeated")
+fault_number_and_name Limit = (3, codes "Limit")
+fault_number_and_name Datetime = (4, codes "Datetime")
+fault_number_and_name Bbox = (5, codes "Bbox")
+fault_number_and_name FilterLang = (6, codes "FilterLang")
+fault_number_and_name (Filter place cause) = (7, codes "Filter")
+fault_number_and_name Revision = (8, codes "Revision")
+fault_number_and_name After = (9, codes "After")
+fault_number_and_name Memory = (10, codes "Memory")
 
 abbrev pub fault_number : AskFault → ℕ
-fault_number fault = (fault_told fault).0
+fault_number fault = (fault_number_and_name fault).0
 
 abbrev pub fault_name : AskFault → List ℕ
-fault_name fault = (fault_told fault).1
+fault_name fault = (fault_number_and_name fault).1
 
 -- the word that the body of a refusal tells: of a parameter that is wrong, its name
 abbrev pub fault_word : AskFault → List ℕ

@@ -2,10 +2,10 @@
 use Rattle.std.specs.Prelude.{◌≡◌, ℕ, ◌<◌, ◌^◌, List, map, option_map}
 use Rattle.cad_schema.specs.declared.collection.Collection.{Collection}
 use Rattle.cql_types.specs.Conditions.{condition_in}
-use Rattle.cad_query.specs.Pairs.{PairText, pair_text}
-use Rattle.cad_query.specs.Identifiers.{Numbers, Identifies, identifier_text, numbers_of}
-use Rattle.cad_query.specs.Links.{continued}
-use Rattle.cad_query.specs.Laws.{AsksToGoOn}
+use Rattle.cad_parameters.specs.Pairs.{PairText, pair_text}
+use Rattle.cad_parameters.specs.Identifiers.{Numbers, Identifies, identifier_text, numbers_of}
+use Rattle.cad_parameters.specs.Links.{continued}
+use Rattle.cad_parameters.specs.Laws.{AsksToGoOn}
 use Rattle.cad_ask.specs.declared.ask.Ask.{Ask}
 use Rattle.cad_ask.specs.declared.fault.AskFault.{AskFault}
 use Rattle.cad_ask.specs.Answers.{IsAsk, AsksWell, IsFirstFault, IsLeastFault}

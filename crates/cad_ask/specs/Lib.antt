@@ -1,5 +1,5 @@
 pub mod Faults
 pub mod Answers
-pub mod AnswerLemmas
 pub mod Bodies
 pub mod Laws
+pub mod lemmas

@@ -2,15 +2,15 @@
 
 ghost use Rattle.std.specs.Prelude.{◌≡◌, map, IfOk, IsOk, Some, Err, option_copied};
 ghost use Rattle.std.specs.Result.{result_err};
-ghost use Rattle.cad_query.specs.Pairs.{pair_text, pairs_of};
-ghost use Rattle.cad_query.specs.Parameters.{IsSelection, IsContinuation};
+ghost use Rattle.cad_parameters.specs.Pairs.{pair_text, pairs_of};
+ghost use Rattle.cad_parameters.specs.Parameters.{IsSelection, IsContinuation};
 ghost use Rattle.cad_ask.specs.Faults.{selection_fault, continuation_fault};
 ghost use Rattle.cad_ask.specs.Answers.{AnswersFilter, Answers, AsksWell, IsFirstFault, OrMemory};
 ghost use Rattle.cad_ask.specs.declared.fault.AskFault.{AskFault};
 
 use crate::fault::AskFault;
 use crate::laws::{fault_or_asks, one_first_fault};
-use cad_query::{Continuation, Pair, Selection, filter_text, read_pairs};
+use cad_parameters::{Continuation, Pair, Selection, filter_text, read_pairs};
 use cad_schema::Collection;
 use cql_types::Filter;
 use std::alloc::Global;

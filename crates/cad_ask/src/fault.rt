@@ -1,6 +1,6 @@
 //! Why a query is refused.
 
-use cad_query::ParameterFault;
+use cad_parameters::ParameterFault;
 use cql_filter::{Cause, FilterFault};
 use std::alloc::AllocError;
 use thiserror::Error;
@@ -42,11 +42,11 @@ pub enum AskFault {
 
 impl AskFault {
     ghost use Rattle.std.specs.Prelude.{◌≡◌};
-    ghost use Rattle.cad_ask.specs.Faults.{fault_told, fault_number, fault_name, fault_word};
+    ghost use Rattle.cad_ask.specs.Faults.{fault_number_and_name, fault_number, fault_name, fault_word};
 
     /// The number and the name.
-    fn told(self) -> (u8, &'static str)
-        ensures { (result.0, result.1.now) ≡ fault_told self }
+    fn number_and_name(self) -> (u8, &'static str)
+        ensures { (result.0, result.1.now) ≡ fault_number_and_name self }
     {
         match self {
             AskFault::Unknown => (1, "Unknown"),
@@ -66,14 +66,14 @@ impl AskFault {
     pub fn number(&self) -> u8
         ensures { result ≡ fault_number self.now }
     {
-        self.told().0
+        self.number_and_name().0
     }
 
     /// The name that programs print.
     pub fn name(&self) -> &'static str
         ensures { result.now ≡ fault_name self.now }
     {
-        self.told().1
+        self.number_and_name().1
     }
 
     /// The word that the body of the refusal tells: the parameter's name, where one is wrong.

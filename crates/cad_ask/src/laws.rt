@@ -2,7 +2,7 @@
 
 ghost use Rattle.cad_ask.specs.Laws.{HasFaultOrAsks, HasOneFirstFault, NextAsksTheSame, PairsAskOneThing, TheFirstIsTheLeast};
 
-use cad_query::laws::continued_goes_on;
+use cad_parameters::laws::continued_goes_on;
 use cql_filter::laws as filters;
 
 /// The pairs of a query have at most one first fault.

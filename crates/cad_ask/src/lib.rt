@@ -1,9 +1,9 @@
 //! What a request for the features of a collection asks: the parameters of its query, and its filter.
 //!
-//! - `Ask`: what is asked; `Ask::read` reads it from a query
-//! - `AskFault`: why a query is refused; the faults are looked for in the order of their numbers
-//! - [`fault_body`]: the body that tells it, as JSON
-//! - `laws`: a query has at most one first fault, that of the lowest number, and then asks for nothing; the next page's asks the same
+//! - [`Ask`]: what is asked; `Ask::read` reads it from a query
+//! - [`AskFault`]: why a query is refused; the faults are looked for in the order of their numbers
+//! - [`fault_body`]: the body that names such a fault, as JSON
+//! - [`laws`]: a query has at most one first fault, that of the lowest number, and then asks for nothing; the next page's asks the same
 //!
 //! Of parcels, `filter=area+%3E+400&limit=2` asks for at most two features whose area is above 400; of
 //! `limit=2&filter=label+%3E+5` the first fault is `AskFault::Filter` with the cause `WrongKind` at place 8.
@@ -11,9 +11,9 @@
 
 mod ask;
 mod fault;
+mod fault_text;
 pub mod laws;
-mod telling;
 
 pub use ask::Ask;
 pub use fault::AskFault;
-pub use telling::fault_body;
+pub use fault_text::fault_body;

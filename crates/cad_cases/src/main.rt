@@ -1,7 +1,7 @@
 //! What the server answers to a list of events: each line of standard input is an event, and a line is printed for it.
 //!
 //! The server stands over a ledger in memory, which holds the sample register. The lines and what is printed for them are
-//! those of `desk_script`, and six more are answered by themselves, of which the first three begin anew, with a server and
+//! those of `test_support`, and six more are answered by themselves, of which the first three begin anew, with a server and
 //! a desk of their own:
 //!
 //! - `sample`: the ledger holds the sample register, as at the first line;
@@ -13,21 +13,30 @@
 //! - `memory may be wanting`: from here on an event that the desk refuses for want of memory is answered by `4 Memory`, and
 //!   the events after it go on.
 //!
+//! Behind the word `echo` stands a line of `test_support` for a desk of its own: each request there is answered with its method, its
+//! target and the revision in force, over a ledger in memory, and two targets have no reply: `/lost` is refused with `NotARegister`,
+//! and `/full` with `Memory`.
+//!
 //! A line without bytes, and one that begins with `#`, is passed over. Any other line is answered by `no case`. Where memory
 //! is refused otherwise the program ends with status 7.
 #![tactic(auto)]
 
+mod echo;
+mod limited;
+mod sample;
+
 ghost use Rattle.std.specs.Prelude.{◌≡◌, IfOk};
 ghost use Rattle.cad_http.specs.Desks.{register_of};
 
+use crate::limited::LimitedLedger;
+use crate::sample::sample_ledger;
 use cad_http::{Desk, Server};
-use cad_plain::PlainLedger;
-use cad_plain_desk::{LimitedLedger, sample_ledger};
-use desk_script::{Line, Memory, answer_event, answer_served, line_of};
+use cad_memory_ledger::MemoryLedger;
 use std::alloc::{AllocError, Global};
 use std::io::{Error, ErrorKind, Read, Result};
 use std::mem;
 use std::process::ExitCode;
+use test_support::{Echo, Line, Memory, answer_event, answer_served, line_of};
 
 /// The status where memory is refused.
 const NO_MEMORY: u8 = 7;
@@ -64,7 +73,7 @@ fn begun(
 /// A desk over a ledger that holds nothing.
 fn idle_desk(alloc: Global) -> std::result::Result<Desk<LimitedLedger>, AllocError> {
     let ledger = LimitedLedger {
-        ledger: PlainLedger::new(alloc),
+        ledger: MemoryLedger::new(alloc),
         listings: 0,
     };
     begun(alloc, ledger, None)
@@ -83,7 +92,11 @@ impl Course {
     }
 
     /// Begins anew over the ledger.
-    fn begin(&mut self, alloc: Global, ledger: PlainLedger) -> std::result::Result<(), AllocError> {
+    fn begin(
+        &mut self,
+        alloc: Global,
+        ledger: MemoryLedger,
+    ) -> std::result::Result<(), AllocError> {
         let limited = LimitedLedger {
             ledger,
             listings: self.listings,
@@ -117,7 +130,7 @@ impl Course {
         }
         match line {
             "sample" => self.begin(alloc, sample_ledger(alloc)?)?,
-            "empty" => self.begin(alloc, PlainLedger::new(alloc))?,
+            "empty" => self.begin(alloc, MemoryLedger::new(alloc))?,
             "restart" => self.restart(alloc)?,
             "memory may be wanting" => self.memory = Memory::MayBeWanting,
             _ => return Ok(false),
@@ -142,13 +155,27 @@ impl Course {
     }
 }
 
+/// What is printed for a line, of the server's desk or of the other one.
+fn answer_line(
+    alloc: Global,
+    course: &mut Course,
+    echoing: &mut cad_desk::Desk<Echo>,
+    line: &[u8],
+) -> std::result::Result<String, AllocError> {
+    match line.strip_prefix(b"echo ") {
+        Some(line) => echo::answer(alloc, echoing, line),
+        None => course.answer(alloc, line),
+    }
+}
+
 fn run(rt: &HostRuntime) -> Result<()> {
     let mut input = Vec::new(rt.alloc());
     rt.stdin().read_to_end(&mut input)?;
     let mut course = Course::new(rt.alloc())?;
+    let mut echoing = cad_desk::Desk::new(rt.alloc(), Echo::new(rt.alloc()));
     for line in input.split(|byte| *byte == b'\n') {
         if !line.is_empty() && !line.starts_with(b"#") {
-            let answer = course.answer(rt.alloc(), line)?;
+            let answer = answer_line(rt.alloc(), &mut course, &mut echoing, line)?;
             println!(rt; "{}", answer.as_str())?;
         }
     }

@@ -14,10 +14,10 @@ use Rattle.cad_versions.specs.BodyParts.{name_in, unit_named, party_named}
 use Rattle.cad_versions.specs.Class.{class_of, class_number}
 use Rattle.cad_versions.specs.Command.{object_named}
 use Rattle.cad_versions.specs.Identifiers.{by_identifier as by_version}
-use Rattle.cad_versions.specs.ListLemmas.{all_weaker, filter-map, filter_fewer}
+use Rattle.cad_versions.specs.lemmas.ListLemmas.{all_weaker, filter-map, filter_fewer}
 use Rattle.cad_versions.specs.Refusals.{class_at, is_class, is_entered, most_versions}
 use Rattle.cad_versions.specs.Sorting.{sort_by}
-use Rattle.cad_versions.specs.SortLemmas.{all_sorted, length-sort_by}
+use Rattle.cad_versions.specs.lemmas.SortLemmas.{all_sorted, length-sort_by}
 use Rattle.cad_versions.specs.VersionedObject.{VersionedObject}
 use Rattle.cad_versions.specs.Versions.{is_of, history, begun, next_number}
 use Rattle.cad_schema.specs.declared.attribute.Attribute.{Attribute}
@@ -28,9 +28,9 @@ use Rattle.cad_schema.specs.Attributes.{attributes_of}
 use Rattle.cad_feature.specs.Features.{Item, datum_at}
 use Rattle.cad_feature.specs.Flatten.{class_for, is_in, joined_name, or_null, as_text, value_in, feature_in, features_in}
 use Rattle.cad_feature.specs.Lifespans.{is_up_to, holds_on}
-use Rattle.cad_merged.specs.Identifiers.{is_item_of, of_object}
+use Rattle.cad_layer.specs.Identifiers.{is_item_of, of_object}
 use Rattle.cad_changes.specs.Changes.{next, renames_on, is_object, feature_if_in}
-use Rattle.cad_changes.specs.Touching.{or_kept, edited_datum, edited_data, edited, begins_by, has_day, name_of, name_among, count_of, begun_after, names_joined, item_of}
+use Rattle.cad_changes.specs.Touching.{or_old, edited_datum, edited_data, edited, begins_by, has_day, name_of, name_among, count_of, begun_after, names_joined, item_of}
 use Rattle.cad_changes.proofs.ClassLemmas.{AreOf, Adds, ClassesStand, are_of, same_class_at, below, no_unit, no_party}
 use Rattle.cad_changes.proofs.FeatureLemmas.{name_next}
 use Rattle.cad_changes.proofs.ItemLemmas.{first_is, last_is, edited_is}
@@ -147,7 +147,7 @@ module _ (vs : List VersionedObject) (c : Command) (new : AddsNew vs c) where
   -- a name that is joined with what is added
   named_value : (xs : List Item) (alone : List VersionedObject) (day : Day) (o : Option ObjectId)
       → ((named : ObjectId) → o ≡ Some named → (name_among xs day named ≡ or_null as_text (joined_name vs day (Some named))) × (is_object (object_named c) (Some named) ≡ false))
-      → or_kept (option_map (name_among xs day) o) (or_null as_text (joined_name alone day o)) ≡ or_null as_text (joined_name (next vs c) day o)
+      → or_old (option_map (name_among xs day) o) (or_null as_text (joined_name alone day o)) ≡ or_null as_text (joined_name (next vs c) day o)
   named_value xs alone day None facts = refl
   named_value xs alone day (Some named) facts =
       let f = facts named refl in

@@ -16,12 +16,12 @@ use Rattle.cad_versions.specs.declared.object_id.ObjectId.{ObjectId}
 use Rattle.cad_versions.specs.BodyParts.{unit_named, party_named}
 use Rattle.cad_versions.specs.Class.{class_of, class_number}
 use Rattle.cad_day.specs.DayBefore.{day_before}
-use Rattle.cad_versions.specs.HistoryLemmas.{unrefused, neither}
-use Rattle.cad_versions.specs.ListLemmas.{all_weaker, all_mapped}
+use Rattle.cad_versions.specs.lemmas.HistoryLemmas.{unrefused, neither}
+use Rattle.cad_versions.specs.lemmas.ListLemmas.{all_weaker, all_mapped}
 use Rattle.cad_versions.specs.Objects.{object_number}
 use Rattle.cad_versions.specs.Refusals.{class_at, open_since, is_class, is_entered, are_entered, is_full, refuses_object, refuses_addition, refusal, AreAccepted}
 use Rattle.cad_versions.specs.VersionedObject.{VersionedObject}
-use Rattle.cad_versions.specs.Versions.{is_of, is_open_of, closed_on, closed_if_open, begun, next_number, after, versions}
+use Rattle.cad_versions.specs.Versions.{is_of, is_open_of, closed_on, closed_if_open, begun, next_number, versions_after, versions}
 use Rattle.cad_changes.proofs.TestLemmas.{find_map}
 
 -- ---- numbers of classes
@@ -129,7 +129,7 @@ of_the_class vs object first body e = go (class_at vs object) (neither _ _ e).0
     go None h = absurd cc
     go (Some k) h = swapped (class_number k) (class_number (class_of body)) (not-false (class_number k == class_number (class_of body)) (unrefused (not (class_number k == class_number (class_of body))) _ (neither _ _ h).0))
 
-stands_then : (vs : List VersionedObject) (c : Command) → refusal vs c ≡ None → ClassesStand vs → ClassesStand (after vs c)
+stands_then : (vs : List VersionedObject) (c : Command) → refusal vs c ≡ None → ClassesStand vs → ClassesStand (versions_after vs c)
 stands_then vs (Enter object first body) e all =
     let n = begun object 1 first body in
     pushed_stands n vs all (subst (λ (o : Option Class). is_class (class_of body) o ≡ true) (sym (found_last object n vs (own_object object) (never_entered vs object first body e))) (eq-eqb (class_number (class_of body)) (class_number (class_of body)) refl))
@@ -140,9 +140,9 @@ stands_then vs (Amend object first body) e all =
     (found_first object n ws (class_of body) (subst (λ (o : Option Class). is_class (class_of body) o ≡ true) (sym (class_closed object (day_before first) vs object)) (of_the_class vs object first body e)))
 stands_then vs (Retire object last) e all = closed_stands object last vs all
 
-stand_from : (vs : List VersionedObject) (cs : List Command) → AreAccepted vs cs → ClassesStand vs → ClassesStand (fold after vs cs)
+stand_from : (vs : List VersionedObject) (cs : List Command) → AreAccepted vs cs → ClassesStand vs → ClassesStand (fold versions_after vs cs)
 stand_from vs [] accepted all = all
-stand_from vs (c ∷ cs) accepted all = stand_from (after vs c) cs accepted.1 (stands_then vs c accepted.0 all)
+stand_from vs (c ∷ cs) accepted all = stand_from (versions_after vs c) cs accepted.1 (stands_then vs c accepted.0 all)
 
 pub classes_stand : (cs : List Command) → AreAccepted [] cs → ClassesStand (versions cs)
 classes_stand cs accepted = stand_from [] cs accepted tt

@@ -16,7 +16,7 @@ use Rattle.cad_versions.specs.BodyParts.{name_in, unit_named, party_named}
 use Rattle.cad_versions.specs.Command.{object_named}
 use Rattle.cad_day.specs.DayBefore.{day_before, number_of-day_before}
 use Rattle.cad_versions.specs.Identifiers.{identifier_cmp, by_identifier as by_version, identifier_of as identifier_of_version}
-use Rattle.cad_versions.specs.ListLemmas.{map-map, map_same, filter-map, filter_same}
+use Rattle.cad_versions.specs.lemmas.ListLemmas.{map-map, map_same, filter-map, filter_same}
 use Rattle.cad_versions.specs.Objects.{object_number}
 use Rattle.cad_versions.specs.VersionedObject.{VersionedObject}
 use Rattle.cad_versions.specs.Versions.{is_of, is_open_of, closed_on, closed_if_open, begun, next_number}
@@ -29,10 +29,10 @@ use Rattle.cad_feature.specs.Flatten.{is_in, joined_name, or_null, as_text, valu
 use Rattle.cad_feature.specs.Lifespans.{holds_on, is_up_to}
 use Rattle.cad_feature.specs.Values.{Datum}
 use Rattle.cad_changes.specs.Changes.{version_added, left_by, next, is_closed_by, renames_on, is_object, names, is_touched_by, feature_if_in, features_left, touched}
-use Rattle.cad_versions.specs.OrderLemmas.{identifiers_total, versions_total}
-use Rattle.cad_merged.specs.ItemLemmas.{items_total}
-use Rattle.cad_merged.specs.Merging.{put, put_if, merged}
-use Rattle.cad_merged.specs.MergeLemmas.{IsNew, find_put, filter_put, filter_put_out, map_put, merged_put, replaced}
+use Rattle.cad_versions.specs.lemmas.OrderLemmas.{identifiers_total, versions_total}
+use Rattle.cad_layer.specs.lemmas.ItemLemmas.{items_total}
+use Rattle.cad_layer.specs.Merging.{put, put_if, merged}
+use Rattle.cad_layer.specs.lemmas.MergeLemmas.{IsNew, find_put, filter_put, filter_put_out, map_put, merged_put, replaced}
 use Rattle.cad_changes.proofs.TestLemmas.{each_fails, other_fails, no_last, find_filter, find_map}
 use Rattle.cad_changes.proofs.VersionLemmas.{left_keeps, left_identifier, left_order, AddsNew}
 

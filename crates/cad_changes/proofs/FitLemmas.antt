@@ -28,21 +28,21 @@ use Rattle.cad_feature.specs.Features.{Item, datum_at, by_identifier, FitSchema,
 use Rattle.cad_feature.specs.Flatten.{or_null, as_text}
 use Rattle.cad_feature.specs.declared.value.Value.{Value}
 use Rattle.cad_feature.specs.Values.{Datum, null, a_day, a_span, datum_of, IsOfKind}
-use Rattle.cad_merged.specs.Identifiers.{is_item_of, of_object}
-use Rattle.cad_merged.specs.ItemLemmas.{items_total}
-use Rattle.cad_merged.specs.Merging.{put, put_if}
-use Rattle.cad_merged.specs.MergeLemmas.{all_put, put_ascends}
-use Rattle.cad_merged.specs.SearchLemmas.{suc_plus}
+use Rattle.cad_layer.specs.Identifiers.{is_item_of, of_object}
+use Rattle.cad_layer.specs.lemmas.ItemLemmas.{items_total}
+use Rattle.cad_layer.specs.Merging.{put, put_if}
+use Rattle.cad_layer.specs.lemmas.MergeLemmas.{all_put, put_ascends}
+use Rattle.cad_layer.specs.lemmas.SearchLemmas.{suc_plus}
 use Rattle.cad_changes.specs.Fitting.{IsTextIfAny, Fit}
-use Rattle.cad_changes.specs.Touching.{first_of, Edits, or_kept, span_to, edited_datum, edited_data, edited, renames, names_unit, names_party, touches, edits_by, item_left, items_left, has_day, name_of, name_among, names_joined}
+use Rattle.cad_changes.specs.Touching.{first_of, Edits, or_old, span_to, edited_datum, edited_data, edited, renames, names_unit, names_party, touches, edits_by, item_left, items_left, has_day, name_of, name_among, names_joined}
 use Rattle.cad_changes.proofs.TouchedLemmas.{images_ascend}
-use Rattle.cad_versions.specs.ListLemmas.{all_filtered}
+use Rattle.cad_versions.specs.lemmas.ListLemmas.{all_filtered}
 
-day_fits : (closing : Option Day) (d : Datum) → IsOfKind kind.Day d → IsOfKind kind.Day (or_kept (option_map a_day closing) d)
+day_fits : (closing : Option Day) (d : Datum) → IsOfKind kind.Day d → IsOfKind kind.Day (or_old (option_map a_day closing) d)
 day_fits None d h = h
 day_fits (Some day) d h = refl
 
-span_fits : (first : Option Day) (closing : Option Day) (d : Datum) → IsOfKind kind.Span d → IsOfKind kind.Span (or_kept (option_map (span_to first) closing) d)
+span_fits : (first : Option Day) (closing : Option Day) (d : Datum) → IsOfKind kind.Span d → IsOfKind kind.Span (or_old (option_map (span_to first) closing) d)
 span_fits first None d h = h
 span_fits first (Some last) d h = go (interval_of first (Some last))
   where
@@ -50,7 +50,7 @@ span_fits first (Some last) d h = go (interval_of first (Some last))
     go None = tt
     go (Some days) = refl
 
-name_fits : (o : Option Datum) (d : Datum) → IsTextIfAny o → IsOfKind kind.Text d → IsOfKind kind.Text (or_kept o d)
+name_fits : (o : Option Datum) (d : Datum) → IsTextIfAny o → IsOfKind kind.Text d → IsOfKind kind.Text (or_old o d)
 name_fits None d text h = h
 name_fits (Some new) d text h = text
 

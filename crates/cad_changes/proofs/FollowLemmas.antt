@@ -7,7 +7,7 @@ use Rattle.cad_schema.specs.declared.collection.Collection.{Collection}
 use Rattle.cad_feature.specs.Features.{Item}
 use Rattle.cad_feature.specs.Flatten.{features_in}
 use Rattle.cad_index.specs.Layers.{LayerFeatures}
-use Rattle.cad_merged.specs.Walks.{all_in}
+use Rattle.cad_layer.specs.Walks.{all_in}
 use Rattle.cad_changes.specs.Changes.{touched}
 use Rattle.cad_changes.proofs.RevisionLemmas.{features_of_next}
 

@@ -11,7 +11,7 @@ use Rattle.cad_versions.specs.BodyParts.{unit_named, party_named}
 use Rattle.cad_versions.specs.Class.{class_of, class_number}
 use Rattle.cad_versions.specs.Command.{object_named}
 use Rattle.cad_day.specs.DayBefore.{day_before}
-use Rattle.cad_versions.specs.ListLemmas.{map_same}
+use Rattle.cad_versions.specs.lemmas.ListLemmas.{map_same}
 use Rattle.cad_versions.specs.Objects.{object_number}
 use Rattle.cad_versions.specs.VersionedObject.{VersionedObject}
 use Rattle.cad_versions.specs.Versions.{is_of, is_open_of, closed_on}
@@ -22,9 +22,9 @@ use Rattle.cad_schema.specs.declared.collection.Collection.TheVariants.{Parcels,
 use Rattle.cad_schema.specs.Attributes.{attributes_of}
 use Rattle.cad_feature.specs.Flatten.{is_in, joined_name, or_null, as_text, as_whole, value_in, feature_in, features_in}
 use Rattle.cad_feature.specs.Values.{Datum, a_day, a_span}
-use Rattle.cad_merged.specs.SegmentLemmas.{kept_pass}
+use Rattle.cad_layer.specs.lemmas.SegmentLemmas.{kept_pass}
 use Rattle.cad_changes.specs.Changes.{left_by, next, is_closed_by, renames_on, is_object, is_touched_by, features_left}
-use Rattle.cad_changes.specs.Touching.{day_in, whole_in, first_of, last_of, unit_place, party_place, number_at, is_numbered, Edits, or_kept, span_to, edited_datum, edited_data, closing_day, closes, renames_if, renames, names_unit, names_party, touches, name_after, edits_by, item_left, items_left}
+use Rattle.cad_changes.specs.Touching.{day_in, whole_in, first_of, last_of, unit_place, party_place, number_at, is_numbered, Edits, or_old, span_to, edited_datum, edited_data, closing_day, closes, renames_if, renames, names_unit, names_party, touches, name_after, edits_by, item_left, items_left}
 use Rattle.cad_changes.proofs.ClassLemmas.{below, no_unit, no_party}
 use Rattle.cad_changes.proofs.FeatureLemmas.{name_next}
 use Rattle.cad_changes.proofs.StandingLemmas.{IsOver, renamed}
@@ -116,32 +116,32 @@ pub edited_is : (e : Edits) (first : Option Day) (f g : Attribute → Datum) (at
 edited_is e first f g attributes same = edited_map e first f attributes ∙ map_same (λ a. edited_datum e first a (f a)) g same attributes
 
 module _ (vs : List VersionedObject) (c : Command) (new : AddsNew vs c) (all : AllByRecursion (IsOver c) vs) (v : VersionedObject) where
-  last_left : or_kept (option_map a_day (cond (is_closed_by c v) (closing_day c) None)) (or_null a_day v.last) ≡ or_null a_day (left_by c v).last
+  last_left : or_old (option_map a_day (cond (is_closed_by c v) (closing_day c) None)) (or_null a_day v.last) ≡ or_null a_day (left_by c v).last
   last_left = go c
     where
-      by_closing : (day : Day) (b : Bool) → or_kept (option_map a_day (cond b (Some day) None)) (or_null a_day v.last) ≡ or_null a_day (cond b (closed_on day v) v).last
+      by_closing : (day : Day) (b : Bool) → or_old (option_map a_day (cond b (Some day) None)) (or_null a_day v.last) ≡ or_null a_day (cond b (closed_on day v) v).last
       by_closing day true = refl
       by_closing day false = refl
 
-      go : (k : Command) → or_kept (option_map a_day (cond (is_closed_by k v) (closing_day k) None)) (or_null a_day v.last) ≡ or_null a_day (left_by k v).last
+      go : (k : Command) → or_old (option_map a_day (cond (is_closed_by k v) (closing_day k) None)) (or_null a_day v.last) ≡ or_null a_day (left_by k v).last
       go (Enter object first body) = refl
       go (Amend object first body) = by_closing (day_before first) (is_open_of object v)
       go (Retire object last) = by_closing last (is_open_of object v)
 
-  lifespan_left : or_kept (option_map (span_to (Some v.first)) (cond (is_closed_by c v) (closing_day c) None)) (or_null a_span (interval_of (Some v.first) v.last)) ≡ or_null a_span (interval_of (Some (left_by c v).first) (left_by c v).last)
+  lifespan_left : or_old (option_map (span_to (Some v.first)) (cond (is_closed_by c v) (closing_day c) None)) (or_null a_span (interval_of (Some v.first) v.last)) ≡ or_null a_span (interval_of (Some (left_by c v).first) (left_by c v).last)
   lifespan_left = go c
     where
-      by_closing : (day : Day) (b : Bool) → or_kept (option_map (span_to (Some v.first)) (cond b (Some day) None)) (or_null a_span (interval_of (Some v.first) v.last)) ≡ or_null a_span (interval_of (Some (cond b (closed_on day v) v).first) (cond b (closed_on day v) v).last)
+      by_closing : (day : Day) (b : Bool) → or_old (option_map (span_to (Some v.first)) (cond b (Some day) None)) (or_null a_span (interval_of (Some v.first) v.last)) ≡ or_null a_span (interval_of (Some (cond b (closed_on day v) v).first) (cond b (closed_on day v) v).last)
       by_closing day true = refl
       by_closing day false = refl
 
-      go : (k : Command) → or_kept (option_map (span_to (Some v.first)) (cond (is_closed_by k v) (closing_day k) None)) (or_null a_span (interval_of (Some v.first) v.last)) ≡ or_null a_span (interval_of (Some (left_by k v).first) (left_by k v).last)
+      go : (k : Command) → or_old (option_map (span_to (Some v.first)) (cond (is_closed_by k v) (closing_day k) None)) (or_null a_span (interval_of (Some v.first) v.last)) ≡ or_null a_span (interval_of (Some (left_by k v).first) (left_by k v).last)
       go (Enter object first body) = refl
       go (Amend object first body) = by_closing (day_before first) (is_open_of object v)
       go (Retire object last) = by_closing last (is_open_of object v)
 
   -- a name that is joined
-  name_left : (named : Option ObjectId) → or_kept (cond (renames_on c v.first && is_object (object_named c) named) (Some (name_after c)) None) (or_null as_text (joined_name vs v.first named)) ≡ or_null as_text (joined_name (next vs c) v.first named)
+  name_left : (named : Option ObjectId) → or_old (cond (renames_on c v.first && is_object (object_named c) named) (Some (name_after c)) None) (or_null as_text (joined_name vs v.first named)) ≡ or_null as_text (joined_name (next vs c) v.first named)
   name_left named = go (renames_on c v.first && is_object (object_named c) named) refl
     where
       new_name : (o : Option ObjectId) → (renames_on c v.first && is_object (object_named c) o) ≡ true → name_after c ≡ or_null as_text (joined_name (next vs c) v.first o)
@@ -152,7 +152,7 @@ module _ (vs : List VersionedObject) (c : Command) (new : AddsNew vs c) (all : A
           never false h = absurd cc
       new_name (Some object) e = sym (renamed c vs all v.first (first_so _ _ e) object (second_so (renames_on c v.first) _ e))
 
-      go : (b : Bool) → (renames_on c v.first && is_object (object_named c) named) ≡ b → or_kept (cond b (Some (name_after c)) None) (or_null as_text (joined_name vs v.first named)) ≡ or_null as_text (joined_name (next vs c) v.first named)
+      go : (b : Bool) → (renames_on c v.first && is_object (object_named c) named) ≡ b → or_old (cond b (Some (name_after c)) None) (or_null as_text (joined_name vs v.first named)) ≡ or_null as_text (joined_name (next vs c) v.first named)
       go true e = new_name named e
       go false e = ap (or_null as_text) (sym (name_next vs c new v.first named e))
 

@@ -10,14 +10,14 @@ use Rattle.cad_versions.specs.declared.command.Command.{Command}
 use Rattle.cad_versions.specs.Command.{object_named}
 use Rattle.cad_schema.specs.declared.collection.Collection.{Collection}
 use Rattle.cad_feature.specs.Features.{Item, by_identifier}
-use Rattle.cad_merged.specs.Identifiers.{is_item_of, of_object}
-use Rattle.cad_merged.specs.ItemLemmas.{items_total}
-use Rattle.cad_merged.specs.Merging.{put, merged}
-use Rattle.cad_merged.specs.MergeLemmas.{change_behind, change_first, change_in_place, map_put}
-use Rattle.cad_merged.specs.Walks.{all_in, IsInOrder}
+use Rattle.cad_layer.specs.Identifiers.{is_item_of, of_object}
+use Rattle.cad_layer.specs.lemmas.ItemLemmas.{items_total}
+use Rattle.cad_layer.specs.Merging.{put, merged}
+use Rattle.cad_layer.specs.lemmas.MergeLemmas.{change_behind, change_first, change_in_place, map_put}
+use Rattle.cad_layer.specs.Walks.{all_in, IsInOrder}
 use Rattle.cad_changes.specs.Touching.{last_of, is_closing, renames, names_object, touches, item_left, items_left}
 use Rattle.cad_changes.proofs.FitLemmas.{left_ascend}
-use Rattle.cad_versions.specs.ListLemmas.{all_filtered}
+use Rattle.cad_versions.specs.lemmas.ListLemmas.{all_filtered}
 
 -- ---- two parts of a list that ascends
 

@@ -3,27 +3,27 @@ use Rattle.std.proofs.Common.{◌≡◌, ℕ, ◌+◌, List, [], ◌∷◌, ◌+
 use Rattle.std.specs.List.Sorted.{IsStrictlySortedBy}
 use Rattle.std.proofs.lemmas.List.{take_all, length-append}
 use Rattle.cad_versions.specs.declared.command.Command.{Command}
-use Rattle.cad_versions.specs.AcceptedLemmas.{accepted_front}
+use Rattle.cad_versions.specs.lemmas.AcceptedLemmas.{accepted_front}
 use Rattle.cad_versions.specs.AsOf.{as_of}
-use Rattle.cad_versions.specs.HistoryLemmas.{HasHistories, histories}
+use Rattle.cad_versions.specs.lemmas.HistoryLemmas.{HasHistories, histories}
 use Rattle.cad_versions.specs.Identifiers.{by_identifier as by_version}
-use Rattle.cad_versions.specs.OrderLemmas.{identifiers_apart, versions_total}
+use Rattle.cad_versions.specs.lemmas.OrderLemmas.{identifiers_apart, versions_total}
 use Rattle.cad_versions.specs.Refusals.{AreAccepted, refusal}
 use Rattle.cad_versions.specs.Sorting.{sort_by}
 use Rattle.cad_versions.specs.VersionedObject.{VersionedObject}
-use Rattle.cad_versions.specs.Versions.{after, versions}
+use Rattle.cad_versions.specs.Versions.{versions_after, versions}
 use Rattle.cad_schema.specs.declared.collection.Collection.{Collection}
 use Rattle.cad_feature.specs.Features.{by_identifier}
 use Rattle.cad_feature.specs.Flatten.{features_in}
 use Rattle.cad_changes.specs.Changes.{next, touched}
-use Rattle.cad_merged.specs.Merging.{merged}
+use Rattle.cad_layer.specs.Merging.{merged}
 use Rattle.cad_changes.proofs.FeatureLemmas.{features_next}
-use Rattle.cad_versions.specs.SortLemmas.{sort_rises}
+use Rattle.cad_versions.specs.lemmas.SortLemmas.{sort_rises}
 use Rattle.cad_changes.proofs.VersionLemmas.{AddsNew, adds_new, adds_new_sorted, sorted_after}
 
-fold_push : (vs : List VersionedObject) (cs : List Command) (c : Command) → fold after vs (cs ++ c ∷ []) ≡ after (fold after vs cs) c
+fold_push : (vs : List VersionedObject) (cs : List Command) (c : Command) → fold versions_after vs (cs ++ c ∷ []) ≡ versions_after (fold versions_after vs cs) c
 fold_push vs [] c = refl
-fold_push vs (d ∷ cs) c = fold_push (after vs d) cs c
+fold_push vs (d ∷ cs) c = fold_push (versions_after vs d) cs c
 
 pub all_as_of : (cs : List Command) (n : ℕ) → length cs ≡ n → as_of n cs ≡ sort_by by_version (versions cs)
 all_as_of cs n e = ap (λ ds. sort_by by_version (versions ds)) (take_all n cs (omega (arith, e)))
@@ -36,9 +36,9 @@ revision_next cs c all =
     all_as_of (cs ++ c ∷ []) (length cs + 1) (length-append cs (c ∷ [])) ∙ ap (sort_by by_version) (fold_push [] cs c) ∙ sorted_after (versions cs) c (adds cs c all)
     ∙ ap (λ vs. next vs c) (sym (all_as_of cs (length cs) refl))
 
-pub last_accepted : (vs : List VersionedObject) (cs : List Command) (c : Command) → AreAccepted vs (cs ++ c ∷ []) → refusal (fold after vs cs) c ≡ None
+pub last_accepted : (vs : List VersionedObject) (cs : List Command) (c : Command) → AreAccepted vs (cs ++ c ∷ []) → refusal (fold versions_after vs cs) c ≡ None
 last_accepted vs [] c all = all.0
-last_accepted vs (d ∷ cs) c all = last_accepted (after vs d) cs c all.1
+last_accepted vs (d ∷ cs) c all = last_accepted (versions_after vs d) cs c all.1
 
 pub all_accepted : (cs : List Command) (c : Command) → AreAccepted [] (cs ++ c ∷ []) → AreAccepted [] cs
 all_accepted cs c all = accepted_front [] cs (c ∷ []) all

@@ -12,9 +12,9 @@ use Rattle.cad_versions.specs.BodyParts.{name_in}
 use Rattle.cad_versions.specs.Command.{object_named}
 use Rattle.cad_day.specs.DayBefore.{day_before, number_of-day_before}
 use Rattle.cad_versions.specs.Histories.{IsForward, EndsBefore, IsHistory}
-use Rattle.cad_versions.specs.HistoryLemmas.{HasHistories, closed_is_not_open, find-filter, amends, retires, enters, le_fails, lt_fails}
+use Rattle.cad_versions.specs.lemmas.HistoryLemmas.{HasHistories, closed_is_not_open, find-filter, amends, retires, enters, le_fails, lt_fails}
 use Rattle.cad_versions.specs.Identifiers.{by_identifier}
-use Rattle.cad_versions.specs.ListLemmas.{all_weaker, all_kept, all_mapped}
+use Rattle.cad_versions.specs.lemmas.ListLemmas.{all_weaker, all_kept, all_mapped}
 use Rattle.cad_versions.specs.Objects.{object_number}
 use Rattle.cad_versions.specs.Refusals.{refusal}
 use Rattle.cad_versions.specs.VersionedObject.{VersionedObject}

@@ -7,21 +7,21 @@ use Rattle.std.proofs.lemmas.List.Kept.{IsStrictlySortedBy-filter}
 use Rattle.cad_versions.specs.declared.command.Command.{Command}
 use Rattle.cad_versions.specs.declared.command.Command.TheVariants.{Enter, Amend, Retire}
 use Rattle.cad_versions.specs.AsOf.{as_of}
-use Rattle.cad_versions.specs.HistoryLemmas.{histories, enters}
+use Rattle.cad_versions.specs.lemmas.HistoryLemmas.{histories, enters}
 use Rattle.cad_versions.specs.Identifiers.{by_identifier as by_version}
 use Rattle.cad_versions.specs.Refusals.{refusal, AreAccepted}
 use Rattle.cad_versions.specs.Sorting.{sort_by}
-use Rattle.cad_versions.specs.SortLemmas.{all_sorted}
+use Rattle.cad_versions.specs.lemmas.SortLemmas.{all_sorted}
 use Rattle.cad_versions.specs.VersionedObject.{VersionedObject}
 use Rattle.cad_versions.specs.Versions.{versions}
 use Rattle.cad_schema.specs.declared.collection.Collection.{Collection}
 use Rattle.cad_schema.specs.declared.collection.Collection.TheVariants.{Units, Parties}
 use Rattle.cad_feature.specs.Features.{Item, by_identifier}
 use Rattle.cad_feature.specs.Flatten.{is_in, feature_in, features_in}
-use Rattle.cad_merged.specs.ItemLemmas.{items_total}
-use Rattle.cad_merged.specs.LookupLemmas.{has_change}
-use Rattle.cad_merged.specs.Merging.{put_if, merged}
-use Rattle.cad_merged.specs.MergeLemmas.{put_ascends}
+use Rattle.cad_layer.specs.lemmas.ItemLemmas.{items_total}
+use Rattle.cad_layer.specs.lemmas.LookupLemmas.{has_change}
+use Rattle.cad_layer.specs.Merging.{put_if, merged}
+use Rattle.cad_layer.specs.lemmas.MergeLemmas.{put_ascends}
 use Rattle.cad_changes.specs.Changes.{left_by, next, is_touched_by, features_left, feature_added, touched}
 use Rattle.cad_changes.specs.Touching.{item_added, items_touched}
 use Rattle.cad_changes.proofs.AddedLemmas.{addition, sorted_addition, added_by}
@@ -70,10 +70,10 @@ touched_stands cs c all collection =
 -- ---- by the features before the command
 
 module _ (vs : List VersionedObject) where
-  abbrev Told : Command → Collection → Type 0
-  Told c collection = item_added (features_in vs collection) (features_in vs Units) (features_in vs Parties) c collection ≡ feature_added vs c collection
+  abbrev Adds : Command → Collection → Type 0
+  Adds c collection = item_added (features_in vs collection) (features_in vs Units) (features_in vs Parties) c collection ≡ feature_added vs c collection
 
-added_is : (cs : List Command) (c : Command) → AreAccepted [] (cs ++ c ∷ []) → (collection : Collection) → Told (sort_by by_version (versions cs)) c collection
+added_is : (cs : List Command) (c : Command) → AreAccepted [] (cs ++ c ∷ []) → (collection : Collection) → Adds (sort_by by_version (versions cs)) c collection
 added_is cs (Enter object first body) all collection =
     let vs = versions cs in
     let c = Enter object first body in

@@ -16,7 +16,7 @@ use Rattle.cad_versions.specs.Versions.{is_open_of, closed_if_open, begun, next_
 use Rattle.cad_schema.specs.declared.collection.Collection.{Collection}
 use Rattle.cad_feature.specs.Features.{Item, by_identifier}
 use Rattle.cad_feature.specs.Flatten.{is_in, feature_in}
-use Rattle.cad_merged.specs.Merging.{put_if}
+use Rattle.cad_layer.specs.Merging.{put_if}
 
 -- ---- versions
 

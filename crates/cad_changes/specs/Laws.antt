@@ -11,7 +11,7 @@ use Rattle.cad_feature.specs.Features.{by_identifier}
 use Rattle.cad_feature.specs.Flatten.{features_in}
 use Rattle.cad_changes.specs.Changes.{next, touched}
 use Rattle.cad_changes.specs.Touching.{items_touched}
-use Rattle.cad_merged.specs.Merging.{merged}
+use Rattle.cad_layer.specs.Merging.{merged}
 
 -- the versions at the next revision are those at the last one, as the command leaves them
 abbrev pub NextRevision : Type 0

@@ -1,5 +1,5 @@
 pub mod Changes
 pub mod Fitting
 pub mod Laws
-pub mod Told
+pub mod EditsOf
 pub mod Touching

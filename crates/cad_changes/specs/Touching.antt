@@ -26,8 +26,8 @@ use Rattle.cad_feature.specs.Flatten.{is_in, or_null, as_text, feature_in}
 use Rattle.cad_feature.specs.Lifespans.{is_up_to}
 use Rattle.cad_feature.specs.Values.{Datum, null, a_day, a_span}
 pub use Rattle.cad_feature.specs.Values.{day_in, whole_in}
-use Rattle.cad_merged.specs.Identifiers.{is_item_of, of_object}
-use Rattle.cad_merged.specs.Merging.{put_if}
+use Rattle.cad_layer.specs.Identifiers.{is_item_of, of_object}
+use Rattle.cad_layer.specs.Merging.{put_if}
 use Rattle.cad_changes.specs.Changes.{renames_on}
 
 -- ---- what a feature says
@@ -66,9 +66,9 @@ pub record Edits : Type 0 where
   pub unit_name : Option Datum
   pub party_name : Option Datum
 
-abbrev pub or_kept : Option Datum → Datum → Datum
-or_kept None d = d
-or_kept (Some new) d = new
+abbrev pub or_old : Option Datum → Datum → Datum
+or_old None d = d
+or_old (Some new) d = new
 
 abbrev pub span_to : Option Day → Day → Datum
 span_to first last = or_null a_span (interval_of first (Some last))
@@ -77,8 +77,8 @@ abbrev pub edited_datum : Edits → Option Day → Attribute → Datum → Datum
 edited_datum e first attribute.Object d = d
 edited_datum e first attribute.Number d = d
 edited_datum e first attribute.Begin d = d
-edited_datum e first attribute.End d = or_kept (option_map a_day e.closing) d
-edited_datum e first attribute.Lifespan d = or_kept (option_map (span_to first) e.closing) d
+edited_datum e first attribute.End d = or_old (option_map a_day e.closing) d
+edited_datum e first attribute.Lifespan d = or_old (option_map (span_to first) e.closing) d
 edited_datum e first attribute.Name d = d
 edited_datum e first attribute.Type d = d
 edited_datum e first attribute.Label d = d
@@ -86,9 +86,9 @@ edited_datum e first attribute.Area d = d
 edited_datum e first attribute.Geometry d = d
 edited_datum e first attribute.ReferencePoint d = d
 edited_datum e first attribute.Unit d = d
-edited_datum e first attribute.UnitName d = or_kept e.unit_name d
+edited_datum e first attribute.UnitName d = or_old e.unit_name d
 edited_datum e first attribute.Party d = d
-edited_datum e first attribute.PartyName d = or_kept e.party_name d
+edited_datum e first attribute.PartyName d = or_old e.party_name d
 edited_datum e first attribute.ShareNum d = d
 edited_datum e first attribute.ShareDen d = d
 edited_datum e first attribute.PartyRequired d = d

@@ -7,14 +7,14 @@ ghost use Rattle.cad_feature.specs.Features.{datum_at, IsFeatureOf, AreFeaturesO
 ghost use Rattle.cad_feature.specs.Flatten.{features_in};
 ghost use Rattle.cad_feature.specs.Lifespans.{is_up_to};
 ghost use Rattle.cad_feature.specs.Values.{datum_of};
-ghost use Rattle.cad_changes.specs.Told.{datum_if_any};
+ghost use Rattle.cad_changes.specs.EditsOf.{datum_if_any};
 ghost use Rattle.cad_changes.specs.Touching as spec;
 
 use crate::edits::{NewValues, edited};
 use crate::reading::{first_of, last_of};
 use cad_day::Day;
 use cad_feature::{Feature, Value, flatten};
-use cad_merged::{Layer, copy_value};
+use cad_layer::{Layer, copy_value};
 use cad_schema::Collection;
 use cad_versions::{Body, Command, MOST_NUMBER, ObjectId, Version};
 use std::alloc::{AllocError, Global};

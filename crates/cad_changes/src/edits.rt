@@ -4,14 +4,14 @@ ghost use Rattle.std.specs.Prelude.{◌≡◌, IfOk, map, option_map, get_or};
 ghost use Rattle.std.specs.Option.{option_copied};
 ghost use Rattle.cad_schema.specs.Attributes.{attribute_of};
 ghost use Rattle.cad_feature.specs.Values.{datum_of, null};
-ghost use Rattle.cad_changes.specs.Told.{told};
+ghost use Rattle.cad_changes.specs.EditsOf.{edits_of};
 ghost use Rattle.cad_changes.specs.Touching as spec;
 ghost use Rattle.cad_changes.specs.Touching.{edited_datum, edited_data, span_to};
 
 use crate::reading::first_of;
 use cad_day::{Day, Interval};
 use cad_feature::{Feature, Value};
-use cad_merged::copy_value;
+use cad_layer::copy_value;
 use cad_schema::{Attribute, Collection, Property, schema};
 use std::alloc::{AllocError, Global};
 
@@ -40,8 +40,8 @@ fn lifespan(alloc: Global, first: Option<Day>, last: Day) -> Result<Value, Alloc
 }
 
 /// The new value, or the old one.
-fn or_kept(alloc: Global, new: Option<&Value>, old: &Value) -> Result<Value, AllocError>
-    ensures { IfOk result (λ value. datum_of value ≡ spec.or_kept (option_map datum_of (option_copied new.entry)) (datum_of old.now)) }
+fn or_old(alloc: Global, new: Option<&Value>, old: &Value) -> Result<Value, AllocError>
+    ensures { IfOk result (λ value. datum_of value ≡ spec.or_old (option_map datum_of (option_copied new.entry)) (datum_of old.now)) }
 {
     match new {
         None => copy_value(alloc, old),
@@ -57,7 +57,7 @@ fn edited_value(
     attribute: Attribute,
     old: &Value,
 ) -> Result<Value, AllocError>
-    ensures { IfOk result (λ value. datum_of value ≡ edited_datum (told new.entry) first attribute (datum_of old.now)) }
+    ensures { IfOk result (λ value. datum_of value ≡ edited_datum (edits_of new.entry) first attribute (datum_of old.now)) }
 {
     match attribute {
         Attribute::End => match new.closing {
@@ -68,8 +68,8 @@ fn edited_value(
             None => copy_value(alloc, old),
             Some(last) => lifespan(alloc, first, last),
         },
-        Attribute::UnitName => or_kept(alloc, new.unit_name, old),
-        Attribute::PartyName => or_kept(alloc, new.party_name, old),
+        Attribute::UnitName => or_old(alloc, new.unit_name, old),
+        Attribute::PartyName => or_old(alloc, new.party_name, old),
         _ => copy_value(alloc, old),
     }
 }
@@ -83,7 +83,7 @@ fn edited_at(
     old: &[Value],
     place: usize,
 ) -> Result<Value, AllocError>
-    ensures { IfOk result (λ value. datum_of value ≡ edited_datum (told new.entry) first attribute (get_or (map datum_of old.now) place null)) }
+    ensures { IfOk result (λ value. datum_of value ≡ edited_datum (edits_of new.entry) first attribute (get_or (map datum_of old.now) place null)) }
 {
     if place < old.len() {
         edited_value(alloc, new, first, attribute, &old[place])
@@ -100,7 +100,7 @@ fn edited_values(
     properties: &[Property],
     old: &[Value],
 ) -> Result<Vec<Value>, AllocError>
-    ensures { IfOk result (λ values. map datum_of values.items ≡ edited_data (told new.entry) first (map attribute_of properties.now) (map datum_of old.now)) }
+    ensures { IfOk result (λ values. map datum_of values.items ≡ edited_data (edits_of new.entry) first (map attribute_of properties.now) (map datum_of old.now)) }
 {
     let mut values = Vec::with_capacity(alloc, properties.len())?;
     for (place, property) in properties.iter().enumerate() {
@@ -117,7 +117,7 @@ pub(crate) fn edited(
     collection: Collection,
     feature: &Feature,
 ) -> Result<Feature, AllocError>
-    ensures { IfOk result (λ x. x ≡ spec.edited (told new.entry) collection feature.now) }
+    ensures { IfOk result (λ x. x ≡ spec.edited (edits_of new.entry) collection feature.now) }
 {
     let first = first_of(feature);
     let values = edited_values(alloc, new, first, schema(collection), &feature.values)?;

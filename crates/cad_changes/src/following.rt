@@ -8,7 +8,7 @@ ghost use Rattle.cad_schema.specs.declared.collection.Collection.TheVariants.{Un
 ghost use Rattle.cad_feature.specs.Flatten.{features_in};
 
 use crate::touching::touched;
-use cad_merged::Layer;
+use cad_layer::Layer;
 use cad_versions::Command;
 use std::alloc::{AllocError, Global};
 

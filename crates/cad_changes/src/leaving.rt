@@ -4,10 +4,10 @@ ghost use Rattle.std.specs.Prelude.{◌≡◌, ◌&&◌, is_none, ◌∷◌, [],
 ghost use Rattle.std.specs.Option.{option_copied};
 ghost use Rattle.cad_feature.specs.Values.{datum_of};
 ghost use Rattle.cad_lookup.specs.Candidates.{candidates};
-ghost use Rattle.cad_merged.specs.Identifiers.{is_item_of, of_object};
+ghost use Rattle.cad_layer.specs.Identifiers.{is_item_of, of_object};
 ghost use Rattle.cad_versions.specs.Command.{object_named};
 ghost use Rattle.cad_changes.specs.Changes as changes;
-ghost use Rattle.cad_changes.specs.Told.{datum_if_any};
+ghost use Rattle.cad_changes.specs.EditsOf.{datum_if_any};
 ghost use Rattle.cad_changes.specs.Touching as spec;
 
 use crate::adding::are_listed;
@@ -16,7 +16,7 @@ use crate::edits::{NewValues, edited};
 use crate::reading::{first_of, last_of, party_of, unit_of};
 use cad_day::Day;
 use cad_feature::{Feature, Value};
-use cad_merged::{Layer, as_changes, merge};
+use cad_layer::{Layer, as_changes, merge};
 use cad_run::{Candidates, FeatureSource, Plan};
 use cad_schema::Collection;
 use cad_versions::{Command, ObjectId};

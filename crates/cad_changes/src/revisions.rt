@@ -8,7 +8,7 @@ ghost use Rattle.cad_feature.specs.Flatten.{features_in};
 ghost use Rattle.cad_snapshot.specs.Snapshots.{IsSnapshotOf};
 
 use crate::following::features_after;
-use cad_merged::Layer;
+use cad_layer::Layer;
 use cad_schema::Collection;
 use cad_snapshot::{Layers, Snapshot};
 use cad_versions::Command;

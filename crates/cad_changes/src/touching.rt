@@ -8,14 +8,14 @@ ghost use Rattle.cad_versions.specs.Refusals.{AreAccepted};
 ghost use Rattle.cad_schema.specs.declared.collection.Collection.TheVariants.{Units, Parties};
 ghost use Rattle.cad_feature.specs.Features.{by_identifier, AreFeaturesOf};
 ghost use Rattle.cad_feature.specs.Flatten.{features_in};
-ghost use Rattle.cad_merged.specs.Merging.{put_if};
+ghost use Rattle.cad_layer.specs.Merging.{put_if};
 ghost use Rattle.cad_changes.specs.Changes as changes;
 ghost use Rattle.cad_changes.specs.Touching.{items_touched};
 
 use crate::adding::{are_listed, feature_added};
 use crate::leaving::features_left;
 use cad_feature::Feature;
-use cad_merged::{Layer, as_changes, merge};
+use cad_layer::{Layer, as_changes, merge};
 use cad_versions::Command;
 use std::alloc::{AllocError, Global};
 

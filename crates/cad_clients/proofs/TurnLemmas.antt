@@ -5,9 +5,9 @@ use Rattle.std.proofs.lemmas.Bool.{eq-eqb}
 use Rattle.cad_stream.specs.declared.responder.Responder.{Ghosts}
 use Rattle.cad_desk.specs.declared.desk.Desk.{Desk}
 use Rattle.cad_io.specs.Known.{ReadsAndWrites}
-use Rattle.cad_channel.specs.declared.turned.Ending.{Ending}
-use Rattle.cad_channel.specs.declared.turned.Turned.{Turned}
-use Rattle.cad_channel.specs.declared.turned.Turned.TheVariants.{Fed, Waits, Over}
+use Rattle.cad_client_socket.specs.declared.turned.Ending.{Ending}
+use Rattle.cad_client_socket.specs.declared.turned.Turned.{Turned}
+use Rattle.cad_client_socket.specs.declared.turned.Turned.TheVariants.{Fed, Waits, Over}
 use Rattle.cad_clients.specs.declared.client.Client.{Client}
 use Rattle.cad_clients.specs.declared.clients.Clients.{Clients}
 use Rattle.cad_clients.specs.declared.served.Served.TheVariants.{Stays, Over as Served-Over, Unknown}

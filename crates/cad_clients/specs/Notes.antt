@@ -1,9 +1,9 @@
 -- What is kept of a connection beside its channel, and what follows from it (own profile).
 use Rattle.std.specs.Prelude.{◌⊎◌, ℕ, ◌-◌, ◌≤◌, ◌==◌, Bool, true, false, IsTrue, List, length, Option, None, Some, IsSomeAnd, if◌then◌else◌}
 use Rattle.std.specs.Option.{option_or}
-use Rattle.cad_channel.specs.declared.turned.Turned.{Turned}
-use Rattle.cad_channel.specs.declared.turned.Turned.TheVariants.{Wrote, Took, Fed, Waits, Over}
-use Rattle.cad_channel.specs.Channels as channels
+use Rattle.cad_client_socket.specs.declared.turned.Turned.{Turned}
+use Rattle.cad_client_socket.specs.declared.turned.Turned.TheVariants.{Wrote, Took, Fed, Waits, Over}
+use Rattle.cad_client_socket.specs.Channels as channels
 use Rattle.cad_clients.specs.declared.client.Client.{Client}
 use Rattle.cad_clients.specs.declared.limits.Limits.{Limits}
 

@@ -6,10 +6,10 @@ use Rattle.cad_desk.specs.declared.event.Event.TheVariants.{Open}
 use Rattle.cad_desk.specs.declared.event.Reply.TheVariants.{Opened}
 use Rattle.cad_desk.specs.declared.fault.DeskFault.{DeskFault}
 use Rattle.cad_desk.specs.Desks as desks
-use Rattle.cad_channel.specs.declared.turned.Turned.{Turned}
-use Rattle.cad_channel.specs.declared.turned.Turned.TheVariants.{Fed, Waits, Over}
-use Rattle.cad_channel.specs.Channels as channels
-use Rattle.cad_channel.specs.Laws.{IsNew}
+use Rattle.cad_client_socket.specs.declared.turned.Turned.{Turned}
+use Rattle.cad_client_socket.specs.declared.turned.Turned.TheVariants.{Fed, Waits, Over}
+use Rattle.cad_client_socket.specs.Channels as channels
+use Rattle.cad_client_socket.specs.Laws.{IsNew}
 use Rattle.cad_clients.specs.declared.client.Client.{Client}
 use Rattle.cad_clients.specs.declared.clients.Clients.{Clients}
 use Rattle.cad_clients.specs.declared.served.Served.{Served}

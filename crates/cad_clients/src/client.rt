@@ -1,7 +1,7 @@
 //! A connection, and when something was done for it.
 
 use crate::limits::Limits;
-use cad_channel::{Channel, Turned};
+use cad_client_socket::{Channel, Turned};
 use cad_desk::Desk;
 use cad_stream::Responder;
 use std::alloc::Global;
@@ -22,10 +22,10 @@ pub(crate) struct Client {
 impl Client {
     ghost use Rattle.std.specs.Prelude.{◌≡◌, ◌↔◌, false, IsTrue};
     ghost use Rattle.std.specs.Io.KnownBytes.{IsAtEnd};
-    ghost use Rattle.cad_channel.specs.declared.turned.Ending.TheVariants.{PeerEnded};
+    ghost use Rattle.cad_client_socket.specs.declared.turned.Ending.TheVariants.{PeerEnded};
     ghost use Rattle.cad_io.specs.Known.{ReadsAndWrites};
-    ghost use Rattle.cad_channel.specs.Channels.{has_ended, unsent, IsTurn};
-    ghost use Rattle.cad_channel.specs.Laws.{IsNew};
+    ghost use Rattle.cad_client_socket.specs.Channels.{has_ended, unsent, IsTurn};
+    ghost use Rattle.cad_client_socket.specs.Laws.{IsNew};
     ghost use Rattle.cad_clients.specs.Notes.{first_notes, noted, notes_of, IsOverdue};
 
     /// A connection that was just opened.

@@ -6,7 +6,7 @@ use crate::client::Client;
 use crate::limits::Limits;
 use crate::logging::AccessLog;
 use crate::served::{Served, is_over};
-use cad_channel::Turned;
+use cad_client_socket::Turned;
 use cad_desk::{Desk, DeskFault, Event, Reply};
 use cad_stream::Responder;
 use std::alloc::{AllocError, Global};
@@ -29,7 +29,7 @@ impl Clients {
     ghost use Rattle.std.specs.Prelude.{ℕ, ◌<◌, ◌↔◌, None, Some, IsTrue, IsSome, IsSomeAnd, IfOk, IfSome, option_copied, option_map};
     ghost use Rattle.std.specs.Io.KnownBytes.{IsAtEnd};
     ghost use Rattle.cad_io.specs.Known.{ReadsAndWrites};
-    ghost use Rattle.cad_channel.specs.declared.turned.Ending.TheVariants.{PeerEnded};
+    ghost use Rattle.cad_client_socket.specs.declared.turned.Ending.TheVariants.{PeerEnded};
     ghost use Rattle.cad_clients.specs.Notes.{marked, IsOverdue, IsSending, MayGoOn};
     ghost use Rattle.cad_clients.specs.Slots.{client_at, Changes};
     ghost use Rattle.cad_clients.specs.Steps.{Opens, HasTurn, Closes, IsServed};

@@ -14,7 +14,7 @@ use Rattle.cad_commands.specs.Members.{Has, member_in}
 use Rattle.cad_commands.specs.Values.{IsWholeOf, IsObjectOf, IsDayOf, IsWordsOf, IsFlagOf, IsShareOf, IsPointOf}
 use Rattle.cad_versions.specs.declared.body_parts.BodyParts.{BodyParts}
 use Rattle.cad_versions.specs.BodyParts.{parts_of}
-use Rattle.cad_versions.specs.BodyLemmas.{same_body}
+use Rattle.cad_versions.specs.lemmas.BodyLemmas.{same_body}
 use Rattle.cad_commands.specs.Bodies.{class_name, SaysParts, SaysBody}
 use Rattle.cad_commands.specs.Commands.{IsOperationOf, SaysOneBody, SaysBeginning, SaysEnd, SaysCommand, Says}
 use Rattle.cad_commands.proofs.ClassLemmas.{one_class}

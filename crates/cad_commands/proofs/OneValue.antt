@@ -7,8 +7,8 @@ use Rattle.cad_shape.specs.Rings.{corners_of, same_ring}
 use Rattle.cad_versions.specs.declared.object_id.ObjectId.{ObjectId}
 use Rattle.cad_versions.specs.declared.share.Share.{Share}
 use Rattle.cad_versions.specs.declared.words.Words.{Words}
-use Rattle.cad_day.specs.SameLemmas.{same_day}
-use Rattle.cad_versions.specs.SameLemmas.{same_object, same_share, same_words}
+use Rattle.cad_day.specs.lemmas.SameLemmas.{same_day}
+use Rattle.cad_versions.specs.lemmas.SameLemmas.{same_object, same_share, same_words}
 use Rattle.cad_commands.specs.declared.operation.Operation.{Operation}
 use Rattle.cad_commands.specs.declared.operation.Operation.TheVariants.{Enter, Amend, Retire}
 use Rattle.cad_commands.specs.Members.{SaysAny, MayHave, Has, member_in}

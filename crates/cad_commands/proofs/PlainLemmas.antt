@@ -19,7 +19,7 @@ use Rattle.cad_versions.specs.declared.share.Share.{Share}
 use Rattle.cad_versions.specs.declared.words.Words.{Words}
 use Rattle.cad_commands.specs.Writing.{whole_json, integer_json, object_json, words_json, share_json, point_json, points_json, ring_json, rings_json, outline_in, holes_in, outline_json, holes_json, day_json, or_null}
 use Rattle.cad_commands.proofs.TextLemmas.{IsPlain, ArePlain}
-use Rattle.cad_day.specs.DayTextLemmas.{date_text_utf8}
+use Rattle.cad_day.specs.lemmas.DayTextLemmas.{date_text_utf8}
 
 -- ---- values
 

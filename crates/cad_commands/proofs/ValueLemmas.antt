@@ -5,7 +5,7 @@ use Rattle.serde_json.specs.Data.{Data, Items, no_items, item}
 use Rattle.serde_json.specs.Find.{as_array}
 use Rattle.serde_json.specs.View.{items_view, view}
 use Rattle.serde_json.specs.declared.value.Value.{Value}
-use Rattle.cad_shape.specs.SameLemmas.{same_point}
+use Rattle.cad_shape.specs.lemmas.SameLemmas.{same_point}
 use Rattle.cad_shape.specs.declared.point.Point.{Point}
 use Rattle.cad_shape.specs.declared.ring.Ring.{Ring}
 use Rattle.cad_shape.specs.declared.ring.RingFault.{RingFault}

@@ -1,11 +1,10 @@
 pub mod DayNumbers
 pub mod Days
-pub mod SameLemmas
 pub mod DayBefore
 pub mod Intervals
 pub mod DayTexts
-pub mod DayTextLemmas
 pub mod Calendar
 pub mod Relations
 pub mod Faults
 pub mod Moments
+pub mod lemmas

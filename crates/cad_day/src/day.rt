@@ -39,7 +39,7 @@ impl Day {
         self.number
     }
     /// The day before, and for the first day of all that day itself.
-    #[tactic(auto, using(crate::specs::SameLemmas::same_day))]
+    #[tactic(auto, using(crate::specs::lemmas::SameLemmas::same_day))]
     pub fn before(self) -> Day
         ensures { result ≡ day_before self }
     {

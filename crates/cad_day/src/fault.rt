@@ -1,7 +1,7 @@
 //! Why a text asks for no days.
 
 ghost use Rattle.std.specs.Prelude.{◌≡◌};
-ghost use Rattle.cad_day.specs.Faults.{fault_told, fault_number, fault_name};
+ghost use Rattle.cad_day.specs.Faults.{fault_number_and_name, fault_number, fault_name};
 
 use thiserror::Error;
 
@@ -21,8 +21,8 @@ pub enum DatetimeFault {
 
 impl DatetimeFault {
     /// The number and the name.
-    fn told(self) -> (u8, &'static str)
-        ensures { (result.0, result.1.now) ≡ fault_told self }
+    fn number_and_name(self) -> (u8, &'static str)
+        ensures { (result.0, result.1.now) ≡ fault_number_and_name self }
     {
         match self {
             DatetimeFault::NotADate => (1, "NotADate"),
@@ -35,13 +35,13 @@ impl DatetimeFault {
     pub fn number(&self) -> u8
         ensures { result ≡ fault_number self.now }
     {
-        self.told().0
+        self.number_and_name().0
     }
 
     /// The name that programs print.
     pub fn name(&self) -> &'static str
         ensures { result.now ≡ fault_name self.now }
     {
-        self.told().1
+        self.number_and_name().1
     }
 }

@@ -6,7 +6,7 @@ use Rattle.cad_versions.specs.declared.command.Command.{Command}
 use Rattle.cad_versions.specs.declared.fault.RegisterFault.{RegisterFault}
 use Rattle.cad_versions.specs.declared.fault.RegisterFault.TheVariants as register
 use Rattle.cad_versions.specs.Ledgers.{Applied}
-use Rattle.cad_stream.specs.KeepingLemmas.{names_by}
+use Rattle.cad_stream.specs.lemmas.KeepingLemmas.{names_by}
 use Rattle.cad_stream.specs.declared.responder.Responder.{Ghosts}
 use Rattle.cad_stream.specs.Feeding.{bytes_left, DamagedLater, Feeds}
 use Rattle.cad_desk.specs.declared.desk.Desk.{Desk}

@@ -7,7 +7,7 @@ use Rattle.cad_head.specs.Request.{Request, request_of}
 use Rattle.cad_stream.specs.Streams.{Outcome, waits, closed, refused, rest_of, IsStream, DiffersInMoment, IsSameOutcome}
 use Rattle.cad_stream.specs.Replies.{AreReplies, last_reply}
 use Rattle.cad_stream.specs.Conversations.{Piece, HeadAt, heads_at, IsConversation}
-use Rattle.cad_stream.specs.ReplyLemmas.{replies_join}
+use Rattle.cad_stream.specs.lemmas.ReplyLemmas.{replies_join}
 use Rattle.cad_stream.specs.Laws as stream
 use Rattle.cad_desk.specs.declared.event.Event.{Event}
 use Rattle.cad_desk.specs.declared.event.Event.TheVariants.{Open, Bytes, Close, Office}

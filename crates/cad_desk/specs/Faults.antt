@@ -6,18 +6,18 @@ use Rattle.cad_versions.specs.Keeping.{MayClose, NamesDamage}
 use Rattle.cad_desk.specs.declared.fault.DeskFault.{DeskFault}
 use Rattle.cad_desk.specs.declared.fault.DeskFault.TheVariants.{UnknownConnection, KnownConnection, TooManyConnections, Memory, Register}
 
-abbrev pub desk_fault_told : DeskFault → ℕ × List ℕ
-desk_fault_told UnknownConnection = (1, codes "UnknownConnection")
-desk_fault_told KnownConnection = (2, codes "KnownConnection")
-desk_fault_told TooManyConnections = (3, codes "TooManyConnections")
-desk_fault_told Memory = (4, codes "Memory")
-desk_fault_told (Register fault) = (5, codes "Register")
+abbrev pub desk_fault_number_and_name : DeskFault → ℕ × List ℕ
+desk_fault_number_and_name UnknownConnection = (1, codes "UnknownConnection")
+desk_fault_number_and_name KnownConnection = (2, codes "KnownConnection")
+desk_fault_number_and_name TooManyConnections = (3, codes "TooManyConnections")
+desk_fault_number_and_name Memory = (4, codes "Memory")
+desk_fault_number_and_name (Register fault) = (5, codes "Register")
 
 abbrev pub desk_fault_number : DeskFault → ℕ
-desk_fault_number fault = (desk_fault_told fault).0
+desk_fault_number fault = (desk_fault_number_and_name fault).0
 
 abbrev pub desk_fault_name : DeskFault → List ℕ
-desk_fault_name fault = (desk_fault_told fault).1
+desk_fault_name fault = (desk_fault_number_and_name fault).1
 
 -- want of memory is the desk's own fault, whoever met it
 abbrev pub fault_of : RegisterFault → DeskFault

@@ -51,11 +51,11 @@ impl<T: Drop> From<AllocFailed<T>> for DeskFault {
 
 impl DeskFault {
     ghost use Rattle.std.specs.Prelude.{◌≡◌};
-    ghost use Rattle.cad_desk.specs.Faults.{desk_fault_told, desk_fault_number, desk_fault_name};
+    ghost use Rattle.cad_desk.specs.Faults.{desk_fault_number_and_name, desk_fault_number, desk_fault_name};
 
     /// The number and the name.
-    fn told(self) -> (u8, &'static str)
-        ensures { (result.0, result.1.now) ≡ desk_fault_told self }
+    fn number_and_name(self) -> (u8, &'static str)
+        ensures { (result.0, result.1.now) ≡ desk_fault_number_and_name self }
     {
         match self {
             DeskFault::UnknownConnection => (1, "UnknownConnection"),
@@ -70,13 +70,13 @@ impl DeskFault {
     pub fn number(&self) -> u8
         ensures { result ≡ desk_fault_number self.now }
     {
-        self.told().0
+        self.number_and_name().0
     }
 
     /// The name that programs print.
     pub fn name(&self) -> &'static str
         ensures { result.now ≡ desk_fault_name self.now }
     {
-        self.told().1
+        self.number_and_name().1
     }
 }

@@ -3,15 +3,15 @@
 use crate::files::{empty_files, made, opened_again};
 use cad_desk::Desk;
 use cad_register::Register;
-use cad_responder::Server;
 use cad_sample::fill;
+use cad_server::Server;
 use cad_stream::Responder;
-use desk_script::{Memory as Want, answer, line_of};
 use sqlite::{Alter, Files};
 use sqlite_disk::Disk;
 use std::alloc::Global;
 use std::process::Abort;
 use std::test::Fail;
+use test_support::{Memory as Want, answer, line_of};
 
 /// A walk of five pages on connection 1, and what is printed for each line. Behind each page a command is entered, and connection 2 asks for
 /// an old revision.

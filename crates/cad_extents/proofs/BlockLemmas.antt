@@ -3,8 +3,8 @@ use Rattle.std.proofs.Common.{◌≡◌, ◌∙◌, ℤ, Bool, true, false, Some
 use Rattle.std.specs.Prelude.{int_le, not, ◌&&◌, ◌||◌}
 use Rattle.std.proofs.lemmas.Bool.{and_from, and_parts, false≢true}
 use Rattle.std.proofs.lemmas.Int.{ints}
-use Rattle.cad_cells.specs.Blocks.{Block, is_wide, share_a_cell}
-use Rattle.cad_cells.specs.Near.{is_candidate}
+use Rattle.cad_grid.specs.Blocks.{Block, is_wide, share_a_cell}
+use Rattle.cad_grid.specs.Near.{is_candidate}
 use Rattle.cad_extents.specs.Extents.{is_inside, is_part, is_small_in}
 
 part_of_all : (a b c d e f : ℤ) → is_part a b c d ≡ true → is_part c d e f ≡ true → is_part a b e f ≡ true

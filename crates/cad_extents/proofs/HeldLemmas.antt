@@ -1,10 +1,10 @@
 -- Lists in which one element is another.
 use Rattle.std.proofs.Common.{◌≡◌, ◌<◌, ℕ, zero, suc, true, Option, Some, None, List, [], ◌∷◌, length, set, get_or, refl, arith}
-use Rattle.cad_cells.specs.Near.{block_in}
+use Rattle.cad_grid.specs.Near.{block_in}
 use Rattle.cad_feature.specs.Values.{Datum}
 use Rattle.cad_extents.specs.Extents.{any, holds, holds_cells}
 use Rattle.cad_extents.specs.declared.cells.CellExtent.TheVariants as cells
-use Rattle.cad_cells.specs.Blocks.{Block}
+use Rattle.cad_grid.specs.Blocks.{Block}
 
 -- what holds of the new one at its place, and of the others at theirs, holds of each
 pub set_held : {X : Type 0} (P : ℕ → X → Type 0) (xs : List X) (i : ℕ) (y d : X) → i < length xs → P i y → ((k : ℕ) → (k ≡ i → ⊥) → P k (get_or xs k d)) → (k : ℕ) → P k (get_or (set xs i y) k d)

@@ -1,8 +1,8 @@
 -- Between which values those of some features lie, property by property (own profile).
 use Rattle.std.specs.Prelude.{◌≡◌, ℕ, ℤ, Bool, true, false, not, ◌&&◌, int_le, List, Option, Some, None, get_or}
-use Rattle.cad_cells.specs.Blocks.{Block, is_wide}
-use Rattle.cad_cells.specs.Counted.{block_at}
-use Rattle.cad_cells.specs.Near.{block_in}
+use Rattle.cad_grid.specs.Blocks.{Block, is_wide}
+use Rattle.cad_grid.specs.Counted.{block_at}
+use Rattle.cad_grid.specs.Near.{block_in}
 use Rattle.cad_feature.specs.Features.{Item, datum_at}
 use Rattle.cad_feature.specs.Values.{Datum, a_whole}
 use Rattle.cad_range.specs.Ranges.{has_order}

@@ -1,14 +1,14 @@
 //! Round which cells the shapes of a property lie.
 
 ghost use Rattle.std.specs.Prelude.{◌≡◌, Option, Some, true, false};
-ghost use Rattle.cad_cells.specs.Blocks.{Block};
-ghost use Rattle.cad_cells.specs.Counted.{block_at};
-ghost use Rattle.cad_cells.specs.Near.{block_in, is_candidate};
+ghost use Rattle.cad_grid.specs.Blocks.{Block};
+ghost use Rattle.cad_grid.specs.Counted.{block_at};
+ghost use Rattle.cad_grid.specs.Near.{block_in, is_candidate};
 ghost use Rattle.cad_extents.specs.Extents.{holds_cells, is_inside};
 ghost use Rattle.cad_feature.specs.Values.{datum_of};
 
-use cad_cells::{Cells, bounds_of};
 use cad_feature::Value;
+use cad_grid::{Cells, bounds_of};
 
 /// Round which cells the shapes of a property lie.
 #[derive(Clone, Copy, Debug)]

@@ -1,8 +1,8 @@
 //! The extent of one property.
 
 ghost use Rattle.std.specs.Prelude.{◌≡◌, true, false};
-ghost use Rattle.cad_cells.specs.Counted.{block_at};
-ghost use Rattle.cad_cells.specs.Near.{block_in, is_candidate};
+ghost use Rattle.cad_grid.specs.Counted.{block_at};
+ghost use Rattle.cad_grid.specs.Near.{block_in, is_candidate};
 ghost use Rattle.cad_extents.specs.Extents.{holds};
 ghost use Rattle.cad_feature.specs.Features.{datum_at};
 ghost use Rattle.cad_feature.specs.Limits.{limit_of};
@@ -11,8 +11,8 @@ ghost use Rattle.cad_range.specs.Ranges.{lies_between};
 
 use crate::cells::CellExtent;
 use crate::values::ValueExtent;
-use cad_cells::Cells;
 use cad_feature::{Feature, Range, Value};
+use cad_grid::Cells;
 
 /// Between which values those of a property lie, and round which cells its shapes.
 #[derive(Clone, Copy, Debug)]

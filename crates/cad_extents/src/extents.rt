@@ -6,8 +6,8 @@ ghost use Rattle.cad_feature.specs.Features.{Item};
 ghost use Rattle.cad_extents.specs.Extents.{AreHeld};
 
 use crate::extent::{EMPTY, Extent};
-use cad_cells::Cells;
 use cad_feature::{Feature, Range};
+use cad_grid::Cells;
 use std::alloc::{AllocError, Global};
 
 /// Between which values those of some features lie, property by property in the order of the schema.
@@ -41,8 +41,8 @@ fn widen_by_all(extents: &mut Vec<Extent>, features: &[Feature])
 impl Extents {
     ghost use Rattle.std.specs.Prelude.{◌≡◌, IfOk, true, false};
     ghost use Rattle.std.specs.List.{AllByRecursion};
-    ghost use Rattle.cad_cells.specs.Counted.{block_at};
-    ghost use Rattle.cad_cells.specs.Near.{is_near};
+    ghost use Rattle.cad_grid.specs.Counted.{block_at};
+    ghost use Rattle.cad_grid.specs.Near.{is_near};
     ghost use Rattle.cad_feature.specs.Features.{Item};
     ghost use Rattle.cad_range.specs.Ranges.{lies_in};
     ghost use Rattle.cad_extents.specs.Extents.{IsWithin};

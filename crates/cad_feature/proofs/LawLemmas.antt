@@ -12,7 +12,7 @@ use Rattle.cad_day.specs.Intervals.{interval_of, where_turned, is_turned, not_tu
 use Rattle.cad_versions.specs.declared.object_id.ObjectId.{ObjectId}
 use Rattle.cad_versions.specs.declared.words.Words.{Words}
 use Rattle.cad_versions.specs.BodyParts.{name_in}
-use Rattle.cad_versions.specs.SameLemmas.{same_object}
+use Rattle.cad_versions.specs.lemmas.SameLemmas.{same_object}
 use Rattle.cad_versions.specs.Texts.{bytes_of}
 use Rattle.cad_versions.specs.VersionedObject.{VersionedObject, IsVersion}
 use Rattle.cad_versions.specs.Versions.{is_of, history}

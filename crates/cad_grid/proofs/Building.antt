@@ -5,9 +5,9 @@ use Rattle.std.specs.List.Sorted.{IsPermutation}
 use Rattle.std.proofs.lemmas.Bool.Decides.{nat_tests}
 use Rattle.std.proofs.lemmas.List.{length-map, length-take-le, map-append, map_more}
 use Rattle.cad_feature.specs.Features.{Item}
-use Rattle.cad_cells.specs.declared.cells.Cells.{Cells}
-use Rattle.cad_cells.specs.Counted.{block_at}
-use Rattle.cad_cells.specs.Near.{block_at_place}
+use Rattle.cad_grid.specs.declared.cells.Cells.{Cells}
+use Rattle.cad_grid.specs.Counted.{block_at}
+use Rattle.cad_grid.specs.Near.{block_at_place}
 use Rattle.cad_positions.specs.Hits.{picks_permutation}
 use Rattle.cad_grid.specs.declared.entry.Entry.{Entry}
 use Rattle.cad_grid.specs.Entries.{entered, for_position}

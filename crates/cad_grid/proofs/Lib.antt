@@ -5,3 +5,5 @@ pub mod Near
 pub mod Building
 pub mod Ascending
 pub mod Looks
+pub mod CellLemmas
+pub mod SharedLemmas

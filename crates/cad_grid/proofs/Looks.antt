@@ -3,9 +3,9 @@ use Rattle.std.proofs.Common.{◌≡◌, ◌∙◌, ℕ, suc, ◌+◌, ◌-◌, 
 use Rattle.std.specs.Prelude.{filter, option_map}
 use Rattle.std.specs.List.{range_with_len}
 use Rattle.std.proofs.lemmas.List.{length-map, get_or_default}
-use Rattle.cad_cells.specs.declared.cells.Cells.{Cells}
-use Rattle.cad_cells.specs.Counted.{block_at}
-use Rattle.cad_cells.specs.Near.{is_candidate}
+use Rattle.cad_grid.specs.declared.cells.Cells.{Cells}
+use Rattle.cad_grid.specs.Counted.{block_at}
+use Rattle.cad_grid.specs.Near.{is_candidate}
 use Rattle.cad_grid.specs.Grids.{near_positions}
 use Rattle.cad_grid.proofs.Near.{block_get}
 use Rattle.std.proofs.lemmas.List.Elements.{filter_agree}

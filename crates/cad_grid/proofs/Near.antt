@@ -5,14 +5,14 @@ use Rattle.std.specs.List.{range_with_len}
 use Rattle.std.specs.List.Sorted.{IsPermutation, IsNonDecreasing}
 use Rattle.std.proofs.lemmas.Bool.Decides.{nat_tests}
 use Rattle.std.proofs.lemmas.List.Kept.{IsStrictlyIncreasing-filter}
-use Rattle.cad_cells.specs.declared.cells.Cells.{Cells}
-use Rattle.cad_cells.specs.Blocks.{Block, is_wide, share_a_cell}
-use Rattle.cad_cells.specs.Counted.{block_at}
-use Rattle.cad_cells.specs.Near.{is_candidate}
+use Rattle.cad_grid.specs.declared.cells.Cells.{Cells}
+use Rattle.cad_grid.specs.Blocks.{Block, is_wide, share_a_cell}
+use Rattle.cad_grid.specs.Counted.{block_at}
+use Rattle.cad_grid.specs.Near.{is_candidate}
 use Rattle.cad_positions.specs.Hits.{hits, once, picks, hits_filter, hits_permutation, same_hits, non_decreasing_from_increasing}
 use Rattle.cad_positions.specs.Between.{below, hits_in, hits_out, range_increases, same_length}
 use Rattle.cad_grid.specs.declared.entry.Entry.{Entry}
-use Rattle.cad_grid.specs.Entries.{tally, in_row, in_all, is_wide_at, small_tally, is_asked, is_first_at, inside, counts, found_in, IsGrid}
+use Rattle.cad_grid.specs.Entries.{tally, in_row, in_all, is_wide_at, small_tally, is_in_block, is_first_at, inside, counts, found_in, IsGrid}
 use Rattle.cad_grid.specs.Grids.{near_positions}
 use Rattle.cad_grid.proofs.Once.{counts_first, once_near}
 
@@ -24,7 +24,7 @@ same_tally f g a (suc n) e = omega (arith, e a, same_tally f g (a + 1) n e)
 
 -- the test of an entry inside that is the first of its shape
 pub first_inside : Cells → Option Cells → ℕ → ℕ → Bool
-first_inside asked o row column = is_asked asked row column && is_first_at asked o row column
+first_inside asked o row column = is_in_block asked row column && is_first_at asked o row column
 
 same_test : (ol oh al ah oL oR aL aR row column : ℕ) → (((nat_le al row && nat_le row ah) && (nat_le aL column && nat_le column aR)) && ((row == max ol al) && (column == max oL aL))) ≡ (((row == max ol al) && (column == max oL aL)) && (nat_le row ah && nat_le column aR))
 same_test ol oh al ah oL oR aL aR row column = grind (arith, nat_tests)

@@ -1,7 +1,7 @@
 -- A walk that passes only entries that do not count.
 use Rattle.std.proofs.Common.{◌≡◌, ◌∙◌, ℕ, zero, suc, ◌+◌, ◌-◌, ◌<◌, ◌≤◌, Bool, true, false, cond, List, [], ◌∷◌, ◌++◌, append_assoc, append-nil, length, map, get_or, drop, drop-cons, add-one, ap, sym, refl, arith, Option, None, length-append}
 use Rattle.std.specs.Prelude.{filter, ◌&&◌}
-use Rattle.cad_cells.specs.declared.cells.Cells.{Cells}
+use Rattle.cad_grid.specs.declared.cells.Cells.{Cells}
 use Rattle.cad_grid.specs.declared.entry.Entry.{Entry}
 use Rattle.cad_grid.specs.Entries.{entry_at, inside, counts, found_in, is_first_at}
 

@@ -1,8 +1,8 @@
 -- Shapes entered in the cells that their bounds touch (own profile: a shape in more than 64 cells is entered in none).
 use Rattle.std.specs.Prelude.{◌≡◌, ℕ, zero, suc, ◌+◌, ◌-◌, ◌<◌, ◌≤◌, ◌==◌, nat_le, max, Bool, false, cond, ◌&&◌, List, ◌++◌, length, map, filter, get_or, Option, Some, None}
-use Rattle.cad_cells.specs.declared.cells.Cells.{Cells}
-use Rattle.cad_cells.specs.Blocks.{is_wide}
-use Rattle.cad_cells.specs.Counted.{block_at}
+use Rattle.cad_grid.specs.declared.cells.Cells.{Cells}
+use Rattle.cad_grid.specs.Blocks.{is_wide}
+use Rattle.cad_grid.specs.Counted.{block_at}
 use Rattle.cad_positions.specs.Hits.{hits, once, picks}
 use Rattle.cad_grid.specs.declared.entry.Entry.{Entry}
 
@@ -53,12 +53,12 @@ pub record IsBefore (row column : ℕ) (e : Entry) : Type 0 where
   pub columns : e.row ≡ row → e.column < column
 
 -- the cell is among the asked ones
-abbrev pub is_asked : Cells → ℕ → ℕ → Bool
-is_asked asked row column = (nat_le asked.low row && nat_le row asked.high) && (nat_le asked.left column && nat_le column asked.right)
+abbrev pub is_in_block : Cells → ℕ → ℕ → Bool
+is_in_block asked row column = (nat_le asked.low row && nat_le row asked.high) && (nat_le asked.left column && nat_le column asked.right)
 
 -- the entry lies in the asked cells
 abbrev pub inside : Cells → Entry → Bool
-inside asked e = is_asked asked e.row e.column
+inside asked e = is_in_block asked e.row e.column
 
 -- the cell is the first one, by rows, that the shape's own cells and the asked ones share
 abbrev pub is_first : Cells → Cells → ℕ → ℕ → Bool

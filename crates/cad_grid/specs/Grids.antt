@@ -2,8 +2,8 @@
 use Rattle.std.specs.Prelude.{ℕ, List, length, map, get_or, filter, Option, None}
 use Rattle.std.specs.List.{range_with_len}
 use Rattle.cad_feature.specs.Features.{Item}
-use Rattle.cad_cells.specs.Blocks.{Block}
-use Rattle.cad_cells.specs.Near.{is_candidate, block_at_place}
+use Rattle.cad_grid.specs.Blocks.{Block}
+use Rattle.cad_grid.specs.Near.{is_candidate, block_at_place}
 
 -- the cells of each feature's property at that place
 abbrev pub blocks_at : ℕ → List Item → List (Option Block)

@@ -1,13 +1,13 @@
 //! Shapes entered in their cells.
 
 ghost use Rattle.std.specs.Prelude.{◌≡◌, ℕ, ◌+◌, ◌-◌, Bool, IfOk, option_map};
-ghost use Rattle.cad_cells.specs.Counted.{block_at};
-ghost use Rattle.cad_cells.specs.Near.{block_at_place};
+ghost use Rattle.cad_grid.specs.Counted.{block_at};
+ghost use Rattle.cad_grid.specs.Near.{block_at_place};
 ghost use Rattle.cad_positions.specs.Hits.{hits, once};
 ghost use Rattle.cad_grid.specs.Entries.{entered, for_position, in_all, in_row, small_tally, is_wide_at};
 
 use crate::entry::Entry;
-use cad_cells::{Cells, bounds_of};
+use crate::{Cells, bounds_of};
 use cad_feature::Feature;
 use std::alloc::AllocError;
 

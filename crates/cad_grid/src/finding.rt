@@ -3,9 +3,9 @@
 ghost use Rattle.std.specs.Prelude.{◌≡◌, ◌+◌, IfOk, None, filter, get_or, length};
 ghost use Rattle.cad_grid.specs.Entries.{Ascends, counts, found_in, is_first_at};
 
+use crate::Cells;
 use crate::entry::Entry;
 use crate::walking::next_inside;
-use cad_cells::Cells;
 use std::alloc::{AllocError, Global};
 
 // Whether the entry stands in the first cell, by rows, that its shape's cells and the asked ones share.

@@ -2,11 +2,11 @@
 
 ghost use Rattle.std.specs.Prelude.{◌≡◌};
 
+use crate::Cells;
 use crate::entering::{cells_at, enter_shape};
 use crate::entry::Entry;
 use crate::finding::{count_found, list_found};
 use crate::passing::{count_passing, list_passing};
-use cad_cells::Cells;
 use cad_feature::Feature;
 use cad_shape::Bounds;
 use std::alloc::{AllocError, Global};
@@ -22,8 +22,8 @@ pub struct Grid {
 
 impl Model for Grid {
     ghost use Rattle.std.specs.Prelude.{List, Option, map, option_map};
-    ghost use Rattle.cad_cells.specs.Blocks.{Block};
-    ghost use Rattle.cad_cells.specs.Counted.{block_at};
+    ghost use Rattle.cad_grid.specs.Blocks.{Block};
+    ghost use Rattle.cad_grid.specs.Counted.{block_at};
     ghost use Rattle.cad_grid.specs.Entries.{IsGrid};
 
     ghost Value = { List (Option Block) };
@@ -35,7 +35,7 @@ impl Model for Grid {
 
 impl Grid {
     ghost use Rattle.std.specs.Prelude.{◌≡◌, ◌≤◌, IfOk, length};
-    ghost use Rattle.cad_cells.specs.Blocks.{block_of};
+    ghost use Rattle.cad_grid.specs.Blocks.{block_of};
     ghost use Rattle.cad_grid.specs.Grids.{blocks_at, near_positions};
 
     /// The grid of the features' property at that place. An error is want of memory.

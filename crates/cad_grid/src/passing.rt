@@ -1,11 +1,11 @@
 //! The positions that a look at every shape's cells finds.
 
 ghost use Rattle.std.specs.Prelude.{◌≡◌, ◌≤◌, IfOk, length, map, option_map};
-ghost use Rattle.cad_cells.specs.Counted.{block_at};
-ghost use Rattle.cad_cells.specs.Near.{is_candidate};
+ghost use Rattle.cad_grid.specs.Counted.{block_at};
+ghost use Rattle.cad_grid.specs.Near.{is_candidate};
 ghost use Rattle.cad_grid.specs.Grids.{near_positions};
 
-use cad_cells::Cells;
+use crate::Cells;
 use std::alloc::{AllocError, Global};
 
 fn is_near(cells: Option<Cells>, asked: Cells) -> bool

@@ -3,8 +3,8 @@
 ghost use Rattle.std.specs.Prelude.{◌≡◌, ◌↔◌, ℕ, ◌≤◌, ◌<◌, true, false, length, IsTrue};
 ghost use Rattle.cad_grid.specs.Entries.{Ascends, IsBefore, entry_at, inside};
 
+use crate::Cells;
 use crate::entry::Entry;
-use cad_cells::Cells;
 
 fn is_before(entry: Entry, row: u32, column: u32) -> bool
     ensures { IsTrue result ↔ IsBefore row column entry }

@@ -1,8 +1,9 @@
-//! What the definitions of heads, fronts and requests say together. Nothing runs here.
+//! What the definitions of heads, fronts, requests and replies say together. Nothing runs here.
 
 ghost use Rattle.cad_head.specs.Heads.{HaveOneHead, HeadsStay};
 ghost use Rattle.cad_head.specs.Front.{HeadsExcludeAll};
 ghost use Rattle.cad_head.specs.Laws.{MembersHoldNoComma, MembersMakeTheValue, OldVersionsClose};
+ghost use Rattle.cad_head.specs.ReplyLaws.{RepliesAreUnambiguous};
 
 /// Bytes begin with one head at most, and with one rest after it.
 pub fn bytes_have_one_head()
@@ -32,4 +33,10 @@ pub fn members_make_the_value()
 /// A request of HTTP/1.0 closes its connection, whatever its fields are.
 pub fn old_versions_close()
     ensures { OldVersionsClose }
+{}
+
+/// Bytes that begin with a reply begin with one reply alone: its status, its body and what follows them are
+/// determined, since the length that it tells is its body's.
+pub fn replies_are_unambiguous()
+    ensures { RepliesAreUnambiguous }
 {}

@@ -5,8 +5,8 @@ use Rattle.cad_versions.specs.declared.ledger.Ledger.{Ghosts}
 use Rattle.cad_desk.specs.declared.desk.Desk.{Desk as ResponderDesk}
 use Rattle.cad_desk.specs.Connections.{rest_at}
 use Rattle.cad_desk.specs.Desks.{responder_of, connections_of}
-use Rattle.cad_responder.specs.declared.server.Server.{Server}
-use Rattle.cad_responder.specs.Servers.{ledger_of, IsServerOf}
+use Rattle.cad_server.specs.declared.server.Server.{Server}
+use Rattle.cad_server.specs.Servers.{ledger_of, IsServerOf}
 use Rattle.cad_http.specs.declared.desk.Desk.{Desk}
 
 -- the connections, with the server that answers them

@@ -1,7 +1,7 @@
 //! A desk over a register.
 
 use cad_desk::{DeskFault, Event, Reply};
-use cad_responder::Server;
+use cad_server::Server;
 use cad_stream::Responder;
 use cad_versions::Ledger;
 use std::alloc::Global;

@@ -15,8 +15,8 @@ use Rattle.cad_feature.specs.declared.range.Edge.{Edge}
 use Rattle.cad_feature.specs.declared.range.Edge.TheVariants as edge
 use Rattle.cad_feature.specs.declared.range.Scalar.{Scalar}
 use Rattle.cad_feature.specs.declared.range.Scalar.TheVariants as scalar
-use Rattle.cad_cells.specs.Blocks.{Block}
-use Rattle.cad_cells.specs.Near.{block_in, block_at_place, is_candidate}
+use Rattle.cad_grid.specs.Blocks.{Block}
+use Rattle.cad_grid.specs.Near.{block_in, block_at_place, is_candidate}
 use Rattle.cad_grid.specs.Grids.{blocks_at, near_positions}
 use Rattle.cad_range.specs.Ranges.{compared, has_order, is_above, is_under, lies_between}
 use Rattle.cad_ordered.specs.Columns.{Column}
@@ -25,7 +25,7 @@ use Rattle.cad_ordered.specs.Ranged.{column, range_positions, value_at}
 use Rattle.cad_index.specs.declared.index.Index.TheVariants.{Unindexed}
 use Rattle.cad_index.specs.declared.indexes.Indexes.{Indexes}
 use Rattle.cad_index.specs.Indexed.{index_of, indexes_from, indexes_of, index_at, ordered_in, grid_in, AreIndexesOf}
-use Rattle.cad_positions.specs.KeptLemmas.{none_kept}
+use Rattle.cad_positions.specs.lemmas.PositionSetLemmas.{none_kept}
 
 -- ---- the values of a property, by its index
 

@@ -6,7 +6,7 @@ use Rattle.cad_schema.specs.declared.property.PropertyKind.TheVariants as kind
 use Rattle.cad_feature.specs.Features.{Item}
 use Rattle.cad_schema.specs.Attributes.{Named}
 use Rattle.cad_schema.specs.Schema.{schema_of}
-use Rattle.cad_cells.specs.Blocks.{Block}
+use Rattle.cad_grid.specs.Blocks.{Block}
 use Rattle.cad_grid.specs.Grids.{blocks_at}
 use Rattle.cad_ordered.specs.Columns.{Column}
 use Rattle.cad_ordered.specs.Ranged.{column}

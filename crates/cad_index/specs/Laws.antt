@@ -5,8 +5,8 @@ use Rattle.cad_feature.specs.Features.{Item, datum_at}
 use Rattle.cad_feature.specs.Limits.{Limit}
 use Rattle.cad_schema.specs.Attributes.{Named}
 use Rattle.cad_schema.specs.Schema.{schema_of}
-use Rattle.cad_cells.specs.Blocks.{Block}
-use Rattle.cad_cells.specs.Near.{is_near}
+use Rattle.cad_grid.specs.Blocks.{Block}
+use Rattle.cad_grid.specs.Near.{is_near}
 use Rattle.cad_grid.specs.Grids.{blocks_at, near_positions}
 use Rattle.cad_ordered.specs.Ranged.{column, range_positions}
 use Rattle.cad_range.specs.Ranges.{lies_between}

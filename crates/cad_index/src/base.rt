@@ -35,8 +35,8 @@ impl Model for Base {
 
 impl Base {
     ghost use Rattle.std.specs.Prelude.{◌≡◌, ◌≤◌, IfOk, filter, length};
-    ghost use Rattle.cad_cells.specs.Blocks.{block_of};
-    ghost use Rattle.cad_cells.specs.Near.{is_near};
+    ghost use Rattle.cad_grid.specs.Blocks.{block_of};
+    ghost use Rattle.cad_grid.specs.Near.{is_near};
     ghost use Rattle.cad_feature.specs.Features.{AreFeaturesOf};
     ghost use Rattle.cad_range.specs.Ranges.{lies_in};
     ghost use Rattle.cad_index.specs.Indexed.{AreIndexesOf};

@@ -55,7 +55,7 @@ impl Indexes {
     ghost use Rattle.cad_schema.specs.declared.collection.Collection.{Collection as CollectionOf};
     ghost use Rattle.cad_feature.specs.Features.{Item, AreFeaturesOf};
     ghost use Rattle.cad_feature.specs.Limits.{limit_of};
-    ghost use Rattle.cad_cells.specs.Blocks.{block_of};
+    ghost use Rattle.cad_grid.specs.Blocks.{block_of};
     ghost use Rattle.cad_grid.specs.Grids.{blocks_at, near_positions};
     ghost use Rattle.cad_ordered.specs.Ranged.{column, range_positions};
     ghost use Rattle.cad_index.specs.Indexed.{AreIndexesOf, positions_if_any};

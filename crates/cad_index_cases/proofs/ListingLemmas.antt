@@ -7,8 +7,8 @@ use Rattle.cad_versions.specs.Identifiers.{by_identifier}
 use Rattle.cad_versions.specs.Listing.{IsListing}
 use Rattle.cad_versions.specs.Objects.{object_number}
 use Rattle.cad_versions.specs.VersionedObject.{VersionedObject, IsVersion}
-use Rattle.cad_versions.specs.ListLemmas.{sorted_push}
-use Rattle.cad_versions.specs.OrderLemmas.{cmp_less}
+use Rattle.cad_versions.specs.lemmas.ListLemmas.{sorted_push}
+use Rattle.cad_versions.specs.lemmas.OrderLemmas.{cmp_less}
 
 comes_before : (n : ℕ) (v x : VersionedObject) → object_number v.object ≡ n + 1 → object_number x.object ≤ n → by_identifier x v ≡ Less
 comes_before n v x e h = rw (cmp_less (object_number x.object) (object_number v.object) (omega arith)) refl

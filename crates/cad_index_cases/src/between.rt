@@ -1,9 +1,9 @@
 //! What the extents of features tell.
 
 use crate::values::{bounds, edge};
-use cad_cells::Cells;
 use cad_extents::Extents;
 use cad_feature::{Feature, Range};
+use cad_grid::Cells;
 use cad_schema::{Collection, PropertyKind, schema};
 use std::alloc::{AllocError, Global};
 

@@ -73,17 +73,6 @@ fn near_answer(alloc: Global, grid: &Grid, asked: &str) -> Result<Option<String>
     Ok(Some(near_line(alloc, &near, grid.count(bounds))?))
 }
 
-// The positions that the walk stops at.
-fn walked(alloc: Global, range: &Found, count: u32) -> Result<Vec<u32>, AllocError> {
-    let mut walked = Vec::new(alloc);
-    for position in 0..count {
-        if range.first_from(position) == Some(position) {
-            walked.push(position)?;
-        }
-    }
-    Ok(walked)
-}
-
 // The positions whose rank says that they are in the range.
 fn held(alloc: Global, range: &Found, count: u32) -> Result<Vec<u32>, AllocError> {
     let mut held = Vec::new(alloc);
@@ -95,7 +84,7 @@ fn held(alloc: Global, range: &Found, count: u32) -> Result<Vec<u32>, AllocError
     Ok(held)
 }
 
-/// The positions of the range as they are listed, walked and tested.
+/// The positions of the range as they are listed and tested.
 fn put_found(
     alloc: Global,
     answer: &mut String,
@@ -105,9 +94,6 @@ fn put_found(
     let list = range.list(alloc)?;
     put_positions(answer, "range", &list)?;
     drop(list);
-    let walked = walked(alloc, range, features)?;
-    put_positions(answer, " walked", &walked)?;
-    drop(walked);
     let held = held(alloc, range, features)?;
     put_positions(answer, " held", &held)
 }

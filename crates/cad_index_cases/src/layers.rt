@@ -7,7 +7,7 @@ use crate::cases::parcels;
 use crate::parcels::features;
 use anyhow::Result;
 use cad_feature::{Feature, Value};
-use cad_merged::Layer;
+use cad_layer::Layer;
 use cad_schema::{Collection, find_property};
 use std::alloc::{AllocError, Global};
 

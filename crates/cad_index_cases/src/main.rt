@@ -2,8 +2,8 @@
 //!
 //! - `PROPERTY VALUE VALUE .. ? X,Y,X,Y`, of a property with a grid: the positions near the box, their number, and whether the extents of
 //!   the values tell that there are none (`none`, or `may be`)
-//! - `PROPERTY VALUE VALUE .. ? LOW HIGH`, of a property with an order: the positions in the range as they are listed, as
-//!   they are walked and as they are tested by their ranks, their number, and what the extents tell
+//! - `PROPERTY VALUE VALUE .. ? LOW HIGH`, of a property with an order: the positions in the range as they are listed and as
+//!   they are tested by their ranks, their number, and what the extents tell
 //! - `layer LABEL LABEL .. ? SIZE TIMES MOST LABEL LABEL ..`: the labels of parcels in segments of that size, into which those with the
 //!   labels behind are merged so many times (a `/` parts the labels of several lists, which are merged in one after the other), how many
 //!   they are and in how many segments, whether new bases are due at the most changes that are named (`settled` or `due`), and what was

@@ -1,5 +1,6 @@
+pub mod Decimals
 pub mod Writing
-pub mod WritingLemmas
 pub mod Known
 pub mod Counting
 pub mod Pieces
+pub mod lemmas

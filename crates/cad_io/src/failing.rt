@@ -6,7 +6,7 @@ ghost use Rattle.std.specs.Io.KnownBytes.{WriteAppends};
 ghost use Rattle.cad_io.specs.Counting.{CountsFailure, is_failure};
 ghost use Rattle.cad_io.specs.Writing.{IsWritten};
 
-use crate::pieces::after;
+use crate::pieces::rest_from;
 use crate::writing::WriteFailed;
 use std::io::{Result, Write};
 
@@ -80,7 +80,7 @@ pub fn write_counted<W: CountedWrite>(
 {
     let mut done = 0;
     while done < bytes.len() {
-        match writer.write_once(after(bytes, done)) {
+        match writer.write_once(rest_from(bytes, done)) {
             Ok(0) => return Err(WriteFailed),
             Ok(count) => done += count,
             Err(_) => return Err(WriteFailed),

@@ -6,7 +6,7 @@ ghost use Rattle.std.specs.Prelude.{◌≡◌, ◌≤◌, drop, length};
 pub const PIECE_LEN: usize = 4096;
 
 /// What follows so many bytes.
-pub fn after(bytes: &[u8], count: usize) -> &[u8]
+pub fn rest_from(bytes: &[u8], count: usize) -> &[u8]
     requires { count ≤ length bytes.now }
     ensures { result.now ≡ drop count bytes.now }
 {

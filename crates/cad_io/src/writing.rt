@@ -2,7 +2,7 @@
 
 ghost use Rattle.cad_io.specs.Writing.{IsWritten};
 
-use crate::pieces::after;
+use crate::pieces::rest_from;
 use std::io::Write;
 
 /// A write failed, or took nothing.
@@ -15,7 +15,7 @@ pub fn write_whole<W: Write>(writer: &mut W, bytes: &[u8]) -> Result<(), WriteFa
 {
     let mut done = 0;
     while done < bytes.len() {
-        match writer.write(after(bytes, done)) {
+        match writer.write(rest_from(bytes, done)) {
             Ok(0) | Err(_) => return Err(WriteFailed),
             Ok(count) => done += count,
         }

@@ -5,8 +5,8 @@ use Rattle.std.proofs.Common.{◌∙◌, ap, refl, sym}
 use Rattle.std.proofs.lemmas.List.Folds.{list_all-map}
 use Rattle.std.specs.declared.alloc.Global.{Global}
 use Rattle.cad_shape.specs.declared.boxes.Bounds.{Bounds}
-use Rattle.cad_cells.specs.Blocks.{block_of}
-use Rattle.cad_cells.specs.Near.{is_near}
+use Rattle.cad_grid.specs.Blocks.{block_of}
+use Rattle.cad_grid.specs.Near.{is_near}
 use Rattle.cad_feature.specs.Features.{Item}
 use Rattle.cad_feature.specs.declared.range.Range.{Range}
 use Rattle.cad_range.specs.Ranges.{lies_in}

@@ -4,8 +4,8 @@ use Rattle.std.specs.List.{list_all, list_any}
 use Rattle.std.proofs.Common.{◌∙◌, ap, ap₂, refl, sym, subst, suc, if◌then◌else◌}
 use Rattle.std.specs.declared.alloc.Global.{Global}
 use Rattle.cad_shape.specs.declared.boxes.Bounds.{Bounds}
-use Rattle.cad_cells.specs.Blocks.{Block, block_of}
-use Rattle.cad_cells.specs.Near.{is_near}
+use Rattle.cad_grid.specs.Blocks.{Block, block_of}
+use Rattle.cad_grid.specs.Near.{is_near}
 use Rattle.cad_feature.specs.Features.{Item}
 use Rattle.cad_feature.specs.Limits.{Limit}
 use Rattle.cad_feature.specs.declared.range.Range.{Range}

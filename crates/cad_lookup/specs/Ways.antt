@@ -1,7 +1,7 @@
 -- Plans without where they lie in memory: their candidates, and what it costs to look at these (own profile).
 use Rattle.std.specs.Prelude.{ℕ, suc, ◌+◌, min, Bool, true, false, ◌&&◌, ◌||◌, if◌then◌else◌, List, [], ◌∷◌, length}
-use Rattle.cad_cells.specs.Blocks.{Block, block_of}
-use Rattle.cad_cells.specs.Near.{is_near}
+use Rattle.cad_grid.specs.Blocks.{Block, block_of}
+use Rattle.cad_grid.specs.Near.{is_near}
 use Rattle.cad_feature.specs.Features.{Item, datum_at}
 use Rattle.cad_feature.specs.Limits.{Limit, limit_of}
 use Rattle.cad_feature.specs.declared.range.Range.{Range}

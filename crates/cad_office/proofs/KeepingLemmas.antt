@@ -9,7 +9,7 @@ use Rattle.cad_office.specs.declared.fault.OfficeFault.TheVariants.{Read, Write,
 use Rattle.cad_office.specs.declared.line.Line.{Line}
 use Rattle.cad_office.specs.declared.print.Answer.{Answer}
 use Rattle.cad_office.specs.Lines.{lines_in, lines_ended, line_begun, BuffersLine}
-use Rattle.cad_office.specs.Keeping.{AnswersLines, AreAnswered, AreWhole, IsKept, IsOfReads, IsPaced, most_reads, EndIn, IsPiece}
+use Rattle.cad_office.specs.Keeping.{AnswersLines, AreAnswered, AreWhole, LinesAreAnswered, IsOfReads, IsPaced, most_reads, EndIn, IsPiece}
 use Rattle.cad_io.specs.Known.{Writes, ReadsAndWrites}
 use Rattle.cad_io.specs.Pieces.{piece_len}
 use Rattle.cad_office.proofs.LineLemmas.{lines_ended-lf}
@@ -66,7 +66,7 @@ consumes_none i j k read piece none s r =
     let same : read ++ piece ≡ read = ap (λ (m : List ℕ). read ++ m) none ∙ append-nil read in
     rw same at (Consumes-trans i j k read piece s r)
 
-stopped : (Q : List (List ℕ) → List Answer → Type 0) (AtEnd : Type 0) (last : Line) (f : OfficeFault) (piece read written : List ℕ) → IsPiece Q [] (Err f) last piece written → ((lines : List (List ℕ)) → EndIn [] piece lines → AreWhole AtEnd read lines) → IsKept Q AtEnd (Err f) read written
+stopped : (Q : List (List ℕ) → List Answer → Type 0) (AtEnd : Type 0) (last : Line) (f : OfficeFault) (piece read written : List ℕ) → IsPiece Q [] (Err f) last piece written → ((lines : List (List ℕ)) → EndIn [] piece lines → AreWhole AtEnd read lines) → LinesAreAnswered Q AtEnd (Err f) read written
 stopped Q AtEnd last Read piece read written t whole = absurd t
 stopped Q AtEnd last TurnsSpent piece read written t whole = absurd t
 stopped Q AtEnd last Register piece read written t whole = (t.0, whole t.0 t.1, t.2)
@@ -82,12 +82,12 @@ all_answered Q line x read written s =
     (s.2.0, (s.2.1.0, s.2.1.1, rw (all_ended read s.0 s.1) at s.2.1.2))
 
 pub kept_read_failed : (Q : List (List ℕ) → List Answer → Type 0) (AtEnd : Type 0) (n : ℕ) (i j k u v : Option (List ℕ)) (line : Line) (x : Bool) → n ≤ most_reads → ReadsAndWrites i j u v (λ read written. IsPiece Q [] (Ok x) line read written × IsOfReads n read) → Keeps j k
-    → ReadsAndWrites i k u v (λ read written. IsKept Q AtEnd (Err Read) read written × IsPaced (Err Read) read)
+    → ReadsAndWrites i k u v (λ read written. LinesAreAnswered Q AtEnd (Err Read) read written × IsPaced (Err Read) read)
 kept_read_failed Q AtEnd n i j k u v line x within s h =
     (s.0, s.1, consumes_none i j k s.0 [] refl s.2 (kept_keeps j k h), s.3, (all_answered Q line x s.0 s.1 s.4.0, paced (Err Read) n s.0 within (λ e. cc) s.4.1))
 
 pub kept_turns_spent : (Q : List (List ℕ) → List Answer → Type 0) (AtEnd : Type 0) (n : ℕ) (i j u v : Option (List ℕ)) (line : Line) (x : Bool) → n ≡ most_reads → ReadsAndWrites i j u v (λ read written. IsPiece Q [] (Ok x) line read written × IsOfReads n read)
-    → ReadsAndWrites i j u v (λ read written. IsKept Q AtEnd (Err TurnsSpent) read written × IsPaced (Err TurnsSpent) read)
+    → ReadsAndWrites i j u v (λ read written. LinesAreAnswered Q AtEnd (Err TurnsSpent) read written × IsPaced (Err TurnsSpent) read)
 kept_turns_spent Q AtEnd n i j u v line x all s =
     (s.0, s.1, s.2, s.3, (all_answered Q line x s.0 s.1 s.4.0, record { bounded = omega (arith, all, s.4.1.each_short); spent = λ e. omega (arith, all, s.4.1.each_gave) }))
 
@@ -100,7 +100,7 @@ module _ {B : Type 0} (applies : B → Command → Result ℕ RegisterFault → 
 
   -- the end of the input
   pub kept_all : (a b c : B) (AtEnd : Type 0) (n : ℕ) (i j k u v w : Option (List ℕ)) (mid last : Line) (x y : Bool) (piece : List ℕ) → n ≤ most_reads → piece ≡ [] → ReadsAndWrites i j u v (λ read written. IsPiece (AnswersLines applies a b) [] (Ok x) mid read written × IsOfReads n read) → Consumes j k piece
-      → ((earlier : List ℕ) → BuffersLine (line_begun earlier) mid → Writes v w (IsPiece (AnswersLines applies b c) earlier (Ok y) last (10 ∷ []))) → ReadsAndWrites i k u w (λ read written. IsKept (AnswersLines applies a c) AtEnd (Ok (x && y)) read written × IsPaced (Ok (x && y)) read)
+      → ((earlier : List ℕ) → BuffersLine (line_begun earlier) mid → Writes v w (IsPiece (AnswersLines applies b c) earlier (Ok y) last (10 ∷ []))) → ReadsAndWrites i k u w (λ read written. LinesAreAnswered (AnswersLines applies a c) AtEnd (Ok (x && y)) read written × IsPaced (Ok (x && y)) read)
   kept_all a b c AtEnd n i j k u v w mid last x y piece within none s r next =
       let t = next s.0 s.4.0.3 in
       let done = pieces_more applies a b c [] mid last s.0 (10 ∷ []) s.1 t.0 x y s.4.0 t.2 in
@@ -108,7 +108,7 @@ module _ {B : Type 0} (applies : B → Command → Result ℕ RegisterFault → 
       (s.0, s.1 ++ t.0, consumes_none i j k s.0 piece none s.2 r, Appends-trans u v w s.1 t.0 s.3 t.1, ((done.2.0, (done.2.1.0, done.2.1.1, rw lines at done.2.1.2), done.2.2), paced (Ok (x && y)) n s.0 within (λ e. cc) s.4.1))
 
   pub kept_last_failed : (a b c : B) (AtEnd : Type 0) (n : ℕ) (i j k u v w : Option (List ℕ)) (mid last : Line) (x : Bool) (piece : List ℕ) (f : OfficeFault) → n ≤ most_reads → piece ≡ [] → AtEnd → ReadsAndWrites i j u v (λ read written. IsPiece (AnswersLines applies a b) [] (Ok x) mid read written × IsOfReads n read) → Consumes j k piece
-      → ((earlier : List ℕ) → BuffersLine (line_begun earlier) mid → Writes v w (IsPiece (AnswersLines applies b c) earlier (Err f) last (10 ∷ []))) → ReadsAndWrites i k u w (λ read written. IsKept (AnswersLines applies a c) AtEnd (Err f) read written × IsPaced (Err f) read)
+      → ((earlier : List ℕ) → BuffersLine (line_begun earlier) mid → Writes v w (IsPiece (AnswersLines applies b c) earlier (Err f) last (10 ∷ []))) → ReadsAndWrites i k u w (λ read written. LinesAreAnswered (AnswersLines applies a c) AtEnd (Err f) read written × IsPaced (Err f) read)
   kept_last_failed a b c AtEnd n i j k u v w mid last x piece f within none end s r next =
       let t = next s.0 s.4.0.3 in
       let done = pieces_failed applies a b c [] mid last s.0 (10 ∷ []) s.1 t.0 x f s.4.0 t.2 in (
@@ -120,7 +120,7 @@ module _ {B : Type 0} (applies : B → Command → Result ℕ RegisterFault → 
       )
 
   pub kept_failed : (a b c : B) (AtEnd : Type 0) (n : ℕ) (i j k u v w : Option (List ℕ)) (mid last : Line) (x : Bool) (piece : List ℕ) (f : OfficeFault) → n + 1 ≤ most_reads → 0 < length piece → length piece ≤ piece_len → ReadsAndWrites i j u v (λ read written. IsPiece (AnswersLines applies a b) [] (Ok x) mid read written × IsOfReads n read) → Consumes j k piece
-      → ((earlier : List ℕ) → BuffersLine (line_begun earlier) mid → Writes v w (IsPiece (AnswersLines applies b c) earlier (Err f) last piece)) → ReadsAndWrites i k u w (λ read written. IsKept (AnswersLines applies a c) AtEnd (Err f) read written × IsPaced (Err f) read)
+      → ((earlier : List ℕ) → BuffersLine (line_begun earlier) mid → Writes v w (IsPiece (AnswersLines applies b c) earlier (Err f) last piece)) → ReadsAndWrites i k u w (λ read written. LinesAreAnswered (AnswersLines applies a c) AtEnd (Err f) read written × IsPaced (Err f) read)
   kept_failed a b c AtEnd n i j k u v w mid last x piece f within some few s r next =
       let t = next s.0 s.4.0.3 in
       let done = pieces_failed applies a b c [] mid last s.0 piece s.1 t.0 x f s.4.0 t.2 in (

@@ -79,16 +79,16 @@ abbrev pub AreWhole : Type 0 → List ℕ → List (List ℕ) → Type 0
 AreWhole AtEnd read lines = (lines ≡ lines_ended read) ⊎ (AtEnd × (lines ≡ lines_in read))
 
 -- each line that was read whole has its answer, up to the one at which the work stopped
-abbrev pub IsKept : (List (List ℕ) → List Answer → Type 0) → Type 0 → Result Bool OfficeFault → List ℕ → List ℕ → Type 0
-IsKept InLedger AtEnd (Ok accepted) read written =
+abbrev pub LinesAreAnswered : (List (List ℕ) → List Answer → Type 0) → Type 0 → Result Bool OfficeFault → List ℕ → List ℕ → Type 0
+LinesAreAnswered InLedger AtEnd (Ok accepted) read written =
     (answers : List Answer) × AreAnswered InLedger (lines_in read) answers written × (accepted ≡ all_accepted answers)
-IsKept InLedger AtEnd (Err Read) read written =
+LinesAreAnswered InLedger AtEnd (Err Read) read written =
     (answers : List Answer) × AreAnswered InLedger (lines_ended read) answers written
-IsKept InLedger AtEnd (Err TurnsSpent) read written =
+LinesAreAnswered InLedger AtEnd (Err TurnsSpent) read written =
     (answers : List Answer) × AreAnswered InLedger (lines_ended read) answers written
-IsKept InLedger AtEnd (Err Register) read written =
+LinesAreAnswered InLedger AtEnd (Err Register) read written =
     (lines : List (List ℕ)) × AreWhole AtEnd read lines × EndsRefused InLedger lines written
-IsKept InLedger AtEnd (Err Write) read written =
+LinesAreAnswered InLedger AtEnd (Err Write) read written =
     (lines : List (List ℕ)) × AreWhole AtEnd read lines × EndsCut InLedger lines written
 
 -- the most reads

@@ -2,4 +2,4 @@ pub mod Answers
 pub mod Keeping
 pub mod Lines
 pub mod OfficeFaults
-pub mod BufferLemmas
+pub mod lemmas

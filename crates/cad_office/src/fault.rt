@@ -33,11 +33,11 @@ impl From<WriteFailed> for OfficeFault {
 
 impl OfficeFault {
     ghost use Rattle.std.specs.Prelude.{◌≡◌};
-    ghost use Rattle.cad_office.specs.OfficeFaults.{fault_told, fault_number, fault_name};
+    ghost use Rattle.cad_office.specs.OfficeFaults.{fault_number_and_name, fault_number, fault_name};
 
     /// The number and the name.
-    fn told(self) -> (u8, &'static str)
-        ensures { (result.0, result.1.now) ≡ fault_told self }
+    fn number_and_name(self) -> (u8, &'static str)
+        ensures { (result.0, result.1.now) ≡ fault_number_and_name self }
     {
         match self {
             OfficeFault::Read => (1, "Read"),
@@ -51,13 +51,13 @@ impl OfficeFault {
     pub fn number(&self) -> u8
         ensures { result ≡ fault_number self.now }
     {
-        self.told().0
+        self.number_and_name().0
     }
 
     /// The name that programs print.
     pub fn name(&self) -> &'static str
         ensures { result.now ≡ fault_name self.now }
     {
-        self.told().1
+        self.number_and_name().1
     }
 }

@@ -3,7 +3,7 @@
 ghost use Rattle.std.specs.Prelude.{◌≡◌, ◌↔◌, ℕ, List, ◌∷◌, [], Err, IsOk, IsTrue};
 ghost use Rattle.std.specs.Io.KnownBytes.{IsAtEnd};
 ghost use Rattle.cad_versions.specs.LedgerCalls.{Applies};
-ghost use Rattle.cad_office.specs.Keeping.{most_reads, AnswersLine, AnswersLines, Asks, IsKept, IsPaced, IsPiece};
+ghost use Rattle.cad_office.specs.Keeping.{most_reads, AnswersLine, AnswersLines, Asks, LinesAreAnswered, IsPaced, IsPiece};
 ghost use Rattle.cad_io.specs.Counting.{CountsReads};
 ghost use Rattle.cad_io.specs.Known.{ReadsAndWrites, Writes};
 ghost use Rattle.cad_office.specs.Lines.{line_begun, BuffersLine};
@@ -31,7 +31,7 @@ pub fn office<R: CountedRead, W: Write, L: Ledger>(
 ) -> Result<bool, OfficeFault>
     ensures kept { ReadsAndWrites (R.remaining reader.old) (R.remaining reader.new)
         (W.contents writer.old) (W.contents writer.new)
-        (λ read written. IsKept (AnswersLines (Applies L.Ledger) ledger.old ledger.new) (IsAtEnd (R.remaining reader.new)) result read written
+        (λ read written. LinesAreAnswered (AnswersLines (Applies L.Ledger) ledger.old ledger.new) (IsAtEnd (R.remaining reader.new)) result read written
         × IsPaced result read) }
     ensures all { IsOk result → IsAtEnd (R.remaining reader.new) }
     ensures counted { CountsReads most_reads (result ≡ Err OfficeFault.TurnsSpent) (R.reads reader.old) (R.reads reader.new) }

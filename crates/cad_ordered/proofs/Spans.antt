@@ -22,7 +22,7 @@ use Rattle.cad_feature.specs.declared.range.Scalar.TheVariants as scalar
 use Rattle.cad_ordered.specs.declared.keys.Keys.{Keys}
 use Rattle.cad_ordered.specs.declared.keys.Keys.TheVariants as keys
 use Rattle.std.specs.Rc.{rc_value}
-use Rattle.cad_positions.specs.KeptLemmas.{same_from}
+use Rattle.cad_positions.specs.lemmas.PositionSetLemmas.{same_from}
 
 at_place : {X : Type 0} (f : X → Datum) (P : Datum → Type 0) → ((x : X) → P (f x)) → (xs : List X) (i : ℕ) → i < length (map f xs) → P (get_or (map f xs) i null)
 at_place f P h [] i l = absurd (omega arith)

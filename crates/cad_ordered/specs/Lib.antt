@@ -3,5 +3,5 @@ pub mod Ranged
 pub mod Columns
 pub mod Indexed
 pub mod Fronts
-pub mod FrontLemmas
 pub mod TextKeys
+pub mod lemmas

@@ -8,7 +8,7 @@ use Rattle.cql_text.specs.CodePoints.{bytes_cmp}
 use Rattle.cad_feature.specs.Values.{a_text}
 use Rattle.cad_range.specs.Ranges.{compared}
 use Rattle.cad_ordered.specs.Fronts.{front_of}
-use Rattle.cad_ordered.specs.FrontLemmas.{fronts_first}
+use Rattle.cad_ordered.specs.lemmas.FrontLemmas.{fronts_first}
 use Rattle.cad_ordered.specs.declared.text_key.TextKey.{TextKey}
 
 pub text_keys : (x y : TextKey) → compared (a_text (chars (string_bytes x.text.value))) (a_text (chars (string_bytes y.text.value))) ≡ Some (ordering_then (nat_cmp x.front y.front) (ordering_then (nat_cmp x.second y.second) (slice_cmp nat_cmp (string_bytes x.text.value) (string_bytes y.text.value))))

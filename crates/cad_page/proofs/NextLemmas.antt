@@ -6,23 +6,23 @@ use Rattle.std.proofs.lemmas.List.Elements.{All-take, All-filter}
 use Rattle.std.proofs.lemmas.Option.{slice_get_within, get_or_from_slice_get}
 use Rattle.cad_schema.specs.declared.collection.Collection.{Collection}
 use Rattle.cad_feature.specs.Features.{Item}
-use Rattle.cad_bodies.specs.Paths.{items_path}
-use Rattle.cad_query.specs.Identifiers.{Numbers, IsVersionNumber, Identifies, identifier_text}
-use Rattle.cad_query.specs.Laws.{IsPairOfTexts, PairsAreTexts, NextIsReadBack, AsksToGoOn, path_of, asked_pairs}
-use Rattle.cad_query.specs.Links.{continued}
-use Rattle.cad_query.specs.Pairs.{PairText, pair_text}
-use Rattle.cad_query.specs.Pairs as queries
+use Rattle.cad_json.specs.Paths.{items_path}
+use Rattle.cad_parameters.specs.Identifiers.{Numbers, IsVersionNumber, Identifies, identifier_text}
+use Rattle.cad_parameters.specs.Laws.{IsPairOfTexts, PairsAreTexts, NextIsReadBack, AsksToGoOn, path_of, target_pairs}
+use Rattle.cad_parameters.specs.Links.{continued}
+use Rattle.cad_parameters.specs.Pairs.{PairText, pair_text}
+use Rattle.cad_parameters.specs.Pairs as queries
 use Rattle.cad_ask.specs.declared.ask.Ask.{Ask}
 use Rattle.cad_ask.specs.Answers.{IsFilterGiven, IsAsk, AsksWell}
 use Rattle.cad_ask.specs.Laws.{AskTheSame, NextAsksTheSame, PairsAskOneThing}
-use Rattle.cad_ask.specs.AnswerLemmas.{asks_well}
+use Rattle.cad_ask.specs.lemmas.AnswerLemmas.{asks_well}
 use Rattle.cad_snapshot.specs.Snapshots.{RevisionFeatures, features_at}
 use Rattle.cad_answer.specs.Answers.{answers}
 use Rattle.cad_run.specs.Slices.{is_later, later}
 use Rattle.cad_page.specs.Bodies.{numbers_of, pairs_of, target_after, next_in}
 use Rattle.cad_page.specs.Laws.{GoesOn, IsReadAgain, NextIsReadAgain}
 use Rattle.cad_page.specs.Pages.{restrictions, beginning, answer_in, rows_in, is_more_in}
-use Rattle.cad_page.specs.PathLemmas.{is_path}
+use Rattle.cad_page.specs.lemmas.PathLemmas.{is_path}
 
 -- ---- the link of a page
 
@@ -106,7 +106,7 @@ module _ (one : PairsAskOneThing) (same : NextAsksTheSame) (texts : PairsAreText
       let identifies = last_identifies ask snapshot (length (rows_in ask snapshot) - 1) link.last numbered link.stands in
       let read = back (items_path c) (pairs_of ask) snapshot.revision last (is_path c) are small identifies in
       let goes = same c (pairs_of ask) snapshot.revision last small identifies (asks_well c (pairs_of ask) ask is) in
-      let pairs : asked_pairs target ≡ continued snapshot.revision last (pairs_of ask) = ap asked_pairs link.target_is ∙ read.1 in
+      let pairs : target_pairs target ≡ continued snapshot.revision last (pairs_of ask) = ap target_pairs link.target_is ∙ read.1 in
       record {
         more = link.more;
         last = link.last;
@@ -114,7 +114,7 @@ module _ (one : PairsAskOneThing) (same : NextAsksTheSame) (texts : PairsAreText
         path_is = ap path_of link.target_is ∙ read.0;
         well = subst (AsksWell c) (sym pairs) goes.0;
         goes_on = λ again is_again.
-            goes_on one c (pairs_of ask) (asked_pairs target) snapshot.revision link.last ask again is is_again
+            goes_on one c (pairs_of ask) (target_pairs target) snapshot.revision link.last ask again is is_again
             (subst (AsksToGoOn (pairs_of ask) snapshot.revision last) (sym pairs) goes.1);
       }
 

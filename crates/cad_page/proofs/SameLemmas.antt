@@ -5,20 +5,20 @@ use Rattle.std.specs.List.{filter}
 use Rattle.serde_json.specs.Data.{Data, number, unsigned, string, array, object, item, no_members, member}
 use Rattle.cad_schema.specs.declared.collection.Collection.{Collection}
 use Rattle.cad_feature.specs.Features.{Item}
-use Rattle.cad_feature_json.specs.Tree.{features_data}
+use Rattle.cad_json.specs.Tree.{features_data}
 use Rattle.cql_types.specs.Conditions.{condition_in}
 use Rattle.cql_types.specs.declared.filter.Filter.{Filter}
-use Rattle.cql_truth.specs.Laws.{FiltersOfOneConditionAgree}
-use Rattle.cad_bodies.specs.Links.{link_data}
-use Rattle.cad_bodies.specs.Paths.{items_path}
+use Rattle.cql_meaning.specs.Laws.{FiltersOfOneConditionAgree}
+use Rattle.cad_json.specs.Links.{link_data}
+use Rattle.cad_json.specs.Paths.{items_path}
 use Rattle.cad_versions.specs.declared.identifier.Identifier.{Identifier}
-use Rattle.cad_query.specs.Identifiers.{numbers_of as numbers_named}
-use Rattle.cad_query.specs.Links.{self_target, next_target}
-use Rattle.cad_query.specs.Pairs.{PairText}
+use Rattle.cad_parameters.specs.Identifiers.{numbers_of as numbers_named}
+use Rattle.cad_parameters.specs.Links.{self_target, next_target}
+use Rattle.cad_parameters.specs.Pairs.{PairText}
 use Rattle.cad_ask.specs.declared.ask.Ask.{Ask}
 use Rattle.cad_ask.specs.Laws.{AskTheSame}
 use Rattle.cad_snapshot.specs.Snapshots.{RevisionFeatures, features_at}
-use Rattle.cad_answer.specs.Answers.{Restrictions, if_asked, meets_days, meets_bounds, is_true_of, answers, answer}
+use Rattle.cad_answer.specs.Answers.{Restrictions, if_given, meets_days, meets_bounds, is_true_of, answers, answer}
 use Rattle.cad_answer.specs.Places.{lifespan_of, geometry_of}
 use Rattle.cad_run.specs.Slices.{identifier, slice, is_more}
 use Rattle.cad_page.specs.Pages.{restrictions, beginning, answer_in, rows_in, is_more_in}
@@ -27,7 +27,7 @@ use Rattle.cad_page.specs.Laws.{TheSameIsAnswered, TheSameHasOneAnswer}
 
 -- ---- which features answer
 
-same_filter : FiltersOfOneConditionAgree → (x : Item) (f g : Option Filter) → option_map condition_in f ≡ option_map condition_in g → if_asked (is_true_of x) f ≡ if_asked (is_true_of x) g
+same_filter : FiltersOfOneConditionAgree → (x : Item) (f g : Option Filter) → option_map condition_in f ≡ option_map condition_in g → if_given (is_true_of x) f ≡ if_given (is_true_of x) g
 same_filter agree x None None e = refl
 same_filter agree x None (Some g) e = absurd cc
 same_filter agree x (Some f) None e = absurd cc
@@ -35,8 +35,8 @@ same_filter agree x (Some f) (Some g) e = ap (λ s. s.yes) (agree f g x cc)
 
 same_answers : FiltersOfOneConditionAgree → (c : Collection) (a b : Ask) → AskTheSame a b → (x : Item) → answers c (restrictions a) x ≡ answers c (restrictions b) x
 same_answers agree c a b e x =
-    ap₂ ◌&&◌ (ap (if_asked (meets_days (lifespan_of c x))) e.datetime)
-    (ap₂ ◌&&◌ (ap (if_asked (meets_bounds (geometry_of c x))) e.bbox) (same_filter agree x a.filter b.filter e.condition))
+    ap₂ ◌&&◌ (ap (if_given (meets_days (lifespan_of c x))) e.datetime)
+    (ap₂ ◌&&◌ (ap (if_given (meets_bounds (geometry_of c x))) e.bbox) (same_filter agree x a.filter b.filter e.condition))
 
 filter_same : (p q : Item → Bool) → ((x : Item) → p x ≡ q x) → (xs : List Item) → filter p xs ≡ filter q xs
 filter_same p q e [] = refl

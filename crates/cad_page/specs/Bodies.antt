@@ -3,11 +3,11 @@ use Rattle.std.specs.Prelude.{ℕ, Bool, ◌-◌, if◌then◌else◌, List, len
 use Rattle.serde_json.specs.Data.{Data, number, unsigned, string, array, object, Items, no_items, item, no_members, member}
 use Rattle.cad_feature.specs.Features.{Item}
 pub use Rattle.cad_feature.specs.Features.{numbers_of}
-use Rattle.cad_feature_json.specs.Tree.{features_data}
-use Rattle.cad_bodies.specs.Links.{link_data}
-use Rattle.cad_bodies.specs.Paths.{items_path}
-use Rattle.cad_query.specs.Links.{self_target, next_target}
-use Rattle.cad_query.specs.Pairs.{PairText, pair_text}
+use Rattle.cad_json.specs.Tree.{features_data}
+use Rattle.cad_json.specs.Links.{link_data}
+use Rattle.cad_json.specs.Paths.{items_path}
+use Rattle.cad_parameters.specs.Links.{self_target, next_target}
+use Rattle.cad_parameters.specs.Pairs.{PairText, pair_text}
 use Rattle.cad_ask.specs.declared.ask.Ask.{Ask}
 use Rattle.cad_snapshot.specs.Snapshots.{RevisionFeatures}
 use Rattle.cad_page.specs.Pages.{rows_in, is_more_in}

@@ -4,9 +4,9 @@ use Rattle.serde_json.specs.Data.{Data, null, boolean, number, string, array, ob
 use Rattle.cad_versions.specs.Identifiers.{identifier_text}
 use Rattle.cad_schema.specs.declared.collection.Collection.{Collection}
 use Rattle.cad_feature.specs.Features.{Item, numbers_of}
-use Rattle.cad_feature_json.specs.Tree.{feature_data}
-use Rattle.cad_bodies.specs.Links.{link_data}
-use Rattle.cad_bodies.specs.Paths.{collection_path, items_path}
+use Rattle.cad_json.specs.Tree.{feature_data}
+use Rattle.cad_json.specs.Links.{link_data}
+use Rattle.cad_json.specs.Paths.{collection_path, items_path}
 
 abbrev pub feature_path : Collection → Item → List ℕ
 feature_path collection x = items_path collection ++ codes "/" ++ identifier_text (numbers_of x)

@@ -3,11 +3,11 @@ use Rattle.std.specs.Prelude.{◌≡◌, ℕ, ◌<◌, ◌^◌, ◌-◌, true, L
 use Rattle.std.specs.List.{All}
 use Rattle.cql_types.specs.Conditions.{condition_in}
 use Rattle.cad_feature.specs.Features.{Item, AreFeaturesOf}
-use Rattle.cad_bodies.specs.Paths.{items_path}
-use Rattle.cad_query.specs.Identifiers.{IsVersionNumber}
-use Rattle.cad_query.specs.Identifiers as identifiers
-use Rattle.cad_query.specs.Laws.{path_of, asked_pairs}
-use Rattle.cad_query.specs.Pairs as queries
+use Rattle.cad_json.specs.Paths.{items_path}
+use Rattle.cad_parameters.specs.Identifiers.{IsVersionNumber}
+use Rattle.cad_parameters.specs.Identifiers as identifiers
+use Rattle.cad_parameters.specs.Laws.{path_of, target_pairs}
+use Rattle.cad_parameters.specs.Pairs as queries
 use Rattle.cad_ask.specs.declared.ask.Ask.{Ask}
 use Rattle.cad_ask.specs.Answers.{IsAsk, AsksWell}
 use Rattle.cad_ask.specs.Laws.{AskTheSame}
@@ -59,8 +59,8 @@ pub record IsReadAgain (ask : Ask) (snapshot : RevisionFeatures) (target : List 
   pub last : Item
   pub stands : slice_get (rows_in ask snapshot) (length (rows_in ask snapshot) - 1) ≡ Some last
   pub path_is : path_of target ≡ items_path ask.collection
-  pub well : AsksWell ask.collection (asked_pairs target)
-  pub goes_on : (again : Ask) → IsAsk ask.collection (asked_pairs target) again → GoesOn ask again snapshot.revision last
+  pub well : AsksWell ask.collection (target_pairs target)
+  pub goes_on : (again : Ask) → IsAsk ask.collection (target_pairs target) again → GoesOn ask again snapshot.revision last
 
 -- the target of the link to the next page is read again as the same request, at the page's revision and after its last feature
 abbrev pub NextIsReadAgain : Type 0

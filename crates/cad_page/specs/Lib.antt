@@ -3,4 +3,4 @@ pub mod Features
 pub mod Pages
 pub mod Laws
 pub mod Plans
-pub mod PathLemmas
+pub mod lemmas

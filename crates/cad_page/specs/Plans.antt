@@ -7,14 +7,14 @@ use Rattle.cad_lookup.specs.Candidates.{candidates}
 use Rattle.cad_lookup.specs.Ways.{cost, counts_of, way_of}
 use Rattle.cad_run.specs.Pages.{examined_of}
 use Rattle.cad_run.specs.Slices.{later}
-use Rattle.cql_box.specs.Boxes.{box_condition}
-use Rattle.cql_truth.specs.Sides.{yes}
+use Rattle.cql_rewrite.specs.Boxes.{box_condition}
+use Rattle.cql_meaning.specs.Sides.{yes}
 use Rattle.cql_types.specs.declared.filter.Filter.{Filter}
 use Rattle.cql_rewrite.specs.declared.form.Normal.{Normal}
 use Rattle.cql_rewrite.specs.Costs.{bound, least}
 use Rattle.cql_rewrite.specs.Meets.{Written, meets}
 use Rattle.cql_rewrite.specs.Menus.{choice, menu}
-use Rattle.cad_answer.specs.Answers.{answers, if_asked, is_true_of, meets_bounds}
+use Rattle.cad_answer.specs.Answers.{answers, if_given, is_true_of, meets_bounds}
 use Rattle.cad_answer.specs.Examined.{AreTested}
 use Rattle.cad_answer.specs.Passing.{Covers, IsFormFor}
 use Rattle.cad_answer.specs.Places.{geometry_of, place_named}
@@ -80,11 +80,11 @@ AreTestedIn plan ask snapshot count =
 -- the filter is the box
 pub record IsBoxFilter (boxed : Filter) (ask : Ask) : Type 0 where
   pub condition : box_filter ask ≡ Some boxed
-  pub says : (x : Item) → yes boxed x ≡ if_asked (meets_bounds (geometry_of ask.collection x)) ask.selection.bbox
+  pub says : (x : Item) → yes boxed x ≡ if_given (meets_bounds (geometry_of ask.collection x)) ask.selection.bbox
 
 -- the features that meet the form are those of which the filter is true
 abbrev pub FormStands : Normal → Ask → Type 0
-FormStands form ask = (x : Written) → meets x.item form ≡ if_asked (is_true_of x.item) ask.filter
+FormStands form ask = (x : Written) → meets x.item form ≡ if_given (is_true_of x.item) ask.filter
 
 -- and it is within the filter's bound
 abbrev pub FormCosts : Normal → Ask → Type 0

@@ -3,7 +3,7 @@
 ghost use Rattle.std.specs.Prelude.{◌≡◌, IfOk, option_map};
 ghost use Rattle.serde_json.specs.Written.{compact_text};
 ghost use Rattle.cad_ask.specs.Bodies.{fault_data};
-ghost use Rattle.cad_bodies.specs.Faults.{word_data};
+ghost use Rattle.cad_json.specs.Faults.{word_data};
 ghost use Rattle.cad_page.specs.Bodies.{next_in, page_data};
 ghost use Rattle.cad_page.specs.Features.{linked_feature_data};
 

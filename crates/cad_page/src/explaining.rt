@@ -3,7 +3,7 @@
 ghost use Rattle.std.specs.Prelude.{◌≡◌, IfOk, length};
 ghost use Rattle.cad_page.specs.Plans.{AreTestedIn, IsChosen, candidates_in, cost_in, examined_in};
 
-use crate::finding::{Planned, planned_asked};
+use crate::finding::{Planned, planned_page};
 use cad_answer::Plan;
 use cad_answer::laws::examined_are_tested;
 use cad_ask::Ask;
@@ -34,7 +34,7 @@ pub fn explain(alloc: Global, ask: &Ask, snapshot: &Snapshot) -> Result<Report, 
     ensures tested { IfOk result (λ report. AreTestedIn report.plan ask.now snapshot.now report.examined) }
 {
     examined_are_tested();
-    let Planned { plan, page } = planned_asked(alloc, ask, snapshot)?;
+    let Planned { plan, page } = planned_page(alloc, ask, snapshot)?;
     let layer = snapshot.layer(ask.collection);
     let cost = estimate(&plan, layer);
     let candidates = candidate_count(alloc, &plan, layer)?;

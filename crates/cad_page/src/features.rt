@@ -8,9 +8,8 @@ ghost use Rattle.serde_json.specs.Written.{compact_text, has_float};
 ghost use Rattle.cad_page.specs.Features as spec;
 ghost use Rattle.cad_page.specs.Features.{feature_links_data, linked, linked_feature_data};
 
-use cad_bodies::{collection_path, items_path, link_json};
 use cad_feature::Feature;
-use cad_feature_json::feature_json;
+use cad_json::{collection_path, feature_json, items_path, link_json};
 use cad_schema::Collection;
 use serde_json::{Value as Json, json};
 use std::alloc::{AllocError, Global};

@@ -15,8 +15,7 @@ use cad_answer::{Page, PageQuery, Plan, page};
 use cad_ask::Ask;
 use cad_shape::Bounds;
 use cad_snapshot::Snapshot;
-use cql_box::box_condition;
-use cql_rewrite::Normal;
+use cql_rewrite::{Normal, box_condition};
 use cql_types::Filter;
 use std::alloc::{AllocError, Global};
 
@@ -129,7 +128,7 @@ fn planned_in_box<'a>(
 
 /// The page that is asked for, with the plan that was chosen for it. The normal form of what is asked is made once, for the choice
 /// and for the tests.
-pub(crate) fn planned_asked<'a>(
+pub(crate) fn planned_page<'a>(
     alloc: Global,
     ask: &Ask,
     snapshot: &'a Snapshot,
@@ -154,7 +153,7 @@ pub(crate) fn planned_asked<'a>(
 }
 
 /// The page that is asked for.
-pub(crate) fn page_asked<'a>(
+pub(crate) fn page_found<'a>(
     alloc: Global,
     ask: &Ask,
     snapshot: &'a Snapshot,
@@ -163,7 +162,7 @@ pub(crate) fn page_asked<'a>(
     ensures more { IfOk result (λ page. page.more ≡ is_more_in ask.now snapshot.now) }
     ensures features { IfOk result (λ page. All (IsFeatureOf ask.now.collection) (rows_of page)) }
 {
-    let Planned { plan, page } = planned_asked(alloc, ask, snapshot)?;
+    let Planned { plan, page } = planned_page(alloc, ask, snapshot)?;
     drop(plan);
     Ok(page)
 }

@@ -7,10 +7,10 @@ ghost use Rattle.cad_page.specs.Laws.{NextIsReadAgain, PlansOfTheMenuFindThePage
 use cad_answer::laws::covering_plans_have_the_answer;
 use cad_ask::laws::{next_asks_the_same, pairs_ask_one_thing};
 use cad_lookup::laws::ways_have_the_candidates;
-use cad_query::laws::{next_is_read_back, pairs_are_texts};
+use cad_parameters::laws::{next_is_read_back, pairs_are_texts};
 use cad_schema::Collection;
+use cql_meaning::laws::filters_of_one_condition_agree;
 use cql_rewrite::laws::{choices_are_the_first_of_least, features_are_written, menus_cover};
-use cql_truth::laws::filters_of_one_condition_agree;
 
 /// What asks the same is answered by the same page, wherever its filter lies in memory.
 pub fn the_same_is_answered()

@@ -24,7 +24,7 @@ mod pages;
 mod planning;
 
 pub use cad_ask::{Ask, AskFault, fault_body};
-pub use cad_bodies::{
+pub use cad_json::{
     collection_body, collections_body, filter_fault_body, landing_body, queryables_body, word_body,
 };
 pub use cad_snapshot::Snapshot;

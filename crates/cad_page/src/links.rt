@@ -7,14 +7,14 @@ ghost use Rattle.serde_json.specs.View.{view};
 ghost use Rattle.serde_json.specs.Written.{has_float};
 ghost use Rattle.cad_feature.specs.Features.{IsFeatureOf};
 ghost use Rattle.cad_run.specs.Slices.{rows_of};
-ghost use Rattle.cad_bodies.specs.Links.{link_data};
+ghost use Rattle.cad_json.specs.Links.{link_data};
 ghost use Rattle.cad_page.specs.Bodies.{target_after, next_after, links_data};
 
 use cad_answer::Page;
 use cad_ask::Ask;
-use cad_bodies::{items_path, link_json};
 use cad_feature::Feature;
-use cad_query::{next_target, self_target};
+use cad_json::{items_path, link_json};
+use cad_parameters::{next_target, self_target};
 use serde_json::{Value as Json, json};
 use std::alloc::{AllocError, Global};
 

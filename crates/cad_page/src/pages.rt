@@ -7,10 +7,10 @@ ghost use Rattle.serde_json.specs.View.{view};
 ghost use Rattle.serde_json.specs.Written.{compact_text, has_float};
 ghost use Rattle.cad_page.specs.Bodies.{next_in, page_data};
 
-use crate::finding::page_asked;
+use crate::finding::page_found;
 use crate::links::{links_json, next_of};
 use cad_ask::Ask;
-use cad_feature_json::features_json;
+use cad_json::features_json;
 use cad_snapshot::Snapshot;
 use serde_json::{Value as Json, json};
 use std::alloc::{AllocError, Global};
@@ -20,7 +20,7 @@ fn page_json(alloc: Global, ask: &Ask, snapshot: &Snapshot) -> Result<Json, Allo
     ensures printable { IfOk result (λ json. (has_float (view json) ≡ false) × (depth (view json) ≤ 8)) }
 {
     let revision = snapshot.revision();
-    let page = page_asked(alloc, ask, snapshot)?;
+    let page = page_found(alloc, ask, snapshot)?;
     let next = next_of(alloc, ask, revision, &page)?;
     let links = links_json(alloc, ask, next)?;
     let features = features_json(alloc, ask.collection, &page.rows)?;
@@ -50,6 +50,6 @@ pub fn next_link(
 ) -> Result<Option<String>, AllocError>
     ensures { IfOk result (λ next. option_map string_bytes next ≡ next_in ask.now snapshot.now) }
 {
-    let page = page_asked(alloc, ask, snapshot)?;
+    let page = page_found(alloc, ask, snapshot)?;
     next_of(alloc, ask, snapshot.revision(), &page)
 }

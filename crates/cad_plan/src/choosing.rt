@@ -1,7 +1,7 @@
 //! The choice of a plan.
 
 ghost use Rattle.std.specs.Prelude.{◌≡◌, IfOk, IsTrue, filter, length, map};
-ghost use Rattle.cad_cells.specs.Blocks.{block_around};
+ghost use Rattle.cad_grid.specs.Blocks.{block_around};
 ghost use Rattle.cad_shape.specs.Shapes.{shape_corners};
 ghost use Rattle.cad_feature.specs.Features.{Item};
 ghost use Rattle.cad_lookup.specs.Candidates.{is_candidate};
@@ -10,8 +10,8 @@ ghost use Rattle.cql_rewrite.specs.Choices.{met as met_of};
 ghost use Rattle.cql_rewrite.specs.Meets.{meets};
 ghost use Rattle.cql_rewrite.specs.Menus.{IsFirstOfLeast, cheaper, choice, is_narrow, menu};
 
+use cad_layer::Layer;
 use cad_lookup::Plan;
-use cad_merged::Layer;
 use cad_range::Range;
 use cad_shape::{Shape, bounds};
 use cql_rewrite::Normal;

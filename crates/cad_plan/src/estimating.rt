@@ -3,8 +3,8 @@
 ghost use Rattle.std.specs.Prelude.{◌≡◌, length, map, min};
 ghost use Rattle.cad_lookup.specs.Ways.{cost, counts_of, least_or, most, total, way_of};
 
+use cad_layer::Layer;
 use cad_lookup::Plan;
-use cad_merged::Layer;
 
 #[cycle(costs)]
 fn cost_in(plan: &Plan, layer: &Layer) -> u64

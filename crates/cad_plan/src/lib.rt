@@ -14,8 +14,8 @@ mod choosing;
 mod estimating;
 mod menus;
 
+pub use cad_layer::Layer;
 pub use cad_lookup::Plan;
-pub use cad_merged::Layer;
 pub use choosing::choose;
 pub use estimating::estimate;
 pub use menus::menu;

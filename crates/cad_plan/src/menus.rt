@@ -9,8 +9,8 @@ ghost use Rattle.cql_rewrite.specs.Meets.{meets};
 ghost use Rattle.cql_rewrite.specs.Menus.{and_menu, choice, menu as menu_of};
 
 use crate::choosing::{chosen, joined, narrow, near_plan, range_plan};
+use cad_layer::Layer;
 use cad_lookup::Plan;
-use cad_merged::Layer;
 use cql_rewrite::Normal;
 use cql_rewrite::laws::menus_cover;
 use std::alloc::{AllocError, Global};

@@ -4,9 +4,9 @@ ghost use Rattle.std.specs.Prelude.{◌≡◌, ◌≤◌, ◌^◌, IfOk, length,
 ghost use Rattle.std.specs.List.{find};
 ghost use Rattle.std.specs.List.Sorted.{IsPermutation, IsNonDecreasing};
 ghost use Rattle.cad_positions.specs.Rankings.{is_between, positions_between, IsPart};
-ghost use Rattle.cad_positions.specs.Kept.{Keeps};
+ghost use Rattle.cad_positions.specs.PositionSets.{Keeps};
 
-use crate::kept::Positions;
+use crate::positions::Positions;
 use std::alloc::{AllocError, Global};
 use std::marker::Model;
 
@@ -62,19 +62,6 @@ fn passing(alloc: Global, ranks: &[u32], low: u32, high: u32) -> Result<Vec<u32>
     Ok(found)
 }
 
-// The first position from one on that has these ranks.
-fn first(ranks: &[u32], low: u32, high: u32, from: u32) -> Option<u32>
-    requires { length ranks.now ≤ 4294967295 }
-    ensures { result ≡ find (nat_le from) (positions_between ranks.now low high) }
-{
-    for position in from..ranks.len() as u32 {
-        if is_between(low, high, ranks[position as usize]) {
-            return Some(position);
-        }
-    }
-    None
-}
-
 impl<'a> Found<'a> {
     ghost use Rattle.std.specs.Prelude.{◌↔◌, IsTrue};
     ghost use Rattle.std.specs.List.{Contains};
@@ -104,13 +91,6 @@ impl<'a> Found<'a> {
     {
         (position as usize) < self.ranks.len()
             && is_between(self.low, self.high, self.ranks[position as usize])
-    }
-
-    /// The first of them from a position on, by looking at each rank. No memory is taken.
-    pub fn first_from(&self, position: u32) -> Option<u32>
-        ensures { result ≡ find (nat_le position) self.now }
-    {
-        first(self.ranks, self.low, self.high, position)
     }
 
     /// They as they are best walked: few in a list that is sorted, many by their ranks. An error is want of memory.

@@ -10,14 +10,14 @@ use Rattle.cad_versions.specs.declared.body.Class.{Class}
 use Rattle.cad_versions.specs.declared.command.Command.{Command}
 use Rattle.cad_versions.specs.declared.command.Command.TheVariants.{Enter, Amend, Retire}
 use Rattle.cad_versions.specs.declared.fault.RegisterFault.TheVariants as fault
-use Rattle.cad_versions.specs.BodyLemmas.{same_class}
+use Rattle.cad_versions.specs.lemmas.BodyLemmas.{same_class}
 use Rattle.cad_versions.specs.Class.{class_of, class_number}
 use Rattle.cad_day.specs.DayBefore.{day_before}
 use Rattle.cad_versions.specs.VersionedObject.{VersionedObject}
-use Rattle.cad_versions.specs.Versions.{is_of, is_open_of, closed_on, closed_if_open, begun, next_number, after, versions}
+use Rattle.cad_versions.specs.Versions.{is_of, is_open_of, closed_on, closed_if_open, begun, next_number, versions_after, versions}
 use Rattle.cad_versions.specs.Refusals.{class_at, open_since, refuses_object, refusal, AreAccepted}
-use Rattle.cad_versions.specs.HistoryLemmas.{neither, unrefused, is_of_own}
-use Rattle.cad_versions.specs.ListLemmas.{all_weaker, all_mapped}
+use Rattle.cad_versions.specs.lemmas.HistoryLemmas.{neither, unrefused, is_of_own}
+use Rattle.cad_versions.specs.lemmas.ListLemmas.{all_weaker, all_mapped}
 
 abbrev class_in : VersionedObject → Class
 class_in v = class_of v.body
@@ -93,7 +93,7 @@ amended_alike object first body vs e = go (class_at vs object) (neither _ _ e).0
     go None h = absurd cc
     go (Some class) h = ap Some (same_class class (class_of body) (eqb-true (class_number class) (class_number (class_of body)) (holds (class_number class == class_number (class_of body)) (unrefused _ fault.OtherClass (neither _ _ h).0))))
 
-classes_then : (vs : List VersionedObject) (c : Command) → refusal vs c ≡ None → HaveClasses vs → HaveClasses (after vs c)
+classes_then : (vs : List VersionedObject) (c : Command) → refusal vs c ≡ None → HaveClasses vs → HaveClasses (versions_after vs c)
 classes_then vs (Enter object first body) e all =
     let new = begun object 1 first body in
     added vs new all (class_new vs new object (is_of_own object new refl) (entered_anew object first body vs e))
@@ -104,9 +104,9 @@ classes_then vs (Amend object first body) e all =
     added closed new (all_closed object day vs all) (class_known closed new object (class_of body) (class_closed object day object vs ∙ amended_alike object first body vs e))
 classes_then vs (Retire object last) e all = all_closed object last vs all
 
-classes_from : (vs : List VersionedObject) (cs : List Command) → AreAccepted vs cs → HaveClasses vs → HaveClasses (fold after vs cs)
+classes_from : (vs : List VersionedObject) (cs : List Command) → AreAccepted vs cs → HaveClasses vs → HaveClasses (fold versions_after vs cs)
 classes_from vs [] all h = h
-classes_from vs (c ∷ cs) all h = classes_from (after vs c) cs all.1 (classes_then vs c all.0 h)
+classes_from vs (c ∷ cs) all h = classes_from (versions_after vs c) cs all.1 (classes_then vs c all.0 h)
 
 pub classes : (cs : List Command) → AreAccepted [] cs → HaveClasses (versions cs)
 classes cs all = classes_from [] cs all tt

@@ -7,22 +7,22 @@ use Rattle.cad_versions.specs.declared.command.Command.{Command}
 use Rattle.cad_versions.specs.declared.command.Command.TheVariants.{Enter, Amend, Retire}
 use Rattle.cad_versions.specs.VersionedObject.{VersionedObject}
 use Rattle.cad_day.specs.DayBefore.{day_before}
-use Rattle.cad_versions.specs.Versions.{is_of, history, closed_if_open, begun, next_number, after, versions}
+use Rattle.cad_versions.specs.Versions.{is_of, history, closed_if_open, begun, next_number, versions_after, versions}
 use Rattle.cad_versions.specs.Refusals.{is_full}
 use Rattle.cad_versions.specs.AsOf.{as_of}
 use Rattle.cad_versions.specs.Identifiers.{by_identifier}
-use Rattle.cad_versions.specs.SortLemmas.{length-sort_by}
-use Rattle.cad_versions.specs.ListLemmas.{filter_fewer}
+use Rattle.cad_versions.specs.lemmas.SortLemmas.{length-sort_by}
+use Rattle.cad_versions.specs.lemmas.ListLemmas.{filter_fewer}
 
-one_more : (vs : List VersionedObject) (c : Command) → length (after vs c) ≤ length vs + 1
+one_more : (vs : List VersionedObject) (c : Command) → length (versions_after vs c) ≤ length vs + 1
 one_more vs (Enter object first body) = omega (arith, length-append vs (begun object 1 first body ∷ []))
 one_more vs (Amend object first body) =
     omega (arith, length-append (map (closed_if_open object (day_before first)) vs) (begun object (next_number object vs) first body ∷ []), length-map vs (closed_if_open object (day_before first)))
 one_more vs (Retire object last) = omega (arith, length-map vs (closed_if_open object last))
 
-few_from : (vs : List VersionedObject) (cs : List Command) → length (fold after vs cs) ≤ length vs + length cs
+few_from : (vs : List VersionedObject) (cs : List Command) → length (fold versions_after vs cs) ≤ length vs + length cs
 few_from vs [] = omega arith
-few_from vs (c ∷ cs) = omega (arith, few_from (after vs c) cs, one_more vs c)
+few_from vs (c ∷ cs) = omega (arith, few_from (versions_after vs c) cs, one_more vs c)
 
 pub versions_few : (cs : List Command) → length (versions cs) ≤ length cs
 versions_few cs = omega (arith, few_from [] cs)

@@ -4,7 +4,7 @@ use Rattle.std.proofs.Math.Seq.{drop-cons}
 use Rattle.sqlite_value.specs.Order.{Row}
 use Rattle.cad_versions.specs.VersionedObject.{VersionedObject}
 use Rattle.cad_versions.specs.Entries.{Entry, seen_at}
-use Rattle.cad_register.specs.Kept.{IsRowOf, AreRowsOf}
+use Rattle.cad_register.specs.StoredVersions.{IsRowOf, AreRowsOf}
 use Rattle.cad_register.specs.declared.place.Place.{Place}
 use Rattle.cad_versions.specs.declared.fault.RegisterFault.{RegisterFault}
 use Rattle.cad_versions.specs.declared.fault.RegisterFault.TheVariants as fault

@@ -13,11 +13,11 @@ use Rattle.cad_versions.specs.Versions.{is_of, history, versions}
 use Rattle.cad_versions.specs.Refusals.{class_at, AreAccepted}
 use Rattle.cad_versions.specs.Identifiers.{identifier_cmp, by_identifier}
 use Rattle.cad_versions.specs.Histories.{IsHistory}
-use Rattle.cad_versions.specs.HistoryLemmas.{HasHistories, histories, same_number, is_of_own}
-use Rattle.cad_versions.specs.ListLemmas.{all_weaker, all_kept}
-use Rattle.cad_versions.specs.OrderLemmas.{identifiers_total, versions_total, identifiers_apart}
-use Rattle.cad_versions.specs.SameLemmas.{same_object}
-use Rattle.cad_versions.specs.SortLemmas.{all_sorted, sort_rises}
+use Rattle.cad_versions.specs.lemmas.HistoryLemmas.{HasHistories, histories, same_number, is_of_own}
+use Rattle.cad_versions.specs.lemmas.ListLemmas.{all_weaker, all_kept}
+use Rattle.cad_versions.specs.lemmas.OrderLemmas.{identifiers_total, versions_total, identifiers_apart}
+use Rattle.cad_versions.specs.lemmas.SameLemmas.{same_object}
+use Rattle.cad_versions.specs.lemmas.SortLemmas.{all_sorted, sort_rises}
 use Rattle.cad_versions.specs.Sorting.{insert_sorted, sort_by}
 use Rattle.cad_register.specs.declared.place.Place.{Place}
 use Rattle.cad_register.specs.Damage.{place_of, Follows}

@@ -3,9 +3,9 @@ use Rattle.std.proofs.Common.{◌≡◌, sym, ◌∙◌}
 use Rattle.sqlite_value.specs.Order.{Row}
 use Rattle.cad_versions.specs.Class.{class_of}
 use Rattle.cad_versions.specs.BodyParts.{parts_of}
-use Rattle.cad_versions.specs.BodyLemmas.{same_body, same_class}
+use Rattle.cad_versions.specs.lemmas.BodyLemmas.{same_body, same_class}
 use Rattle.cad_versions.specs.Entries.{Entry}
-use Rattle.cad_register.specs.Kept.{IsRowOf}
+use Rattle.cad_register.specs.StoredVersions.{IsRowOf}
 use Rattle.cad_register.proofs.PartLemmas.{parts_same, counts_same, days_same, day_cell, object_cell, count_cell}
 
 -- a row is that of one entry

@@ -11,7 +11,7 @@ use Rattle.cad_register.specs.Damage.{AreShown, ListsRows, ReadsRows}
 use Rattle.cad_versions.specs.VersionedObject.{VersionedObject}
 use Rattle.std.specs.Global.{Global}
 use Rattle.sqlite_value.specs.Order.{Row}
-use Rattle.cad_register.specs.RemainingLemmas.{more_before}
+use Rattle.cad_register.specs.lemmas.RemainingLemmas.{more_before}
 use Rattle.cad_register.proofs.SurvivingLemmas.{leaves_no_more}
 
 pub later_here : (s : State) → IsLater s s

@@ -14,7 +14,7 @@ use Rattle.cad_versions.specs.Identifiers.{identifier_of, identifier_cmp, by_ide
 use Rattle.cad_versions.specs.Entries.{Entry, seen_at, is_closed_by}
 use Rattle.cad_register.specs.declared.place.Place.{Place}
 use Rattle.cad_register.specs.Damage.{place_of, Follows}
-use Rattle.cad_versions.specs.ListLemmas.{sorted_push}
+use Rattle.cad_versions.specs.lemmas.ListLemmas.{sorted_push}
 
 -- ---- identifiers
 

@@ -15,10 +15,10 @@ use Rattle.cad_versions.specs.Versions.{is_of, history, versions}
 use Rattle.cad_versions.specs.Entries.{Entry, version_in, entries_of}
 use Rattle.cad_versions.specs.Identifiers.{by_identifier}
 use Rattle.cad_versions.specs.AsOf.{entry_order}
-use Rattle.cad_versions.specs.EntryLemmas.{versions_of_entries}
-use Rattle.cad_versions.specs.ListLemmas.{all_unmapped}
-use Rattle.cad_versions.specs.HistoryLemmas.{HasHistories}
-use Rattle.cad_versions.specs.OrderLemmas.{NumbersRise, numbers_rise, cmp_less, identifiers_apart}
+use Rattle.cad_versions.specs.lemmas.EntryLemmas.{versions_of_entries}
+use Rattle.cad_versions.specs.lemmas.ListLemmas.{all_unmapped}
+use Rattle.cad_versions.specs.lemmas.HistoryLemmas.{HasHistories}
+use Rattle.cad_versions.specs.lemmas.OrderLemmas.{NumbersRise, numbers_rise, cmp_less, identifiers_apart}
 use Rattle.cad_register.specs.Outlines.{outline}
 use Rattle.cad_register.proofs.RowLemmas.{IsLineOf, AreLinesOf, object_same, number_same, order_same, lines_filtered, lines_ascend, outlines_same}
 

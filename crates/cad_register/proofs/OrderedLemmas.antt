@@ -10,7 +10,7 @@ use Rattle.sqlite_value.specs.Order.{Row, column}
 use Rattle.cad_tables.specs.VersionRow.{VersionRow, cells_of}
 use Rattle.cad_tables.specs.Listing.{HaveNoTies, identifier_order, lines_at, listing}
 use Rattle.cad_versions.specs.Identifiers.{identifier_cmp}
-use Rattle.cad_versions.specs.OrderLemmas.{identifiers_total}
+use Rattle.cad_versions.specs.lemmas.OrderLemmas.{identifiers_total}
 use Rattle.cad_register.specs.declared.found.FoundRow.{FoundRow}
 use Rattle.cad_register.specs.declared.found.FoundRow.TheVariants.{Version, Damaged}
 use Rattle.cad_register.specs.Damage.{identifier_in, number_in, by_stored_identifier, AreInOrder}

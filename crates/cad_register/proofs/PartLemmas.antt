@@ -15,9 +15,9 @@ use Rattle.cad_versions.specs.Objects.{object_number}
 use Rattle.cad_versions.specs.Texts.{bytes_of}
 use Rattle.cad_versions.specs.Fractions.{num_of, den_of}
 use Rattle.cad_versions.specs.ShapeBytes.{IsShapeOf}
-use Rattle.cad_shape.specs.SameLemmas.{same_point}
-use Rattle.cad_versions.specs.SameLemmas.{same_object, same_share, same_words, one_shape}
-use Rattle.cad_day.specs.SameLemmas.{same_day}
+use Rattle.cad_shape.specs.lemmas.SameLemmas.{same_point}
+use Rattle.cad_versions.specs.lemmas.SameLemmas.{same_object, same_share, same_words, one_shape}
+use Rattle.cad_day.specs.lemmas.SameLemmas.{same_day}
 use Rattle.cad_versions.specs.declared.body_parts.BodyParts.{BodyParts}
 use Rattle.cad_register.specs.Rows.{flag_number, x_of, y_of}
 use Rattle.cad_register.specs.Parts.{HasParts, HasShape}

@@ -13,7 +13,7 @@ use Rattle.cad_tables.specs.Refusals.{Statement}
 use Rattle.cad_tables.specs.declared.faults.TableFault.{TableFault}
 use Rattle.cad_tables.specs.declared.faults.TableFault.TheVariants.{Memory, Store}
 use Rattle.cad_register.specs.Refusing.{RefusesQuestion, IsForLines, IsNotForMemory, asking, register_fault_of}
-use Rattle.cad_tables.specs.SettledLemmas.{settled_here, settled_then}
+use Rattle.cad_tables.specs.lemmas.SettledLemmas.{settled_here, settled_then}
 
 module _ {S : Type 0} (g : Ghosts S) where
   pub refuses_then : (old mid new : Held S) (P : Statement → Type 0) → IsSettled g old mid → RefusesQuestion g mid new P → RefusesQuestion g old new P

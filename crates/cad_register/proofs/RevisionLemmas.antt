@@ -10,7 +10,7 @@ use Rattle.cad_day.specs.DayBefore.{day_before}
 use Rattle.cad_versions.specs.VersionedObject.{VersionedObject}
 use Rattle.cad_versions.specs.Versions.{is_open_of, closed_on, begun, next_number}
 use Rattle.cad_versions.specs.Entries.{Entry, version_in, entered_at, close_entry, entries_after, entries_from, entries_of}
-use Rattle.cad_versions.specs.ListLemmas.{all_weaker, all_mapped}
+use Rattle.cad_versions.specs.lemmas.ListLemmas.{all_weaker, all_mapped}
 use Rattle.cad_register.specs.Damage.{IsClosedBy, HasRevisions}
 
 closed_later : (m n entered : ℕ) → m ≤ n → (last : Option Day) (closed : Option ℕ) → IsClosedBy m entered last closed → IsClosedBy n entered last closed

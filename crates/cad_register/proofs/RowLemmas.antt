@@ -10,7 +10,7 @@ use Rattle.cad_versions.specs.Objects.{object_number}
 use Rattle.cad_versions.specs.Entries.{Entry, version_in, entries_at}
 use Rattle.cad_versions.specs.Sorting.{insert_sorted as insert_in_order, sort_by as in_order}
 use Rattle.cad_versions.specs.AsOf.{entry_order, entries_listed}
-use Rattle.cad_register.specs.Kept.{IsRowOf, AreRowsOf}
+use Rattle.cad_register.specs.StoredVersions.{IsRowOf, AreRowsOf}
 use Rattle.cad_register.specs.Outlines.{outline}
 use Rattle.cad_register.proofs.PartLemmas.{count_cell}
 

@@ -13,22 +13,22 @@ use Rattle.cad_versions.specs.declared.command.Command.{Command}
 use Rattle.cad_versions.specs.declared.fault.RegisterFault.{RegisterFault}
 use Rattle.cad_versions.specs.declared.fault.RegisterFault.TheVariants as fault
 use Rattle.cad_versions.specs.Entries.{Entry, version_in, entries_of, entries_at, seen_at}
-use Rattle.cad_versions.specs.EntryLemmas.{listing_is}
+use Rattle.cad_versions.specs.lemmas.EntryLemmas.{listing_is}
 use Rattle.cad_versions.specs.Sorting.{sort_by}
 use Rattle.cad_versions.specs.AsOf.{entry_order, entries_listed}
 use Rattle.cad_versions.specs.Refusals.{AreAccepted}
-use Rattle.cad_versions.specs.AcceptedLemmas.{accepted_front}
-use Rattle.cad_versions.specs.ClosingLemmas.{entries_few}
-use Rattle.cad_versions.specs.SortLemmas.{all_sorted, length-sort_by}
+use Rattle.cad_versions.specs.lemmas.AcceptedLemmas.{accepted_front}
+use Rattle.cad_versions.specs.lemmas.ClosingLemmas.{entries_few}
+use Rattle.cad_versions.specs.lemmas.SortLemmas.{all_sorted, length-sort_by}
 use Rattle.cad_register.specs.declared.place.Place.{Place}
 use Rattle.cad_register.specs.Damage.{place_of, Follows, HasRevisions, AreSound, IsFirstDamaged, IsCauseIn}
-use Rattle.cad_register.specs.Kept.{AreRowsOf}
+use Rattle.cad_register.specs.StoredVersions.{AreRowsOf}
 use Rattle.cad_register.specs.Stands.{StandsFor, IsStoreFault}
 use Rattle.cad_register.proofs.FollowLemmas.{Follow, versions_follow}
 use Rattle.cad_register.proofs.KeptLemmas.{entry_same}
 use Rattle.cad_register.proofs.RevisionLemmas.{revisions}
 use Rattle.cad_register.proofs.RowLemmas.{rows_listed}
-use Rattle.cad_versions.specs.ListLemmas.{filter_fewer}
+use Rattle.cad_versions.specs.lemmas.ListLemmas.{filter_fewer}
 
 -- ---- the entries that a revision lists
 

@@ -15,10 +15,10 @@ use Rattle.cad_versions.specs.Versions.{versions}
 use Rattle.cad_versions.specs.Refusals.{class_at, open_since, refuse_if, or_else, refuses_closing, refuses_object, refuses_body, refusal}
 use Rattle.cad_versions.specs.VersionedObject.{VersionedObject}
 use Rattle.cad_versions.specs.AsOf.{as_of, entries_listed}
-use Rattle.cad_versions.specs.EntryLemmas.{listing_is}
+use Rattle.cad_versions.specs.lemmas.EntryLemmas.{listing_is}
 use Rattle.cad_versions.specs.declared.command.Command.{Command}
 use Rattle.cad_versions.specs.Entries.{entries_of}
-use Rattle.cad_register.specs.Kept.{AreRowsOf, HoldsEntries}
+use Rattle.cad_register.specs.StoredVersions.{AreRowsOf, HoldsEntries}
 use Rattle.cad_register.specs.Damage.{AreSound, AreInOrder, ListsRows}
 use Rattle.cad_register.specs.Stands.{StandsFor, IsStoreFault, IsRefusal}
 use Rattle.cad_register.specs.Registers.{IsRefused}

@@ -15,7 +15,7 @@ use Rattle.cad_versions.specs.VersionedObject.{VersionedObject}
 use Rattle.cad_versions.specs.Versions.{is_of, is_open_of, history}
 use Rattle.cad_versions.specs.Refusals.{class_at, open_since}
 use Rattle.cad_versions.specs.Histories.{EndsBefore, IsHistory}
-use Rattle.cad_versions.specs.HistoryLemmas.{find-filter, closed_is_not_open}
+use Rattle.cad_versions.specs.lemmas.HistoryLemmas.{find-filter, closed_is_not_open}
 use Rattle.sqlite.specs.State.{State}
 use Rattle.cad_versions.specs.declared.command.Command.{Command}
 use Rattle.cad_versions.specs.declared.fault.RegisterFault.{RegisterFault}

@@ -4,7 +4,7 @@ use Rattle.sqlite_trees.specs.Tree.{Trees}
 use Rattle.sqlite.specs.State.{State, HasCleanDisk, Survives}
 use Rattle.sqlite.specs.Effect.{Database, IsDatabase}
 use Rattle.cad_tables.specs.Tables.{register_schema}
-use Rattle.cad_tables.specs.SchemaLemmas.{register_schema_only}
+use Rattle.cad_tables.specs.lemmas.SchemaLemmas.{register_schema_only}
 use Rattle.cad_tables.specs.Opening.{most_revision}
 use Rattle.cad_tables.specs.Steps.{CommitsTo, CreatesTo}
 use Rattle.cad_tables.specs.declared.changes.Change.{Change}
@@ -13,11 +13,11 @@ use Rattle.cad_versions.specs.Versions.{versions}
 use Rattle.cad_versions.specs.Refusals.{refusal, AreAccepted}
 use Rattle.cad_versions.specs.Entries.{entries_of}
 use Rattle.cad_register.specs.declared.writing.NewEntry.{NewEntry}
-use Rattle.cad_register.specs.Kept.{HoldsEntries}
+use Rattle.cad_register.specs.StoredVersions.{HoldsEntries}
 use Rattle.cad_register.specs.Changing.{IsChangeOf, line_written}
 use Rattle.cad_register.specs.Stands.{StandsFor, IsNumbered}
 use Rattle.cad_register.specs.Surviving.{database_of, IsDiskOf, IsOpenedOn, LeavesNoMore, Leaves, LeavesEither, LeavesOrMakes}
-use Rattle.cad_versions.specs.AcceptedLemmas.{accepted_then}
+use Rattle.cad_versions.specs.lemmas.AcceptedLemmas.{accepted_then}
 use Rattle.cad_register.proofs.WriteLemmas.{holds_then, no_entries}
 
 disk_of : (db : Database) (cs : List Command) → AreAccepted [] cs → HoldsEntries (length cs) (entries_of cs) db × IsDatabase db → IsDiskOf cs db.trees

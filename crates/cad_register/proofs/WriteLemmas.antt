@@ -28,16 +28,16 @@ use Rattle.cad_versions.specs.declared.fault.RegisterFault.TheVariants as fault
 use Rattle.cad_versions.specs.Refusals.{is_full, are_entered, refuse_if, refusal, AreAccepted}
 use Rattle.cad_versions.specs.Histories.{EndsBefore, IsHistory}
 use Rattle.cad_versions.specs.Entries.{Entry, version_in, entered_at, close_entry, entries_after, entries_of, ClosesInTime}
-use Rattle.cad_versions.specs.HistoryLemmas.{HasHistories, histories, amends, retires, find-filter, closed_is_not_open, le_fails, neither, unrefused}
-use Rattle.cad_versions.specs.EntryLemmas.{versions_of_entries}
-use Rattle.cad_versions.specs.AcceptedLemmas.{accepted_then, entries_then}
+use Rattle.cad_versions.specs.lemmas.HistoryLemmas.{HasHistories, histories, amends, retires, find-filter, closed_is_not_open, le_fails, neither, unrefused}
+use Rattle.cad_versions.specs.lemmas.EntryLemmas.{versions_of_entries}
+use Rattle.cad_versions.specs.lemmas.AcceptedLemmas.{accepted_then, entries_then}
 use Rattle.cad_register.specs.declared.writing.NewEntry.{NewEntry}
-use Rattle.cad_register.specs.Kept.{HoldsEntries}
+use Rattle.cad_register.specs.StoredVersions.{HoldsEntries}
 use Rattle.cad_register.specs.Changing.{IsNew, IsChangeOf, line_written}
 use Rattle.cad_register.specs.Stands.{StandsFor, IsNumbered}
 use Rattle.cad_register.proofs.CountLemmas.{history_few}
 use Rattle.cad_register.proofs.RowLemmas.{IsLineOf, AreLinesOf, object_same, lines_joined, lines_filtered, lines_changed, lone_line}
-use Rattle.cad_versions.specs.ClosingLemmas.{amends_in_time, retires_in_time}
+use Rattle.cad_versions.specs.lemmas.ClosingLemmas.{amends_in_time, retires_in_time}
 use Rattle.std.proofs.lemmas.Bool.Decides.{nat_tests}
 use Rattle.std.proofs.lemmas.Bool.{and_parts}
 

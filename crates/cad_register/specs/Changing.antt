@@ -11,7 +11,7 @@ use Rattle.cad_versions.specs.Versions.{begun}
 use Rattle.cad_versions.specs.Entries.{entered_at}
 use Rattle.cad_tables.specs.VersionRow.{VersionRow, cells_of}
 use Rattle.cad_register.specs.Rows.{line_of}
-use Rattle.cad_register.specs.Kept.{IsRowOf}
+use Rattle.cad_register.specs.StoredVersions.{IsRowOf}
 use Rattle.cad_register.specs.declared.writing.NewEntry.{NewEntry}
 
 -- the line of a new entry

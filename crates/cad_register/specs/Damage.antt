@@ -17,7 +17,7 @@ use Rattle.sqlite.specs.State.{State, HasCleanDisk, Shown}
 use Rattle.cad_tables.specs.Texts.{listing_text}
 use Rattle.std.specs.Global.{Global}
 use Rattle.cad_register.specs.declared.place.Place.{Place}
-use Rattle.cad_register.specs.Kept.{IsRowOf}
+use Rattle.cad_register.specs.StoredVersions.{IsRowOf}
 
 abbrev pub number_in : Value → ℤ
 number_in (Int n) = n

@@ -10,10 +10,10 @@ use Rattle.cad_versions.specs.declared.fault.RegisterFault.{RegisterFault}
 use Rattle.cad_versions.specs.declared.fault.RegisterFault.TheVariants as fault
 use Rattle.cad_register.specs.declared.found.FoundRow.{FoundRow}
 use Rattle.cad_register.specs.declared.found.FoundRow.TheVariants.{Version, Damaged}
-use Rattle.cad_register.specs.declared.kept.StoredVersion.{StoredVersion}
+use Rattle.cad_register.specs.declared.stored_version.StoredVersion.{StoredVersion}
 use Rattle.cad_register.specs.declared.place.Place.{Place}
 use Rattle.cad_register.specs.Damage.{number_in, identifier_in, damage_of, IsNext}
-use Rattle.cad_register.specs.Kept.{IsRowOf, entry_of}
+use Rattle.cad_register.specs.StoredVersions.{IsRowOf, entry_of}
 
 -- it is the version that the row stands for, or tells the row's object and number, where it stands for none
 abbrev pub IsReadOf : Row → FoundRow → Type 0

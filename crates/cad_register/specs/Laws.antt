@@ -8,7 +8,7 @@ use Rattle.cad_tables.specs.Listing.{listing}
 use Rattle.cad_versions.specs.declared.command.Command.{Command}
 use Rattle.cad_versions.specs.Entries.{Entry}
 use Rattle.cad_register.specs.Damage.{AreSound}
-use Rattle.cad_register.specs.Kept.{IsRowOf}
+use Rattle.cad_register.specs.StoredVersions.{IsRowOf}
 use Rattle.cad_register.specs.declared.register.Register.{Register}
 use Rattle.cad_register.specs.Registers.{state_of, IsRegisterOf}
 

@@ -1,7 +1,7 @@
 pub mod Rows
 pub mod Reading
 pub mod Parts
-pub mod Kept
+pub mod StoredVersions
 pub mod Damage
 pub mod Found
 pub mod Stands
@@ -16,6 +16,6 @@ pub mod Registers
 pub mod Keeping
 pub mod Opening
 pub mod Ledgers
-pub mod RemainingLemmas
 pub mod Images
 pub mod Laws
+pub mod lemmas

@@ -9,7 +9,7 @@ use Rattle.cad_versions.specs.declared.command.Command.TheVariants.{Amend}
 use Rattle.cad_versions.specs.Versions.{history, versions}
 use Rattle.cad_versions.specs.Refusals.{refusal, AreAccepted}
 use Rattle.cad_versions.specs.Entries.{entries_of}
-use Rattle.cad_register.specs.Kept.{HoldsEntries}
+use Rattle.cad_register.specs.StoredVersions.{HoldsEntries}
 
 -- the tables stand for the commands: these were accepted one after the other, and rows that stand for their entries are stored and committed in a database whose catalog lists its tables and whose rows keep their constraints, as each open connection's does (own profile)
 pub record StandsFor (s : State) (commands : List Command) : Type 0 where

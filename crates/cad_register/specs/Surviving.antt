@@ -9,7 +9,7 @@ use Rattle.cad_versions.specs.declared.command.Command.{Command}
 use Rattle.cad_versions.specs.Versions.{versions}
 use Rattle.cad_versions.specs.Refusals.{refusal, AreAccepted}
 use Rattle.cad_versions.specs.Entries.{entries_of}
-use Rattle.cad_register.specs.Kept.{HoldsEntries}
+use Rattle.cad_register.specs.StoredVersions.{HoldsEntries}
 use Rattle.cad_register.specs.Stands.{StandsFor, IsNumbered}
 
 abbrev pub database_of : Trees → Database

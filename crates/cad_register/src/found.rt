@@ -5,8 +5,8 @@ ghost use Rattle.cad_register.specs.Found.{IsReadOf, IsJudged, identifier_of, da
 ghost use Rattle.sqlite_value.specs.Order.{Row as SqlRow};
 
 use crate::columns::{ReadFault, number_or_zero};
-use crate::kept::StoredVersion;
 use crate::place::Place;
+use crate::stored_version::StoredVersion;
 use cad_tables::Reader;
 use cad_versions::RegisterFault;
 use sqlite::Row;

@@ -1,7 +1,7 @@
 //! A land register as a ledger.
 
 ghost use Rattle.cad_register.specs.Ledgers.{register_as_ledger, cut_keeps, store_keeps};
-ghost use Rattle.cad_register.specs.RemainingLemmas.{remains_here, remains_then, fails_before};
+ghost use Rattle.cad_register.specs.lemmas.RemainingLemmas.{remains_here, remains_then, fails_before};
 
 use crate::register::Register;
 use cad_versions::{Command, Ledger, RegisterFault, Version};

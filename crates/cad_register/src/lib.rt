@@ -20,7 +20,6 @@ mod columns;
 mod decision;
 mod file;
 mod found;
-mod kept;
 pub mod laws;
 mod ledger;
 mod listing;
@@ -28,6 +27,7 @@ mod parts;
 mod place;
 mod register;
 mod standing;
+mod stored_version;
 mod writing;
 
 pub use cad_versions::{Body, Class, Command, ObjectId, RegisterFault, Share, Version, Words};

@@ -2,7 +2,7 @@
 //! printed for it.
 //!
 //! The database lies in memory, and its register is the sample register. The lines and what is printed for them are those of
-//! `desk_script`, and five more are answered by themselves, as `cad_cases` does over a ledger without a database:
+//! `test_support`, and five more are answered by themselves, as `cad_cases` does over a ledger without a database:
 //!
 //! - `sample`: a server and a desk over the sample register in a new database, as at the first line;
 //! - `empty`: over a register of no commands;
@@ -17,14 +17,14 @@
 
 use cad_desk::Desk;
 use cad_register::{Register, RegisterFault};
-use cad_responder::Server;
 use cad_sample::fill;
-use desk_script::{Memory, answer, line_of};
+use cad_server::Server;
 use sqlite::{Connection, MemStore};
 use std::alloc::Global;
 use std::io::{Error, ErrorKind, Read, Result};
 use std::mem;
 use std::process::ExitCode;
+use test_support::{Memory, answer, line_of};
 
 /// The status where memory is refused.
 const NO_MEMORY: u8 = 7;

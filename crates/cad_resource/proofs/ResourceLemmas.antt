@@ -3,7 +3,7 @@ use Rattle.std.proofs.Common.{◌≡◌, ℕ, if◌then◌else◌, List, Bool, t
 use Rattle.std.specs.Option.{option_and_then}
 use Rattle.cad_schema.specs.declared.collection.Collection.{Collection}
 use Rattle.cad_schema.specs.Collections.{name_of, collection_named}
-use Rattle.cad_schema.specs.NameLemmas.{names_are_read_back, what_is_read_has_the_name}
+use Rattle.cad_schema.specs.lemmas.NameLemmas.{names_are_read_back, what_is_read_has_the_name}
 use Rattle.cad_resource.specs.Heads.{is_target}
 use Rattle.cad_resource.specs.Places.{Place, landing, collections, collection, queryables, items, item, place_of, known, path_of, named}
 use Rattle.cad_resource.specs.Laws.{KnownPathsAreReadBack, ResourcesHaveOnePath}

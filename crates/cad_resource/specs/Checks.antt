@@ -1,7 +1,7 @@
 -- The checks of requests: their words (own profile), their statuses (RFC 9110, section 15.5: client error), and which of them end the connection (RFC 9112, section 9.6: tear-down).
 use Rattle.std.specs.Prelude.{ℕ, List, codes, Bool, true, false}
-use Rattle.cad_reply.specs.declared.status.Status.{Status}
-use Rattle.cad_reply.specs.declared.status.Status.TheVariants.{BadRequest, NotFound, MethodNotAllowed}
+use Rattle.cad_head.specs.declared.status.Status.{Status}
+use Rattle.cad_head.specs.declared.status.Status.TheVariants.{BadRequest, NotFound, MethodNotAllowed}
 use Rattle.cad_resource.specs.declared.check.Check.{Check}
 use Rattle.cad_resource.specs.declared.check.Check.TheVariants.{BadHead, Host, Body, Target, NoResource, Method, NoCollection}
 

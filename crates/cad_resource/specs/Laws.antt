@@ -5,7 +5,7 @@ use Rattle.cad_head.specs.Request.{Request, path, query}
 use Rattle.cad_resource.specs.declared.check.Check.TheVariants.{Host, Body, Target, NoResource, Method, NoCollection}
 use Rattle.cad_resource.specs.Heads.{lacks_host, has_body, is_target}
 use Rattle.cad_resource.specs.Places.{Place, landing, collections, collection, queryables, items, item, place_of, resource_of, path_of, named}
-use Rattle.cad_resource.specs.Asking.{asked}
+use Rattle.cad_resource.specs.Requested.{requested}
 
 -- the head is as it has to be, whatever is asked for
 pub record IsSound (r : Request) : Type 0 where
@@ -14,25 +14,25 @@ pub record IsSound (r : Request) : Type 0 where
 
 -- hosts are looked at first
 abbrev pub HostIsFirst : Type 0
-HostIsFirst = (r : Request) → lacks_host r ≡ true → asked r ≡ Err Host
+HostIsFirst = (r : Request) → lacks_host r ≡ true → requested r ≡ Err Host
 
 -- then bodies, whatever the target is
 abbrev pub BodyIsSecond : Type 0
-BodyIsSecond = (r : Request) → lacks_host r ≡ false → has_body r ≡ true → asked r ≡ Err Body
+BodyIsSecond = (r : Request) → lacks_host r ≡ false → has_body r ≡ true → requested r ≡ Err Body
 
 -- then targets
 abbrev pub TargetIsThird : Type 0
-TargetIsThird = (r : Request) → IsSound r → is_target r.target ≡ false → asked r ≡ Err Target
+TargetIsThird = (r : Request) → IsSound r → is_target r.target ≡ false → requested r ≡ Err Target
 
 -- then paths, whatever the method is
 abbrev pub PathIsFourth : Type 0
-PathIsFourth = (r : Request) → IsSound r → is_target r.target ≡ true → place_of (path r) ≡ None → asked r ≡ Err NoResource
+PathIsFourth = (r : Request) → IsSound r → is_target r.target ≡ true → place_of (path r) ≡ None → requested r ≡ Err NoResource
 
 -- then methods, whatever the collection is
 abbrev pub MethodIsFifth : Type 0
 MethodIsFifth =
     (r : Request) (place : Place (List ℕ)) → IsSound r → is_target r.target ≡ true → place_of (path r) ≡ Some place
-    → r.method ≢ codes "GET" → asked r ≡ Err Method
+    → r.method ≢ codes "GET" → requested r ≡ Err Method
 
 -- a GET of a path
 pub record IsGet (r : Request) : Type 0 where
@@ -44,12 +44,12 @@ pub record IsGet (r : Request) : Type 0 where
 abbrev pub CollectionIsSixth : Type 0
 CollectionIsSixth =
     (r : Request) (place : Place (List ℕ)) → IsGet r → place_of (path r) ≡ Some place → resource_of (path r) ≡ None
-    → asked r ≡ Err NoCollection
+    → requested r ≡ Err NoCollection
 
 -- a GET of a resource's path asks for it, with whatever query
-abbrev pub ResourcesAreAsked : Type 0
-ResourcesAreAsked =
-    (r : Request) (place : Place Collection) → IsGet r → resource_of (path r) ≡ Some place → asked r ≡ Ok (place, query r)
+abbrev pub ResourcesAreRequested : Type 0
+ResourcesAreRequested =
+    (r : Request) (place : Place Collection) → IsGet r → resource_of (path r) ≡ Some place → requested r ≡ Ok (place, query r)
 
 -- a text that may stand between slashes
 pub record IsSegment (text : List ℕ) : Type 0 where

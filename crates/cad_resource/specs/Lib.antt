@@ -1,6 +1,6 @@
 pub mod Heads
 pub mod Places
 pub mod Checks
-pub mod Asking
+pub mod Requested
 pub mod RouteRows
 pub mod Laws

@@ -1,6 +1,6 @@
 //! Why a request is refused before its query is read.
 
-use cad_reply::Status;
+use cad_head::Status;
 use thiserror::Error;
 
 /// The checks that a request can fail before its query is read, in the order in which they are made.

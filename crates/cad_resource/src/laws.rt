@@ -1,6 +1,6 @@
 //! What the definitions of requests and paths say together. Nothing runs here.
 
-ghost use Rattle.cad_resource.specs.Laws.{HostIsFirst, BodyIsSecond, TargetIsThird, PathIsFourth, MethodIsFifth, CollectionIsSixth, ResourcesAreAsked};
+ghost use Rattle.cad_resource.specs.Laws.{HostIsFirst, BodyIsSecond, TargetIsThird, PathIsFourth, MethodIsFifth, CollectionIsSixth, ResourcesAreRequested};
 ghost use Rattle.cad_resource.specs.Laws.{PathsAreReadBack, PlacesHaveOnePath, KnownPathsAreReadBack, ResourcesHaveOnePath};
 
 /// Each check decides where those before it pass, whatever those after it say.
@@ -14,8 +14,8 @@ pub fn checks_come_in_order()
 {}
 
 /// A GET of a resource's path asks for that resource, with whatever query.
-pub fn resources_are_asked()
-    ensures { ResourcesAreAsked }
+pub fn resources_are_requested()
+    ensures { ResourcesAreRequested }
 {}
 
 /// The path of a place names that place.

@@ -1,7 +1,7 @@
 //! The resources of the server.
 
 ghost use Rattle.std.specs.Prelude.{◌≡◌, option_map};
-ghost use Rattle.cad_resource.specs.Asking.{place_held};
+ghost use Rattle.cad_resource.specs.Requested.{place_held};
 ghost use Rattle.cad_resource.specs.Places.{known};
 ghost use Rattle.cad_resource.specs.RouteRows.{place_routed};
 

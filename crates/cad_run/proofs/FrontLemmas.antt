@@ -3,9 +3,9 @@ use Rattle.std.proofs.Common.{◌≡◌, ◌∙◌, Bool, true, false, not, List
 use Rattle.std.specs.Prelude.{if◌then◌else◌}
 use Rattle.std.specs.List.Sorted.{IsStrictlySortedBy}
 use Rattle.cad_feature.specs.Features.{Item, by_identifier}
-use Rattle.cad_merged.specs.ItemLemmas.{items_total, rest_rises}
-use Rattle.cad_merged.specs.MergeLemmas.{change_first, change_before, change_in_place, change_behind}
-use Rattle.cad_merged.specs.Walks.{all_in, IsInOrder}
+use Rattle.cad_layer.specs.lemmas.ItemLemmas.{items_total, rest_rises}
+use Rattle.cad_layer.specs.lemmas.MergeLemmas.{change_first, change_before, change_in_place, change_behind}
+use Rattle.cad_layer.specs.Walks.{all_in, IsInOrder}
 use Rattle.cad_run.specs.Peeked.{stands_first, without}
 
 pub nothing_rises : IsStrictlySortedBy by_identifier []

@@ -1,8 +1,8 @@
 -- The positions that an index gives.
 use Rattle.std.proofs.Common.{◌≡◌, ℕ, List, length, get_or, None}
 use Rattle.std.specs.List.Sorted.{IsStrictlyIncreasing}
-use Rattle.cad_cells.specs.Blocks.{Block}
-use Rattle.cad_cells.specs.Near.{block_at_place, is_candidate, is_near}
+use Rattle.cad_grid.specs.Blocks.{Block}
+use Rattle.cad_grid.specs.Near.{block_at_place, is_candidate, is_near}
 use Rattle.cad_feature.specs.Features.{Item}
 use Rattle.cad_feature.specs.Limits.{limit_of}
 use Rattle.cad_feature.specs.Values.{null}
@@ -10,7 +10,7 @@ use Rattle.cad_feature.specs.declared.range.Range.{Range}
 use Rattle.cad_grid.specs.Grids.{blocks_at, near_positions}
 use Rattle.cad_ordered.specs.Ranged.{column, range_positions, value_at}
 use Rattle.cad_range.specs.Ranges.{lies_between, lies_in}
-use Rattle.cad_rows.specs.Held.{is_among}
+use Rattle.cad_positions.specs.Held.{is_among}
 use Rattle.cad_run.specs.Positions.{holds_at}
 use Rattle.cad_run.proofs.PositionLemmas.{among_features, below_rises}
 

@@ -10,11 +10,11 @@ use Rattle.cad_versions.specs.Identifiers.{identifier_cmp}
 use Rattle.cad_feature.specs.Features.{Item, identifier_of, by_identifier}
 use Rattle.cad_lookup.specs.declared.plan.Plan.{Plan}
 use Rattle.cad_lookup.specs.Candidates.{is_candidate, candidates}
-use Rattle.cad_merged.specs.FilterLemmas.{merged_filtered}
-use Rattle.cad_merged.specs.ItemLemmas.{items_total, rest_rises}
-use Rattle.cad_merged.specs.MergeLemmas.{filter_merged}
-use Rattle.cad_merged.specs.SearchLemmas.{equal_is}
-use Rattle.cad_merged.specs.Walks.{all_in, IsInOrder}
+use Rattle.cad_layer.specs.lemmas.FilterLemmas.{merged_filtered}
+use Rattle.cad_layer.specs.lemmas.ItemLemmas.{items_total, rest_rises}
+use Rattle.cad_layer.specs.lemmas.MergeLemmas.{filter_merged}
+use Rattle.cad_layer.specs.lemmas.SearchLemmas.{equal_is}
+use Rattle.cad_layer.specs.Walks.{all_in, IsInOrder}
 use Rattle.cad_run.specs.Peeked.{stands_first, without}
 use Rattle.cad_run.proofs.FrontLemmas.{IsTaken, behind_is, first_change, nothing_rises, without_rises}
 use Rattle.cad_run.specs.Slices.{is_later, later}

@@ -5,8 +5,8 @@ use Rattle.std.specs.List.{range_with_len}
 use Rattle.std.proofs.lemmas.Bool.Decides.{nat_tests}
 use Rattle.std.proofs.lemmas.Option.{slice_get_cases}
 use Rattle.cad_feature.specs.Features.{Item}
-use Rattle.cad_rows.specs.AllRows.{most, most_is, rows_of}
-use Rattle.cad_run.specs.Positions.{told_of, holds_at, found_then, items_at}
+use Rattle.cad_positions.specs.AllRows.{most, most_is, rows_of}
+use Rattle.cad_run.specs.Positions.{holds_for, holds_at, found_then, items_at}
 use Rattle.std.proofs.lemmas.List.Elements.{filter_agree}
 
 -- the positions, from i on, of the features that pass
@@ -77,9 +77,9 @@ module _ (xs : List Item) where
         ∙ stays_here (holds_at c xs from) true from _ _ (is_from from le) (goes_on (suc from) n (omega arith) (omega (arith, long)))
         ∙ and_true (holds_at c xs from) _ _
         ∙ ⊎_elim
-        (λ (found : (x : Item) × (from < length xs) × (slice_get xs from ≡ Some x) × (get_or xs from x ≡ x)). ap (λ o. cond (told_of c o) (from ∷ from_on c (suc from) (drop (suc from) xs)) (from_on c (suc from) (drop (suc from) xs))) found.2
+        (λ (found : (x : Item) × (from < length xs) × (slice_get xs from ≡ Some x) × (get_or xs from x ≡ x)). ap (λ o. cond (holds_for c o) (from ∷ from_on c (suc from) (drop (suc from) xs)) (from_on c (suc from) (drop (suc from) xs))) found.2
         ∙ sym (ap (from_on c from) (drop-cons xs from found.0 found.1 ∙ ap (λ y. y ∷ drop (suc from) xs) found.3)))
-        (λ past. ap (λ o. cond (told_of c o) (from ∷ from_on c (suc from) (drop (suc from) xs)) (from_on c (suc from) (drop (suc from) xs))) past.1
+        (λ past. ap (λ o. cond (holds_for c o) (from ∷ from_on c (suc from) (drop (suc from) xs)) (from_on c (suc from) (drop (suc from) xs))) past.1
         ∙ ap (from_on c (suc from)) (nothing_left (suc from) (omega (arith, past.0)))
         ∙ sym (ap (from_on c from) (nothing_left from past.0)))
         (slice_get_cases xs from).1

@@ -9,7 +9,7 @@ use Rattle.cad_lookup.specs.declared.plan.Plan.TheVariants as plan
 use Rattle.cad_lookup.specs.Candidates.{is_candidate, candidate_All, candidate_Meet, candidate_Join}
 use Rattle.cad_run.specs.declared.parts.Part.{Part}
 use Rattle.cad_run.specs.Parts.{has_all_parts, has_any_part, all_hold, any_holds}
-use Rattle.cad_run.specs.Positions.{told_of, holds_at}
+use Rattle.cad_run.specs.Positions.{holds_for, holds_at}
 
 none_of : {X : Type 0} (xs : List X) → list_any (λ x. false) xs ≡ false
 none_of [] = refl
@@ -17,20 +17,20 @@ none_of (x ∷ xs) = none_of xs
 
 pub all_has : (xs : List Item) (k : ℕ) → nat_lt k (length xs) ≡ holds_at (is_candidate plan.All) xs k
 all_has xs k = ⊎_elim
-    (λ (found : (x : Item) × (k < length xs) × (slice_get xs k ≡ Some x) × (get_or xs k x ≡ x)). lt-ltb k (length xs) found.1 ∙ sym (ap (told_of (is_candidate plan.All)) found.2 ∙ candidate_All found.0))
-    (λ past. le-ltb k (length xs) past.0 ∙ sym (ap (told_of (is_candidate plan.All)) past.1))
+    (λ (found : (x : Item) × (k < length xs) × (slice_get xs k ≡ Some x) × (get_or xs k x ≡ x)). lt-ltb k (length xs) found.1 ∙ sym (ap (holds_for (is_candidate plan.All)) found.2 ∙ candidate_All found.0))
+    (λ past. le-ltb k (length xs) past.0 ∙ sym (ap (holds_for (is_candidate plan.All)) past.1))
     (slice_get_cases xs k).1
 
 meet_has : (plans : Vec Plan Global) (xs : List Item) (k : ℕ) → (nat_lt k (length xs) && list_all (λ p. holds_at (is_candidate p) xs k) plans.items) ≡ holds_at (is_candidate (plan.Meet plans)) xs k
 meet_has plans xs k = ⊎_elim
     (λ (found : (x : Item) × (k < length xs) × (slice_get xs k ≡ Some x) × (get_or xs k x ≡ x)). ap (λ b. b && list_all (λ p. holds_at (is_candidate p) xs k) plans.items) (lt-ltb k (length xs) found.1)
-    ∙ ap (λ o. list_all (λ p. told_of (is_candidate p) o) plans.items) found.2
-    ∙ sym (ap (told_of (is_candidate (plan.Meet plans))) found.2 ∙ candidate_Meet found.0 plans))
+    ∙ ap (λ o. list_all (λ p. holds_for (is_candidate p) o) plans.items) found.2
+    ∙ sym (ap (holds_for (is_candidate (plan.Meet plans))) found.2 ∙ candidate_Meet found.0 plans))
     (λ past. ap (λ b. b && list_all (λ p. holds_at (is_candidate p) xs k) plans.items) (le-ltb k (length xs) past.0)
-    ∙ sym (ap (told_of (is_candidate (plan.Meet plans))) past.1))
+    ∙ sym (ap (holds_for (is_candidate (plan.Meet plans))) past.1))
     (slice_get_cases xs k).1
 
-any_told : (plans : Vec Plan Global) (o : Option Item) → list_any (λ p. told_of (is_candidate p) o) plans.items ≡ told_of (is_candidate (plan.Join plans)) o
+any_told : (plans : Vec Plan Global) (o : Option Item) → list_any (λ p. holds_for (is_candidate p) o) plans.items ≡ holds_for (is_candidate (plan.Join plans)) o
 any_told plans None = none_of plans.items
 any_told plans (Some x) = sym (candidate_Join x plans)
 

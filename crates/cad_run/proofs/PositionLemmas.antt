@@ -10,8 +10,8 @@ use Rattle.std.proofs.lemmas.Option.{slice_get_cases}
 use Rattle.cad_feature.specs.Features.{Item}
 use Rattle.cad_positions.specs.Between.{range_increases}
 use Rattle.cad_positions.specs.Rankings.{is_between, positions_between}
-use Rattle.cad_rows.specs.Held.{is_among, has_rank}
-use Rattle.cad_run.specs.Positions.{told_of, holds_at}
+use Rattle.cad_positions.specs.Held.{is_among, has_rank}
+use Rattle.cad_run.specs.Positions.{holds_for, holds_at}
 
 -- ---- the numbers that pass a test, as a list
 
@@ -54,8 +54,8 @@ module _ {A : Type 0} (f : Item → A) (none : A) (test : A → Bool) (xs : List
       (λ (found : (x : Item) × (k < length xs) × (slice_get xs k ≡ Some x) × (get_or xs k x ≡ x)).
       ap (λ b. b && test (get_or (map f xs) k none)) (lt-ltb k (length xs) found.1)
       ∙ ap test (get_or-map f xs k found.0 none found.1 ∙ ap f found.3)
-      ∙ sym (ap (told_of (λ x. test (f x))) found.2))
-      (λ past. ap (λ b. b && test (get_or (map f xs) k none)) (le-ltb k (length xs) past.0) ∙ sym (ap (told_of (λ x. test (f x))) past.1))
+      ∙ sym (ap (holds_for (λ x. test (f x))) found.2))
+      (λ past. ap (λ b. b && test (get_or (map f xs) k none)) (le-ltb k (length xs) past.0) ∙ sym (ap (holds_for (λ x. test (f x))) past.1))
       (slice_get_cases xs k).1
 
   pub among_features : is_among (filter (λ p. test (get_or (map f xs) p none)) (range_with_len 0 (length (map f xs)))) k ≡ holds_at (λ x. test (f x)) xs k

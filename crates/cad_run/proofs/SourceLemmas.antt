@@ -5,13 +5,13 @@ use Rattle.std.specs.List.Sorted.{IsStrictlySortedBy}
 use Rattle.std.proofs.lemmas.List.Kept.{IsStrictlySortedBy-filter}
 use Rattle.std.proofs.lemmas.List.{append_assoc, append-nil, length-set, nil_from_length, take-set, take_all, take_more, take_more_set}
 use Rattle.std.proofs.lemmas.List.Elements.{filter-append}
-use Rattle.cad_versions.specs.ListLemmas.{filter_fewer}
+use Rattle.cad_versions.specs.lemmas.ListLemmas.{filter_fewer}
 use Rattle.cad_feature.specs.Features.{Item, by_identifier}
 use Rattle.cad_lookup.specs.declared.plan.Plan.{Plan}
 use Rattle.cad_lookup.specs.Candidates.{is_candidate, candidates}
 use Rattle.cad_extents.specs.declared.extents.Extents.{Extents}
 use Rattle.cad_extents.specs.Extents.{IsWithin}
-use Rattle.cad_merged.specs.Segments.{SegmentFeatures, joined}
+use Rattle.cad_layer.specs.Segments.{SegmentFeatures, joined}
 use Rattle.cad_run.specs.declared.segment_candidates.SegmentCandidates.{SegmentCandidates}
 use Rattle.cad_run.specs.SegmentLeft.{segment_left, all_left}
 use Rattle.cad_run.specs.Slices.{is_later, later}

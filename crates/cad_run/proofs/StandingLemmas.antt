@@ -6,15 +6,15 @@ use Rattle.std.specs.List.Sorted.{IsStrictlySortedBy}
 use Rattle.std.proofs.lemmas.Cmp.{alike_right}
 use Rattle.std.proofs.lemmas.List.Elements.{recursion_from_All}
 use Rattle.std.proofs.lemmas.List.Kept.{IsStrictlySortedBy-filter}
-use Rattle.cad_versions.specs.ListLemmas.{all_weaker}
+use Rattle.cad_versions.specs.lemmas.ListLemmas.{all_weaker}
 use Rattle.cad_feature.specs.Features.{Item, identifier_of, by_identifier}
-use Rattle.cad_merged.specs.Identifiers.{IsTheOne}
-use Rattle.cad_merged.specs.ItemLemmas.{items_total}
-use Rattle.cad_merged.specs.LookupLemmas.{apart}
-use Rattle.cad_merged.specs.Merging.{put, put_at}
-use Rattle.cad_merged.specs.MergeLemmas.{all_merged, filter_merged, filter_put, filter_put_out, merged_ascends, put_front, IsNew}
-use Rattle.cad_merged.specs.SearchLemmas.{is_equal}
-use Rattle.cad_merged.specs.Walks.{all_in, IsInOrder}
+use Rattle.cad_layer.specs.Identifiers.{IsTheOne}
+use Rattle.cad_layer.specs.lemmas.ItemLemmas.{items_total}
+use Rattle.cad_layer.specs.lemmas.LookupLemmas.{apart}
+use Rattle.cad_layer.specs.Merging.{put, put_at}
+use Rattle.cad_layer.specs.lemmas.MergeLemmas.{all_merged, filter_merged, filter_put, filter_put_out, merged_ascends, put_front, IsNew}
+use Rattle.cad_layer.specs.lemmas.SearchLemmas.{is_equal}
+use Rattle.cad_layer.specs.Walks.{all_in, IsInOrder}
 use Rattle.cad_run.specs.IndexedLeft.{FirstStands}
 use Rattle.cad_run.specs.Peeked.{stands_first, without}
 use Rattle.cad_run.specs.Slices.{is_later, later}

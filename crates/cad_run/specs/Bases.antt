@@ -3,11 +3,11 @@ use Rattle.std.specs.Prelude.{◌<◌, ◌≤◌, ◌^◌, List, length}
 use Rattle.std.proofs.Common.{arith}
 use Rattle.std.specs.List.Sorted.{IsStrictlySortedBy}
 use Rattle.cad_feature.specs.Features.{Item, by_identifier}
-use Rattle.cad_rows.specs.AllRows.{rows_of, rows_increase}
-use Rattle.cad_rows.specs.AllRows as all
-use Rattle.cad_rows.specs.Rest.{left_in}
+use Rattle.cad_positions.specs.AllRows.{rows_of, rows_increase}
+use Rattle.cad_positions.specs.AllRows as all
+use Rattle.cad_positions.specs.Rest.{left_in}
 use Rattle.cad_run.specs.declared.bases.Bases.{Bases}
-use Rattle.cad_run.specs.AscendingLemmas.{fewer_items, items_ascend}
+use Rattle.cad_run.specs.lemmas.AscendingLemmas.{fewer_items, items_ascend}
 use Rattle.cad_run.specs.Positions.{items_at}
 
 -- the features at the positions that are left

@@ -4,15 +4,15 @@ use Rattle.std.proofs.Common.{arith}
 use Rattle.std.specs.Option.{option_copied}
 use Rattle.std.specs.List.Sorted.{IsStrictlySortedBy}
 use Rattle.std.proofs.lemmas.List.Kept.{IsStrictlySortedBy-filter}
-use Rattle.cad_versions.specs.ListLemmas.{filter_fewer}
+use Rattle.cad_versions.specs.lemmas.ListLemmas.{filter_fewer}
 use Rattle.cad_feature.specs.Features.{Item, by_identifier}
-use Rattle.cad_merged.specs.ItemLemmas.{items_total}
-use Rattle.cad_merged.specs.MergeLemmas.{merged_ascends}
-use Rattle.cad_merged.specs.Walks.{all_in}
+use Rattle.cad_layer.specs.lemmas.ItemLemmas.{items_total}
+use Rattle.cad_layer.specs.lemmas.MergeLemmas.{merged_ascends}
+use Rattle.cad_layer.specs.Walks.{all_in}
 use Rattle.cad_run.specs.declared.indexed_candidates.IndexedCandidates.{IndexedCandidates}
 use Rattle.cad_run.specs.declared.bases.Bases.{Bases}
 use Rattle.cad_run.specs.declared.peeked.Peeked.{Peeked}
-use Rattle.cad_run.specs.AscendingLemmas.{fewer_merged, one_more}
+use Rattle.cad_run.specs.lemmas.AscendingLemmas.{fewer_merged, one_more}
 use Rattle.cad_run.specs.Bases.{rows_few, rows_left}
 use Rattle.cad_run.specs.Peeked.{peeked_left}
 use Rattle.cad_run.specs.Standing.{standing, stands}

@@ -1,8 +1,6 @@
 pub mod Slices
 pub mod Pages
-pub mod LaterLemmas
 pub mod Positions
-pub mod AscendingLemmas
 pub mod Parts
 pub mod Bases
 pub mod Peeked
@@ -10,3 +8,4 @@ pub mod Standing
 pub mod IndexedLeft
 pub mod SegmentLeft
 pub mod Left
+pub mod lemmas

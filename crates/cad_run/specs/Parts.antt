@@ -4,8 +4,8 @@ use Rattle.std.specs.List.{list_all, list_any}
 use Rattle.cad_feature.specs.Features.{Item}
 use Rattle.cad_lookup.specs.declared.plan.Plan.{Plan}
 use Rattle.cad_lookup.specs.Candidates.{is_candidate}
-use Rattle.cad_rows.specs.Has.{has}
-use Rattle.cad_rows.specs.Held.{has_rank}
+use Rattle.cad_positions.specs.Has.{has}
+use Rattle.cad_positions.specs.Held.{has_rank}
 use Rattle.cad_run.specs.declared.parts.Wide.{Wide}
 use Rattle.cad_run.specs.declared.parts.Part.{Part}
 use Rattle.cad_run.specs.declared.parts.Part.TheVariants as part

@@ -3,13 +3,13 @@ use Rattle.std.specs.Prelude.{ℕ, Bool, false, List, [], ◌∷◌, slice_get, 
 use Rattle.cad_feature.specs.Features.{Item}
 
 -- there is a feature, and it passes
-abbrev pub told_of : (Item → Bool) → Option Item → Bool
-told_of test None = false
-told_of test (Some x) = test x
+abbrev pub holds_for : (Item → Bool) → Option Item → Bool
+holds_for test None = false
+holds_for test (Some x) = test x
 
 -- the feature at the position passes; past the last feature none does
 abbrev pub holds_at : (Item → Bool) → List Item → ℕ → Bool
-holds_at test xs k = told_of test (slice_get xs k)
+holds_at test xs k = holds_for test (slice_get xs k)
 
 abbrev pub found_then : Option Item → List Item → List Item
 found_then None xs = xs

@@ -2,7 +2,7 @@
 use Rattle.std.specs.Prelude.{List, [], ◌∷◌, ◌++◌, filter}
 use Rattle.cad_feature.specs.Features.{Item}
 use Rattle.cad_lookup.specs.Candidates.{is_candidate}
-use Rattle.cad_merged.specs.Walks.{all_in}
+use Rattle.cad_layer.specs.Walks.{all_in}
 use Rattle.cad_run.specs.declared.segment_candidates.SegmentCandidates.{SegmentCandidates}
 use Rattle.cad_run.specs.IndexedLeft.{indexed_left}
 use Rattle.cad_run.specs.Peeked.{peeked_left}

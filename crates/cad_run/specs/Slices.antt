@@ -4,7 +4,7 @@ use Rattle.std.proofs.Common.{Bor}
 use Rattle.cad_versions.specs.declared.object_id.ObjectId.{ObjectId}
 use Rattle.cad_versions.specs.Identifiers.{identifier as identifier_with}
 use Rattle.cad_feature.specs.Features.{Item}
-use Rattle.cad_merged.specs.Identifiers.{comes_after}
+use Rattle.cad_layer.specs.Identifiers.{comes_after}
 use Rattle.cad_run.specs.declared.rows.Page.{Page}
 
 -- of an object and the number of its version

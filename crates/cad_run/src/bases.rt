@@ -4,13 +4,13 @@ ghost use Rattle.std.specs.List.Sorted.{IsStrictlySortedBy};
 ghost use Rattle.std.proofs.Props.{props};
 ghost use Rattle.cad_feature.specs.Features.{by_identifier};
 
-use crate::after::first_after;
 use crate::feature_source::FeatureSource;
+use crate::first_after::first_after;
 use crate::planned::source_of;
 use cad_feature::Feature;
 use cad_index::Base;
 use cad_lookup::Plan;
-use cad_rows::{RowSource, Rows};
+use cad_positions::{RowSource, Rows};
 use cad_versions::ObjectId;
 use std::alloc::{AllocError, Global};
 

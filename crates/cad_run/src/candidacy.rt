@@ -2,14 +2,14 @@
 
 ghost use Rattle.std.specs.Prelude.{◌≡◌, Some};
 ghost use Rattle.std.specs.List.{list_all, list_any};
-ghost use Rattle.cad_cells.specs.Blocks.{block_of};
-ghost use Rattle.cad_cells.specs.Counted.{block_at};
-ghost use Rattle.cad_cells.specs.Near.{block_in, is_candidate as is_looked_at, is_near as is_near_of};
+ghost use Rattle.cad_grid.specs.Blocks.{block_of};
+ghost use Rattle.cad_grid.specs.Counted.{block_at};
+ghost use Rattle.cad_grid.specs.Near.{block_in, is_candidate as is_looked_at, is_near as is_near_of};
 ghost use Rattle.cad_feature.specs.Values.{datum_of};
 ghost use Rattle.cad_lookup.specs.Candidates.{is_candidate as is_candidate_of};
 
-use cad_cells::{Cells, bounds_of};
 use cad_feature::{Feature, Value};
+use cad_grid::{Cells, bounds_of};
 use cad_lookup::Plan;
 use cad_range::lies_in;
 use cad_shape::Bounds;

@@ -5,7 +5,7 @@ ghost use Rattle.std.specs.List.Sorted.{IsStrictlySortedBy};
 ghost use Rattle.std.proofs.Props.{props};
 ghost use Rattle.cad_feature.specs.Features.{by_identifier};
 ghost use Rattle.cad_lookup.specs.Candidates.{candidates};
-ghost use Rattle.cad_merged.specs.Segments.{joined};
+ghost use Rattle.cad_layer.specs.Segments.{joined};
 ghost use Rattle.cad_run.specs.SegmentLeft.{all_left};
 ghost use Rattle.cad_run.specs.Slices.{identifier, later};
 
@@ -13,8 +13,8 @@ use crate::feature_source::FeatureSource;
 use crate::presence::may_have;
 use crate::segment_candidates::SegmentCandidates;
 use cad_feature::Feature;
+use cad_layer::{Layer, Segment};
 use cad_lookup::Plan;
-use cad_merged::{Layer, Segment};
 use cad_versions::ObjectId;
 use std::alloc::{AllocError, Global};
 

@@ -5,8 +5,8 @@ ghost use Rattle.cad_lookup.specs.Candidates.{candidates};
 
 use crate::candidates::Candidates;
 use crate::feature_source::FeatureSource;
+use cad_layer::Layer;
 use cad_lookup::Plan;
-use cad_merged::Layer;
 use std::alloc::{AllocError, Global};
 
 fn count_left<'a, S: FeatureSource<'a>>(source: S) -> u64

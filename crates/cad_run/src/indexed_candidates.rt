@@ -4,18 +4,18 @@ ghost use Rattle.std.specs.Prelude.{◌≡◌};
 ghost use Rattle.std.specs.List.Sorted.{IsStrictlySortedBy};
 ghost use Rattle.std.proofs.Props.{props};
 ghost use Rattle.cad_feature.specs.Features.{by_identifier};
-ghost use Rattle.cad_merged.specs.Walks.{IsInOrder};
+ghost use Rattle.cad_layer.specs.Walks.{IsInOrder};
 ghost use Rattle.cad_run.specs.Bases.{rows_left};
 ghost use Rattle.cad_run.specs.Peeked.{peeked_left};
 
-use crate::after::features_later;
 use crate::bases::Bases;
 use crate::feature_source::FeatureSource;
+use crate::first_after::features_later;
 use crate::peeked::Peeked;
 use crate::replaced::is_replaced;
 use cad_feature::Feature;
+use cad_layer::Indexed;
 use cad_lookup::Plan;
-use cad_merged::Indexed;
 use cad_versions::ObjectId;
 use std::alloc::{AllocError, Global};
 

@@ -1,11 +1,11 @@
 //! Parts of a plan as one source.
 
 ghost use Rattle.std.specs.Prelude.{◌≡◌, ◌&&◌, ◌||◌, ◌<◌, ℕ, IfOk, nat_lt};
-ghost use Rattle.cad_rows.specs.Has.{has, has_any, has_all};
+ghost use Rattle.cad_positions.specs.Has.{has, has_any, has_all};
 ghost use Rattle.cad_run.specs.Parts.{has_all_parts, has_any_part, has_all_wide};
 
 use crate::parts::{Part, Wide, tested, walked};
-use cad_rows::{Source, join_all, meet_all};
+use cad_positions::{Source, join_all, meet_all};
 use std::alloc::{AllocError, Global};
 
 /// The positions of some part.

@@ -14,7 +14,6 @@
 //! any feature is 1.2: more are left, for 2.1 is one, and both were tested.
 #![tactic(auto)]
 
-mod after;
 mod bases;
 mod candidacy;
 mod candidates;
@@ -22,6 +21,7 @@ mod counting;
 mod feature_source;
 mod feature_test;
 mod finding;
+mod first_after;
 mod indexed_candidates;
 mod joining;
 mod kept;
@@ -34,9 +34,9 @@ mod replaced;
 mod rows;
 mod segment_candidates;
 
+pub use cad_layer::Layer;
 pub use cad_lookup::Plan;
-pub use cad_merged::Layer;
-pub use cad_rows::RowSource;
+pub use cad_positions::RowSource;
 pub use candidates::Candidates;
 pub use counting::candidate_count;
 pub use feature_source::FeatureSource;

@@ -9,8 +9,8 @@ use crate::candidates::Candidates;
 use crate::feature_test::FeatureTest;
 use crate::finding::find;
 use crate::rows::Page;
+use cad_layer::Layer;
 use cad_lookup::Plan;
-use cad_merged::Layer;
 use cad_versions::ObjectId;
 use std::alloc::{AllocError, Global};
 

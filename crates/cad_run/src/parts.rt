@@ -2,17 +2,16 @@
 
 ghost use Rattle.std.specs.Prelude.{◌≡◌, ◌&&◌, ℕ, IfOk};
 ghost use Rattle.std.specs.List.Sorted.{IsStrictlyIncreasing};
-ghost use Rattle.cad_cells.specs.Blocks.{block_of};
-ghost use Rattle.cad_cells.specs.Near.{is_near};
+ghost use Rattle.cad_grid.specs.Blocks.{block_of};
+ghost use Rattle.cad_grid.specs.Near.{is_near};
 ghost use Rattle.cad_range.specs.Ranges.{lies_in};
-ghost use Rattle.cad_rows.specs.Has.{has};
-ghost use Rattle.cad_rows.specs.Held.{is_among};
+ghost use Rattle.cad_positions.specs.Has.{has};
+ghost use Rattle.cad_positions.specs.Held.{is_among};
 ghost use Rattle.cad_run.specs.Parts.{has_part, has_wide, PartStands};
 
 use cad_feature::Range;
 use cad_index::{Base, Found};
-use cad_positions::Positions;
-use cad_rows::Source;
+use cad_positions::{Positions, Source};
 use cad_shape::Bounds;
 use std::alloc::{AllocError, Global};
 

@@ -2,7 +2,7 @@
 
 ghost use Rattle.std.specs.Prelude.{◌≡◌, ℕ, IfOk};
 ghost use Rattle.cad_lookup.specs.Candidates.{is_candidate};
-ghost use Rattle.cad_rows.specs.Has.{has};
+ghost use Rattle.cad_positions.specs.Has.{has};
 ghost use Rattle.cad_run.specs.Parts.{has_all_parts, has_any_part, PartStands, all_hold, any_holds};
 ghost use Rattle.cad_run.specs.Positions.{holds_at};
 
@@ -10,7 +10,7 @@ use crate::joining::{joined, met};
 use crate::parts::{Part, near_part, range_part, walked};
 use cad_index::Base;
 use cad_lookup::Plan;
-use cad_rows::Source;
+use cad_positions::Source;
 use std::alloc::{AllocError, Global};
 
 #[cycle(plan)]

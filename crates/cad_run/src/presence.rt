@@ -6,8 +6,8 @@ ghost use Rattle.cad_extents.specs.Extents.{IsWithin};
 ghost use Rattle.cad_feature.specs.Features.{Item};
 ghost use Rattle.cad_lookup.specs.Candidates.{is_candidate};
 
-use cad_cells::Cells;
 use cad_extents::Extents;
+use cad_grid::Cells;
 use cad_lookup::Plan;
 
 /// Whether one of the features with these extents may be a candidate of the plan. No memory is taken.

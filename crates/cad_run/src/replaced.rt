@@ -6,7 +6,7 @@ ghost use Rattle.cad_feature.specs.Features.{by_identifier};
 ghost use Rattle.cad_run.specs.Standing.{is_replaced as is_replaced_of};
 
 use cad_feature::Feature;
-use cad_merged::found;
+use cad_layer::found;
 
 /// Whether one of the changes stands in the place of the feature, by a search in their order.
 pub(crate) fn is_replaced(changes: &[Feature], feature: &Feature) -> bool

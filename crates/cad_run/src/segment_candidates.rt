@@ -4,17 +4,17 @@ ghost use Rattle.std.specs.Prelude.{◌≡◌, true};
 ghost use Rattle.std.specs.List.{All};
 ghost use Rattle.std.proofs.Props.{props};
 ghost use Rattle.cad_lookup.specs.Candidates.{is_candidate as is_candidate_of};
-ghost use Rattle.cad_merged.specs.Walks.{IsInOrder};
+ghost use Rattle.cad_layer.specs.Walks.{IsInOrder};
 ghost use Rattle.cad_run.specs.Peeked.{peeked_left};
 ghost use Rattle.cad_run.specs.IndexedLeft.{indexed_left};
 
-use crate::after::changes_later;
 use crate::candidacy::is_candidate;
+use crate::first_after::changes_later;
 use crate::indexed_candidates::IndexedCandidates;
 use crate::peeked::Peeked;
 use cad_feature::Feature;
+use cad_layer::{Change, Segment};
 use cad_lookup::Plan;
-use cad_merged::{Change, Segment};
 use cad_versions::ObjectId;
 use std::alloc::{AllocError, Global};
 

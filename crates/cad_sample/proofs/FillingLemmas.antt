@@ -7,7 +7,7 @@ use Rattle.cad_versions.specs.declared.fault.RegisterFault.{RegisterFault}
 use Rattle.cad_versions.specs.declared.ledger.Ledger.{Ghosts}
 use Rattle.cad_versions.specs.LedgerCalls.{Applies}
 use Rattle.cad_versions.specs.Refusals.{AreAccepted}
-use Rattle.cad_versions.specs.Versions.{versions, after}
+use Rattle.cad_versions.specs.Versions.{versions, versions_after}
 use Rattle.cad_sample.specs.Instructions.{Instruction, instruction_of}
 use Rattle.cad_sample.specs.Sample.{sample_commands}
 use Rattle.cad_sample.specs.Filling.{Answers, Accepts, Enters, IsFilled}
@@ -31,8 +31,8 @@ all_of done [] all e n = sym (append-nil done) ∙ e
 all_of done (next ∷ rest) all e n = absurd (omega (arith, n, length-append done (next ∷ rest), ap length e))
 
 -- the versions after one command more
-versions_after : (commands : List Command) (next : Command) → versions (commands ++ next ∷ []) ≡ after (versions commands) next
-versions_after commands next = fold-append after [] commands (next ∷ [])
+versions_then : (commands : List Command) (next : Command) → versions (commands ++ next ∷ []) ≡ versions_after (versions commands) next
+versions_then commands next = fold-append versions_after [] commands (next ∷ [])
 
 -- what the last answer counted before, the first one did
 counts_before : {L : Type 0} (g : Ghosts L) (all : List Instruction) (old new : L) (first last : ℕ) → Accepts (Applies g) all old first last new → g.counts new → g.counts old
@@ -49,7 +49,7 @@ stands_after g [] old new first last commands a counts stands = ([], refl, tt, r
 stands_after g (one ∷ more) old new first last commands a counts stands =
     let told = a.2.2.accepted (counts_before g more a.1 new a.0 last a.3 counts) commands stands in
     let rest = stands_after g more a.1 new a.0 last (commands ++ a.2.0 ∷ []) a.3 counts told.2 in
-    (a.2.0 ∷ rest.0, rw (a.2.1, rest.1) refl, (told.0, rw (versions_after commands a.2.0) at rest.2), rw (append_assoc commands (a.2.0 ∷ []) rest.0) at rest.3)
+    (a.2.0 ∷ rest.0, rw (a.2.1, rest.1) refl, (told.0, rw (versions_then commands a.2.0) at rest.2), rw (append_assoc commands (a.2.0 ∷ []) rest.0) at rest.3)
 
 -- the last revision counts the commands
 last_counts : {L : Type 0} (g : Ghosts L) (all : List Instruction) (old new : L) (first last : ℕ) (commands : List Command) → Accepts (Applies g) all old first last new → g.counts new → g.stands_for old commands → first ≡ length commands → last ≡ length commands + length all

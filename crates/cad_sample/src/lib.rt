@@ -6,7 +6,7 @@
 //! Parcel 1 is amended once, so that it has two versions; parcel 2 has no area, and parcel 4 no shape.
 //!
 //! ```text
-//! let mut ledger = PlainLedger::new(alloc);
+//! let mut ledger = MemoryLedger::new(alloc);
 //! fill(alloc, &mut ledger)    // Ok(10)
 //! fill(alloc, &mut ledger)    // Err(KnownObject): unit 10 was entered
 //! ```

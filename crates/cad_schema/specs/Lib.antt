@@ -1,4 +1,4 @@
 pub mod Attributes
 pub mod Collections
-pub mod NameLemmas
 pub mod Schema
+pub mod lemmas

@@ -9,7 +9,7 @@ use Rattle.cad_stream.specs.declared.responder.Responder.{Ghosts}
 use Rattle.cad_stream.specs.Streams.{Outcome, waits, closed, refused, rest_of, IsStream}
 use Rattle.cad_stream.specs.Replies.{AreReplies, last_reply}
 use Rattle.cad_stream.specs.Conversations.{Piece, bytes_of, heads_at, IsConversation}
-use Rattle.cad_stream.specs.ReplyLemmas.{replies_go_on, heads_of-at}
+use Rattle.cad_stream.specs.lemmas.ReplyLemmas.{replies_go_on, heads_of-at}
 use Rattle.cad_stream.specs.Laws.{PiecesAreOneStream}
 use Rattle.cad_desk.specs.declared.desk.Desk.{Desk}
 use Rattle.cad_desk.specs.Connections.{rest_at}

@@ -18,11 +18,11 @@ pub enum ServeFault {
 
 impl ServeFault {
     ghost use Rattle.std.specs.Prelude.{◌≡◌};
-    ghost use Rattle.cad_serve.specs.Faults.{serve_fault_told, serve_fault_number, serve_fault_name};
+    ghost use Rattle.cad_serve.specs.Faults.{serve_fault_number_and_name, serve_fault_number, serve_fault_name};
 
     /// The number and the name.
-    fn told(self) -> (u8, &'static str)
-        ensures { (result.0, result.1.now) ≡ serve_fault_told self }
+    fn number_and_name(self) -> (u8, &'static str)
+        ensures { (result.0, result.1.now) ≡ serve_fault_number_and_name self }
     {
         match self {
             ServeFault::Read => (1, "Read"),
@@ -35,13 +35,13 @@ impl ServeFault {
     pub fn number(&self) -> u8
         ensures { result ≡ serve_fault_number self.now }
     {
-        self.told().0
+        self.number_and_name().0
     }
 
     /// The name that programs print.
     pub fn name(&self) -> &'static str
         ensures { result.now ≡ serve_fault_name self.now }
     {
-        self.told().1
+        self.number_and_name().1
     }
 }

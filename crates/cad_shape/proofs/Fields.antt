@@ -6,7 +6,7 @@ use Rattle.cad_shape.specs.declared.point.Point.{Point}
 use Rattle.cad_shape.specs.Coordinates.{IsCoordinate, IsProduct}
 use Rattle.cad_shape.specs.Boxes.{IsLower, IsUpper}
 use Rattle.cad_shape.specs.Frames.{frame_corners}
-use Rattle.cad_shape.specs.SameLemmas.{coordinate_fits, same_point}
+use Rattle.cad_shape.specs.lemmas.SameLemmas.{coordinate_fits, same_point}
 use Rattle.cad_shape.specs.Segments.{IsOutOf}
 use Rattle.cad_shape.specs.declared.boxes.Bounds.{Bounds}
 

@@ -11,7 +11,7 @@ use Rattle.cad_shape.specs.Edges.{Edge, walk, edges_of, end_of}
 use Rattle.cad_shape.specs.Frames.{IsHeld, IsLeastBounds, frame_corners}
 use Rattle.cad_shape.specs.Regions.{IsOnEdge, IsOnSome, crossings, passes, IsInRegion, MeetsSome, SomeMeet}
 use Rattle.cad_shape.specs.Crossings.{IsFirstCrossing}
-use Rattle.cad_shape.specs.SameLemmas.{same_bounds}
+use Rattle.cad_shape.specs.lemmas.SameLemmas.{same_bounds}
 use Rattle.cad_shape.specs.Rings.{corners_of, IsRingFault}
 use Rattle.cad_shape.specs.Polygons.{rings_corners, rings_edges}
 use Rattle.cad_shape.specs.declared.ring.Ring.{Ring}

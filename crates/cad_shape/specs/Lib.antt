@@ -1,7 +1,6 @@
 pub mod Coordinates
 pub mod Boxes
 pub mod Frames
-pub mod SameLemmas
 pub mod Segments
 pub mod Edges
 pub mod Regions
@@ -18,3 +17,4 @@ pub mod PlainRings
 pub mod Tests
 pub mod Insides
 pub mod Laws
+pub mod lemmas

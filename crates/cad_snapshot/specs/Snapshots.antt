@@ -25,8 +25,8 @@ features_at s Parties = s.parties
 features_at s Responsibilities = s.responsibilities
 
 -- the same, of the features that are told for each collection
-abbrev pub told_by : ℕ → (Collection → List Item) → RevisionFeatures
-told_by revision told = record {
+abbrev pub with_features : ℕ → (Collection → List Item) → RevisionFeatures
+with_features revision told = record {
   revision = revision;
   parcels = told Parcels;
   rights = told Rights;
@@ -36,17 +36,17 @@ told_by revision told = record {
   responsibilities = told Responsibilities;
 }
 
-pub told_at : (revision : ℕ) (told : Collection → List Item) (c : Collection) → features_at (told_by revision told) c ≡ told c
-told_at revision told Parcels = refl
-told_at revision told Rights = refl
-told_at revision told Restrictions = refl
-told_at revision told Units = refl
-told_at revision told Parties = refl
-told_at revision told Responsibilities = refl
+pub features_given : (revision : ℕ) (told : Collection → List Item) (c : Collection) → features_at (with_features revision told) c ≡ told c
+features_given revision told Parcels = refl
+features_given revision told Rights = refl
+features_given revision told Restrictions = refl
+features_given revision told Units = refl
+features_given revision told Parties = refl
+features_given revision told Responsibilities = refl
 
 -- what has these features for each collection is one value
-pub is_told : (s : RevisionFeatures) (revision : ℕ) (told : Collection → List Item) → s.revision ≡ revision → ((c : Collection) → features_at s c ≡ told c) → s ≡ told_by revision told
-is_told s revision told e same = λ i. record {
+pub is_with_features : (s : RevisionFeatures) (revision : ℕ) (told : Collection → List Item) → s.revision ≡ revision → ((c : Collection) → features_at s c ≡ told c) → s ≡ with_features revision told
+is_with_features s revision told e same = λ i. record {
   revision = e i;
   parcels = same Parcels i;
   rights = same Rights i;

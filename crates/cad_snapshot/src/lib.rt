@@ -2,6 +2,7 @@
 //!
 //! - [`Snapshot`]: the features of each collection at a revision with their indexes, built of its versions, or of [`Layers`], and lent
 //!   from then on
+//! - [`registers`]: that the revisions of accepted commands are listings, and how many commands there can be
 //!
 //! Of a register whose first two commands enter unit 10 and parcel 1, the snapshot of revision 2 has the feature 1.1 among the parcels
 //! and 10.1 among the units.
@@ -9,6 +10,7 @@
 
 mod building;
 mod rebasing;
+pub mod registers;
 mod snapshot;
 
 pub use snapshot::{Layers, Snapshot};

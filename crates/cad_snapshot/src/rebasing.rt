@@ -2,7 +2,7 @@
 
 ghost use Rattle.std.specs.Prelude.{◌≡◌, IfOk};
 
-use cad_merged::Layer;
+use cad_layer::Layer;
 use std::alloc::{AllocError, Global};
 
 /// The same features, with new bases where some are due at these many changes.

@@ -5,7 +5,7 @@ ghost use Rattle.std.specs.Prelude.{◌≡◌};
 use crate::building::features;
 use crate::rebasing::settled_layer;
 use cad_feature::Feature;
-use cad_merged::{Layer, OF_A_SEGMENT};
+use cad_layer::{Layer, OF_A_SEGMENT};
 use cad_schema::Collection;
 use cad_versions::{ObjectId, Version};
 use std::alloc::{AllocError, Global};
@@ -73,7 +73,7 @@ impl Snapshot {
     ghost use Rattle.std.specs.Option.{option_copied};
     ghost use Rattle.cad_versions.specs.Listing.{IsListing};
     ghost use Rattle.cad_feature.specs.Features.{AreFeaturesOf};
-    ghost use Rattle.cad_merged.specs.Identifiers.{identifier, IsTheOne};
+    ghost use Rattle.cad_layer.specs.Identifiers.{identifier, IsTheOne};
     ghost use Rattle.cad_schema.specs.declared.collection.Collection.TheVariants.{Parcels, Rights, Restrictions, Units, Parties, Responsibilities};
     ghost use Rattle.cad_snapshot.specs.Layers.{features_of_layers};
     ghost use Rattle.cad_snapshot.specs.Snapshots.{features_at, IsSnapshotOf};

@@ -4,5 +4,4 @@ pub mod Answering
 pub mod Feeding
 pub mod Conversations
 pub mod Laws
-pub mod ReplyLemmas
-pub mod KeepingLemmas
+pub mod lemmas

@@ -51,7 +51,7 @@ fn answer_next<R: Responder>(bytes: &[u8], responder: &mut R) -> Result<Next, Re
     }
 }
 
-fn after(bytes: &[u8], count: usize) -> &[u8]
+fn rest_from(bytes: &[u8], count: usize) -> &[u8]
     requires { count ≤ length bytes.now }
     ensures { result.now ≡ drop count bytes.now }
 {
@@ -69,7 +69,7 @@ pub(crate) fn reply_to_requests<R: Responder>(
     let mut replies = Vec::new(alloc);
     let mut used = 0;
     loop {
-        match answer_next(after(bytes, used), responder)? {
+        match answer_next(rest_from(bytes, used), responder)? {
             Next::Waiting => {
                 return Ok(Replies {
                     bytes: replies,

@@ -163,12 +163,12 @@ taken_exists Exists h = refl
 taken_exists fault h = absurd (true≢false (sym h))
 
 -- an answer of the database itself, and not of its store
-abbrev is_told : Error → Bool
-is_told (SqlInputError fault) = true
-is_told QueryReturnedNoRows = true
-is_told e = false
+abbrev is_with_features : Error → Bool
+is_with_features (SqlInputError fault) = true
+is_with_features QueryReturnedNoRows = true
+is_with_features e = false
 
-store_untold : (cause : StoreError) → is_told (store_error cause) ≡ false
+store_untold : (cause : StoreError) → is_with_features (store_error cause) ≡ false
 store_untold OutOfMemory = refl
 store_untold Io = refl
 store_untold Corrupt = refl
@@ -176,29 +176,29 @@ store_untold Full = refl
 store_untold Broken = refl
 store_untold Unstorable = refl
 
-pub lacking_told : (e : Error) → is_lacking e ≡ true → is_told e ≡ true
+pub lacking_told : (e : Error) → is_lacking e ≡ true → is_with_features e ≡ true
 lacking_told (SqlInputError fault) h = refl
 lacking_told QueryReturnedNoRows h = refl
 lacking_told e h = absurd (true≢false (sym h))
 
-pub taken_told : (e : Error) → is_name_taken e ≡ true → is_told e ≡ true
+pub taken_told : (e : Error) → is_name_taken e ≡ true → is_with_features e ≡ true
 taken_told (SqlInputError fault) h = refl
 taken_told e h = absurd (true≢false (sym h))
 
 module _ (sql : List ℕ) (old new : State) {X F : Type 0} (r : Result X F) (e : Error) where
-  not_run_same : IsNotRun old new sql [] e → is_told e ≡ true → IsUnchanged old new
+  not_run_same : IsNotRun old new sql [] e → is_with_features e ≡ true → IsUnchanged old new
   unfolding IsNotRun
   not_run_same (inl h) told = h.1
   not_run_same (inr h) told = absurd (let stands = store_untold h.0 in let no = rw h.1 at told in cc)
 
-  on_told : (IsOk r → is_told e ≡ true) → IsNotRun old new sql [] e → OnOk r (IsUnchanged old new)
+  on_told : (IsOk r → is_with_features e ≡ true) → IsNotRun old new sql [] e → OnOk r (IsUnchanged old new)
   on_told told h = go r told
     where
-      go : {X F : Type 0} (r : Result X F) → (IsOk r → is_told e ≡ true) → OnOk r (IsUnchanged old new)
+      go : {X F : Type 0} (r : Result X F) → (IsOk r → is_with_features e ≡ true) → OnOk r (IsUnchanged old new)
       go (Ok x) told = not_run_same h (told refl)
       go (Err f) told = tt
 
-  pub prepare_reads : (HasCleanDisk new → IsNotRun old new sql [] e) → (IsOk r → is_told e ≡ true) → (old.in_transaction ≡ false → new.in_transaction ≡ false) → Survives old new (λ _. ⊥) → OnlyReads old new r
+  pub prepare_reads : (HasCleanDisk new → IsNotRun old new sql [] e) → (IsOk r → is_with_features e ≡ true) → (old.in_transaction ≡ false → new.in_transaction ≡ false) → Survives old new (λ _. ⊥) → OnlyReads old new r
   prepare_reads not_run told mode survives = record {
     same = λ clean. on_told told (not_run clean);
     kept = λ clean still settled. keeps_not_run old new sql [] e (not_run clean) still settled;

@@ -12,5 +12,4 @@ pub mod Asking
 pub mod Listing
 pub mod Reading
 pub mod Opening
-pub mod SchemaLemmas
-pub mod SettledLemmas
+pub mod lemmas

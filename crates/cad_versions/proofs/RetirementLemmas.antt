@@ -8,11 +8,11 @@ use Rattle.cad_versions.specs.Objects.{object_number}
 use Rattle.cad_versions.specs.Command.{object_named}
 use Rattle.cad_versions.specs.VersionedObject.{VersionedObject}
 use Rattle.cad_day.specs.DayBefore.{day_before}
-use Rattle.cad_versions.specs.Versions.{is_of, is_open_of, history, closed_on, closed_if_open, begun, next_number, after, versions}
+use Rattle.cad_versions.specs.Versions.{is_of, is_open_of, history, closed_on, closed_if_open, begun, next_number, versions_after, versions}
 use Rattle.cad_versions.specs.Refusals.{refusal, AreAccepted}
 use Rattle.cad_versions.specs.Histories.{EndsBefore, IsHistory, last_day, retired_on}
-use Rattle.cad_versions.specs.HistoryLemmas.{same_number, history_same, history-closed, history-push, find-filter, closed_is_not_open, amends, retires, enters, is_of_own, other_history, HasHistories, histories_then}
-use Rattle.cad_versions.specs.EntryLemmas.{open_is_none}
+use Rattle.cad_versions.specs.lemmas.HistoryLemmas.{same_number, history_same, history-closed, history-push, find-filter, closed_is_not_open, amends, retires, enters, is_of_own, other_history, HasHistories, histories_then}
+use Rattle.cad_versions.specs.lemmas.EntryLemmas.{open_is_none}
 
 -- ---- the last of some versions
 
@@ -58,7 +58,7 @@ first_alone (Some day) = refl
 
 -- what a command leaves of the end, and what it says of it itself
 own_end : (vs : List VersionedObject) (c : Command) (cs : List Command) → refusal vs c ≡ None → IsHistory 1 (history (object_named c) vs)
-    → first_of (last_day (history (object_named c) (after vs c))) (retired_on (object_named c) cs) ≡ first_of (last_day (history (object_named c) vs)) (retired_on (object_named c) (c ∷ cs))
+    → first_of (last_day (history (object_named c) (versions_after vs c))) (retired_on (object_named c) cs) ≡ first_of (last_day (history (object_named c) vs)) (retired_on (object_named c) (c ∷ cs))
 own_end vs (Enter object first body) cs e h =
     let new = begun object 1 first body in
     let after_is : history object (vs ++ new ∷ []) ≡ history object vs ++ new ∷ [] = history-push object vs new true (is_of_own object new refl) in
@@ -90,20 +90,20 @@ retired_same a b e (Amend o first body ∷ cs) = retired_same a b e cs
 retired_same a b e (Retire o last ∷ cs) = ap (λ n. cond (int_eq (pos (object_number o)) (pos n)) (Some last) (retired_on a cs)) e ∙ ap (cond (int_eq (pos (object_number o)) (pos (object_number b))) (Some last)) (retired_same a b e cs)
 
 end_then : (vs : List VersionedObject) (c : Command) (cs : List Command) (object : ObjectId) → refusal vs c ≡ None → HasHistories vs
-    → first_of (last_day (history object (after vs c))) (retired_on object cs) ≡ first_of (last_day (history object vs)) (retired_on object (c ∷ cs))
+    → first_of (last_day (history object (versions_after vs c))) (retired_on object cs) ≡ first_of (last_day (history object vs)) (retired_on object (c ∷ cs))
 end_then vs c cs object e h = go (int_eq (pos (object_number (object_named c))) (pos (object_number object))) refl
   where
-    go : (t : Bool) → int_eq (pos (object_number (object_named c))) (pos (object_number object)) ≡ t → first_of (last_day (history object (after vs c))) (retired_on object cs) ≡ first_of (last_day (history object vs)) (retired_on object (c ∷ cs))
+    go : (t : Bool) → int_eq (pos (object_number (object_named c))) (pos (object_number object)) ≡ t → first_of (last_day (history object (versions_after vs c))) (retired_on object cs) ≡ first_of (last_day (history object vs)) (retired_on object (c ∷ cs))
     go true is =
         let same = same_number object (object_named c) is in
         let its = λ (xs : List VersionedObject) (o : Option Day). first_of (last_day xs) o in
-        ap₂ its (history_same object (object_named c) same (after vs c)) (retired_same object (object_named c) same cs) ∙ own_end vs c cs e (h (object_named c))
+        ap₂ its (history_same object (object_named c) same (versions_after vs c)) (retired_same object (object_named c) same cs) ∙ own_end vs c cs e (h (object_named c))
         ∙ sym (ap₂ its (history_same object (object_named c) same vs) (retired_same object (object_named c) same (c ∷ cs)))
     go false is = ap₂ (λ xs o. first_of (last_day xs) o) (other_history vs c object is) (sym (retires_own c cs object is))
 
-ends_from : (vs : List VersionedObject) (cs : List Command) (object : ObjectId) → AreAccepted vs cs → HasHistories vs → last_day (history object (fold after vs cs)) ≡ first_of (last_day (history object vs)) (retired_on object cs)
+ends_from : (vs : List VersionedObject) (cs : List Command) (object : ObjectId) → AreAccepted vs cs → HasHistories vs → last_day (history object (fold versions_after vs cs)) ≡ first_of (last_day (history object vs)) (retired_on object cs)
 ends_from vs [] object all h = sym (first_alone (last_day (history object vs)))
-ends_from vs (c ∷ cs) object all h = ends_from (after vs c) cs object all.1 (histories_then vs c all.0 h) ∙ end_then vs c cs object all.0 h
+ends_from vs (c ∷ cs) object all h = ends_from (versions_after vs c) cs object all.1 (histories_then vs c all.0 h) ∙ end_then vs c cs object all.0 h
 
 pub ends_when_retired : (cs : List Command) → AreAccepted [] cs → (object : ObjectId) → last_day (history object (versions cs)) ≡ retired_on object cs
 ends_when_retired cs all object = ends_from [] cs object all (λ o. tt)

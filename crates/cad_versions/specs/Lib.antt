@@ -20,14 +20,4 @@ pub mod LedgerCalls
 pub mod Laws
 pub mod ShapeBytes
 pub mod BodyParts
-pub mod ListLemmas
-pub mod SortLemmas
-pub mod HistoryLemmas
-pub mod ClosingLemmas
-pub mod EntryLemmas
-pub mod OrderLemmas
-pub mod ShapeLemmas
-pub mod RingLemmas
-pub mod SameLemmas
-pub mod BodyLemmas
-pub mod AcceptedLemmas
+pub mod lemmas

@@ -13,7 +13,7 @@ use Rattle.cad_versions.specs.BodyParts.{unit_named, party_named}
 use Rattle.cad_versions.specs.Class.{class_of, class_number}
 use Rattle.cad_versions.specs.Command.{object_named, body_added}
 use Rattle.cad_versions.specs.VersionedObject.{VersionedObject}
-use Rattle.cad_versions.specs.Versions.{is_of, is_open_of, after}
+use Rattle.cad_versions.specs.Versions.{is_of, is_open_of, versions_after}
 use Rattle.cad_day.specs.declared.day.Day.{Day}
 
 -- the class of an object, where it was entered
@@ -83,4 +83,4 @@ refusal vs command =
 -- each command is accepted where it stands
 abbrev pub AreAccepted : List VersionedObject → List Command → Type 0
 AreAccepted vs [] = Unit {0}
-AreAccepted vs (c ∷ cs) = (refusal vs c ≡ None) × AreAccepted (after vs c) cs
+AreAccepted vs (c ∷ cs) = (refusal vs c ≡ None) × AreAccepted (versions_after vs c) cs

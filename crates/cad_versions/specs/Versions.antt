@@ -33,11 +33,11 @@ abbrev pub next_number : ObjectId → List VersionedObject → ℕ
 next_number object vs = length (history object vs) + 1
 
 -- the versions after a command that is accepted
-abbrev pub after : List VersionedObject → Command → List VersionedObject
-after vs (Enter object first body) = vs ++ begun object 1 first body ∷ []
-after vs (Amend object first body) = map (closed_if_open object (day_before first)) vs ++ begun object (next_number object vs) first body ∷ []
-after vs (Retire object last) = map (closed_if_open object last) vs
+abbrev pub versions_after : List VersionedObject → Command → List VersionedObject
+versions_after vs (Enter object first body) = vs ++ begun object 1 first body ∷ []
+versions_after vs (Amend object first body) = map (closed_if_open object (day_before first)) vs ++ begun object (next_number object vs) first body ∷ []
+versions_after vs (Retire object last) = map (closed_if_open object last) vs
 
 -- the versions that the commands make one after the other, the oldest first
 abbrev pub versions : List Command → List VersionedObject
-versions commands = fold after [] commands
+versions commands = fold versions_after [] commands

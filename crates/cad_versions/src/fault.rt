@@ -76,7 +76,7 @@ impl<T: Drop> From<AllocFailed<T>> for RegisterFault {
 }
 
 impl RegisterFault {
-    fn told(&self) -> (u8, &'static str)
+    fn number_and_name(&self) -> (u8, &'static str)
         ensures { (result.0 ≡ fault_number self.now) × (result.1.now ≡ fault_name self.now) }
     {
         match self {
@@ -99,13 +99,13 @@ impl RegisterFault {
     pub fn number(&self) -> u8
         ensures { result ≡ fault_number self.now }
     {
-        self.told().0
+        self.number_and_name().0
     }
 
     /// The name that programs print.
     pub fn name(&self) -> &'static str
         ensures { result.now ≡ fault_name self.now }
     {
-        self.told().1
+        self.number_and_name().1
     }
 }

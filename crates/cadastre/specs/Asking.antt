@@ -7,10 +7,10 @@ use Rattle.cad_register.specs.declared.register.Register.{Register}
 use Rattle.cad_register.specs.Registers.{connection_of}
 use Rattle.cad_register.specs.Ledgers.{register_as_ledger}
 use Rattle.cad_register.specs.Opening.{Opened}
-use Rattle.cad_listen.specs.Statuses.{EndsWithout}
-use Rattle.cad_program.specs.declared.outcome.Outcome.{Outcome}
-use Rattle.cad_program.specs.declared.outcome.Outcome.TheVariants as outcome
-use Rattle.cad_program.specs.Serving.{AnswersOver, IsUntouched}
+use Rattle.cad_serve.specs.Statuses.{EndsWithout}
+use Rattle.cadastre_run.specs.declared.outcome.Outcome.{Outcome}
+use Rattle.cadastre_run.specs.declared.outcome.Outcome.TheVariants as outcome
+use Rattle.cadastre_run.specs.Serving.{AnswersOver, IsUntouched}
 
 module _ {S : Type 0} (g : Ghosts S) (from to before after : Option (List ℕ)) (AtEnd : Type 0) where
   -- no register is had: the run ends for this cause, nothing is read or written, and the database's connection is given back

@@ -6,11 +6,11 @@ use Rattle.cad_versions.specs.declared.fault.RegisterFault.{RegisterFault}
 use Rattle.cad_register.specs.declared.register.Register.{Register}
 use Rattle.cad_register.specs.Registers.{connection_of}
 use Rattle.cad_register.specs.Opening.{Opened}
-use Rattle.cad_listen.specs.Statuses.{EndsWithout}
-use Rattle.cad_program.specs.declared.command.Service.{Service}
-use Rattle.cad_program.specs.declared.outcome.Outcome.{Outcome}
-use Rattle.cad_program.specs.declared.outcome.Outcome.TheVariants as outcome
-use Rattle.cad_program.specs.Listening.{IsSilent, ListensOver}
+use Rattle.cad_serve.specs.Statuses.{EndsWithout}
+use Rattle.cadastre_run.specs.declared.command.Service.{Service}
+use Rattle.cadastre_run.specs.declared.outcome.Outcome.{Outcome}
+use Rattle.cadastre_run.specs.declared.outcome.Outcome.TheVariants as outcome
+use Rattle.cadastre_run.specs.Listening.{IsSilent, ListensOver}
 use Rattle.cad_register.specs.Ledgers.{register_as_ledger}
 
 -- what standard output and standard error hold before and after

@@ -6,9 +6,9 @@ use Rattle.cad_versions.specs.declared.fault.RegisterFault.{RegisterFault}
 use Rattle.cad_register.specs.declared.register.Register.{Register}
 use Rattle.cad_register.specs.Registers.{connection_of}
 use Rattle.cad_register.specs.Opening.{Created}
-use Rattle.cad_program.specs.declared.outcome.Outcome.{Outcome}
-use Rattle.cad_program.specs.declared.outcome.Outcome.TheVariants as outcome
-use Rattle.cad_program.specs.Serving.{AnswersSample}
+use Rattle.cadastre_run.specs.declared.outcome.Outcome.{Outcome}
+use Rattle.cadastre_run.specs.declared.outcome.Outcome.TheVariants as outcome
+use Rattle.cadastre_run.specs.Serving.{AnswersSample}
 use Rattle.cad_register.specs.Ledgers.{register_as_ledger}
 use Rattle.cadastre.specs.Asking.{EndsUnfound}
 

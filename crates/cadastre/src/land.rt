@@ -7,8 +7,8 @@ ghost use Rattle.cadastre.specs.Asking.{RunsAsk};
 ghost use Rattle.cadastre.specs.Opening.{opening_fault};
 
 use cad_io::{Counted, CountedRead, CountedWrite, CountedWriter};
-use cad_program::{Outcome, answer_over, enter_commands};
 use cad_register::{Register, RegisterFault};
+use cadastre_run::{Outcome, answer_over, enter_commands};
 use sqlite::{Alter, Connection, Error, ErrorCode, File, FileStore};
 use std::alloc::Global;
 use std::fs;

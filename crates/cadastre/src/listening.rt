@@ -3,8 +3,8 @@
 ghost use Rattle.cadastre.specs.Listening.{RunsServe};
 
 use crate::land::open_standing;
-use cad_program::{Outcome, Service, listen_over};
 use cad_register::Register;
+use cadastre_run::{Outcome, Service, listen_over};
 use sqlite::{Alter, Connection};
 use std::alloc::Global;
 use std::io::Write;

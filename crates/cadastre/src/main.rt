@@ -4,7 +4,7 @@
 //! - `listening`: connections taken at an address, over a register file
 //! - `sampling`: one connection served over the sample register, in a database in memory
 //!
-//! What a command line asks for, the same work over any ledger, and how a run ends stand in `cad_program`.
+//! What a command line asks for, the same work over any ledger, and how a run ends stand in `cadastre_run`.
 //!
 //! - `cadastre sample` serves standard input over the sample register;
 //! - `cadastre ask land.db` serves it over the register of a file;
@@ -17,8 +17,8 @@ mod land;
 mod listening;
 mod sampling;
 
-use cad_listen::{read_words, tell};
-use cad_program::{Command, Outcome};
+use cad_serve::{read_words, tell};
+use cadastre_run::{Command, Outcome};
 use land::{run_ask, run_office};
 use listening::run_serve;
 use sampling::run_sample;
@@ -41,6 +41,6 @@ fn run(rt: &HostRuntime) -> Outcome {
 fn main(rt: HostRuntime) -> ExitCode {
     let outcome = run(&rt);
     // Where that cannot be written, the status alone tells it.
-    let _ = tell(&mut rt.stderr(), outcome.told());
+    let _ = tell(&mut rt.stderr(), outcome.message());
     ExitCode::from(outcome.status())
 }

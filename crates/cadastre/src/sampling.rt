@@ -5,8 +5,8 @@ ghost use Rattle.std.specs.Prelude.{◌≡◌};
 ghost use Rattle.cadastre.specs.Sampling.{RunsSample};
 
 use cad_io::{Counted, CountedRead, CountedWrite, CountedWriter};
-use cad_program::{Outcome, answer_sample};
 use cad_register::{Register, RegisterFault};
+use cadastre_run::{Outcome, answer_sample};
 use sqlite::{Alter, Connection};
 use std::alloc::Global;
 

@@ -7,20 +7,20 @@ use Rattle.cad_register.specs.declared.register.Register.{Register}
 use Rattle.cad_register.specs.Registers.{connection_of}
 use Rattle.cad_register.specs.Ledgers.{register_as_ledger}
 use Rattle.cad_register.specs.Opening.{OpenedOrCreated}
-use Rattle.cad_host.specs.declared.doors.Doors.{Doors}
-use Rattle.cad_host.specs.declared.log.Log.{Log}
-use Rattle.cad_host.specs.Doors.{asked_at}
-use Rattle.cad_listen.specs.Statuses.{EndsWithout}
-use Rattle.cad_service.specs.declared.outcome.Outcome.{Outcome}
-use Rattle.cad_service.specs.declared.outcome.Outcome.TheVariants as outcome
-use Rattle.cad_service.specs.Hosting.{HostsOver}
+use Rattle.cad_event_loop.specs.declared.doors.Doors.{Doors}
+use Rattle.cad_event_loop.specs.declared.log.Log.{Log}
+use Rattle.cad_event_loop.specs.Doors.{address_asked}
+use Rattle.cad_serve.specs.Statuses.{EndsWithout}
+use Rattle.cadastred_run.specs.declared.outcome.Outcome.{Outcome}
+use Rattle.cadastred_run.specs.declared.outcome.Outcome.TheVariants as outcome
+use Rattle.cadastred_run.specs.Hosting.{HostsOver}
 
 -- the sockets, what standard output holds before and after, and the log
 module _ {S E : Type 0} (g : Ghosts S) (doors : Doors) (before after : Option (List ℕ)) (quiet told : Log E) where
   -- the register is hosted, and the database's connection is given back
   pub record EndsHosted (register : Register S) (ended : Outcome × Held S) : Type 0 where
     pub left : Register S
-    pub hosts : HostsOver (asked_at doors) before after (register_as_ledger g) register (ended.0, left)
+    pub hosts : HostsOver (address_asked doors) before after (register_as_ledger g) register (ended.0, left)
     pub back : ended.1 ≡ connection_of left
 
   -- no register is had: the run ends for this cause and nothing is told or logged

@@ -1,12 +1,12 @@
 -- What is told of the program, and how a run ends without a service (own profile).
 use Rattle.std.specs.Prelude.{◌≡◌, ◌++◌, ℕ, ⊤, List, codes, Option, None, Some, Result, Ok, Err}
 use Rattle.std.specs.Io.KnownBytes.{Appends}
-use Rattle.cad_service.specs.declared.invocation.Service.{Service}
-use Rattle.cad_service.specs.declared.invocation.Invocation.{Invocation}
-use Rattle.cad_service.specs.declared.invocation.Invocation.TheVariants.{Help, Version, Serve}
-use Rattle.cad_service.specs.declared.outcome.Outcome.{Outcome}
-use Rattle.cad_service.specs.declared.outcome.Outcome.TheVariants as outcome
-use Rattle.cad_service.specs.Outcomes.{usage}
+use Rattle.cadastred_run.specs.declared.invocation.Service.{Service}
+use Rattle.cadastred_run.specs.declared.invocation.Invocation.{Invocation}
+use Rattle.cadastred_run.specs.declared.invocation.Invocation.TheVariants.{Help, Version, Serve}
+use Rattle.cadastred_run.specs.declared.outcome.Outcome.{Outcome}
+use Rattle.cadastred_run.specs.declared.outcome.Outcome.TheVariants as outcome
+use Rattle.cadastred_run.specs.Outcomes.{usage}
 
 abbrev pub version : List ℕ
 version = codes "cadastred 0.1.0"

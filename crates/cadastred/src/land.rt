@@ -4,9 +4,9 @@ ghost use Rattle.std.specs.Prelude.{◌≡◌};
 ghost use Rattle.cadastred.specs.Hosting.{RunsHost};
 ghost use Rattle.cadastred.specs.Opening.{opening_fault};
 
-use cad_host::{Doors, Log, remove_door};
+use cad_event_loop::{Doors, Log, remove_door};
 use cad_register::{Register, RegisterFault};
-use cad_service::{Outcome, Service, host_over, open_doors};
+use cadastred_run::{Outcome, Service, host_over, open_doors};
 use sqlite::{Alter, Connection, Error, ErrorCode};
 use std::alloc::Global;
 use std::io::Write;

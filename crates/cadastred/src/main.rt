@@ -3,7 +3,7 @@
 //! - `land`: clients and the land office, served over a register file
 //! - `words`: what is told of the program
 //!
-//! What a command line asks for, the same work over any ledger, and how a run ends stand in `cad_service`.
+//! What a command line asks for, the same work over any ledger, and how a run ends stand in `cadastred_run`.
 //!
 //! - `cadastred land.db 127.0.0.1:8080 office.sock` serves the register of a file at an address, to many clients at once, and
 //!   takes the land office's lines at a Unix socket meanwhile. The register is made where none stands. It prints `listening
@@ -15,8 +15,8 @@
 mod land;
 mod words;
 
-use cad_listen::{read_words, tell};
-use cad_service::{Invocation, Outcome};
+use cad_serve::{read_words, tell};
+use cadastred_run::{Invocation, Outcome};
 use land::run_service;
 use std::process::ExitCode;
 use words::begin;
@@ -35,6 +35,6 @@ fn run(rt: &HostRuntime) -> Outcome {
 fn main(rt: HostRuntime) -> ExitCode {
     let outcome = run(&rt);
     // Where that cannot be written, the status alone tells it.
-    let _ = tell(&mut rt.stderr(), outcome.told());
+    let _ = tell(&mut rt.stderr(), outcome.message());
     ExitCode::from(outcome.status())
 }

@@ -2,7 +2,7 @@
 
 ghost use Rattle.cadastred.specs.Words.{Begins, IsLine};
 
-use cad_service::{HELP, Invocation, Outcome, Service};
+use cadastred_run::{HELP, Invocation, Outcome, Service};
 use std::io::Write;
 
 /// The program's name and version.

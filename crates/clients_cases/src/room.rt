@@ -3,9 +3,9 @@
 use crate::sockets::{Sender, Taker};
 use cad_clients::{Clients, Limits, NoLog, ROOM, Served};
 use cad_desk::Desk;
-use cad_entry::{Entry, EntryTurned};
-use desk_echo::Echo;
+use cad_office_socket::{Entry, EntryTurned};
 use std::alloc::{AllocError, Global};
+use test_support::Echo;
 
 /// How long clients may take, in seconds.
 const LIMITS: Limits = Limits {

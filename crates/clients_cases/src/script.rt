@@ -2,9 +2,9 @@
 
 use crate::room::{Room, Socket};
 use crate::sockets::Sender;
-use cad_channel::Ending;
+use cad_client_socket::Ending;
 use cad_clients::{ROOM, Served};
-use cad_entry::EntryTurned;
+use cad_office_socket::EntryTurned;
 use std::alloc::AllocError;
 
 /// A peer sends the bytes of a text, in which `|` stands for CR and LF.

@@ -7,7 +7,7 @@ use cad_feature::{Feature, Value, flatten};
 use cad_schema::Collection;
 use cad_versions::Version;
 use cql_filter::{FilterFault, read};
-use cql_truth::{Truth, truth};
+use cql_meaning::{Truth, truth};
 use cql_types::Filter;
 use std::alloc::{AllocError, Global};
 
@@ -72,61 +72,67 @@ fn is_taken(
     Ok(truth(alloc, filter, feature)? == Truth::Yes)
 }
 
-/// The word, and behind it the identifiers of the features that are taken.
-fn accepted(
+/// Appends the word, and behind it the identifiers of the features that are taken.
+fn put_accepted(
     alloc: Global,
     filter: &Filter,
     days: Option<Interval>,
     features: &[Feature],
-) -> Result<String, AllocError> {
-    let mut line = String::from_str(alloc, "accepted")?;
+    line: &mut String,
+) -> Result<(), AllocError> {
+    line.push_str("accepted")?;
     for feature in features {
         if is_taken(alloc, filter, days, feature)? {
             let identifier = feature.identifier().text(alloc)?;
             write!(line, " {identifier}")?;
         }
     }
-    Ok(line)
+    Ok(())
 }
 
-// What the filter takes of the collection's features.
-fn taken(
+// Appends what the filter takes of the collection's features.
+fn put_taken(
     alloc: Global,
     versions: &[Version],
     collection: Collection,
     days: Option<Interval>,
     filter: &Filter,
-) -> Result<String, AllocError>
+    line: &mut String,
+) -> Result<(), AllocError>
     requires { IsListing versions.now }
 {
     let features = flatten(alloc, versions, collection)?;
-    accepted(alloc, filter, days, &features)
+    put_accepted(alloc, filter, days, &features, line)
 }
 
-fn answer_filter(
+fn put_filter_answer(
     alloc: Global,
     versions: &[Version],
     collection: Collection,
     days: Option<Interval>,
     text: &str,
-) -> Result<String, AllocError>
+    line: &mut String,
+) -> Result<(), AllocError>
     requires { IsListing versions.now }
 {
     match read(alloc, text, collection) {
         Ok(filter) => {
-            let answer = taken(alloc, versions, collection, days, &filter);
+            let put = put_taken(alloc, versions, collection, days, &filter, line);
             drop(filter);
-            answer
+            put
         }
-        Err(FilterFault::Refused(cause)) => {
-            Ok(format!(in alloc; "{} {}", cause.name(), cause.place())?)
-        }
+        Err(FilterFault::Refused(cause)) => write!(line, "{} {}", cause.name(), cause.place()),
         Err(FilterFault::Memory) => Err(AllocError),
     }
 }
 
-/// What is printed for a case, asked of these versions.
-pub fn answer(alloc: Global, versions: &[Version], case: &[u8]) -> Result<String, AllocError>
+/// Appends what is printed for a case, asked of these versions.
+pub fn put_answer(
+    alloc: Global,
+    versions: &[Version],
+    case: &[u8],
+    line: &mut String,
+) -> Result<(), AllocError>
     requires { IsListing versions.now }
 {
     let end = case.iter().position(|byte| *byte == b' ' || *byte == b'\t');
@@ -135,14 +141,14 @@ pub fn answer(alloc: Global, versions: &[Version], case: &[u8]) -> Result<String
         None => (case, b"".as_slice()),
     };
     let Ok(name) = str::from_utf8(name) else {
-        return String::from_str(alloc, "no collection");
+        return line.push_str("no collection");
     };
     match (question_of(name)?, str::from_utf8(text)) {
-        (Question::NoCollection, _) => String::from_str(alloc, "no collection"),
-        (Question::NoDays, _) => String::from_str(alloc, "no days"),
-        (Question::Of(..), Err(_)) => String::from_str(alloc, "no text"),
+        (Question::NoCollection, _) => line.push_str("no collection"),
+        (Question::NoDays, _) => line.push_str("no days"),
+        (Question::Of(..), Err(_)) => line.push_str("no text"),
         (Question::Of(collection, days), Ok(text)) => {
-            answer_filter(alloc, versions, collection, days, text)
+            put_filter_answer(alloc, versions, collection, days, text, line)
         }
     }
 }

@@ -9,39 +9,110 @@
 //! - `no text`, where its bytes are no UTF-8,
 //! - `no collection` or `no days`, where the line begins with none.
 //!
+//! Behind the word `normal` a case asks for the filter's normal form over the sample register; what stands behind a `/` in the
+//! name is passed over. The answer is
+//!
+//! - `true`, `false` or `open`, as the whole is a constant or not; then the range that it offers, as
+//!   `area without 5 without 9`, `label with 'A' without 'B'` or `none`; then `yes` and the identifiers of the features that
+//!   meet it: `open area without 390 free yes 3.1`,
+//! - `differs` and an identifier, where the filter says of that feature something else than its normal form,
+//! - `outside` and an identifier, where that feature meets the form and has no value inside the range that it offers,
+//! - `refused`, where the text is no filter of that collection, and `no case`, where the line is none.
+//!
+//! Behind the word `truth` it asks of which features of the collection the filter is true, of which it is false, and of which
+//! neither, as `yes 1.1 3.1 no 1.2 4.1 unknown 2.1`, of features that are made here; `refused` where the text is no such
+//! filter. And `truth texts TEXT|PATTERN` asks whether the text is like the pattern, how the two are ordered, and for the text
+//! with its case folded.
+//!
 //! A line `repeat N TEXT` is no case: in the next case N times TEXT stands in place of its first `@`, and what a second
 //! such line says in place of its second one, and so on. A line without bytes, or one that begins with `#`, is passed
 //! over. Where memory is refused the program ends with status 7.
 //!
 //! - `answer`: what a filter is answered
-//! - `sample`: the versions that it is asked of
+//! - `normal_forms`: what its normal form is; `edges`: ranges as they are printed
+//! - `truths`: what it says of each feature; `features`: those that it is asked of
+//! - `sample`: the versions of the sample register
 //! - `lines`: cases, and the lines that write them
 #![tactic(auto)]
 
 mod answer;
+mod edges;
+mod features;
 mod lines;
+mod normal_forms;
 mod sample;
+mod truths;
 
-use answer::answer;
+ghost use Rattle.cad_versions.specs.Listing.{IsListing};
+
+use cad_versions::Version;
+use features::Features;
 use lines::Cases;
 use sample::sample_versions;
+use std::alloc::{AllocError, Global};
 use std::io::{Error, ErrorKind, Read, Result};
 use std::process::ExitCode;
 
 /// The status where memory is refused.
 const NO_MEMORY: u8 = 7;
 
+/// Appends what is printed for a case.
+fn put_answer(
+    alloc: Global,
+    versions: &[Version],
+    features: &Features,
+    case: &[u8],
+    line: &mut String,
+) -> std::result::Result<(), AllocError>
+    requires { IsListing versions.now }
+{
+    if let Some(rest) = case.strip_prefix(b"normal ") {
+        return normal_forms::put_answer(alloc, versions, rest, line);
+    }
+    if let Some(rest) = case.strip_prefix(b"truth ") {
+        return truths::put_answer(alloc, features, rest, line);
+    }
+    answer::put_answer(alloc, versions, case, line)
+}
+
+fn print_answer(
+    rt: &HostRuntime,
+    versions: &[Version],
+    features: &Features,
+    case: &[u8],
+) -> Result<()>
+    requires { IsListing versions.now }
+{
+    let mut line = String::new(rt.alloc());
+    put_answer(rt.alloc(), versions, features, case, &mut line)?;
+    println!(rt; "{line}")
+}
+
+fn print_answers(
+    rt: &HostRuntime,
+    versions: &[Version],
+    features: &Features,
+    input: &[u8],
+) -> Result<()>
+    requires { IsListing versions.now }
+{
+    let mut cases = Cases::new(rt.alloc());
+    for line in input.split(|byte| *byte == b'\n') {
+        if let Some(case) = cases.case_of(line)? {
+            print_answer(rt, versions, features, &case)?;
+        }
+    }
+    Ok(())
+}
+
 fn run(rt: &HostRuntime) -> Result<()> {
     let mut input = Vec::new(rt.alloc());
     rt.stdin().read_to_end(&mut input)?;
     let versions = sample_versions(rt.alloc())?;
-    let mut cases = Cases::new(rt.alloc());
-    for line in input.split(|byte| *byte == b'\n') {
-        if let Some(case) = cases.case_of(line)? {
-            println!(rt; "{}", answer(rt.alloc(), &versions, &case)?.as_str())?;
-        }
+    match Features::new(rt.alloc()) {
+        Ok(features) => print_answers(rt, &versions, &features, &input),
+        Err(_) => Err(Error::from(ErrorKind::OutOfMemory)),
     }
-    Ok(())
 }
 
 fn status_of(error: Error) -> u8 {

@@ -3,7 +3,7 @@
 ghost use Rattle.std.specs.Prelude.{IfOk};
 ghost use Rattle.cad_versions.specs.Listing.{IsListing};
 
-use cad_plain::PlainLedger;
+use cad_memory_ledger::MemoryLedger;
 use cad_sample::fill;
 use cad_versions::{Ledger, Version};
 use std::alloc::{AllocError, Global};
@@ -12,7 +12,7 @@ use std::alloc::{AllocError, Global};
 pub fn sample_versions(alloc: Global) -> Result<Vec<Version>, AllocError>
     ensures { IfOk result (λ versions. IsListing versions.items) }
 {
-    let mut ledger = PlainLedger::new(alloc);
+    let mut ledger = MemoryLedger::new(alloc);
     let Ok(revision) = fill(alloc, &mut ledger) else {
         return Err(AllocError);
     };

@@ -3,7 +3,7 @@ use Rattle.std.proofs.Common.{◌≡◌, ◌⊎◌, inl, inr, refl, ap, subst, �
 use Rattle.std.specs.Prelude.{Result, Ok, Err, IsOk}
 use Rattle.cad_schema.specs.Attributes.{Named}
 use Rattle.cql_lexer.specs.Laws as lexer
-use Rattle.cql_lexer.specs.OrderLemmas.{ascends}
+use Rattle.cql_lexer.specs.lemmas.OrderLemmas.{ascends}
 use Rattle.cql_lexer.specs.Lexed as lexed
 use Rattle.cql_lexer.specs.Lexed.{IsSpelt}
 use Rattle.cql_lexer.specs.Mark.{Mark}

@@ -8,7 +8,7 @@ use Rattle.cql_lexer.specs.Runs.{Run, stop, more}
 use Rattle.cql_lexer.specs.Spelling.{Leads, here, blank, token_first, is_blank}
 use Rattle.cql_lexer.specs.Laws.{HasOneSpelling, AscendWithin, HasPlacesInOrder, StandAtPlaces, HasTokensAtPlaces}
 use Rattle.cql_lexer.specs.Order.{Ascend}
-use Rattle.cql_lexer.specs.OrderLemmas.{ascends}
+use Rattle.cql_lexer.specs.lemmas.OrderLemmas.{ascends}
 use Rattle.cql_lexer.proofs.Longest.{token_no_blank, token_shorter, token_splits, longest_same}
 use Rattle.cql_lexer.proofs.Utf8.{cut}
 

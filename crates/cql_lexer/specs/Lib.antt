@@ -11,4 +11,4 @@ pub mod Faults
 pub mod Lexed
 pub mod Scan
 pub mod Laws
-pub mod OrderLemmas
+pub mod lemmas

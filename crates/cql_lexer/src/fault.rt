@@ -38,7 +38,7 @@ pub enum LexFault {
 
 impl SpellingFault {
     /// The number and the name.
-    fn told(self) -> (u8, &'static str)
+    fn number_and_name(self) -> (u8, &'static str)
         ensures number { result.0 ≡ (label_of self).number }
         ensures name { result.1.now ≡ (label_of self).name }
     {
@@ -54,14 +54,14 @@ impl SpellingFault {
     pub fn number(&self) -> u8
         ensures { result ≡ (label_of self.now).number }
     {
-        self.told().0
+        self.number_and_name().0
     }
 
     /// The name that programs print.
     pub fn name(&self) -> &'static str
         ensures { result.now ≡ (label_of self.now).name }
     {
-        self.told().1
+        self.number_and_name().1
     }
 
     /// The byte of the text at which the fault stands.

@@ -1,13 +1,27 @@
-//! What filters mean, by one name: whether a filter is true of a feature, and how it compares texts.
+//! What a filter says of a feature.
 //!
-//! - [`truth`]: whether a filter is true of a feature, false of it, or neither: a [`Truth`]
-//! - [`like`]: whether a text is like a pattern; [`fold`]: a text with its case folded
-//!
-//! Of the parcel 2.1, which has no area, the filters `area > 390` and `NOT area > 390` are [`Truth::Unknown`];
+//! [`truth`] says whether a filter is true or false of a feature, or neither for want of a value. Of
+//! `NOT area > 390` it says Yes where the area is 380, No where it is 400, and Unknown where there is none.
 //! `like("ß", "_")` is true, and `fold("Ana Straße")` is `ana strasse`.
 //!
-//! Nothing stands here but names: what each promises is said where it is defined, in `cql_truth` and `cql_text`.
+//! - [`truth`], [`Truth`]: what a filter says of a feature
+//! - [`like`], [`fold`]: whether a text is like a pattern, and a text with its case folded, which are those of `cql_text`
+//! - [`constant_whole`], [`constant_text`]: the value of a term without a property
+//! - [`laws`]: what holds of filters and of values, beyond what the call says
 #![tactic(auto)]
 
+mod comparison;
+mod constant;
+mod decide;
+mod flag;
+pub mod laws;
+mod shape;
+mod text;
+mod time;
+mod verdict;
+mod whole;
+
+pub use constant::{constant_text, constant_whole};
 pub use cql_text::{fold, like};
-pub use cql_truth::{Truth, truth};
+pub use decide::truth;
+pub use verdict::Truth;

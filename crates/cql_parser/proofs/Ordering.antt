@@ -5,7 +5,7 @@ use Rattle.cql_tree.specs.Syntax.{Syntax, Parts, part, parts_of, joined, node, O
 use Rattle.cql_parser.specs.Grammar.{IsWhole, number_rule, plus_rule, minus_rule, IsBound, text_bound, name_bound, IsCornersRest, corners_end, corners_more, IsRing, ring_rule, IsRingsRest, rings_end, rings_more, IsNegation, plain, negated, IsOr, or_rule, IsOrRest, or_end, or_more, IsAnd, and_rule, IsAndRest, and_end, and_more, IsNot, not_rule, plain_rule, IsPredicate, predicate_rule, IsTail, no_tail, compare_tail, like_tail, between_tail, in_tail, null_tail, IsItemsRest, items_end, items_more, IsSum, sum_rule, IsSumRest, sum_end, sum_more, IsProduct, product_rule, IsProductRest, product_end, product_more, IsPrimary, paren_rule, name_rule, text_rule, whole_rule, true_rule, false_rule, casei_rule, date_rule, interval_rule, point_rule, polygon_rule, bbox_rule, spatial_rule, temporal_rule}
 use Rattle.cql_tree.specs.declared.expression.Operation.{Operation}
 use Rattle.cql_tree.specs.Order.{Ascend, InOrder, leaf_in_order, node_in_order, AreInOrder, no_part, one_part, IsOrdered}
-use Rattle.cql_tree.specs.OrderLemmas.{are_not_beyond}
+use Rattle.cql_tree.specs.lemmas.OrderLemmas.{are_not_beyond}
 
 -- ---- orders
 

@@ -3,7 +3,7 @@ use Rattle.std.proofs.Common.{◌≡◌, ◌∙◌, refl, sym, subst, Bool, true
 use Rattle.std.specs.List.{list_all, list_any}
 use Rattle.std.specs.Cmp.{first_so, second_so}
 use Rattle.std.proofs.lemmas.Bool.{and_from}
-use Rattle.cad_cells.specs.Blocks.{block_around}
+use Rattle.cad_grid.specs.Blocks.{block_around}
 use Rattle.cad_shape.specs.Shapes.{shape_corners}
 use Rattle.cad_feature.specs.Features.{Item}
 use Rattle.cad_lookup.specs.Ways.{Way, all_features, near_block, meet_of, join_of, ways_in, range_way, Counts, cost, is_found}

@@ -4,8 +4,8 @@ use Rattle.std.proofs.lemmas.List.{map_push, take_more}
 use Rattle.cad_feature.specs.Features.{Item}
 use Rattle.cql_lexer.specs.declared.token.Comparison.TheVariants as comparison
 use Rattle.cql_types.specs.declared.filter.TextTerm.{TextTerm}
-use Rattle.cql_truth.specs.Sides.{among, compared, disjunction, equal_to, texts}
-use Rattle.cql_truth.specs.Values.{text_value}
+use Rattle.cql_meaning.specs.Sides.{among, compared, disjunction, equal_to, texts}
+use Rattle.cql_meaning.specs.Values.{text_value}
 
 through : {A T : Type 0} (equal : A → A → Bool) (value : T → Option A) (a : Option A) (items : List T) → map (equal_to equal value a) items ≡ map (compared equal a) (map value items)
 through equal value a [] = refl

@@ -5,7 +5,7 @@ use Rattle.std.specs.declared.alloc.Global.{Global}
 use Rattle.std.proofs.Common.{String}
 use Rattle.cad_feature.specs.Features.{Item, datum_at}
 use Rattle.cql_text.specs.Fronts.{text_of}
-use Rattle.cql_truth.specs.Values.{text_in}
+use Rattle.cql_meaning.specs.Values.{text_in}
 use Rattle.cad_feature.specs.declared.range.Range.{Range as RangeOf}
 use Rattle.cad_range.specs.Ranges.{lies_in}
 use Rattle.cql_rewrite.specs.declared.form.Normal.{Normal}
@@ -18,13 +18,13 @@ use Rattle.std.specs.List.{remove}
 use Rattle.std.proofs.lemmas.Bool.{and_parts, or_right, or_left}
 use Rattle.cad_shape.specs.declared.shape.Shape.{Shape}
 use Rattle.cad_shape.specs.Shapes.{shape_corners}
-use Rattle.cad_cells.specs.Blocks.{block_around}
-use Rattle.cad_cells.specs.Near.{is_near}
+use Rattle.cad_grid.specs.Blocks.{block_around}
+use Rattle.cad_grid.specs.Near.{is_near}
 use Rattle.cql_types.specs.declared.filter.Filter.{Filter}
 use Rattle.cad_range.specs.Ranges.{lies_in_if_any}
-use Rattle.cql_truth.specs.Sides.{Sides, conjunction}
+use Rattle.cql_meaning.specs.Sides.{Sides, conjunction}
 use Rattle.cql_rewrite.specs.Meets.{folds, folds_step, in_side, is_liked, joined_test, meet_step, meets, side_of}
-use Rattle.cql_truth.specs.ListLemmas.{list_any-map}
+use Rattle.cql_meaning.specs.lemmas.ListLemmas.{list_any-map}
 
 pub list_all-map : {A B : Type 0} (p : B → Bool) (f : A → B) (xs : List A) → list_all p (map f xs) ≡ list_all (λ x. p (f x)) xs
 list_all-map p f [] = refl

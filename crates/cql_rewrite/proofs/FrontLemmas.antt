@@ -10,13 +10,13 @@ use Rattle.std.proofs.lemmas.Bool.{and_parts, and_from}
 use Rattle.cad_feature.specs.Features.{datum_at}
 use Rattle.cad_feature.specs.Limits.{limit_of, with_value}
 use Rattle.cad_feature.specs.declared.range.Range.{Range as RangeOf}
-use Rattle.cql_truth.specs.Sides.{compared, is_like}
+use Rattle.cql_meaning.specs.Sides.{compared, is_like}
 use Rattle.cad_feature.specs.Values.{Datum, null, a_text, a_whole, a_flag, a_day, a_span, a_spot, an_area}
 use Rattle.cad_range.specs.Ranges.{is_under, lies_between, lies_in}
 use Rattle.cql_text.specs.Fronts.{begins_with, IsBelow, IsFrontRange, IsLikeRange, LiesBetween}
 use Rattle.cql_text.specs.Order.{text_cmp}
 use Rattle.cql_text.specs.Patterns.{like_test}
-use Rattle.cql_truth.specs.Values.{text_in}
+use Rattle.cql_meaning.specs.Values.{text_in}
 use Rattle.cql_rewrite.specs.declared.form.Normal.{Normal}
 use Rattle.cql_rewrite.specs.Costs.{begins_in, begun_by, every, how_many, least}
 use Rattle.cql_rewrite.specs.Meets.{Written, is_liked}

@@ -3,7 +3,7 @@ use Rattle.std.proofs.Common.{◌≡◌, ◌∙◌, ap, sym, refl, ℕ, suc, ◌
 use Rattle.std.specs.List.{list_any}
 use Rattle.std.proofs.lemmas.List.{drop_all}
 use Rattle.cad_feature.specs.Features.{Item}
-use Rattle.cql_truth.specs.Sides.{Sides}
+use Rattle.cql_meaning.specs.Sides.{Sides}
 use Rattle.cql_types.specs.declared.filter.Filter.{Filter}
 use Rattle.cql_rewrite.specs.declared.form.Normal.{Normal}
 use Rattle.cql_rewrite.specs.Costs.{any_equal, bound, bound_on, count_in, count_of, IsCounted, least, least_of_some, total}

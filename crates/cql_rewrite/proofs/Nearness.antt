@@ -18,18 +18,18 @@ use Rattle.cad_shape.specs.Polygons.{rings_corners}
 use Rattle.cad_shape.specs.RegionRings.{region_corners}
 use Rattle.cad_shape.specs.Shapes.{Meets, is_judged, shape_corners}
 use Rattle.cad_shape.specs.Tests.{shape_within, within}
-use Rattle.cad_cells.specs.Blocks.{block_around, block_of, cell_number, is_wide, share_a_cell}
-use Rattle.cad_cells.specs.Corners.{same_block}
-use Rattle.cad_cells.specs.Laws.{Reaches, SharedCellsAreTouched}
-use Rattle.cad_cells.specs.Near.{block_in, is_candidate}
+use Rattle.cad_grid.specs.Blocks.{block_around, block_of, cell_number, is_wide, share_a_cell}
+use Rattle.cad_grid.specs.Corners.{same_block}
+use Rattle.cad_grid.specs.Laws.{Reaches, SharedCellsAreTouched}
+use Rattle.cad_grid.specs.Near.{block_in, is_candidate}
 use Rattle.cad_feature.specs.Features.{datum_at}
 use Rattle.cad_feature.specs.Values.{Datum, null, a_text, a_whole, a_flag, a_day, a_span, a_spot, an_area}
 use Rattle.cql_lexer.specs.declared.token.SpatialRelation.{SpatialRelation}
 use Rattle.cql_lexer.specs.declared.token.SpatialRelation.TheVariants as relation
 use Rattle.cql_types.specs.declared.filter.ShapeTerm.TheVariants as place
-use Rattle.cql_truth.specs.Nodes.{sides_Spatial}
-use Rattle.cql_truth.specs.Sides.{spatial, told}
-use Rattle.cql_truth.specs.Values.{both, shape_in}
+use Rattle.cql_meaning.specs.Nodes.{sides_Spatial}
+use Rattle.cql_meaning.specs.Sides.{spatial, sides_of}
+use Rattle.cql_meaning.specs.Values.{both, shape_in}
 use Rattle.cql_rewrite.specs.Costs.{is_near_by}
 use Rattle.cql_rewrite.specs.Laws.{SpatialIsNear}
 
@@ -106,7 +106,7 @@ shape_box (Area region) = from_first (region_corners region) (some_corner region
 -- ---- boxes that share a point share a cell
 
 -- what the shapes' crates say of shapes and of cells
-pub record Told : Type 0 where
+pub record Placed : Type 0 where
   pub overlap : BoundsOverlap
   pub symmetric : MeetingIsSymmetric
   pub within : WithinMeets
@@ -124,7 +124,7 @@ overlap_shares cells f g o =
     let y = shared f.y_min f.y_max g.y_min g.y_max f.height.2 g.height.2 o.1.0 o.1.1 in
     (cells f g).1 (x.0, y.0, ((x.1.0, y.1.0), (x.1.1, y.1.1)))
 
-meets_shares : Told → (a b : Shape) → Meets a b → share_a_cell (block_around (shape_corners a)) (block_around (shape_corners b)) ≡ true
+meets_shares : Placed → (a b : Shape) → Meets a b → share_a_cell (block_around (shape_corners a)) (block_around (shape_corners b)) ≡ true
 meets_shares t a b m =
     let f = shape_box a in
     let g = shape_box b in
@@ -132,25 +132,25 @@ meets_shares t a b m =
 
 -- ---- what is true of a shape and another
 
-within_told : (a b : Shape) (j w : Bool) → (told (if j then (Some w) else None)).yes ≡ true → w ≡ true
+within_told : (a b : Shape) (j w : Bool) → (sides_of (if j then (Some w) else None)).yes ≡ true → w ≡ true
 within_told a b true true h = refl
 within_told a b true false h = h
 within_told a b false w h = absurd cc
 
-within_meets : Told → (a b : Shape) → (told (within a b)).yes ≡ true → Meets a b
+within_meets : Placed → (a b : Shape) → (sides_of (within a b)).yes ≡ true → Meets a b
 within_meets t a b h = t.within a b ((t.tests a b).1.0 (within_told a b (is_judged a b) (shape_within a b) h))
 
-spatial_meets : Told → (by : SpatialRelation) (a b : Shape) → is_near_by by ≡ true → (told (spatial by a b)).yes ≡ true → Meets a b
+spatial_meets : Placed → (by : SpatialRelation) (a b : Shape) → is_near_by by ≡ true → (sides_of (spatial by a b)).yes ≡ true → Meets a b
 spatial_meets t relation.Intersects a b n h = (t.tests a b).0.0 h
 spatial_meets t relation.Disjoint a b n h = absurd cc
 spatial_meets t relation.Within a b n h = within_meets t a b h
 spatial_meets t relation.Contains a b n h = t.symmetric b a (within_meets t b a h)
 
-shape_near : Told → (a s : Shape) → Meets a s → is_candidate (block_around (shape_corners s)) (Some (block_around (shape_corners a))) ≡ true
+shape_near : Placed → (a s : Shape) → Meets a s → is_candidate (block_around (shape_corners s)) (Some (block_around (shape_corners a))) ≡ true
 shape_near t a s m = or_right (is_wide (block_around (shape_corners a))) _ (meets_shares t a s m)
 
 -- by the value of the feature, first or second
-datum_near : Told → (by : SpatialRelation) (d : Datum) (s : Shape) → is_near_by by ≡ true → (told (both (spatial by) (shape_in d) (Some s))).yes ≡ true → is_candidate (block_around (shape_corners s)) (block_in d) ≡ true
+datum_near : Placed → (by : SpatialRelation) (d : Datum) (s : Shape) → is_near_by by ≡ true → (sides_of (both (spatial by) (shape_in d) (Some s))).yes ≡ true → is_candidate (block_around (shape_corners s)) (block_in d) ≡ true
 datum_near t by null s n h = absurd cc
 datum_near t by (a_text text) s n h = absurd cc
 datum_near t by (a_whole z) s n h = absurd cc
@@ -160,7 +160,7 @@ datum_near t by (a_span days) s n h = absurd cc
 datum_near t by (a_spot p) s n h = shape_near t (Spot p) s (spatial_meets t by (Spot p) s n h)
 datum_near t by (an_area region) s n h = shape_near t (Area region) s (spatial_meets t by (Area region) s n h)
 
-datum_near_second : Told → (by : SpatialRelation) (d : Datum) (s : Shape) → is_near_by by ≡ true → (told (both (spatial by) (Some s) (shape_in d))).yes ≡ true → is_candidate (block_around (shape_corners s)) (block_in d) ≡ true
+datum_near_second : Placed → (by : SpatialRelation) (d : Datum) (s : Shape) → is_near_by by ≡ true → (sides_of (both (spatial by) (Some s) (shape_in d))).yes ≡ true → is_candidate (block_around (shape_corners s)) (block_in d) ≡ true
 datum_near_second t by null s n h = absurd cc
 datum_near_second t by (a_text text) s n h = absurd cc
 datum_near_second t by (a_whole z) s n h = absurd cc
@@ -170,7 +170,7 @@ datum_near_second t by (a_span days) s n h = absurd cc
 datum_near_second t by (a_spot p) s n h = shape_near t (Spot p) s (t.symmetric s (Spot p) (spatial_meets t by s (Spot p) n h))
 datum_near_second t by (an_area region) s n h = shape_near t (Area region) s (t.symmetric s (Area region) (spatial_meets t by s (Area region) n h))
 
-pub spatial_near : Told → SpatialIsNear
+pub spatial_near : Placed → SpatialIsNear
 spatial_near t = λ x by i s n. (
   λ h. datum_near t by (datum_at x i) s n (sym (ap (λ k. k.yes) (sides_Spatial x by (place.Property i) (place.Constant s))) ∙ h),
   λ h. datum_near_second t by (datum_at x i) s n (sym (ap (λ k. k.yes) (sides_Spatial x by (place.Constant s) (place.Property i))) ∙ h),

@@ -1,7 +1,7 @@
 -- The choice of a menu costs no more than the least.
 use Rattle.std.proofs.Common.{◌≡◌, ◌∙◌, ap, refl, subst, ℕ, suc, ◌≤◌, min, true, false, List, [], ◌∷◌, ◌++◌, map, length, filter, arith}
-use Rattle.cad_cells.specs.Blocks.{block_around}
-use Rattle.cad_cells.specs.Near.{is_near}
+use Rattle.cad_grid.specs.Blocks.{block_around}
+use Rattle.cad_grid.specs.Near.{is_near}
 use Rattle.cad_shape.specs.Shapes.{shape_corners}
 use Rattle.cad_range.specs.Ranges.{lies_in}
 use Rattle.cad_feature.specs.declared.range.Range.{Range}

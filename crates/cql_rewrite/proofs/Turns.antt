@@ -12,9 +12,9 @@ use Rattle.cql_types.specs.declared.filter.Filter.TheVariants.{Not, And, Or}
 use Rattle.cql_types.specs.declared.filter.Filter.TheVariants as filter
 use Rattle.cql_types.specs.declared.filter.Filter.TheOpen.{Filter-F}
 use Rattle.cql_types.specs.declared.filter.Filter.TheFolds.{fold-roll-Filter}
-use Rattle.cql_truth.specs.Nodes.{sides_Not, sides_And, sides_Or}
-use Rattle.cql_truth.specs.Sides.{Sides, sides, stands, told}
-use Rattle.cql_truth.specs.Values.{both}
+use Rattle.cql_meaning.specs.Nodes.{sides_Not, sides_And, sides_Or}
+use Rattle.cql_meaning.specs.Sides.{Sides, sides, stands, sides_of}
+use Rattle.cql_meaning.specs.Values.{both}
 use Rattle.cql_rewrite.proofs.Forms.{and_last, list_all-map}
 use Rattle.cad_feature.specs.Values.{Datum, null, a_text, a_whole, a_flag, a_day, a_span, a_spot, an_area}
 use Rattle.cql_lexer.specs.declared.token.SpatialRelation.{SpatialRelation}
@@ -23,10 +23,10 @@ use Rattle.cql_types.specs.declared.filter.WholeTerm.{WholeTerm}
 use Rattle.cql_types.specs.declared.filter.TextTerm.{TextTerm}
 use Rattle.cql_types.specs.declared.filter.DayTerm.{DayTerm}
 use Rattle.cql_types.specs.declared.filter.FlagTerm.{FlagTerm}
-use Rattle.cql_truth.specs.Nodes.{sides_Between, sides_InWhole, sides_InText, sides_InDay, sides_InFlag, sides_CompareWhole, sides_CompareText, sides_CompareDay}
-use Rattle.cql_truth.specs.Sides.{between, equal_to, compared, wholes, texts, days, flags}
-use Rattle.cql_truth.specs.Arithmetic.{whole_in, whole_value}
-use Rattle.cql_truth.specs.Values.{text_in, text_value, day_value, flag_value}
+use Rattle.cql_meaning.specs.Nodes.{sides_Between, sides_InWhole, sides_InText, sides_InDay, sides_InFlag, sides_CompareWhole, sides_CompareText, sides_CompareDay}
+use Rattle.cql_meaning.specs.Sides.{between, equal_to, compared, wholes, texts, days, flags}
+use Rattle.cql_meaning.specs.Arithmetic.{whole_in, whole_value}
+use Rattle.cql_meaning.specs.Values.{text_in, text_value, day_value, flag_value}
 use Rattle.cql_text.specs.Order.{text_cmp}
 use Rattle.std.proofs.lemmas.Cmp.{int_cmp_total, nat_list_cmp_total}
 use Rattle.std.specs.Ordering.{int_cmp}
@@ -39,7 +39,7 @@ use Rattle.cql_rewrite.specs.Meets.{Written, in_side, joined_by, meets, side_of}
 use Rattle.cql_rewrite.specs.Terms.{day_sides, flag_sides, is_plain_days, is_plain_texts, is_plain_wholes, side_of_test, text_sides, turned_of, whole_sides}
 use Rattle.cql_rewrite.proofs.MemberLemmas.{member_costs}
 use Rattle.cql_rewrite.specs.Costs.{any_equal, count_in, is_plain_in_days, is_plain_in_texts, is_plain_in_wholes, like_bound, bound, bound_on, bound_step, bounds_joined, count_if, every, how_many, is_plain_between, IsCounted, least, near_bound}
-use Rattle.cql_truth.specs.ListLemmas.{list_any-map}
+use Rattle.cql_meaning.specs.lemmas.ListLemmas.{list_any-map}
 
 pub turns_Not : (side : Bool) (x : Item) (f : Box Filter Global) → in_side (not side) x f.value ≡ in_side side x (Not f)
 turns_Not true x f = sym (ap (side_of true) (sides_Not x f))
@@ -77,11 +77,11 @@ turned_stands comparison.AtLeast Greater = refl
 
 -- a comparison with its operands exchanged
 flipped : {A : Type 0} (cmp : A → A → Ordering) → ((a b : A) → cmp a b ≡ ordering_reverse (cmp b a)) → (by : Comparison) (a b : Option A) →
-    told (both (λ x y. Some (stands (turned_of by) (cmp x y))) b a) ≡ told (both (λ x y. Some (stands by (cmp x y))) a b)
+    sides_of (both (λ x y. Some (stands (turned_of by) (cmp x y))) b a) ≡ sides_of (both (λ x y. Some (stands by (cmp x y))) a b)
 flipped cmp turns by None None = refl
 flipped cmp turns by None (Some b) = refl
 flipped cmp turns by (Some a) None = refl
-flipped cmp turns by (Some a) (Some b) = ap (λ c. told (Some c)) (ap (stands (turned_of by)) (turns b a) ∙ turned_stands by (cmp a b))
+flipped cmp turns by (Some a) (Some b) = ap (λ c. sides_of (Some c)) (ap (stands (turned_of by)) (turns b a) ∙ turned_stands by (cmp a b))
 
 pub flipped_wholes : (by : Comparison) (a b : Option ℤ) → compared (wholes (turned_of by)) b a ≡ compared (wholes by) a b
 flipped_wholes by a b = flipped int_cmp int_cmp_total.antisymm by a b
@@ -91,7 +91,7 @@ flipped_texts by a b = flipped text_cmp nat_list_cmp_total.antisymm by a b
 
 -- ---- a property against a constant
 
-pub known_text : (by : Comparison) (d : Datum) (s : List ℕ) → told (option_map (stands by) (order_of d (a_text s))) ≡ compared (texts by) (text_in d) (Some s)
+pub known_text : (by : Comparison) (d : Datum) (s : List ℕ) → sides_of (option_map (stands by) (order_of d (a_text s))) ≡ compared (texts by) (text_in d) (Some s)
 known_text by null n = refl
 known_text by (a_text t) n = refl
 known_text by (a_whole m) n = refl
@@ -115,7 +115,7 @@ bound_Not t f = ap (bound t) (sym (filter.rolls-Not f)) ∙ fold-roll-Filter ℕ
 -- ---- comparisons
 
 -- a comparison that is turned for a side holds where the filter lies on that side
-pub ranged : (side : Bool) (by by' : Comparison) (o : Option Ordering) (s : Sides) → ((r : Ordering) → stands by' r ≡ side_of_test side (stands by r)) → told (option_map (stands by) o) ≡ s → holds_of (stands by') o ≡ side_of side s
+pub ranged : (side : Bool) (by by' : Comparison) (o : Option Ordering) (s : Sides) → ((r : Ordering) → stands by' r ≡ side_of_test side (stands by r)) → sides_of (option_map (stands by) o) ≡ s → holds_of (stands by') o ≡ side_of side s
 ranged true by by' None s f e = ap (side_of true) e
 ranged false by by' None s f e = ap (side_of false) e
 ranged true by by' (Some r) s f e = f r ∙ ap (side_of true) e

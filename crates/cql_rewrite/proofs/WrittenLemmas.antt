@@ -7,7 +7,7 @@ use Rattle.cad_schema.specs.Schema.{schema_of}
 use Rattle.cad_feature.specs.Values.{Datum, IsOfKind, null, a_text, a_whole, a_flag, a_day, a_span, a_spot, an_area}
 use Rattle.cad_schema.specs.declared.collection.Collection.{Collection}
 use Rattle.cad_schema.specs.declared.property.PropertyKind.{PropertyKind}
-use Rattle.cql_truth.specs.Values.{text_in}
+use Rattle.cql_meaning.specs.Values.{text_in}
 
 same_text : (s t : List ℕ) → Some s ≡ Some t → s ≡ t
 same_text s t h = cc

@@ -108,11 +108,11 @@ cost_if_all : (counts : Counts) (w : Way) → false ≡ is_narrow w → cost cou
 cost_if_all counts w e = ap (cost counts) (not_narrow w (sym e)) ∙ cost_all counts
 
 -- the ways that are other than all, after one way
-abbrev pub after : Bool → Way → List Way → List Way
-after true w ws = w ∷ ws
-after false w ws = ws
+abbrev pub ways_after : Bool → Way → List Way → List Way
+ways_after true w ws = w ∷ ws
+ways_after false w ws = ws
 
-pub filter_step : (w : Way) (ws : List Way) → filter is_narrow (w ∷ ws) ≡ after (is_narrow w) w (filter is_narrow ws)
+pub filter_step : (w : Way) (ws : List Way) → filter is_narrow (w ∷ ws) ≡ ways_after (is_narrow w) w (filter is_narrow ws)
 filter_step all_features ws = refl
 filter_step no_feature ws = refl
 filter_step (in_range property low high) ws = refl
@@ -121,7 +121,7 @@ filter_step (meet_of ways) ws = refl
 filter_step (join_of ways) ws = refl
 
 under_step : (counts : Counts) (k rest : ℕ) (w : Way) (narrow : List Way) (b : Bool) → b ≡ is_narrow w → k ≤ counts.every
-    → (k ≤ min_of counts.every (map (cost counts) narrow) → k ≤ rest) → k ≤ min_of counts.every (map (cost counts) (after b w narrow)) → k ≤ min (cost counts w) rest
+    → (k ≤ min_of counts.every (map (cost counts) narrow) → k ≤ rest) → k ≤ min_of counts.every (map (cost counts) (ways_after b w narrow)) → k ≤ min (cost counts w) rest
 under_step counts k rest w narrow true at e ih f = let r = ih (omega arith) in omega arith
 under_step counts k rest w narrow false at e ih f = let r = ih f in omega (arith, cost_if_all counts w at)
 
@@ -142,7 +142,7 @@ met_cost counts [] h = cost_all counts
 met_cost counts (w ∷ []) h = omega (arith, at_most_all counts w h.0)
 met_cost counts (v ∷ w ∷ ws) h = cost_meet counts (v ∷ w ∷ ws) ∙ sym (min_over counts.every (cost counts v) (map (cost counts) (w ∷ ws)) (at_most_all counts v h.0))
 
-narrow_if : (counts : Counts) (w : Way) (ws : List Way) (b : Bool) → Costs counts w → EachCosts counts ws → EachCosts counts (after b w ws)
+narrow_if : (counts : Counts) (w : Way) (ws : List Way) (b : Bool) → Costs counts w → EachCosts counts ws → EachCosts counts (ways_after b w ws)
 narrow_if counts w ws true h k = (h, k)
 narrow_if counts w ws false h k = k
 
@@ -166,7 +166,7 @@ same_head v w vs ws e = cc
 same_tail : (v w : Way) (vs ws : List Way) → v ∷ vs ≡ w ∷ ws → vs ≡ ws
 same_tail v w vs ws e = cc
 
-one_step : (counts : Counts) (w v : Way) (vs : List Way) (b : Bool) → b ≡ is_narrow v → Costs counts v → w ∷ [] ≡ after b v (filter is_narrow vs)
+one_step : (counts : Counts) (w v : Way) (vs : List Way) (b : Bool) → b ≡ is_narrow v → Costs counts v → w ∷ [] ≡ ways_after b v (filter is_narrow vs)
     → (w ∷ [] ≡ filter is_narrow vs → first_least counts all_features vs ≡ w) → first_least counts (cheaper counts all_features v) vs ≡ w
 one_step counts w v vs true at h e ih =
     let a = cost_all counts in
@@ -189,7 +189,7 @@ first_narrow : (counts : Counts) (w : Way) (ws fs : List Way) → EachCosts coun
 first_narrow counts w [] fs h e = absurd cc
 first_narrow counts w (v ∷ vs) fs h e = first_if counts w v vs fs (is_narrow v) refl h.0 (e ∙ filter_step v vs) (first_narrow counts w vs fs h.1)
   where
-    first_if : (counts : Counts) (w v : Way) (vs fs : List Way) (b : Bool) → b ≡ is_narrow v → Costs counts v → w ∷ fs ≡ after b v (filter is_narrow vs) → (w ∷ fs ≡ filter is_narrow vs → cost counts w < counts.every) → cost counts w < counts.every
+    first_if : (counts : Counts) (w v : Way) (vs fs : List Way) (b : Bool) → b ≡ is_narrow v → Costs counts v → w ∷ fs ≡ ways_after b v (filter is_narrow vs) → (w ∷ fs ≡ filter is_narrow vs → cost counts w < counts.every) → cost counts w < counts.every
     first_if counts w v vs fs true at h e ih = rw (same_head w v fs (filter is_narrow vs) e) (less_told (cost counts v) counts.every (at ∙ h))
     first_if counts w v vs fs false at h e ih = ih e
 

@@ -1,8 +1,8 @@
 -- What the cheapest plan of a normal form looks at, and the bound of a filter (own profile).
 use Rattle.std.specs.Prelude.{◌≡◌, ◌≤◌, ℕ, min, ◌+◌, Bool, true, false, List, [], ◌∷◌, map, length, Option, Some, None, if◌then◌else◌}
 use Rattle.std.specs.List.{list_all, list_any}
-use Rattle.cad_cells.specs.Blocks.{block_around}
-use Rattle.cad_cells.specs.Near.{is_near}
+use Rattle.cad_grid.specs.Blocks.{block_around}
+use Rattle.cad_grid.specs.Near.{is_near}
 use Rattle.cad_feature.specs.Features.{Item, datum_at}
 use Rattle.cad_feature.specs.declared.range.Range.{Range}
 use Rattle.cad_range.specs.Ranges.{lies_in, lies_in_if_any}
@@ -24,9 +24,9 @@ use Rattle.cql_types.specs.declared.filter.DayTerm.{DayTerm}
 use Rattle.cql_types.specs.declared.filter.Filter.{Filter}
 use Rattle.cql_types.specs.declared.filter.Filter.TheOpen.{Filter-F}
 use Rattle.cql_types.specs.declared.filter.Filter.TheFolds.{fold-Filter}
-use Rattle.cql_truth.specs.Arithmetic.{whole_value}
-use Rattle.cql_truth.specs.Sides.{Sides, between}
-use Rattle.cql_truth.specs.Values.{text_in}
+use Rattle.cql_meaning.specs.Arithmetic.{whole_value}
+use Rattle.cql_meaning.specs.Sides.{Sides, between}
+use Rattle.cql_meaning.specs.Values.{text_in}
 use Rattle.cql_rewrite.specs.declared.form.Normal.{Normal}
 use Rattle.cql_rewrite.specs.declared.form.Normal.TheOpen.{Normal-F}
 use Rattle.cql_rewrite.specs.declared.form.Normal.TheFolds.{fold-Normal}

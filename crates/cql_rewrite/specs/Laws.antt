@@ -1,8 +1,8 @@
 -- What holds of normal forms, beyond what each call says.
 use Rattle.std.specs.Prelude.{ℕ, ◌≤◌, IsTrue, List, map}
 use Rattle.std.specs.List.{list_all}
-use Rattle.cad_cells.specs.Blocks.{block_around}
-use Rattle.cad_cells.specs.Near.{is_near}
+use Rattle.cad_grid.specs.Blocks.{block_around}
+use Rattle.cad_grid.specs.Near.{is_near}
 use Rattle.cad_shape.specs.declared.shape.Shape.{Shape}
 use Rattle.cad_shape.specs.Shapes.{shape_corners}
 use Rattle.cad_feature.specs.Features.{Item, IsFeatureOf}
@@ -11,7 +11,7 @@ use Rattle.cad_lookup.specs.Ways.{Counts, cost, counts_of, is_found}
 use Rattle.cql_lexer.specs.declared.token.SpatialRelation.{SpatialRelation}
 use Rattle.cql_types.specs.declared.filter.Filter.TheVariants as filter
 use Rattle.cql_types.specs.declared.filter.ShapeTerm.TheVariants as place
-use Rattle.cql_truth.specs.Sides.{yes}
+use Rattle.cql_meaning.specs.Sides.{yes}
 use Rattle.cql_rewrite.specs.declared.form.Normal.{Normal}
 use Rattle.cql_rewrite.specs.Costs.{is_near_by, least}
 use Rattle.cql_rewrite.specs.Meets.{HoldsCharacters, Written, meets}

@@ -1,3 +1,4 @@
+pub mod Boxes
 pub mod Meets
 pub mod Atoms
 pub mod Terms

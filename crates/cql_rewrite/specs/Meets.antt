@@ -3,16 +3,16 @@ use Rattle.std.specs.Prelude.{◌≡◌, ℕ, Bool, true, false, ◌&&◌, ◌||
 use Rattle.std.specs.List.{list_all, list_any}
 use Rattle.std.specs.Str.{all_scalars}
 use Rattle.cad_shape.specs.Shapes.{shape_corners}
-use Rattle.cad_cells.specs.Blocks.{block_around}
-use Rattle.cad_cells.specs.Near.{is_near}
+use Rattle.cad_grid.specs.Blocks.{block_around}
+use Rattle.cad_grid.specs.Near.{is_near}
 use Rattle.cad_feature.specs.Features.{Item, datum_at}
 use Rattle.cad_range.specs.Ranges.{lies_in}
 use Rattle.cql_text.specs.Fronts.{text_of}
 use Rattle.cql_text.specs.Patterns.{like_test}
 use Rattle.cql_types.specs.declared.filter.Filter.{Filter}
-use Rattle.cql_truth.specs.Sides.{Sides, sides}
-use Rattle.cql_truth.specs.Folding.{folds_case}
-use Rattle.cql_truth.specs.Values.{text_in}
+use Rattle.cql_meaning.specs.Sides.{Sides, sides}
+use Rattle.cql_meaning.specs.Folding.{folds_case}
+use Rattle.cql_meaning.specs.Values.{text_in}
 use Rattle.cql_rewrite.specs.declared.form.Normal.{Normal}
 use Rattle.cql_rewrite.specs.declared.form.Normal.TheVariants as form
 use Rattle.cql_rewrite.specs.declared.form.Normal.TheOpen.{Normal-F}

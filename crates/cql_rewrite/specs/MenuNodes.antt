@@ -2,7 +2,7 @@
 use Rattle.std.specs.Prelude.{◌≡◌, true, false, List, [], ◌∷◌, map, filter, ◌++◌, Vec}
 use Rattle.std.proofs.Common.{◌∙◌, ap, refl, sym}
 use Rattle.std.specs.declared.alloc.Global.{Global}
-use Rattle.cad_cells.specs.Blocks.{block_around}
+use Rattle.cad_grid.specs.Blocks.{block_around}
 use Rattle.cad_shape.specs.Shapes.{shape_corners}
 use Rattle.cad_lookup.specs.Ways.{Way, all_features, no_feature, near_block, join_of, ways_in, range_way, Counts}
 use Rattle.cql_rewrite.specs.declared.form.Normal.{Normal}

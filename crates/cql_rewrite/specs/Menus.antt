@@ -1,7 +1,7 @@
 -- The ways to look for the features that meet a normal form, and the choice among them (own profile).
 use Rattle.std.specs.Prelude.{◌≡◌, ◌<◌, ◌≤◌, Bool, true, false, if◌then◌else◌, nat_lt, List, [], ◌∷◌, ◌++◌, map, filter}
 use Rattle.std.specs.List.{All}
-use Rattle.cad_cells.specs.Blocks.{block_around}
+use Rattle.cad_grid.specs.Blocks.{block_around}
 use Rattle.cad_shape.specs.Shapes.{shape_corners}
 use Rattle.cad_lookup.specs.Ways.{Way, all_features, no_feature, in_range, near_block, meet_of, join_of, ways_in, range_way, Counts, cost}
 use Rattle.cql_rewrite.specs.declared.form.Normal.{Normal}

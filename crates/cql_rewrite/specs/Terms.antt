@@ -16,9 +16,9 @@ use Rattle.cql_types.specs.declared.filter.WholeTerm.{WholeTerm}
 use Rattle.cql_types.specs.declared.filter.WholeTerm.TheVariants as whole
 use Rattle.cql_types.specs.declared.filter.TextTerm.TheVariants as text
 use Rattle.cql_types.specs.declared.filter.DayTerm.TheVariants as day
-use Rattle.cql_truth.specs.Arithmetic.{whole_value}
-use Rattle.cql_truth.specs.Sides.{Sides, among, compared, days, flags, is_like, sides, stands, texts, told, wholes}
-use Rattle.cql_truth.specs.Values.{day_value, flag_value, text_value}
+use Rattle.cql_meaning.specs.Arithmetic.{whole_value}
+use Rattle.cql_meaning.specs.Sides.{Sides, among, compared, days, flags, is_like, sides, stands, texts, sides_of, wholes}
+use Rattle.cql_meaning.specs.Values.{day_value, flag_value, text_value}
 use Rattle.cql_rewrite.specs.declared.form.Normal.{Normal}
 use Rattle.cql_rewrite.specs.declared.plain.Plain.{Plain}
 use Rattle.cql_rewrite.specs.declared.plain.Plain.TheVariants as plain
@@ -79,9 +79,9 @@ is_plain_flags a b = true
 
 -- what is said of a feature by what a comparison comes to; where it comes to nothing, what is given
 abbrev pub plain_sides : Item → Plain → Sides → Sides
-plain_sides x (plain.Decided b) s = told (Some b)
-plain_sides x plain.Never s = told None
-plain_sides x (plain.Compared property by scalar) s = told (option_map (stands by) (order_of (datum_at x property) (scalar_datum scalar)))
+plain_sides x (plain.Decided b) s = sides_of (Some b)
+plain_sides x plain.Never s = sides_of None
+plain_sides x (plain.Compared property by scalar) s = sides_of (option_map (stands by) (order_of (datum_at x property) (scalar_datum scalar)))
 plain_sides x plain.Other s = s
 
 -- it comes to a constant or a range

@@ -3,8 +3,8 @@
 ghost use Rattle.std.specs.Prelude.{◌≡◌, true, IfOk, IfSome, Some, is_some};
 ghost use Rattle.cad_feature.specs.Features.{Item, datum_at};
 ghost use Rattle.cad_range.specs.Ranges.{lies_in_if_any};
-ghost use Rattle.cql_truth.specs.Arithmetic.{whole_in, whole_value};
-ghost use Rattle.cql_truth.specs.Sides.{between as between_of, sides};
+ghost use Rattle.cql_meaning.specs.Arithmetic.{whole_in, whole_value};
+ghost use Rattle.cql_meaning.specs.Sides.{between as between_of, sides};
 ghost use Rattle.cql_rewrite.specs.Atoms.{HasPlainAtoms, IsAtom};
 ghost use Rattle.cql_rewrite.specs.Costs.{IsCounted, is_plain_between};
 ghost use Rattle.cql_lexer.specs.declared.token.Comparison.TheVariants.{AtMost};

@@ -2,7 +2,7 @@
 
 ghost use Rattle.std.specs.Prelude.{◌≡◌, true, IfOk, IfSome, is_some};
 ghost use Rattle.cad_feature.specs.Features.{Item};
-ghost use Rattle.cql_truth.specs.Sides.{Sides, sides};
+ghost use Rattle.cql_meaning.specs.Sides.{Sides, sides};
 ghost use Rattle.cql_rewrite.specs.Atoms.{HasPlainAtoms, IsAtom};
 ghost use Rattle.cql_rewrite.specs.Costs.{IsCounted};
 ghost use Rattle.cql_rewrite.specs.Meets.{Written, in_side, meets, side_of};

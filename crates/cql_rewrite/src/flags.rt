@@ -4,7 +4,7 @@ ghost use Rattle.std.specs.Prelude.{◌≡◌, true, IfOk, IfSome, is_some};
 ghost use Rattle.std.specs.List.{list_all};
 ghost use Rattle.cad_feature.specs.Features.{Item};
 ghost use Rattle.cql_lexer.specs.declared.token.Comparison.TheVariants.{Equal};
-ghost use Rattle.cql_truth.specs.Values.{flag_value};
+ghost use Rattle.cql_meaning.specs.Values.{flag_value};
 ghost use Rattle.cql_rewrite.specs.Atoms.{HasPlainAtoms, IsAtom};
 ghost use Rattle.cql_rewrite.specs.Costs.{any_equal};
 ghost use Rattle.cql_rewrite.specs.Meets.{in_side, meets};

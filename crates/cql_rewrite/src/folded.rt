@@ -2,8 +2,8 @@
 
 ghost use Rattle.std.specs.Prelude.{◌≡◌, IfOk, IfSome, map};
 ghost use Rattle.cad_feature.specs.Features.{Item};
-ghost use Rattle.cql_truth.specs.Sides.{sides};
-ghost use Rattle.cql_truth.specs.Values.{folded_content, text_value};
+ghost use Rattle.cql_meaning.specs.Sides.{sides};
+ghost use Rattle.cql_meaning.specs.Values.{folded_content, text_value};
 ghost use Rattle.cql_rewrite.specs.Atoms.{HasPlainAtoms, IsAtom};
 ghost use Rattle.cql_rewrite.specs.Meets.{in_side, meets};
 ghost use Rattle.cql_rewrite.specs.Terms.{filter_or, in_text_sides, like_sides, text_sides};

@@ -8,7 +8,7 @@ ghost use Rattle.cql_rewrite.specs.Laws.{
   SpatialIsNear,
 };
 
-use cad_cells::laws::shared_cells_are_touched;
+use cad_grid::laws::shared_cells_are_touched;
 use cad_schema::Collection;
 use cad_shape::laws::{bounds_overlap, meeting_is_symmetric, tests_tell, within_meets};
 

@@ -4,11 +4,14 @@
 //! - [`normal`]: the normal form of a filter. Of `NOT (area < 3 OR area > 8)` it is the range of `area` from 3 to 8.
 //! - [`Normal`]: a normal form; it borrows from the filter the conditions that are no ranges.
 //! - [`both`]: the AND of two normal forms
+//! - [`box_condition`]: that the geometry meets a box, as a filter: what `bbox` adds to the filter of a request. Of a collection
+//!   without geometry it is true of no feature
 //! - [`test`]: whether a feature meets it, which it does exactly where the filter is true of the feature
 //! - [`laws`]: what holds of normal forms, beyond what each call says
 #![tactic(auto)]
 
 mod between;
+mod boxes;
 mod comparison;
 mod flags;
 mod folded;
@@ -23,6 +26,7 @@ mod spatial;
 mod terms;
 mod tested;
 
+pub use boxes::box_condition;
 pub use form::Normal;
 pub use parts::both;
 pub use rewrite::normal;

@@ -51,12 +51,12 @@ fn add_one<'a>(parts: &mut Vec<Normal<'a>>, part: Normal<'a>) -> Result<(), Allo
         drop(part);
         return Ok(());
     }
-    add_kept(parts, part)?;
+    add_part(parts, part)?;
     Ok(())
 }
 
 // One more part, as it is; a range is joined with one of the same property.
-fn add_kept<'a>(parts: &mut Vec<Normal<'a>>, part: Normal<'a>) -> Result<(), AllocError>
+fn add_part<'a>(parts: &mut Vec<Normal<'a>>, part: Normal<'a>) -> Result<(), AllocError>
     ensures stands { OnOk result (AddsPart parts.old.items parts.new.items part.entry) }
     ensures costs { OnOk result (CostsPart parts.old.items parts.new.items part.entry) }
     ensures atoms { OnOk result (KeepsAtoms parts.old.items parts.new.items part.entry) }

@@ -5,7 +5,7 @@ ghost use Rattle.std.specs.declared.cmp.Ordering.{Ordering as OrderingOf};
 ghost use Rattle.cad_feature.specs.Features.{Item, datum_at};
 ghost use Rattle.cad_feature.specs.Limits.{scalar_datum};
 ghost use Rattle.cad_range.specs.Ranges.{compared as order_of, holds_of};
-ghost use Rattle.cql_truth.specs.Sides.{stands as stands_of};
+ghost use Rattle.cql_meaning.specs.Sides.{stands as stands_of};
 ghost use Rattle.cql_rewrite.specs.Terms.{is_ranged, said_by, side_of_test, turned_of};
 
 use cad_range::{Edge, Range, Scalar};

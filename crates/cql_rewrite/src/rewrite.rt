@@ -1,7 +1,7 @@
 //! A filter's normal form.
 
 ghost use Rattle.std.specs.Prelude.{◌≡◌, ◌≤◌, List, IfOk};
-ghost use Rattle.cql_truth.specs.Sides.{yes};
+ghost use Rattle.cql_meaning.specs.Sides.{yes};
 ghost use Rattle.cql_rewrite.specs.Atoms.{HasPlainAtoms};
 ghost use Rattle.cql_rewrite.specs.Costs.{bound, bound_on, bounds_joined, least};
 ghost use Rattle.cql_rewrite.specs.Meets.{Written, in_side, joined_by, meets};

@@ -2,17 +2,17 @@
 
 ghost use Rattle.std.specs.Prelude.{◌≡◌, true, IfOk, Some};
 ghost use Rattle.cad_feature.specs.Features.{Item};
-ghost use Rattle.cql_truth.specs.Arithmetic.{whole_value};
-ghost use Rattle.cql_truth.specs.Sides.{compared, days, texts, wholes};
-ghost use Rattle.cql_truth.specs.Values.{day_value, text_value};
+ghost use Rattle.cql_meaning.specs.Arithmetic.{whole_value};
+ghost use Rattle.cql_meaning.specs.Sides.{compared, days, texts, wholes};
+ghost use Rattle.cql_meaning.specs.Values.{day_value, text_value};
 ghost use Rattle.cql_text.specs.Fronts.{text_of};
 ghost use Rattle.cql_rewrite.specs.Terms.{day_sides, is_exact, is_plain_days, is_plain_texts, is_plain_wholes, plain_sides, text_sides, whole_sides};
 
 use crate::plain::{Plain, stands, turned};
 use cad_range::Scalar;
 use cql_lexer::Comparison;
+use cql_meaning::{constant_text, constant_whole};
 use cql_text::compare;
-use cql_truth::{constant_text, constant_whole};
 use cql_types::{DayTerm, TextTerm, WholeTerm};
 use std::alloc::{AllocError, Global};
 
@@ -185,7 +185,7 @@ pub(crate) trait Term {
     ghost use Rattle.std.specs.Prelude.{◌≡◌, Bool, true, IfOk};
     ghost use Rattle.cad_feature.specs.Features.{Item};
     ghost use Rattle.cql_lexer.specs.declared.token.Comparison.{Comparison};
-    ghost use Rattle.cql_truth.specs.Sides.{Sides};
+    ghost use Rattle.cql_meaning.specs.Sides.{Sides};
     ghost use Rattle.cql_rewrite.specs.Terms.{is_exact, plain_sides};
 
     ghost said: { Comparison → Item → Self → Self → Sides };

@@ -3,23 +3,23 @@
 ghost use Rattle.std.specs.Prelude.{◌≡◌, ◌&&◌, true, false, chars, IfOk, IsOk, Some};
 ghost use Rattle.std.specs.List.{list_all, list_any};
 ghost use Rattle.cad_shape.specs.Shapes.{shape_corners};
-ghost use Rattle.cad_cells.specs.Blocks.{block_around};
-ghost use Rattle.cad_cells.specs.Counted.{block_at};
-ghost use Rattle.cad_cells.specs.Near.{block_in, is_candidate, is_near as is_near_of};
+ghost use Rattle.cad_grid.specs.Blocks.{block_around};
+ghost use Rattle.cad_grid.specs.Counted.{block_at};
+ghost use Rattle.cad_grid.specs.Near.{block_in, is_candidate, is_near as is_near_of};
 ghost use Rattle.cad_feature.specs.Features.{datum_at};
 ghost use Rattle.cad_feature.specs.Values.{datum_of};
 ghost use Rattle.cql_text.specs.Fronts.{text_of};
-ghost use Rattle.cql_truth.specs.Folding.{folds_case};
-ghost use Rattle.cql_truth.specs.Values.{text_in};
+ghost use Rattle.cql_meaning.specs.Folding.{folds_case};
+ghost use Rattle.cql_meaning.specs.Values.{text_in};
 ghost use Rattle.cql_rewrite.specs.Meets.{folds, in_side, is_liked as is_liked_of, meets};
 
 use crate::form::Normal;
-use cad_cells::{Cells, bounds_of};
 use cad_feature::{Feature, Value};
+use cad_grid::{Cells, bounds_of};
 use cad_range::lies_in;
 use cad_shape::{Shape, bounds};
+use cql_meaning::{Truth, truth};
 use cql_text::like;
-use cql_truth::{Truth, truth};
 use cql_types::Filter;
 use std::alloc::{AllocError, Global};
 

@@ -1,5 +1,5 @@
 pub mod Syntax
 pub mod Views
 pub mod Order
-pub mod OrderLemmas
 pub mod Rows
+pub mod lemmas

@@ -6,7 +6,7 @@ use Rattle.cql_types.specs.declared.fault.Misuse.{Misuse}
 use Rattle.cql_types.specs.declared.fault.Fault.{Fault}
 use Rattle.cql_types.specs.Kinds.{Kind, Mark, first_not, first_unlike, misfit, made, leaf_kind, wrong_kind, unsound, Has, Have, leaf_has, node_has, no_more, one_more, IsWrong, IsWrongIn, leaf_wrong, node_wrong, node_unsound, inside, here, later}
 use Rattle.cql_tree.specs.Order.{InOrder, AreInOrder, leaf_in_order, node_in_order, no_part, one_part}
-use Rattle.cql_tree.specs.OrderLemmas.{not_beyond, are_not_beyond}
+use Rattle.cql_tree.specs.lemmas.OrderLemmas.{not_beyond, are_not_beyond}
 use Rattle.cql_types.specs.Contract.{IsFirst, IsFirstIn, leaf_first, node_first, unsound_first, inside_first, here_first, later_first}
 
 one_result : {A B : Type 0} {r : Result A B} {x : A} {y : B} → r ≡ Ok x → r ≡ Err y → ⊥

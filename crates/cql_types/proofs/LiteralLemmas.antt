@@ -28,7 +28,7 @@ use Rattle.cql_types.specs.declared.filter.ShapeTerm.TheVariants as place
 use Rattle.cql_types.specs.declared.judged.Node.TheVariants as n
 use Rattle.cad_shape.specs.declared.boxes.Bounds.{Bounds}
 use Rattle.cad_shape.specs.declared.shape.Shape.TheVariants as shape
-use Rattle.cad_shape.specs.SameLemmas.{same_point}
+use Rattle.cad_shape.specs.lemmas.SameLemmas.{same_point}
 use Rattle.cql_types.specs.Means.{Draws, point, box, region}
 use Rattle.cql_types.proofs.Fitting.{numbers_have}
 use Rattle.std.specs.List.{slice_get}

@@ -51,9 +51,9 @@ use Rattle.cql_types.specs.Literals.{AreRings, one_ring, no_ring}
 use Rattle.cql_types.specs.Means as m
 use Rattle.cql_types.specs.Means.{kind_of, whole_of, text_of, pattern_of, day_of, flag_of, span_of, shape_of, any_of, condition_of, Are, no_term, one_term, AreSteps, property_node, IsLeaf, IsNegatedIf, as_it_is, negated, Makes, IsEnd, open_text, day_text, day_name, Draws, Means, Mean, leaf_means, node_means, literal_means, no_more, one_more}
 use Rattle.cql_types.proofs.LiteralLemmas.{numbers_once, outline_once, two_equal}
-use Rattle.cad_shape.specs.SameLemmas.{same_point}
-use Rattle.cad_shape.specs.SameLemmas.{same_bounds}
-use Rattle.cad_day.specs.SameLemmas.{same_day}
+use Rattle.cad_shape.specs.lemmas.SameLemmas.{same_point}
+use Rattle.cad_shape.specs.lemmas.SameLemmas.{same_bounds}
+use Rattle.cad_day.specs.lemmas.SameLemmas.{same_day}
 use Rattle.cql_types.proofs.Faults.{same_ok}
 use Rattle.cql_types.proofs.Terms.{is_true}
 

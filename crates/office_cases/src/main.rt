@@ -1,26 +1,107 @@
-//! Lines of the land office, answered over a ledger in memory.
+//! Lines of the land office, answered over a ledger in memory, and features as JSON.
 //!
-//! The lines are in `stdin`, and what is printed for each is in `stdout`: docs/OFFICE.md row by row, each limit from both sides, and bytes that are no text. The status is 0 where the lines were read to their end, and else the number of the office's fault.
+//! The lines are in `stdin`, and what is printed for each is in `stdout`: docs/OFFICE.md row by row, each limit from both sides, and bytes
+//! that are no text. The first line, `{"do":"enter","object":11,"first":"2000-01-01","unit":{}}`, is answered by `revision 1`, and the
+//! fourth, `{"do":"retire","object":99,"last":"2000-01-01"}`, by `refused 2 UnknownObject`.
 //!
-//! The first line, `{"do":"enter","object":11,"first":"2000-01-01","unit":{}}`, is answered by `revision 1`, and the fourth,
-//! `{"do":"retire","object":99,"last":"2000-01-01"}`, by `refused 2 UnknownObject`.
+//! The lines behind the line `= features` are entered into a ledger of their own, and answered alike. Then, collection by collection,
+//! each feature of its last revision is printed on a line of its own, as
+//!
+//! ```text
+//! units {"geometry":null,"id":"11.1","properties":{"begin":"2000-01-01","end":null,"name":null,"number":1,"object":11},"type":"Feature"}
+//! ```
+//!
+//! The status is 0 where all lines were read, and else the number of the office's fault; 100 where a feature can't be printed.
 #![tactic(auto)]
 
+ghost use Rattle.cad_versions.specs.Listing.{IsListing};
+
+use cad_feature::flatten;
 use cad_io::Counted;
+use cad_json::feature_json;
+use cad_memory_ledger::MemoryLedger;
 use cad_office::office;
-use cad_plain::PlainLedger;
+use cad_schema::Collection;
+use cad_versions::{Ledger, Version};
+use std::io::{Cursor, Error, ErrorKind, Read, Result};
 use std::process::ExitCode;
 
-fn main(rt: HostRuntime) -> ExitCode {
-    let mut ledger = PlainLedger::new(rt.alloc());
-    let ended = office(
+/// The line between the two parts, with the end of the line before it.
+const FEATURES: &[u8] = b"\n= features\n";
+
+/// The status where a feature can't be printed.
+const NOT_PRINTED: u8 = 100;
+
+/// The two parts of the input; the second is empty where the line between them is missing.
+fn parts(input: &[u8]) -> (&[u8], &[u8]) {
+    match input
+        .windows(FEATURES.len())
+        .position(|part| part == FEATURES)
+    {
+        Some(at) => (&input[..at], &input[at + FEATURES.len()..]),
+        None => (input, b"".as_slice()),
+    }
+}
+
+/// Enters the lines and prints the answers. What ends this before the last line is told by its number.
+fn entered(rt: &HostRuntime, lines: &[u8], ledger: &mut MemoryLedger) -> u8 {
+    match office(
         rt.alloc(),
-        &mut Counted::new(rt.stdin()),
+        &mut Counted::new(Cursor::new(lines)),
         &mut rt.stdout(),
-        &mut ledger,
-    );
-    match ended {
-        Ok(_) => ExitCode::from(0),
-        Err(fault) => ExitCode::from(fault.number()),
+        ledger,
+    ) {
+        Ok(_) => 0,
+        Err(fault) => fault.number(),
+    }
+}
+
+fn print_features(rt: &HostRuntime, versions: &[Version], collection: Collection) -> Result<()>
+    requires { IsListing versions.now }
+{
+    let features = flatten(rt.alloc(), versions, collection)?;
+    for feature in &features {
+        let json = feature_json(rt.alloc(), collection, feature)?;
+        let text = json.to_string(rt.alloc())?;
+        let name = collection.name();
+        println!(rt; "{name} {text}")?;
+    }
+    Ok(())
+}
+
+fn print_ledger(rt: &HostRuntime, ledger: &mut MemoryLedger) -> Result<()> {
+    let revision = ledger.revision();
+    let Ok(versions) = ledger.as_of(revision) else {
+        return Err(Error::from(ErrorKind::OutOfMemory));
+    };
+    for collection in Collection::ALL {
+        print_features(rt, &versions, collection)?;
+    }
+    Ok(())
+}
+
+/// The status of a run over this input.
+fn run(rt: &HostRuntime, input: &[u8]) -> u8 {
+    let (lines, features) = parts(input);
+    let ended = entered(rt, lines, &mut MemoryLedger::new(rt.alloc()));
+    if ended != 0 {
+        return ended;
+    }
+    let mut ledger = MemoryLedger::new(rt.alloc());
+    let ended = entered(rt, features, &mut ledger);
+    if ended != 0 {
+        return ended;
+    }
+    match print_ledger(rt, &mut ledger) {
+        Ok(()) => 0,
+        Err(_) => NOT_PRINTED,
+    }
+}
+
+fn main(rt: HostRuntime) -> ExitCode {
+    let mut input = Vec::new(rt.alloc());
+    match rt.stdin().read_to_end(&mut input) {
+        Ok(_) => ExitCode::from(run(&rt, &input)),
+        Err(_) => ExitCode::from(NOT_PRINTED),
     }
 }

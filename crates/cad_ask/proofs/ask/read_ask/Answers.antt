@@ -4,10 +4,10 @@ use Rattle.std.specs.Option.{option_copied}
 use Rattle.std.specs.Result.{result_err}
 use Rattle.cad_schema.specs.Schema.{schema_of}
 use Rattle.cql_filter.specs.Filters.{IsAccepted}
-use Rattle.cad_query.specs.Pairs.{pair_text, pairs_of}
+use Rattle.cad_parameters.specs.Pairs.{pair_text, pairs_of}
 use Rattle.cad_ask.specs.Faults.{selection_fault, continuation_fault}
 use Rattle.cad_ask.specs.Answers.{filter_given, of_selection, of_continuation, FiltersWell}
-use Rattle.cad_ask.specs.AnswerLemmas.{filter_accepted}
+use Rattle.cad_ask.specs.lemmas.AnswerLemmas.{filter_accepted}
 use Rattle.cad_ask.proofs.AskLemmas.{answered, filter_refused}
 use Rattle.cad_ask.proofs.ask.read_ask.Goals as goal
 

@@ -1,5 +1,5 @@
 use Rattle.std.proofs.Common.{◌≡◌, find, length}
-use Rattle.cad_merged.specs.Identifiers.{of_object}
+use Rattle.cad_layer.specs.Identifiers.{of_object}
 use Rattle.cad_changes.specs.Touching.{has_day}
 use Rattle.cad_changes.proofs.adding.name_among.Given as goal
 

@@ -1,7 +1,7 @@
 use Rattle.std.proofs.Common.{List, ◌++◌, ◌∙◌, ap, sym}
 use Rattle.cad_feature.specs.Features.{Item}
 use Rattle.cad_lookup.specs.Candidates.{candidates}
-use Rattle.cad_run.specs.LaterLemmas.{all_later}
+use Rattle.cad_run.specs.lemmas.LaterLemmas.{all_later}
 use Rattle.cad_run.specs.Left.{candidates_left}
 use Rattle.cad_changes.specs.Touching.{items_left}
 use Rattle.cad_changes.proofs.FitLemmas.{left_step}

@@ -1,5 +1,5 @@
 use Rattle.std.proofs.Common.{◌∙◌, ap}
-use Rattle.cad_versions.specs.ListLemmas.{filter_same}
+use Rattle.cad_versions.specs.lemmas.ListLemmas.{filter_same}
 use Rattle.cad_schema.specs.declared.collection.Collection.{Collection}
 use Rattle.cad_changes.specs.Touching.{names_object, items_left}
 use Rattle.cad_changes.proofs.leaving.named_left.Goals as goal

@@ -1,5 +1,5 @@
 use Rattle.cad_versions.specs.Command.{object_named}
-use Rattle.cad_merged.specs.Identifiers.{of_object}
+use Rattle.cad_layer.specs.Identifiers.{of_object}
 use Rattle.cad_changes.proofs.FitLemmas.{left_step}
 use Rattle.cad_changes.proofs.leaving.own_left.Goals as goal
 

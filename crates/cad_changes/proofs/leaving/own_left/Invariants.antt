@@ -1,6 +1,6 @@
 use Rattle.std.proofs.Common.{◌≡◌, ◌++◌, length}
 use Rattle.cad_versions.specs.Command.{object_named}
-use Rattle.cad_merged.specs.Identifiers.{of_object}
+use Rattle.cad_layer.specs.Identifiers.{of_object}
 use Rattle.cad_changes.specs.Touching.{items_left}
 use Rattle.cad_changes.proofs.leaving.own_left.Given as goal
 

@@ -1,6 +1,6 @@
 use Rattle.std.proofs.Common.{ap, ap₂, ◌∙◌}
 use Rattle.cad_feature.specs.Features.{by_identifier}
-use Rattle.cad_merged.specs.Merging.{put_if}
+use Rattle.cad_layer.specs.Merging.{put_if}
 use Rattle.cad_changes.proofs.FitLemmas.{left_ascend, touched_listed}
 use Rattle.cad_changes.proofs.TouchedLemmas.{touched_told}
 use Rattle.cad_changes.proofs.touching.touched.Goals as goal

@@ -1,6 +1,6 @@
 use Rattle.std.proofs.Common.{◌∙◌, ◌∷◌, ◌++◌, [], ap}
 use Rattle.std.proofs.lemmas.List.{append_assoc}
-use Rattle.cad_versions.specs.ListLemmas.{all_weaker}
+use Rattle.cad_versions.specs.lemmas.ListLemmas.{all_weaker}
 use Rattle.cad_extents.specs.Extents.{AreHeld}
 use Rattle.cad_extents.proofs.extents.widen_by_all.Goals as goal
 

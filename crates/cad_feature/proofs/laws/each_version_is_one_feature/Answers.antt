@@ -1,5 +1,5 @@
 use Rattle.std.proofs.Common.{filter}
-use Rattle.cad_versions.specs.ListLemmas.{map-map}
+use Rattle.cad_versions.specs.lemmas.ListLemmas.{map-map}
 use Rattle.cad_feature.specs.Features.{identifier_of}
 use Rattle.cad_feature.specs.Flatten.{is_in, feature_in}
 use Rattle.cad_feature.proofs.laws.each_version_is_one_feature.Goals as goal

@@ -1,6 +1,6 @@
 use Rattle.std.proofs.Common.{◌≡◌, ◌+◌, ◌≤◌, length, map}
 use Rattle.std.specs.Prelude.{option_map}
-use Rattle.cad_cells.specs.Counted.{block_at}
+use Rattle.cad_grid.specs.Counted.{block_at}
 use Rattle.cad_grid.specs.Grids.{near_positions}
 use Rattle.cad_grid.proofs.Looks.{near_from}
 use Rattle.cad_grid.proofs.passing.count_passing.Given as goal

@@ -1,5 +1,5 @@
 use Rattle.std.specs.Prelude.{None}
-use Rattle.cad_cells.specs.Near.{is_candidate, block_at_place}
+use Rattle.cad_grid.specs.Near.{is_candidate, block_at_place}
 use Rattle.cad_grid.specs.Grids.{near_positions}
 use Rattle.cad_index.proofs.Counted.{holds_at}
 use Rattle.cad_index.proofs.laws.grids_hold_features.Goals as goal

@@ -1,12 +1,12 @@
 use Rattle.std.proofs.Common.{◌∙◌, arith, length-drop}
 use Rattle.std.proofs.lemmas.Bool.Decides.{nat_tests}
-use Rattle.cad_io.specs.WritingLemmas.{appends_more}
+use Rattle.cad_io.specs.lemmas.WritingLemmas.{appends_more}
 use Rattle.cad_io.proofs.failing.write_counted.Goals as goal
 
 pub loop-done-preserved : goal.loop-done-preserved
 loop-done-preserved g c =
-    let told = rw (c.after.ensures) at c.in-Ok.ensures.bytes in
-    let few = rw (c.after.ensures) at c.in-Ok.ensures.bound in
+    let told = rw (c.rest_from.ensures) at c.in-Ok.ensures.bytes in
+    let few = rw (c.rest_from.ensures) at c.in-Ok.ensures.bound in
     let done = c.loop-done.done in
     record {
       within = omega (arith, few, length-drop c.loop-done.done c.args.bytes.now);

@@ -1,6 +1,6 @@
 use Rattle.std.proofs.Common.{ℕ, List, Err, sym, ap, ◌∙◌, refl, subst}
 use Rattle.cad_commands.specs.Commands.{Says}
-use Rattle.cad_office.specs.BufferLemmas.{buffered_text}
+use Rattle.cad_office.specs.lemmas.BufferLemmas.{buffered_text}
 use Rattle.cad_office.proofs.turns.answer_line.Goals as goal
 
 pub returns-in-Err-NotACommand : goal.returns-in-Err-NotACommand

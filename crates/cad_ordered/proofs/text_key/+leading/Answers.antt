@@ -1,5 +1,5 @@
 use Rattle.std.proofs.Common.{◌≡◌, ℕ, ◌-◌, ◌*◌, ◌<◌, ◌^◌, ap₂, arith}
-use Rattle.cad_ordered.specs.FrontLemmas.{power_small, front_fits, first_byte, other_bytes, from_fits}
+use Rattle.cad_ordered.specs.lemmas.FrontLemmas.{power_small, front_fits, first_byte, other_bytes, from_fits}
 use Rattle.cad_ordered.proofs.text_key.+leading.Goals as goal
 
 pub pow-requires : goal.pow-requires

@@ -1,5 +1,5 @@
 use Rattle.std.proofs.Common.{◌∙◌, ap, sym, map, drop, ◌+◌, ◌∷◌, arith}
-use Rattle.cad_cells.specs.Blocks.{block_of}
+use Rattle.cad_grid.specs.Blocks.{block_of}
 use Rattle.cad_feature.specs.Limits.{limit_of}
 use Rattle.cad_lookup.specs.WayLaws.{cost_all, cost_join, cost_meet, cost_near, cost_none, cost_range, way_All, way_Empty, way_Join, way_Meet, way_Near, way_Range}
 use Rattle.cad_lookup.specs.Ways.{cost, counts_of, way_of}

@@ -5,12 +5,12 @@ use Rattle.cad_tables.specs.Listing.{HaveNoTies, number_order, lines_of_object, 
 use Rattle.cad_tables.specs.Texts.{history_text}
 use Rattle.cad_tables.specs.Faults.{fault_of}
 use Rattle.cad_versions.specs.Objects.{object_number}
-use Rattle.cad_versions.specs.HistoryLemmas.{histories}
+use Rattle.cad_versions.specs.lemmas.HistoryLemmas.{histories}
 use Rattle.cad_register.specs.Refusing.{asking, register_fault_of}
 use Rattle.cad_register.proofs.OrderLemmas.{history_untied, history_rows}
 use Rattle.cad_register.proofs.StandingLemmas.{standing_told}
 use Rattle.cad_register.proofs.StandLemmas.{stands_kept, stands_same}
-use Rattle.cad_tables.specs.SettledLemmas.{settled_here, settled_by}
+use Rattle.cad_tables.specs.lemmas.SettledLemmas.{settled_here, settled_by}
 use Rattle.cad_register.proofs.RefusingLemmas.{not_for_memory}
 use Rattle.cad_register.proofs.LeavingLemmas.{as_before, asks_answered, asks_refused, store_known}
 use Rattle.cad_register.proofs.NamingLemmas.{rows_named, rows_tell, rows_known, store_named, faults_settle}

@@ -2,14 +2,14 @@ use Rattle.std.proofs.Common.{◌≡◌, ◌∙◌, length, sym, subst}
 use Rattle.sqlite.specs.Held.{state}
 use Rattle.cad_versions.specs.declared.fault.RegisterFault.TheVariants as fault
 use Rattle.cad_versions.specs.Entries.{entries_of}
-use Rattle.cad_versions.specs.HistoryLemmas.{histories}
+use Rattle.cad_versions.specs.lemmas.HistoryLemmas.{histories}
 use Rattle.cad_versions.specs.AsOf.{entries_listed}
-use Rattle.cad_register.specs.Kept.{AreRowsOf}
+use Rattle.cad_register.specs.StoredVersions.{AreRowsOf}
 use Rattle.cad_register.proofs.OrderLemmas.{listing_untied}
 use Rattle.cad_register.proofs.OrderedLemmas.{lines_in_order}
 use Rattle.cad_register.proofs.RowLemmas.{rows_listed}
 use Rattle.cad_register.proofs.StandLemmas.{stands_kept, stands_same, listing_told}
-use Rattle.cad_tables.specs.SettledLemmas.{settled_by}
+use Rattle.cad_tables.specs.lemmas.SettledLemmas.{settled_by}
 use Rattle.cad_register.proofs.RefusingLemmas.{rows_refused, rows_stored}
 use Rattle.cad_register.proofs.LeavingLemmas.{on_ok_anyway, asks_answered, asks_refused, store_reading, rows_reading, rows_read, store_reads}
 use Rattle.cad_register.proofs.asking.versions_of.Goals as goal

@@ -2,7 +2,7 @@ use Rattle.std.proofs.Common.{◌≡◌, ◌+◌, ◌++◌, ◌∷◌, [], sym, 
 use Rattle.std.proofs.lemmas.Result.{err_from_is_err_and}
 use Rattle.std.specs.Vec.Iter.{into_iter_items}
 use Rattle.cad_versions.specs.Entries.{Entry}
-use Rattle.cad_register.specs.Kept.{entry_of}
+use Rattle.cad_register.specs.StoredVersions.{entry_of}
 use Rattle.cad_register.specs.Damage.{IsNext, identifier_in, place_of}
 use Rattle.cad_register.specs.Found.{AreReadOf}
 use Rattle.cad_register.proofs.DamageLemmas.{damaged_here, row_at}

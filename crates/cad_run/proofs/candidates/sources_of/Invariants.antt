@@ -1,6 +1,6 @@
 use Rattle.std.proofs.Common.{◌≡◌, ◌++◌, length, option_map}
 use Rattle.cad_lookup.specs.Candidates.{candidates}
-use Rattle.cad_merged.specs.Segments.{joined}
+use Rattle.cad_layer.specs.Segments.{joined}
 use Rattle.cad_run.specs.SegmentLeft.{all_left}
 use Rattle.cad_run.specs.Slices.{identifier, later}
 use Rattle.cad_run.proofs.candidates.sources_of.Given as goal

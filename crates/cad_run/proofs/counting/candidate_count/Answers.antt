@@ -1,5 +1,5 @@
 use Rattle.std.proofs.Common.{◌∙◌, ap, sym, length}
-use Rattle.cad_run.specs.LaterLemmas.{all_later}
+use Rattle.cad_run.specs.lemmas.LaterLemmas.{all_later}
 use Rattle.cad_run.proofs.counting.candidate_count.Goals as goal
 
 pub returns : goal.returns

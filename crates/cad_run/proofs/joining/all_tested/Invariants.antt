@@ -1,5 +1,5 @@
 use Rattle.std.proofs.Common.{◌≡◌, ℕ, ◌&&◌, drop}
-use Rattle.cad_rows.specs.Has.{has}
+use Rattle.cad_positions.specs.Has.{has}
 use Rattle.cad_run.specs.Parts.{has_all_wide}
 use Rattle.cad_run.proofs.joining.all_tested.Given as goal
 

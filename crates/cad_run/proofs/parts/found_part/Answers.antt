@@ -1,5 +1,5 @@
 use Rattle.std.proofs.Common.{◌∙◌, ap, refl, length}
-use Rattle.cad_rows.specs.Held.{is_among}
+use Rattle.cad_positions.specs.Held.{is_among}
 use Rattle.cad_run.proofs.PositionLemmas.{ranks_among}
 use Rattle.cad_run.proofs.parts.found_part.Goals as goal
 

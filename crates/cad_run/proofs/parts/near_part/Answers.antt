@@ -1,6 +1,6 @@
 use Rattle.std.proofs.Common.{◌∙◌, ap}
-use Rattle.cad_cells.specs.Blocks.{block_of}
-use Rattle.cad_rows.specs.Held.{is_among}
+use Rattle.cad_grid.specs.Blocks.{block_of}
+use Rattle.cad_positions.specs.Held.{is_among}
 use Rattle.cad_run.proofs.IndexLemmas.{near_has, near_rises}
 use Rattle.cad_run.proofs.parts.near_part.Goals as goal
 

@@ -1,6 +1,6 @@
 use Rattle.std.proofs.Common.{◌∙◌, ap}
-use Rattle.cad_rows.specs.Has.{has_Empty}
-use Rattle.cad_rows.specs.Held.{is_among}
+use Rattle.cad_positions.specs.Has.{has_Empty}
+use Rattle.cad_positions.specs.Held.{is_among}
 use Rattle.cad_run.proofs.IndexLemmas.{range_has, range_rises}
 use Rattle.cad_run.proofs.parts.range_part.Goals as goal
 

@@ -1,6 +1,6 @@
 use Rattle.std.proofs.Common.{None, Some, ap, subst}
 use Rattle.cad_feature.specs.Features.{identifier_of}
-use Rattle.cad_merged.specs.Identifiers.{IsTheOne}
+use Rattle.cad_layer.specs.Identifiers.{IsTheOne}
 use Rattle.cad_run.proofs.StandingLemmas.{not_replaced, replaced}
 use Rattle.cad_run.proofs.replaced.is_replaced.Goals as goal
 

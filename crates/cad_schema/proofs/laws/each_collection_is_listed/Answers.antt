@@ -1,4 +1,4 @@
-use Rattle.cad_schema.specs.NameLemmas.{contained}
+use Rattle.cad_schema.specs.lemmas.NameLemmas.{contained}
 use Rattle.cad_schema.proofs.laws.each_collection_is_listed.Goals as goal
 
 pub returns : goal.returns

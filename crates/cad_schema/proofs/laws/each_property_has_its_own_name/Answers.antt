@@ -1,5 +1,5 @@
 use Rattle.std.proofs.Common.{refl, zero-add}
-use Rattle.cad_schema.specs.NameLemmas.{each_passes}
+use Rattle.cad_schema.specs.lemmas.NameLemmas.{each_passes}
 use Rattle.cad_schema.specs.Schema.{schema_of}
 use Rattle.cad_schema.proofs.PropertyLemmas.{are_distinct, stands_from}
 use Rattle.cad_schema.proofs.laws.each_property_has_its_own_name.Goals as goal

@@ -4,7 +4,7 @@ use Rattle.sqlite.specs.Held.{state}
 use Rattle.sqlite.specs.declared.error.Error.TheVariants.{SqliteFailure}
 use Rattle.sqlite.specs.declared.error.ErrorCode.TheVariants.{TransactionState}
 use Rattle.cad_tables.proofs.RefusalLemmas.{told}
-use Rattle.cad_tables.specs.SettledLemmas.{settled_by}
+use Rattle.cad_tables.specs.lemmas.SettledLemmas.{settled_by}
 use Rattle.cad_tables.proofs.making.create.Goals as goal
 
 pub returns-then-not-is_autocommit-clause-keeps : goal.returns-then-not-is_autocommit-clause-keeps

@@ -6,7 +6,7 @@ use Rattle.cad_tables.specs.Texts.{state_text, version_text}
 use Rattle.cad_tables.proofs.NameLemmas.{state_makes, version_makes}
 use Rattle.cad_tables.proofs.StandingLemmas.{found_used, standing_first, standing_second}
 use Rattle.cad_tables.proofs.RefusalLemmas.{told}
-use Rattle.cad_tables.specs.SettledLemmas.{settled_by}
+use Rattle.cad_tables.specs.lemmas.SettledLemmas.{settled_by}
 use Rattle.cad_tables.proofs.making.is_standing.Goals as goal
 
 pub returns-in_err-is_in_use-clause-refused : goal.returns-in_err-is_in_use-clause-refused

@@ -1,5 +1,5 @@
 use Rattle.std.proofs.Common.{◌≡◌, ◌==◌, ap, length, true}
-use Rattle.cad_versions.specs.ShapeLemmas.{no_corners, corner_taken, corner_is_long}
+use Rattle.cad_versions.specs.lemmas.ShapeLemmas.{no_corners, corner_taken, corner_is_long}
 use Rattle.cad_versions.proofs.ring_bytes.all_corners.Goals as goal
 
 pub returns-in_default : goal.returns-in_default

@@ -1,7 +1,7 @@
 use Rattle.std.proofs.Common.{◌≡◌, ◌++◌, sym, subst, ap, ap₂, ◌∙◌, FitsSigned, to_z-of_z, take-append-drop}
 use Rattle.std.specs.Int.{cast_unsigned, cast_signed, w64}
 use Rattle.cad_versions.specs.ShapeBytes.{coordinate_bytes}
-use Rattle.cad_versions.specs.ShapeLemmas.{coordinate_read, eight_taken}
+use Rattle.cad_versions.specs.lemmas.ShapeLemmas.{coordinate_read, eight_taken}
 use Rattle.cad_versions.proofs.ring_bytes.first_coordinate.Goals as goal
 
 pub returns : goal.returns

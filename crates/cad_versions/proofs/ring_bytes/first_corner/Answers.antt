@@ -1,6 +1,6 @@
 use Rattle.std.proofs.Common.{◌∙◌, sym, subst, to_z-of_z, w64, FitsSigned}
 use Rattle.cad_shape.specs.Coordinates.{IsCoordinate}
-use Rattle.cad_versions.specs.ShapeLemmas.{x_at_front, y_at_front, too_short, first_is_long}
+use Rattle.cad_versions.specs.lemmas.ShapeLemmas.{x_at_front, y_at_front, too_short, first_is_long}
 use Rattle.cad_versions.proofs.ring_bytes.first_corner.Goals as goal
 
 pub returns-in_err-x : goal.returns-in_err-x

@@ -2,8 +2,8 @@ use Rattle.std.proofs.Common.{◌≡◌, ◌++◌, sym, ap₂, subst, ◌∙◌,
 use Rattle.cad_shape.specs.Outlines.{IsRing}
 use Rattle.cad_shape.specs.Rings.{corners_of, ring_is}
 use Rattle.cad_versions.specs.ShapeBytes.{corners_bytes}
-use Rattle.cad_versions.specs.ShapeLemmas.{corners_same}
-use Rattle.cad_versions.specs.RingLemmas.{corners_fit, corners_taken, ring_read}
+use Rattle.cad_versions.specs.lemmas.ShapeLemmas.{corners_same}
+use Rattle.cad_versions.specs.lemmas.RingLemmas.{corners_fit, corners_taken, ring_read}
 use Rattle.cad_versions.proofs.ring_bytes.first_ring.Goals as goal
 
 pub returns-in_default-split_at_checked : goal.returns-in_default-split_at_checked

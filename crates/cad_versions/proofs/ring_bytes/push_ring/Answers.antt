@@ -2,7 +2,7 @@ use Rattle.std.proofs.Common.{◌≡◌, ◌∷◌, ◌++◌, [], ◌+◌, lengt
 use Rattle.std.specs.Int.{to_be_bytes, w16}
 use Rattle.std.proofs.lemmas.List.{take_more}
 use Rattle.cad_versions.specs.ShapeBytes.{corner_bytes, corners_bytes}
-use Rattle.cad_versions.specs.ShapeLemmas.{corners_bytes-append}
+use Rattle.cad_versions.specs.lemmas.ShapeLemmas.{corners_bytes-append}
 use Rattle.cad_versions.proofs.ring_bytes.push_ring.Goals as goal
 
 pub loop-corner-preserved : goal.loop-corner-preserved

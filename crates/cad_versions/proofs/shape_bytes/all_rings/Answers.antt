@@ -1,6 +1,6 @@
 use Rattle.std.proofs.Common.{◌≡◌, ◌==◌, ◌++◌, ap, length, true, arith}
 use Rattle.cad_versions.specs.ShapeBytes.{ring_bytes}
-use Rattle.cad_versions.specs.RingLemmas.{no_rings, ring_taken, ring_is_long}
+use Rattle.cad_versions.specs.lemmas.RingLemmas.{no_rings, ring_taken, ring_is_long}
 use Rattle.cad_versions.proofs.shape_bytes.all_rings.Goals as goal
 
 pub returns-in_default : goal.returns-in_default

@@ -3,7 +3,7 @@ use Rattle.std.proofs.lemmas.Bool.Decides.{nat_tests}
 use Rattle.cad_shape.specs.declared.ring.Ring.{Ring}
 use Rattle.cad_shape.specs.declared.polygon.Region.{Region}
 use Rattle.cad_versions.specs.ShapeBytes.{ring_bytes, IsOneRingOf}
-use Rattle.cad_versions.specs.RingLemmas.{same_front_ring}
+use Rattle.cad_versions.specs.lemmas.RingLemmas.{same_front_ring}
 use Rattle.cad_versions.proofs.shape_bytes.read_one_ring.Goals as goal
 
 pub returns-in_default : goal.returns-in_default

@@ -6,7 +6,7 @@ use Rattle.cad_shape.specs.declared.ring.Ring.{Ring}
 use Rattle.cad_shape.specs.Polygons.{IsRegion}
 use Rattle.cad_shape.specs.RegionRings.{rings_of, region_is}
 use Rattle.cad_versions.specs.ShapeBytes.{rings_bytes, AreRingsOf}
-use Rattle.cad_versions.specs.RingLemmas.{rings_counted, rings_same}
+use Rattle.cad_versions.specs.lemmas.RingLemmas.{rings_counted, rings_same}
 use Rattle.cad_versions.proofs.shape_bytes.read_rings.Goals as goal
 
 pub returns-then-as_slice-count : goal.returns-then-as_slice-count

@@ -2,7 +2,7 @@ use Rattle.std.proofs.Common.{◌≡◌, ◌∷◌, ◌++◌, [], ◌+◌, lengt
 use Rattle.std.specs.Int.{to_be_bytes, w16}
 use Rattle.std.proofs.lemmas.List.{take_more}
 use Rattle.cad_versions.specs.ShapeBytes.{ring_bytes, rings_bytes}
-use Rattle.cad_versions.specs.RingLemmas.{rings_bytes-append}
+use Rattle.cad_versions.specs.lemmas.RingLemmas.{rings_bytes-append}
 use Rattle.cad_versions.proofs.shape_bytes.write_shape.Goals as goal
 
 pub loop-ring-preserved : goal.loop-ring-preserved

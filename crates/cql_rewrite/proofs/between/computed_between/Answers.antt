@@ -1,6 +1,6 @@
 use Rattle.std.proofs.Common.{◌≡◌, ◌∙◌, ap, subst}
 use Rattle.cql_lexer.specs.declared.token.Comparison.TheVariants.{AtLeast, AtMost}
-use Rattle.cql_truth.specs.Sides.{Sides}
+use Rattle.cql_meaning.specs.Sides.{Sides}
 use Rattle.cql_rewrite.specs.Meets.{joined_test, meets, side_of}
 use Rattle.cql_rewrite.specs.Terms.{met_or, whole_sides}
 use Rattle.cql_rewrite.proofs.Forms.{pair_sides}

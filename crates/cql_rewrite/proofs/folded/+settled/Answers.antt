@@ -1,6 +1,6 @@
 use Rattle.std.proofs.Common.{◌∙◌, ap}
-use Rattle.cql_truth.specs.Terms.{text_Folded}
-use Rattle.cql_truth.specs.Values.{folded_content}
+use Rattle.cql_meaning.specs.Terms.{text_Folded}
+use Rattle.cql_meaning.specs.Values.{folded_content}
 use Rattle.cql_rewrite.proofs.folded.+settled.Goals as goal
 
 pub returns-in_ok-term-in-Folded : goal.returns-in_ok-term-in-Folded

@@ -1,6 +1,6 @@
 use Rattle.std.proofs.Common.{◌∙◌, map, ap}
 use Rattle.std.proofs.lemmas.List.{take_all}
-use Rattle.cql_truth.specs.Values.{text_value}
+use Rattle.cql_meaning.specs.Values.{text_value}
 use Rattle.cql_rewrite.proofs.FoldedLemmas.{one_more}
 use Rattle.cql_rewrite.proofs.folded.settled_items.Goals as goal
 

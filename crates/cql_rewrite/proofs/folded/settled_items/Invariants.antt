@@ -1,6 +1,6 @@
 use Rattle.std.proofs.Common.{◌≡◌, map, take}
 use Rattle.cad_feature.specs.Features.{Item}
-use Rattle.cql_truth.specs.Values.{text_value}
+use Rattle.cql_meaning.specs.Values.{text_value}
 use Rattle.cql_rewrite.proofs.folded.settled_items.Given as goal
 
 -- the terms so far have the values of their items

@@ -6,7 +6,7 @@ use Rattle.cad_feature.specs.declared.range.Range.{Range as RangeOf}
 use Rattle.cad_feature.specs.declared.range.Scalar.TheVariants as scalar
 use Rattle.cql_rewrite.specs.declared.form.Normal.TheVariants as form
 use Rattle.cql_text.specs.Fronts.{text_of}
-use Rattle.cql_truth.specs.Values.{text_in}
+use Rattle.cql_meaning.specs.Values.{text_in}
 use Rattle.cql_rewrite.specs.Meets.{is_liked}
 use Rattle.cql_rewrite.proofs.Forms.{meets_Like, meets_Range}
 use Rattle.cql_rewrite.proofs.FrontLemmas.{begun, exactly_like, front_lies, like_inside}

@@ -1,8 +1,8 @@
 use Rattle.std.proofs.Common.{◌≡◌, Some}
 use Rattle.cad_feature.specs.Features.{datum_at}
 use Rattle.cql_text.specs.Fronts.{text_of}
-use Rattle.cql_truth.specs.Terms.{text_Property}
-use Rattle.cql_truth.specs.Values.{text_in, text_value}
+use Rattle.cql_meaning.specs.Terms.{text_Property}
+use Rattle.cql_meaning.specs.Values.{text_in, text_value}
 use Rattle.cql_rewrite.proofs.FrontLemmas.{liked_sides}
 use Rattle.cql_rewrite.proofs.Least.{least_or_under}
 use Rattle.cql_rewrite.proofs.likes.like_form.Goals as goal

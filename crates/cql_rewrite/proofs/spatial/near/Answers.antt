@@ -1,10 +1,10 @@
 use Rattle.std.proofs.Common.{◌≡◌, ◌∙◌, ap, ap₂, sym, true}
 use Rattle.cad_shape.specs.Shapes.{shape_corners}
-use Rattle.cad_cells.specs.Blocks.{block_around}
-use Rattle.cad_cells.specs.Near.{is_near}
+use Rattle.cad_grid.specs.Blocks.{block_around}
+use Rattle.cad_grid.specs.Near.{is_near}
 use Rattle.cql_types.specs.declared.filter.Filter.TheVariants.{Spatial}
 use Rattle.cql_types.specs.declared.filter.ShapeTerm.TheVariants as place
-use Rattle.cql_truth.specs.Sides.{yes}
+use Rattle.cql_meaning.specs.Sides.{yes}
 use Rattle.cql_rewrite.specs.Meets.{in_side}
 use Rattle.cql_rewrite.proofs.Forms.{meets_Near, told_by_second}
 use Rattle.cql_rewrite.specs.Atoms.{is_atom}

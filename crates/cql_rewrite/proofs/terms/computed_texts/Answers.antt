@@ -1,6 +1,6 @@
 use Rattle.std.proofs.Common.{◌≡◌, Some, refl}
 use Rattle.cql_text.specs.Fronts.{text_of}
-use Rattle.cql_truth.specs.Values.{text_value}
+use Rattle.cql_meaning.specs.Values.{text_value}
 use Rattle.cql_rewrite.proofs.Turns.{flipped_texts}
 use Rattle.cql_rewrite.proofs.terms.computed_texts.Goals as goal
 

@@ -1,5 +1,5 @@
 use Rattle.std.proofs.Common.{◌≡◌}
-use Rattle.cql_truth.specs.Arithmetic.{whole_value}
+use Rattle.cql_meaning.specs.Arithmetic.{whole_value}
 use Rattle.cql_rewrite.proofs.Turns.{flipped_wholes}
 use Rattle.cql_rewrite.proofs.terms.computed_wholes.Goals as goal
 

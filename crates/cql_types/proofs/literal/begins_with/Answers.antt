@@ -1,7 +1,7 @@
 use Rattle.std.proofs.Common.{◌≡◌, Some, sym, ap, ◌∙◌}
 use Rattle.std.proofs.lemmas.Option.{slice_get-get_or}
 use Rattle.cad_shape.specs.declared.point.Point.{Point}
-use Rattle.cad_shape.specs.SameLemmas.{same_point}
+use Rattle.cad_shape.specs.lemmas.SameLemmas.{same_point}
 use Rattle.cql_types.proofs.literal.begins_with.Goals as goal
 
 pub returns-in-len1-up : goal.returns-in-len1-up

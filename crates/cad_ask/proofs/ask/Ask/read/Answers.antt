@@ -1,4 +1,4 @@
-use Rattle.cad_query.specs.Pairs.{pairs_of}
+use Rattle.cad_parameters.specs.Pairs.{pairs_of}
 use Rattle.cad_ask.proofs.AskLemmas.{asked, refused}
 use Rattle.cad_ask.proofs.ask.Ask.read.Goals as goal
 

@@ -1,7 +1,7 @@
 use Rattle.std.proofs.Common.{◌∙◌}
 use Rattle.cad_day.proofs.DayTextLemmas.{ok_of_text, appended_if_ok}
 use Rattle.cad_day.proofs.day.Day.put.Goals as goal
-use Rattle.cad_day.specs.DayTextLemmas.{date_text_utf8}
+use Rattle.cad_day.specs.lemmas.DayTextLemmas.{date_text_utf8}
 
 pub unwrap-requires : goal.unwrap-requires
 unwrap-requires c =

@@ -1,7 +1,7 @@
 use Rattle.std.proofs.Common.{◌≡◌, ◌∙◌, true, false, Option, Some, None, refl, sym, subst}
-use Rattle.cad_cells.specs.Blocks.{Block}
-use Rattle.cad_cells.specs.Counted.{block_at}
-use Rattle.cad_cells.specs.Near.{is_candidate}
+use Rattle.cad_grid.specs.Blocks.{Block}
+use Rattle.cad_grid.specs.Counted.{block_at}
+use Rattle.cad_grid.specs.Near.{is_candidate}
 use Rattle.cad_extents.specs.Extents.{holds_cells}
 use Rattle.cad_extents.specs.declared.cells.CellExtent.TheVariants.{Within}
 use Rattle.cad_extents.proofs.BlockLemmas.{not_looked_at}

@@ -1,6 +1,6 @@
 use Rattle.std.proofs.Common.{◌≡◌, true, Option, Some, None, refl, subst}
-use Rattle.cad_cells.specs.Blocks.{Block}
-use Rattle.cad_cells.specs.Counted.{block_at}
+use Rattle.cad_grid.specs.Blocks.{Block}
+use Rattle.cad_grid.specs.Counted.{block_at}
 use Rattle.cad_extents.specs.Extents.{holds_cells}
 use Rattle.cad_extents.specs.declared.cells.CellExtent.TheVariants.{Within}
 use Rattle.cad_extents.proofs.BlockLemmas.{small_of_all}

@@ -1,6 +1,6 @@
 use Rattle.std.proofs.Common.{◌≡◌, ◌∙◌, ap, refl, arith, length}
 use Rattle.cad_positions.specs.Hits.{once}
-use Rattle.cad_cells.specs.Near.{block_at_place}
+use Rattle.cad_grid.specs.Near.{block_at_place}
 use Rattle.cad_grid.specs.Entries.{is_wide_at, small_tally}
 use Rattle.cad_grid.proofs.Ascending.{ascends_sorted}
 use Rattle.cad_grid.proofs.Building.{blocks_more, all_counted, kept_more, entered_moved}

@@ -1,6 +1,6 @@
 use Rattle.std.proofs.Common.{◌≡◌, ℕ, Bool, None, get_or, map, take}
 use Rattle.std.specs.Prelude.{option_map}
-use Rattle.cad_cells.specs.Counted.{block_at}
+use Rattle.cad_grid.specs.Counted.{block_at}
 use Rattle.cad_positions.specs.Hits.{hits, once}
 use Rattle.cad_grid.specs.Entries.{entered, is_wide_at, small_tally}
 use Rattle.cad_grid.specs.Grids.{blocks_at}

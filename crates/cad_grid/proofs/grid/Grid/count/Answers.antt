@@ -1,4 +1,4 @@
-use Rattle.cad_cells.specs.Blocks.{block_of}
+use Rattle.cad_grid.specs.Blocks.{block_of}
 use Rattle.cad_grid.proofs.Near.{found_length}
 use Rattle.cad_grid.proofs.grid.Grid.count.Goals as goal
 

@@ -1,5 +1,5 @@
 use Rattle.std.proofs.lemmas.List.Sorted.{IsNonDecreasingBy-from_sort}
-use Rattle.cad_cells.specs.Blocks.{block_of}
+use Rattle.cad_grid.specs.Blocks.{block_of}
 use Rattle.cad_grid.proofs.Near.{found_sorted}
 use Rattle.cad_grid.proofs.grid.Grid.near.Goals as goal
 

@@ -1,5 +1,5 @@
 use Rattle.std.proofs.Common.{◌∙◌}
-use Rattle.cad_cells.specs.Blocks.{block_of}
+use Rattle.cad_grid.specs.Blocks.{block_of}
 use Rattle.cad_index.proofs.Served.{without_grid}
 use Rattle.cad_index.proofs.indexes.Indexes.near.Goals as goal
 

@@ -1,6 +1,6 @@
 use Rattle.std.proofs.Common.{◌∙◌, ap, sym, option_map, filter, arith}
 use Rattle.cad_lookup.specs.Candidates.{is_candidate}
-use Rattle.cad_rows.specs.Rest.{left_in}
+use Rattle.cad_positions.specs.Rest.{left_in}
 use Rattle.cad_run.specs.Positions.{holds_at, items_at}
 use Rattle.cad_run.specs.Slices.{identifier, later}
 use Rattle.cad_run.proofs.PageLemmas.{rows_from}

@@ -1,6 +1,6 @@
 use Rattle.std.proofs.Common.{◌≡◌, length}
-use Rattle.cad_rows.specs.AllRows.{rows_of}
-use Rattle.cad_rows.specs.Rest.{left_in}
+use Rattle.cad_positions.specs.AllRows.{rows_of}
+use Rattle.cad_positions.specs.Rest.{left_in}
 use Rattle.cad_run.specs.Bases.{rows_left}
 use Rattle.cad_run.proofs.bases.BasesFeatureSource.next.Given as goal
 

@@ -5,7 +5,7 @@ use Rattle.cad_feature.specs.Features.{by_identifier}
 use Rattle.cad_run.specs.Bases.{rows_left}
 use Rattle.cad_run.specs.Peeked.{peeked_left}
 use Rattle.cad_run.specs.Standing.{standing, stands}
-use Rattle.cad_merged.specs.Walks.{all_in}
+use Rattle.cad_layer.specs.Walks.{all_in}
 use Rattle.cad_run.proofs.FrontLemmas.{IsTaken, taken_behind, taken_rises, without_rises}
 use Rattle.cad_run.proofs.StandingLemmas.{base_comes, change_comes}
 use Rattle.cad_run.proofs.indexed_candidates.IndexedCandidatesFeatureSource.next.Goals as goal

@@ -1,5 +1,5 @@
 use Rattle.std.proofs.Common.{◌∙◌, sym}
-use Rattle.cad_merged.specs.ItemLemmas.{front_as}
+use Rattle.cad_layer.specs.lemmas.ItemLemmas.{front_as}
 use Rattle.cad_run.proofs.FrontLemmas.{taken_behind}
 use Rattle.cad_run.proofs.LeftLemmas.{still_in_order, still_passing, change_given, change_skipped, taken_in_order, taken_passing, base_before, base_alone, given_of}
 use Rattle.cad_run.proofs.segment_candidates.SegmentCandidates.next.Goals as goal

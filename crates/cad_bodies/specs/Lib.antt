@@ -1,5 +1,0 @@
-pub mod Paths
-pub mod Links
-pub mod Offers
-pub mod Queryables
-pub mod Faults

@@ -1,5 +1,0 @@
-use Rattle.cad_cells.specs.Corners.{same_block}
-use Rattle.cad_cells.proofs.laws.blocks_are_of_corners.Goals as goal
-
-pub returns : goal.returns
-returns c = same_block

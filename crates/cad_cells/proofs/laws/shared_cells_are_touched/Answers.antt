@@ -1,5 +1,0 @@
-use Rattle.cad_cells.proofs.SharedLemmas.{shared_is_touched}
-use Rattle.cad_cells.proofs.laws.shared_cells_are_touched.Goals as goal
-
-pub returns : goal.returns
-returns c = shared_is_touched

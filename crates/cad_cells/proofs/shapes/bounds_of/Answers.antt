@@ -1,6 +1,0 @@
-use Rattle.std.proofs.Common.{ap, sym, Some, [], ◌∷◌}
-use Rattle.cad_cells.specs.Corners.{same_block}
-use Rattle.cad_cells.proofs.shapes.bounds_of.Goals as goal
-
-pub returns-in-Spot : goal.returns-in-Spot
-returns-in-Spot c = rw (c.in-Spot.is, ← c.deref.ensures) (ap Some (sym (same_block c.at.result (c.deref.result.now ∷ []) c.at.ensures)))

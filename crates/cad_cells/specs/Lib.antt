@@ -1,6 +1,0 @@
-pub mod Blocks
-pub mod Corners
-pub mod Counted
-pub mod Near
-pub mod Tests
-pub mod Laws

@@ -1,6 +1,0 @@
-use Rattle.std.proofs.Common.{◌∙◌}
-use Rattle.cad_decimal.proofs.NumberLemmas.{short_number_in}
-use Rattle.cad_decimal.proofs.digits.short_number.Goals as goal
-
-pub returns : goal.returns
-returns c = c.number.ensures.value ∙ short_number_in c.args.digits.now c.requires

@@ -1,5 +1,0 @@
-use Rattle.cad_feature_json.proofs.OrderLemmas.{features_in_order}
-use Rattle.cad_feature_json.proofs.laws.features_are_in_order.Goals as goal
-
-pub returns : goal.returns
-returns c collection xs = features_in_order collection xs

@@ -1,5 +1,0 @@
-pub mod Shapes
-pub mod Values
-pub mod Tree
-pub mod Order
-pub mod Laws

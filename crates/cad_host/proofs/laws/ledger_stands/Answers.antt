@@ -1,5 +1,0 @@
-use Rattle.cad_host.proofs.StandLemmas as lemmas
-use Rattle.cad_host.proofs.laws.ledger_stands.Goals as goal
-
-pub returns : goal.returns
-returns g c = lemmas.ledger_stands g.R.Responder

@@ -1,0 +1,10 @@
+pub mod Paths
+pub mod Links
+pub mod Offers
+pub mod Queryables
+pub mod Faults
+pub mod Shapes
+pub mod Values
+pub mod Tree
+pub mod Order
+pub mod Laws

@@ -1,3 +1,0 @@
-pub mod Statuses
-pub mod Listening
-pub mod Arguments

@@ -1,0 +1,95 @@
+//! The ledger.
+
+use crate::versions::StoredVersions;
+use cad_versions::{Command, Ledger, RegisterFault, Version};
+use std::alloc::Global;
+
+/// A ledger in memory. The only fault of its own is `Memory`.
+#[derive(Drop)]
+pub struct MemoryLedger {
+    versions: StoredVersions,
+    revision: u64,
+    alloc: Global,
+}
+
+impl MemoryLedger {
+    ghost use Rattle.std.specs.Prelude.{[]};
+    ghost use Rattle.cad_memory_ledger.specs.Ledgers.{IsLedgerOf};
+
+    /// The ledger of no commands.
+    pub fn new(alloc: Global) -> MemoryLedger
+        ensures { IsLedgerOf result [] }
+    {
+        MemoryLedger {
+            versions: StoredVersions::new(alloc),
+            revision: 0,
+            alloc,
+        }
+    }
+}
+
+impl Ledger for MemoryLedger {
+    ghost use Rattle.std.proofs.Common.{◌≡◌, refl, ◌∙◌};
+    ghost use Rattle.cad_memory_ledger.specs.Ledgers.{IsLedgerOf, IsMemory, memory_keeps};
+
+    ghost stands_for = { IsLedgerOf };
+
+    ghost counts = { λ _. Unit {0} };
+
+    ghost lives = { λ _. Unit {0} };
+
+    ghost fails = { λ _ _. ⊥ };
+
+    ghost newest = { λ ledger. ledger.revision };
+
+    ghost fails_to_apply = { λ _ _. IsMemory };
+
+    ghost fails_to_list = { λ _ _. IsMemory };
+
+    ghost refuses_command = { λ _ _ _ _. ⊥ };
+
+    ghost refuses_listing = { λ _ _ _. ⊥ };
+
+    ghost damaged_for_command = { λ _ _ _ _ _. ⊥ };
+
+    ghost damaged_for_listing = { λ _ _ _ _ _. ⊥ };
+
+    ghost remains = { λ old new. new ≡ old };
+
+    ghost apply_keeps = { λ _ _. memory_keeps };
+
+    ghost list_keeps = { λ _ _. memory_keeps };
+
+    ghost were_accepted = { λ _ _ stands. stands.accepted };
+
+    ghost remains_here = { λ _. refl };
+
+    ghost remains_then = { λ _ _ _ first later. later ∙ first };
+
+    ghost fails_before = { λ _ _ _ _ fails. fails };
+
+    fn revision(&self) -> u64 {
+        self.revision
+    }
+
+    fn apply(&mut self, command: Command) -> Result<u64, RegisterFault> {
+        if let Some(fault) = self.versions.refusal(&command) {
+            return Err(fault);
+        }
+        // No count goes further.
+        let Some(revision) = self.revision.checked_add(1) else {
+            return Err(RegisterFault::Memory);
+        };
+        self.versions.enact(command, revision)?;
+        self.revision = revision;
+        Ok(revision)
+    }
+
+    fn as_of(&mut self, revision: u64) -> Result<Vec<Version>, RegisterFault> {
+        if self.revision < revision {
+            return Err(RegisterFault::UnknownRevision);
+        }
+        let found = self.versions.as_of(self.alloc, revision)?;
+        Ok(found)
+    }
+}

@@ -1,0 +1,59 @@
+//! Versions as they are shown.
+
+ghost use Rattle.std.specs.Prelude.{◌≡◌, ◌∷◌, [], ◌++◌, map, IfOk, OnOk};
+ghost use Rattle.std.specs.List.{All};
+ghost use Rattle.std.specs.List.Sorted.{IsPermutation};
+ghost use Rattle.cad_versions.specs.VersionedObject.{IsVersion};
+ghost use Rattle.cad_versions.specs.Entries.{entries_at, seen_at as seen};
+ghost use Rattle.cad_versions.specs.Sorting.{sort_by};
+ghost use Rattle.cad_versions.specs.Identifiers.{by_identifier};
+ghost use Rattle.cad_memory_ledger.specs.Plain.{AreApart};
+
+use crate::stored_version::StoredVersion;
+use cad_versions::Version;
+use std::alloc::{AllocError, Global};
+
+/// Adds the version as it stood at the revision, if that or one before it entered the version.
+#[tactic(auto, using(crate::proofs::ShowLemmas::all_pushed))]
+fn push_seen(
+    alloc: Global,
+    found: &mut Vec<Version>,
+    kept: &StoredVersion,
+    revision: u64,
+) -> Result<(), AllocError>
+    ensures seen { OnOk result (found.new.items ≡
+        found.old.items ++ map (seen revision) (entries_at revision (kept.now ∷ []))) }
+    ensures sound { All IsVersion found.old.items → OnOk result (All IsVersion found.new.items) }
+{
+    if kept.is_entered_by(revision) {
+        let version = kept.seen_at(alloc, revision)?;
+        found.push(version)?;
+    }
+    Ok(())
+}
+
+/// The versions that a revision entered or one before it, as they stood at it.
+pub(crate) fn seen_at(
+    alloc: Global,
+    kept: &[StoredVersion],
+    revision: u64,
+) -> Result<Vec<Version>, AllocError>
+    ensures seen { IfOk result (λ found. found.items ≡ map (seen revision) (entries_at revision kept.now)) }
+    ensures sound { IfOk result (λ found. All IsVersion found.items) }
+{
+    let mut found = Vec::new(alloc);
+    for version in kept {
+        push_seen(alloc, &mut found, version, revision)?;
+    }
+    Ok(found)
+}
+
+/// Puts versions of different identifiers in the order of these.
+pub(crate) fn in_order(versions: &mut Vec<Version>) -> Result<(), AllocError>
+    requires { AreApart versions.now.items }
+    ensures sorted { OnOk result (versions.new.items ≡ sort_by by_identifier versions.old.items) }
+    ensures same { IsPermutation versions.old.items versions.new.items }
+{
+    versions.sort_by_key(|version| (version.object.number(), version.number))?;
+    Ok(())
+}

@@ -1,6 +1,0 @@
-use Rattle.std.proofs.Common.{ap, arith, length}
-use Rattle.cad_merged.specs.Segments.{joined}
-use Rattle.cad_merged.proofs.layer.Layer.count_near.Goals as goal
-
-pub count_all-requires : goal.count_all-requires
-count_all-requires c = omega (arith, ap (λ l. length (joined l)) c.listed.ensures, c.self.invariant.3)

@@ -1,0 +1,5 @@
+pub mod Buffering
+pub mod Entries
+pub mod Turns
+pub mod Serving
+pub mod lemmas

@@ -1,0 +1,61 @@
+-- Turns of the land office's connection before the others have theirs (own profile).
+use Rattle.std.specs.Prelude.{◌≡◌, ◌⊎◌, ⊤, ℕ, Bool, true, false, ◌&&◌, List, [], ◌∷◌, ◌++◌, length, Option, None, Some, is_none, if◌then◌else◌}
+use Rattle.cad_versions.specs.declared.fault.RegisterFault.TheVariants.{Store}
+use Rattle.cad_stream.specs.declared.responder.Responder.{Ghosts}
+use Rattle.cad_desk.specs.declared.desk.Desk.{Desk}
+use Rattle.cad_office.specs.declared.print.Answer.{Answer}
+use Rattle.cad_office.specs.declared.print.Answer.TheVariants.{Entered, Refused, NotACommand}
+use Rattle.cad_office_socket.specs.declared.entry.Entry.{Entry}
+use Rattle.cad_office_socket.specs.declared.turned.EntryServed.{EntryServed}
+use Rattle.cad_office_socket.specs.declared.turned.EntryServed.TheVariants as entry_served
+use Rattle.cad_office_socket.specs.declared.turned.EntryTurned.{EntryTurned}
+use Rattle.cad_office_socket.specs.declared.turned.EntryTurned.TheVariants.{Wrote, Took, Added, Answered, Lost, Stops, Waits, Over}
+use Rattle.cad_office_socket.specs.Turns.{unwritten, IsEntryTurn}
+
+-- the register's database refused the command
+abbrev pub is_store : Answer → Bool
+is_store (Entered revision) = false
+is_store (Refused Store) = true
+is_store (Refused fault) = false
+is_store NotACommand = false
+
+-- how a turn ends serving, if it does: a refusal by the database does so whether or not there was memory for its answer
+abbrev pub end_at : EntryTurned → Option EntryServed
+end_at Wrote = None
+end_at Took = None
+end_at Added = None
+end_at (Answered answer) = if is_store answer then Some entry_served.StoreRefused else None
+end_at (Lost answer) = if is_store answer then Some entry_served.StoreRefused else Some entry_served.Over
+end_at Stops = Some entry_served.Stops
+end_at Waits = Some entry_served.Waits
+end_at Over = Some entry_served.Over
+
+-- none of these turns ends it
+abbrev pub all_go_on : List EntryTurned → Bool
+all_go_on [] = true
+all_go_on (turned ∷ turns) = is_none (end_at turned) && all_go_on turns
+
+-- the most turns
+abbrev pub most_turns : ℕ
+most_turns = 8
+
+-- the last turn, which comes first, ends serving, and none before does; or none does, and there were as many as may be, or an answer went out
+abbrev pub IsEnough : List EntryTurned → EntryServed → Entry → Type 0
+IsEnough [] served next = ⊥
+IsEnough (turned ∷ before) served next =
+    (all_go_on before ≡ true) × ((end_at turned ≡ Some served) ⊎ ((end_at turned ≡ None) × (served ≡ entry_served.Goes)
+    × ((length (turned ∷ before) ≡ most_turns) ⊎ ((turned ≡ Wrote) × (unwritten next ≡ [])))))
+
+module _ {R : Type 0} (g : Ghosts R) where
+  -- the office has these turns, the last of them first
+  abbrev pub HasTurns : Desk R → Entry → List EntryTurned → Desk R → Entry → List ℕ → List ℕ → Type 0
+  HasTurns old entry [] new next read written = (read ≡ []) × (written ≡ []) × (new ≡ old) × (next ≡ entry)
+  HasTurns old entry (turned ∷ before) new next read written =
+      (mid : Desk R) × (between : Entry) × (front : List ℕ) × (out : List ℕ) × (piece : List ℕ) × (sent : List ℕ)
+      × HasTurns old entry before mid between front out × IsEntryTurn g ⊤ mid between turned new next piece sent
+      × (read ≡ front ++ piece) × (written ≡ out ++ sent)
+
+  -- the office is served by turns, as many as it has for now
+  abbrev pub IsEntryServed : Desk R → Entry → EntryServed → Desk R → Entry → List ℕ → List ℕ → Type 0
+  IsEntryServed old entry served new next read written =
+      (turns : List EntryTurned) × HasTurns old entry turns new next read written × IsEnough turns served next

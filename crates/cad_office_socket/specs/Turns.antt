@@ -1,0 +1,138 @@
+-- What the connection of the land office holds between its socket and the desk, and what a turn does (own profile).
+use Rattle.std.specs.Prelude.{◌≡◌, ◌≢◌, ◌⊎◌, ◌<◌, ℕ, ⊤, Bool, true, List, [], ◌∷◌, ◌++◌, length, drop, codes, Option}
+use Rattle.std.specs.Io.KnownBytes.{Consumes}
+use Rattle.cad_stream.specs.declared.responder.Responder.{Ghosts}
+use Rattle.cad_desk.specs.declared.desk.Desk.{Desk}
+use Rattle.cad_versions.specs.declared.fault.RegisterFault.TheVariants.{Memory}
+use Rattle.cad_office.specs.declared.line.LineState.{LineState}
+use Rattle.cad_office.specs.declared.line.LineState.TheVariants.{Buffered, TooLong, OutOfMemory}
+use Rattle.cad_office.specs.declared.print.Answer.{Answer}
+use Rattle.cad_office.specs.declared.print.Answer.TheVariants.{Refused}
+use Rattle.cad_office.specs.Answers.{printed}
+use Rattle.cad_office.specs.Keeping.{AnswersLine}
+use Rattle.cad_office.specs.Lines.{BuffersLine}
+use Rattle.cad_office_socket.specs.declared.entry.Entry.{Entry}
+use Rattle.cad_office_socket.specs.declared.turned.EntryTurned.{EntryTurned}
+use Rattle.cad_office_socket.specs.declared.turned.EntryTurned.TheVariants.{Wrote, Took, Added, Answered, Lost, Stops, Waits, Over}
+use Rattle.cad_office_socket.specs.Buffering.{IsOfOneLine}
+use Rattle.cad_office_socket.specs.Entries.{EntersAtDesk}
+
+-- bytes that were read and not taken
+abbrev pub unread : Entry → List ℕ
+unread entry = drop entry.input_at entry.input.items
+
+-- what was not written of an answer
+abbrev pub unwritten : Entry → List ℕ
+unwritten entry = drop entry.output_at entry.output.items
+
+-- the office sends no more
+abbrev pub has_ended : Entry → Bool
+has_ended entry = entry.ends
+
+-- an answer is to be written
+abbrev pub IsSending : Entry → Type 0
+IsSending entry = 0 < length (unwritten entry)
+
+-- all answers were written, and all that was read is taken
+abbrev pub IsIdle : Entry → Type 0
+IsIdle entry = (unwritten entry ≡ []) × (unread entry ≡ [])
+
+-- what is next is a write or a read, which the socket may leave undone for now
+abbrev pub MayWait : Entry → Type 0
+MayWait entry = IsSending entry ⊎ IsIdle entry
+
+-- the line that has begun has this text
+abbrev pub HasBegun : List ℕ → Entry → Type 0
+HasBegun text entry = BuffersLine text entry.line
+
+-- nothing was read, and nothing is to be written
+pub record IsNewEntry (entry : Entry) : Type 0 where
+  pub none_read : unread entry ≡ []
+  pub none_written : unwritten entry ≡ []
+  pub none_begun : HasBegun [] entry
+
+-- known bytes are read so
+abbrev pub Reads : Option (List ℕ) → Option (List ℕ) → (List ℕ → Type 0) → Type 0
+Reads old new P = (read : List ℕ) × Consumes old new read × P read
+
+-- a line has begun
+abbrev pub IsBegun : Entry → Type 0
+IsBegun entry = (text : List ℕ) × HasBegun text entry
+
+-- an answer is written on, or its socket takes nothing for now, or the write failed; no more is done
+abbrev pub SendsSome : Entry → EntryTurned → Entry → List ℕ → Type 0
+SendsSome entry Wrote next written =
+    (0 < length written) × (unwritten entry ≡ written ++ unwritten next) × (unread next ≡ unread entry) × (next.line ≡ entry.line)
+SendsSome entry Waits next written = (written ≡ []) × (next ≡ entry)
+SendsSome entry Over next written = written ≡ []
+SendsSome entry other next written = ⊥
+
+-- there was no memory to hold the line
+abbrev pub IsUnheld : LineState → Type 0
+IsUnheld Buffered = ⊥
+IsUnheld TooLong = ⊥
+IsUnheld (OutOfMemory count) = ⊤
+
+-- a line that has an answer: no empty one, and `stop` only where there was no memory to hold it
+abbrev pub IsAsking : List ℕ → Answer → Type 0
+IsAsking text answer = (text ≢ []) × (text ≡ codes "stop" → answer ≡ Refused Memory)
+
+-- nothing was read or written
+abbrev pub IsQuiet : List ℕ → List ℕ → Type 0
+IsQuiet read written = (read ≡ []) × (written ≡ [])
+
+-- what the end of a line may come to
+abbrev pub MayEnd : EntryTurned → Type 0
+MayEnd Wrote = ⊥
+MayEnd Took = ⊥
+MayEnd Waits = ⊥
+MayEnd Over = ⊥
+MayEnd other = ⊤
+
+module _ {R : Type 0} (g : Ghosts R) where
+  -- what comes of the end of a line with this text: its command is entered, and then answered
+  abbrev pub EndsLine : List ℕ → Desk R → EntryTurned → Desk R → Entry → Type 0
+  EndsLine text old Added new next = (text ≡ []) × (new ≡ old) × (unwritten next ≡ []) × HasBegun [] next
+  EndsLine text old (Answered answer) new next = IsAsking text answer × AnswersLine (EntersAtDesk g) text old answer new × (unwritten next ≡ printed answer) × HasBegun [] next
+  EndsLine text old Stops new next = (text ≡ codes "stop") × (new ≡ old)
+  -- no memory for the text of the answer
+  EndsLine text old (Lost answer) new next = IsAsking text answer × AnswersLine (EntersAtDesk g) text old answer new
+  EndsLine text old Over new next = ⊥
+  EndsLine text old Wrote new next = ⊥
+  EndsLine text old Took new next = ⊥
+  EndsLine text old Waits new next = ⊥
+
+  -- the line ends, whatever its text is
+  abbrev pub IsLineEnd : Desk R → Entry → EntryTurned → Desk R → Entry → Type 0
+  IsLineEnd old entry turned new next = (text : List ℕ) → HasBegun text entry → EndsLine text old turned new next × (unread next ≡ unread entry)
+
+  -- bytes of the line are taken, and it goes on or ends
+  abbrev pub IsFed : Desk R → Entry → EntryTurned → Desk R → Entry → Type 0
+  IsFed old entry turned new next = (begun : List ℕ) → HasBegun begun entry → (part : List ℕ) × IsOfOneLine part
+      × (((turned ≡ Added) × (new ≡ old) × (unwritten next ≡ []) × (unread entry ≡ part) × (unread next ≡ []) × HasBegun (begun ++ part) next)
+      ⊎ ((unread entry ≡ part ++ 10 ∷ unread next) × EndsLine (begun ++ part) old turned new next))
+
+-- and where the reader has nothing left
+module _ {R : Type 0} (g : Ghosts R) (AtEnd : Type 0) where
+  -- the input is at its end, and so is the line that has begun
+  abbrev pub IsAtLastLine : Desk R → Entry → EntryTurned → Desk R → Entry → Type 0
+  IsAtLastLine old entry turned new next = AtEnd × (unread entry ≡ []) × IsLineEnd g old entry turned new next
+
+  -- bytes that were read are taken, those of a line and no less; or the input is at its end
+  abbrev pub IsTaken : Desk R → Entry → EntryTurned → Desk R → Entry → Type 0
+  IsTaken old entry turned new next = (unwritten entry ≡ [])
+      × (((0 < length (unread entry)) × IsFed g old entry turned new next) ⊎ IsAtLastLine old entry turned new next)
+
+  -- what came of a turn: an answer is written before more is taken, and more is read only when all is taken
+  abbrev pub IsEntryTurn : Desk R → Entry → EntryTurned → Desk R → Entry → List ℕ → List ℕ → Type 0
+  IsEntryTurn old entry Wrote new next read written =
+      (read ≡ []) × (0 < length written) × (unwritten entry ≡ written ++ unwritten next) × (unread next ≡ unread entry) × (next.line ≡ entry.line) × (new ≡ old)
+  IsEntryTurn old entry Took new next read written =
+      (written ≡ []) × (0 < length read) × IsIdle entry × (unwritten next ≡ []) × (unread next ≡ read) × (next.line ≡ entry.line) × (new ≡ old)
+  IsEntryTurn old entry Added new next read written = IsQuiet read written × IsTaken old entry Added new next
+  IsEntryTurn old entry (Answered answer) new next read written = IsQuiet read written × IsTaken old entry (Answered answer) new next
+  IsEntryTurn old entry Stops new next read written = IsQuiet read written × IsTaken old entry Stops new next
+  IsEntryTurn old entry Waits new next read written = IsQuiet read written × MayWait entry × (new ≡ old) × (next ≡ entry)
+  IsEntryTurn old entry (Lost answer) new next read written = IsQuiet read written × IsTaken old entry (Lost answer) new next
+  -- a write or a read failed, or the office sends no more: no line is taken
+  IsEntryTurn old entry Over new next read written = (written ≡ []) × (MayWait entry ⊎ (has_ended entry ≡ true)) × (new ≡ old)

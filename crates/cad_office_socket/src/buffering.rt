@@ -1,0 +1,44 @@
+//! The bytes of a line.
+
+ghost use Rattle.std.specs.Prelude.{◌≡◌, ◌+◌, ◌<◌, ℕ, false, List, ◌++◌, ◌∷◌, length, drop, codes, IfSome, IsTrue};
+ghost use Rattle.cad_office_socket.specs.Buffering.{IsOfOneLine, before_end};
+ghost use Rattle.cad_office_socket.specs.Turns.{IsUnheld};
+ghost use Rattle.cad_office.specs.Lines.{BuffersLine};
+
+use cad_office::{Line, LineState};
+
+/// The line that asks to stop.
+const STOP: &[u8] = b"stop";
+
+/// How many bytes stand before the first LF.
+pub(crate) fn first_end(bytes: &[u8]) -> Option<usize>
+    ensures end { IfSome result (λ count. count < length bytes.now × drop count bytes.now ≡ 10 ∷ drop (count + 1) bytes.now) }
+    ensures before { IsOfOneLine (before_end bytes.now result) }
+{
+    for at in 0..bytes.len() {
+        if bytes[at] == b'\n' {
+            return Some(at);
+        }
+    }
+    None
+}
+
+/// The bytes, one after the other, of which none is an LF.
+pub(crate) fn add_all(line: &mut Line, bytes: &[u8])
+    ensures { (text : List ℕ) → BuffersLine text line.old → BuffersLine (text ++ bytes.now) line.new }
+{
+    for byte in bytes {
+        line.add(*byte);
+    }
+}
+
+/// Whether the line asks to stop. One that could not be held asks for nothing.
+pub(crate) fn asks_to_stop(line: &Line) -> bool
+    ensures asked { (text : List ℕ) → BuffersLine text line.now → IsTrue result → text ≡ codes "stop" }
+    ensures unasked { (text : List ℕ) → BuffersLine text line.now → result ≡ false → text ≡ codes "stop" → IsUnheld line.now.state }
+{
+    match line.state() {
+        LineState::Buffered => line.bytes() == STOP,
+        LineState::TooLong | LineState::OutOfMemory(_) => false,
+    }
+}

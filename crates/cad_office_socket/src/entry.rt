@@ -1,0 +1,220 @@
+//! The land office's connection between its socket and the desk.
+
+ghost use Rattle.std.specs.Prelude.{◌≡◌, ◌≤◌, length, IsTrue};
+
+use crate::answering::answer_line;
+use crate::buffering::{add_all, asks_to_stop, first_end};
+use crate::turned::{EntryServed, EntryTurned, end_at};
+use cad_desk::Desk;
+use cad_io::{PIECE_LEN, rest_from};
+use cad_office::{Line, print_answer};
+use cad_stream::Responder;
+use std::alloc::Global;
+use std::io::{Error, ErrorKind, Read, Write};
+
+/// The most turns of the office before the others have theirs.
+const TURNS: u32 = 8;
+
+/// What the office's connection holds between its socket and the desk: bytes that were read and not taken, the line that has
+/// begun, and the answer to the line before it, as far as that was not written.
+#[derive(Drop)]
+pub struct Entry {
+    input: Vec<u8>,
+    input_at: usize,
+    line: Line,
+    output: Vec<u8>,
+    output_at: usize,
+    ends: bool,
+    pub ghost input_within: { input_at ≤ length input.items },
+    pub ghost output_within: { output_at ≤ length output.items },
+}
+
+fn is_blocked(error: &Error) -> bool {
+    error.kind() == ErrorKind::WouldBlock
+}
+
+/// Whether bytes were written.
+fn has_written(turned: EntryTurned) -> bool
+    ensures { IsTrue result → turned ≡ EntryTurned.Wrote }
+{
+    matches!(turned, EntryTurned::Wrote)
+}
+
+impl Entry {
+    ghost use Rattle.std.specs.Prelude.{◌↔◌, []};
+    ghost use Rattle.std.specs.Io.KnownBytes.{IsAtEnd};
+    ghost use Rattle.cad_io.specs.Known.{ReadsAndWrites, Writes};
+    ghost use Rattle.cad_office_socket.specs.Turns.{IsNewEntry, IsFed, IsEntryTurn, IsLineEnd, IsSending, MayEnd, Reads, SendsSome, unread, unwritten};
+    ghost use Rattle.cad_office_socket.specs.Serving.{IsEntryServed};
+
+    /// The connection of an office of which nothing was read.
+    pub fn new(alloc: Global) -> Entry
+        ensures { IsNewEntry result }
+    {
+        Entry {
+            input: Vec::new(alloc),
+            input_at: 0,
+            line: Line::new(alloc),
+            output: Vec::new(alloc),
+            output_at: 0,
+            ends: false,
+        }
+    }
+
+    /// Whether an answer has not gone out.
+    pub fn is_sending(&self) -> bool
+        ensures { IsTrue result ↔ IsSending self.now }
+    {
+        self.output_at < self.output.len()
+    }
+
+    /// One write of an answer that has not gone out.
+    pub fn send<W: Write>(&mut self, writer: &mut W) -> EntryTurned
+        requires { IsSending self.old }
+        ensures { Writes (W.contents writer.old) (W.contents writer.new) (SendsSome self.old result self.new) }
+    {
+        match writer.write(rest_from(&self.output, self.output_at)) {
+            Ok(0) => EntryTurned::Over,
+            Ok(count) => {
+                self.output_at += count;
+                EntryTurned::Wrote
+            }
+            Err(error) => if is_blocked(&error) {
+                EntryTurned::Waits
+            } else {
+                EntryTurned::Over
+            },
+        }
+    }
+
+    /// Answers the line that ended. An empty one asks for nothing.
+    fn end_line<R: Responder>(&mut self, alloc: Global, desk: &mut Desk<R>) -> EntryTurned
+        requires { unwritten self.old ≡ [] }
+        ensures ends { MayEnd result }
+        ensures line { IsLineEnd R.Responder desk.old self.old result desk.new self.new }
+    {
+        if self.line.is_empty() {
+            return EntryTurned::Added;
+        }
+        if asks_to_stop(&self.line) {
+            return EntryTurned::Stops;
+        }
+        let answer = answer_line(alloc, &self.line, desk);
+        let mut output = Vec::new(alloc);
+        if print_answer(&mut output, answer).is_err() {
+            return EntryTurned::Lost(answer);
+        }
+        self.line.clear();
+        self.output = output;
+        self.output_at = 0;
+        EntryTurned::Answered(answer)
+    }
+
+    /// Takes the bytes of a line, up to its end if that was read.
+    fn feed_some<R: Responder>(&mut self, alloc: Global, desk: &mut Desk<R>) -> EntryTurned
+        requires { unwritten self.old ≡ [] }
+        ensures ends { MayEnd result }
+        ensures fed { IsFed R.Responder desk.old self.old result desk.new self.new }
+    {
+        let rest = rest_from(&self.input, self.input_at);
+        let Some(count) = first_end(rest) else {
+            add_all(&mut self.line, rest);
+            self.input_at = self.input.len();
+            return EntryTurned::Added;
+        };
+        add_all(&mut self.line, &rest[..count]);
+        self.input_at += count + 1;
+        self.end_line(alloc, desk)
+    }
+
+    /// The office sends no more: a line that has begun ends with that.
+    fn end_input<R: Responder>(&mut self, alloc: Global, desk: &mut Desk<R>) -> EntryTurned
+        requires { unwritten self.old ≡ [] }
+        ensures ends { MayEnd result }
+        ensures line { IsLineEnd R.Responder desk.old self.old result desk.new self.new }
+    {
+        self.ends = true;
+        self.end_line(alloc, desk)
+    }
+
+    /// One read.
+    fn read_some<I: Read, R: Responder>(
+        &mut self,
+        alloc: Global,
+        reader: &mut I,
+        desk: &mut Desk<R>,
+    ) -> EntryTurned
+        requires nothing_unread { unread self.old ≡ [] }
+        requires nothing_unwritten { unwritten self.old ≡ [] }
+        ensures { Reads (I.remaining reader.old) (I.remaining reader.new)
+            (λ read. IsEntryTurn R.Responder (IsAtEnd (I.remaining reader.new)) desk.old self.old result desk.new self.new read []) }
+    {
+        let mut buffer = [0; PIECE_LEN];
+        match reader.read(&mut buffer) {
+            Ok(0) => self.end_input(alloc, desk),
+            Ok(count) => {
+                let Ok(input) = Vec::from_slice(alloc, &buffer[..count]) else {
+                    return EntryTurned::Over;
+                };
+                self.input_at = 0;
+                self.input = input;
+                EntryTurned::Took
+            }
+            Err(error) => if is_blocked(&error) {
+                EntryTurned::Waits
+            } else {
+                EntryTurned::Over
+            },
+        }
+    }
+
+    /// Does one thing: where an answer is to be written, a write; else, where bytes were read and not taken, those of a line,
+    /// whose command is entered and answered where it ended; else a read. The last line needs no LF.
+    pub fn turn<I: Read, W: Write, R: Responder>(
+        &mut self,
+        alloc: Global,
+        reader: &mut I,
+        writer: &mut W,
+        desk: &mut Desk<R>,
+    ) -> EntryTurned
+        ensures { ReadsAndWrites (I.remaining reader.old) (I.remaining reader.new)
+            (W.contents writer.old) (W.contents writer.new)
+            (IsEntryTurn R.Responder (IsAtEnd (I.remaining reader.new)) desk.old self.old result desk.new self.new) }
+    {
+        if self.output_at < self.output.len() {
+            return self.send(writer);
+        }
+        if self.ends {
+            return EntryTurned::Over;
+        }
+        if self.input_at < self.input.len() {
+            return self.feed_some(alloc, desk);
+        }
+        self.read_some(alloc, reader, desk)
+    }
+
+    /// Serves the office: some turns, up to one that ends its work or at which its socket gives and takes nothing, and not beyond
+    /// the first answer that went out. A refusal by the register's database ends its work before its answer is written.
+    pub fn serve<I: Read, W: Write, R: Responder>(
+        &mut self,
+        alloc: Global,
+        reader: &mut I,
+        writer: &mut W,
+        desk: &mut Desk<R>,
+    ) -> EntryServed
+        ensures { ReadsAndWrites (I.remaining reader.old) (I.remaining reader.new)
+            (W.contents writer.old) (W.contents writer.new)
+            (IsEntryServed R.Responder desk.old self.old result desk.new self.new) }
+    {
+        for _ in 0..TURNS {
+            let turned = self.turn(alloc, reader, writer, desk);
+            if let Some(served) = end_at(turned) {
+                return served;
+            }
+            if has_written(turned) && !self.is_sending() {
+                return EntryServed::Goes;
+            }
+        }
+        EntryServed::Goes
+    }
+}

@@ -1,0 +1,60 @@
+//! What comes of a turn of the land office's connection.
+
+ghost use Rattle.std.specs.Prelude.{◌≡◌};
+ghost use Rattle.cad_office_socket.specs.Serving.{end_at as end_at_of};
+
+use cad_office::Answer;
+use cad_versions::RegisterFault;
+
+/// What comes of a turn.
+#[derive(Clone, Copy, Debug, PartialEq, Eq)]
+pub enum EntryTurned {
+    /// Bytes were written.
+    Wrote,
+    /// Bytes were read.
+    Took,
+    /// Bytes were added to a line that goes on, or an empty line ended, which asks for nothing.
+    Added,
+    /// A line was answered, and its answer is to be written.
+    Answered(Answer),
+    /// A line was answered, and there is no memory for the text of its answer: the office is told no more.
+    Lost(Answer),
+    /// The line `stop` was read.
+    Stops,
+    /// The socket gives or takes nothing for now.
+    Waits,
+    /// The office sends no more, or a read or a write failed, or there is no memory for what was read.
+    Over,
+}
+
+/// What comes of serving the office.
+#[derive(Clone, Copy, Debug, PartialEq, Eq)]
+pub enum EntryServed {
+    /// It may go on at once.
+    Goes,
+    /// Its socket gives or takes nothing for now.
+    Waits,
+    /// It is over.
+    Over,
+    /// It asked to stop.
+    Stops,
+    /// The register's database refused a command. The answer that tells so, if there was memory for it, is to be written.
+    StoreRefused,
+}
+
+/// How a turn ends serving, if it does.
+pub(crate) fn end_at(turned: EntryTurned) -> Option<EntryServed>
+    ensures { result ≡ end_at_of turned }
+{
+    match turned {
+        EntryTurned::Answered(Answer::Refused(RegisterFault::Store))
+        | EntryTurned::Lost(Answer::Refused(RegisterFault::Store)) => Some(
+            EntryServed::StoreRefused,
+        ),
+        EntryTurned::Wrote | EntryTurned::Took | EntryTurned::Added | EntryTurned::Answered(_) =>
+            None,
+        EntryTurned::Lost(_) | EntryTurned::Over => Some(EntryServed::Over),
+        EntryTurned::Stops => Some(EntryServed::Stops),
+        EntryTurned::Waits => Some(EntryServed::Waits),
+    }
+}

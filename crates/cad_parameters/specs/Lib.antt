@@ -1,0 +1,9 @@
+pub mod Pairs
+pub mod Parts
+pub mod Numerals
+pub mod Identifiers
+pub mod Boxes
+pub mod Parameters
+pub mod Links
+pub mod Laws
+pub mod lemmas

@@ -1,6 +1,0 @@
-pub mod Commands
-pub mod Outcomes
-pub mod Serving
-pub mod Listening
-pub mod Entering
-pub mod DeskLemmas

@@ -1,5 +1,0 @@
-use Rattle.cad_query.proofs.ContinuedLemmas.{continued_goes_on}
-use Rattle.cad_query.proofs.laws.continued_goes_on.Goals as goal
-
-pub returns : goal.returns
-returns c = continued_goes_on

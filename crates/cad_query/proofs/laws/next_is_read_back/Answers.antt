@@ -1,5 +1,0 @@
-use Rattle.cad_query.proofs.TargetLemmas.{next_is_read_back}
-use Rattle.cad_query.proofs.laws.next_is_read_back.Goals as goal
-
-pub returns : goal.returns
-returns c = next_is_read_back

@@ -1,5 +1,0 @@
-use Rattle.cad_query.proofs.IdentifierLemmas.{reading_is_identifying}
-use Rattle.cad_query.proofs.laws.reading_is_identifying.Goals as goal
-
-pub returns : goal.returns
-returns c = reading_is_identifying

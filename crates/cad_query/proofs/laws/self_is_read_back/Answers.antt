@@ -1,5 +1,0 @@
-use Rattle.cad_query.proofs.TargetLemmas.{self_is_read_back}
-use Rattle.cad_query.proofs.laws.self_is_read_back.Goals as goal
-
-pub returns : goal.returns
-returns c = self_is_read_back

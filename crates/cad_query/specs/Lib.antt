@@ -1,9 +1,0 @@
-pub mod Pairs
-pub mod Parts
-pub mod Numerals
-pub mod Identifiers
-pub mod Boxes
-pub mod Parameters
-pub mod FoundLemmas
-pub mod Links
-pub mod Laws

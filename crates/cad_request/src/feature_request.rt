@@ -1,0 +1,19 @@
+//! Which features of a revision a request asks for.
+
+use cad_ask::Ask;
+use cad_parameters::Identifier;
+use cad_schema::Collection;
+
+/// Which features of a revision a request asks for.
+#[derive(Drop)]
+pub enum FeatureRequest {
+    /// A page of a collection's features.
+    Page(Ask),
+    /// One feature, if it is there.
+    Feature {
+        /// The collection that it is asked for in.
+        collection: Collection,
+        /// Which version of which object it is.
+        identifier: Identifier,
+    },
+}

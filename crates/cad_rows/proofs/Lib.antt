@@ -1,4 +1,0 @@
-pub mod Advances
-pub mod Builds
-pub mod Takings
-pub mod ListedLemmas

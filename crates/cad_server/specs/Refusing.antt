@@ -1,0 +1,18 @@
+-- What a server fails for (own profile).
+use Rattle.std.specs.Prelude.{ℕ, List}
+use Rattle.cad_versions.specs.declared.command.Command.{Command}
+use Rattle.cad_versions.specs.declared.fault.RegisterFault.{RegisterFault}
+use Rattle.cad_versions.specs.Keeping.{IsOfKeeping}
+use Rattle.cad_head.specs.Request.{Request}
+use Rattle.cad_request.specs.declared.request.ParsedRequest.{ParsedRequest}
+use Rattle.cad_request.specs.declared.request.ParsedRequest.TheVariants as parsed
+use Rattle.cad_server.specs.Replies.{FailsToTell, FailsToAnswer}
+
+-- a request fails to be answered for a fault of what keeps the ledger
+module _ {FailsToList : ℕ → List Command → RegisterFault → Type 0} (keeps : (revision : ℕ) (commands : List Command) (fault : RegisterFault) → FailsToList revision commands fault → IsOfKeeping fault) where
+  failing_to_tell : (commands : List Command) (wanted : ParsedRequest) (fault : RegisterFault) → FailsToTell FailsToList commands wanted fault → IsOfKeeping fault
+  failing_to_tell commands (parsed.Immediate response) fault f = absurd f
+  failing_to_tell commands (parsed.Features sought) fault f = keeps _ commands fault f.1
+
+  pub failing_keeps : (commands : List Command) (request : Request) (fault : RegisterFault) → FailsToAnswer FailsToList commands request fault → IsOfKeeping fault
+  failing_keeps commands request fault f = failing_to_tell commands f.0 fault f.2

@@ -1,0 +1,129 @@
+-- What clauses see of a server, and what its calls do (own profile).
+use Rattle.std.specs.Prelude.{◌≡◌, ◌≤◌, ◌⊎◌, ℕ, ℤ, List, length, Option, None, IfSome, Result, IfOk, IfErr, OnOk}
+use Rattle.cad_versions.specs.declared.command.Command.{Command}
+use Rattle.cad_versions.specs.declared.fault.RegisterFault.{RegisterFault}
+use Rattle.cad_versions.specs.declared.fault.RegisterFault.TheVariants.{Store, Memory}
+use Rattle.cad_versions.specs.Keeping.{IsShut, NamesDamage}
+use Rattle.cad_versions.specs.Ledgers.{Applied}
+use Rattle.cad_versions.specs.declared.ledger.Ledger.{Ghosts}
+use Rattle.cad_snapshot.specs.Snapshots.{RevisionFeatures}
+use Rattle.cad_head.specs.Request.{Request}
+use Rattle.cad_resource.specs.Requested.{requested}
+use Rattle.cad_request.specs.ParsedRequests.{IsParsedRequest}
+use Rattle.cad_request.specs.declared.request.ParsedRequest.{ParsedRequest}
+use Rattle.cad_request.specs.declared.request.ParsedRequest.TheVariants as parsed
+use Rattle.cad_request.specs.declared.response.Response.{Response}
+use Rattle.cad_server.specs.declared.records.Records.{Records}
+use Rattle.cad_server.specs.declared.server.Server.{Server}
+use Rattle.cad_request.specs.declared.feature_request.FeatureRequest.{FeatureRequest}
+use Rattle.cad_server.specs.Contents.{content_in_response, content_in, content_of, content_requested, revision_sought, snapshot_at}
+use Rattle.cad_server.specs.Keeping.{KeepsOf, StaysCached, StaysWith, cached_at}
+use Rattle.cad_server.specs.Replies.{AsksForFeatures, FailsToFind, FailsToTell}
+
+abbrev pub ledger_in : {L : Type 0} → Records L → L
+ledger_in records = records.ledger
+
+-- how many changes the bases of a collection get before new ones are made
+abbrev pub bound_in : {L : Type 0} → Records L → ℕ
+bound_in records = records.most_changes
+
+-- the same of a server
+abbrev pub bound_of : {L : Type 0} → Server L → ℕ
+bound_of server = bound_in server.records
+
+-- the ledger that a server answers over
+abbrev pub ledger_of : {L : Type 0} → Server L → L
+ledger_of server = ledger_in server.records
+
+module _ {L : Type 0} (g : Ghosts L) where
+  -- the records are those of the commands
+  pub record AreRecordsOf (records : Records L) (commands : List Command) : Type 0 where
+    pub ledger : g.stands_for records.ledger commands
+    pub kept : KeepsOf commands records.kept
+
+  -- so are those of the server
+  abbrev pub IsServerOf : Server L → List Command → Type 0
+  IsServerOf server commands = AreRecordsOf server.records commands
+
+  -- what keeps the ledger refuses to list the revision at which this is sought
+  abbrev pub RefusesToFind : FeatureRequest → Records L → Records L → Type 0
+  RefusesToFind sought old new =
+      (revision : ℕ) × g.refuses_listing (ledger_in old) (ledger_in new) revision
+      × ((commands : List Command) → AreRecordsOf old commands → revision ≡ revision_sought sought (length commands))
+
+  -- the same of what is wanted; nothing is listed for what is told without the ledger
+  abbrev pub RefusesToTell : ParsedRequest → Records L → Records L → Type 0
+  RefusesToTell (parsed.Immediate response) old new = ⊥
+  RefusesToTell (parsed.Features sought) old new = RefusesToFind sought old new
+
+  -- the same of what a request asks for
+  abbrev pub RefusesToAnswer : Server L → Server L → Request → Type 0
+  RefusesToAnswer old new request = (wanted : ParsedRequest) × IsParsedRequest (requested request) wanted × RefusesToTell wanted old.records new.records
+
+  -- asked for the revision at which this is sought, the one that is asked for or the newest as the ledger tells it, what keeps the ledger shows a damaged row of this object and this number
+  abbrev pub DamagedForFinding : FeatureRequest → Records L → Records L → ℤ → ℤ → Type 0
+  DamagedForFinding sought old new object number =
+      g.damaged_for_listing (ledger_in old) (ledger_in new) (revision_sought sought (g.newest (ledger_in old))) object number
+
+  -- the same of what is wanted
+  abbrev pub DamagedForTelling : ParsedRequest → Records L → Records L → ℤ → ℤ → Type 0
+  DamagedForTelling (parsed.Immediate response) old new object number = ⊥
+  DamagedForTelling (parsed.Features sought) old new object number = DamagedForFinding sought old new object number
+
+  -- the same of what a request asks for
+  abbrev pub DamagedForAnswer : Server L → Server L → Request → ℤ → ℤ → Type 0
+  DamagedForAnswer old new request object number =
+      (wanted : ParsedRequest) × IsParsedRequest (requested request) wanted × DamagedForTelling wanted old.records new.records object number
+
+  -- a command is entered into the records as into their ledger
+  abbrev pub Enters : Records L → Command → Result ℕ RegisterFault → Records L → Type 0
+  Enters =
+      Applied AreRecordsOf (λ records. g.counts (ledger_in records)) (λ records. g.lives (ledger_in records)) (λ old new. g.fails (ledger_in old) (ledger_in new))
+      g.fails_to_apply (λ old new. g.refuses_command (ledger_in old) (ledger_in new)) (λ old new. g.damaged_for_command (ledger_in old) (ledger_in new))
+
+  -- reading what is kept changes nothing, or what keeps the ledger failed and is closed; where something is read the ledger remains what it was; the store refuses that alone, and a row that is named as damaged is such a one
+  pub record Reads {T : Type 0} (Refused : Type 0) (IsDamaged : ℤ → ℤ → Type 0) (old : Records L) (result : Result T RegisterFault) (new : Records L) : Type 0 where
+    pub store : g.counts (ledger_in new) → IfErr result (λ fault. fault ≡ Store → Refused)
+    pub damaged : IfErr result (NamesDamage IsDamaged)
+    pub still : g.counts (ledger_in new) → OnOk result (g.remains (ledger_in old) (ledger_in new))
+    pub kept : g.counts (ledger_in new) → OnOk result ((commands : List Command) → AreRecordsOf old commands → AreRecordsOf new commands)
+    pub unchanged : g.counts (ledger_in new) → IfErr result (λ fault. (commands : List Command) → AreRecordsOf old commands → AreRecordsOf new commands ⊎ IsShut g.lives g.fails (ledger_in old) fault (ledger_in new))
+    pub clean : g.counts (ledger_in new) → g.counts (ledger_in old)
+
+  -- less is kept, and the ledger is not touched
+  pub record Forgets (old new : Records L) : Type 0 where
+    pub same : ledger_in new ≡ ledger_in old
+    pub kept : StaysCached old.kept new.kept
+
+  -- more is kept, or less, and the ledger is not touched
+  pub record Keeps (snapshot : RevisionFeatures) (old new : Records L) : Type 0 where
+    pub same : ledger_in new ≡ ledger_in old
+    pub kept : StaysWith snapshot old.kept new.kept
+
+  -- what is kept of a revision tells what is sought, and nothing does where nothing of the revision is kept; only the order of what is
+  -- kept changes
+  pub record Recalls {E : Type 0} (revision : ℕ) (sought : FeatureRequest) (old : Records L) (result : Result (Option Response) E) (new : Records L) : Type 0 where
+    pub response : IfOk result (λ found. IfSome found (λ response. (commands : List Command) → KeepsOf commands old.kept → content_in_response response ≡ content_in sought (snapshot_at revision commands)))
+    pub none : IfOk result (λ found. found ≡ None → cached_at revision old.kept ≡ None)
+    pub same : ledger_in new ≡ ledger_in old
+    pub kept : StaysCached old.kept new.kept
+
+  -- what is sought at a revision that was made is told
+  pub record Finds (revision : ℕ) (sought : FeatureRequest) (old : Records L) (result : Result Response RegisterFault) (new : Records L) : Type 0 where
+    pub response : g.counts (ledger_in new) → IfOk result (λ response. (commands : List Command) → AreRecordsOf old commands → revision ≤ length commands → content_in_response response ≡ content_in sought (snapshot_at revision commands))
+    pub cause : g.counts (ledger_in new) → IfErr result (λ fault. (commands : List Command) → AreRecordsOf old commands → revision ≤ length commands → (fault ≡ Memory) ⊎ g.fails_to_list revision commands fault)
+    pub reads : Reads (g.refuses_listing (ledger_in old) (ledger_in new) revision) (g.damaged_for_listing (ledger_in old) (ledger_in new) revision) old result new
+
+  -- what is sought is told, at the revision that is asked for or the newest
+  pub record Seeks (sought : FeatureRequest) (old : Records L) (result : Result Response RegisterFault) (new : Records L) : Type 0 where
+    pub response : g.counts (ledger_in new) → IfOk result (λ response. (commands : List Command) → AreRecordsOf old commands → content_in_response response ≡ content_of sought commands)
+    pub cause : g.counts (ledger_in new) → IfErr result (λ fault. (commands : List Command) → AreRecordsOf old commands → (fault ≡ Memory) ⊎ FailsToFind g.fails_to_list commands sought fault)
+    pub reads : Reads (RefusesToFind sought old new) (DamagedForFinding sought old new) old result new
+
+  -- what is wanted is told, and where no features are wanted, whatever tables stand there
+  pub record Tells (wanted : ParsedRequest) (old : Records L) (result : Result Response RegisterFault) (new : Records L) : Type 0 where
+    pub response : g.counts (ledger_in new) → IfOk result (λ response. (commands : List Command) → AreRecordsOf old commands → content_in_response response ≡ content_requested wanted commands)
+    pub cause : g.counts (ledger_in new) → IfErr result (λ fault. (commands : List Command) → AreRecordsOf old commands → (fault ≡ Memory) ⊎ FailsToTell g.fails_to_list commands wanted fault)
+    pub plain : IfOk result (λ response. AsksForFeatures wanted ⊎ ((commands : List Command) → content_in_response response ≡ content_requested wanted commands))
+    pub asking : IfErr result (λ fault. (fault ≡ Memory) ⊎ AsksForFeatures wanted)
+    pub reads : Reads (RefusesToTell wanted old new) (DamagedForTelling wanted old new) old result new

@@ -1,0 +1,124 @@
+//! Keeping features of revisions.
+
+ghost use Rattle.std.specs.Prelude.{◌≡◌, ◌<◌, [], IfOk};
+ghost use Rattle.lru.specs.LruCache.{lru_cache};
+
+use crate::snapshot_cache::SnapshotCache;
+use cad_snapshot::Snapshot;
+use lru::LruCache;
+use std::alloc::{AllocError, Global};
+use std::num::NonZeroUsize;
+
+/// Of how many revisions that were entered last the features are kept at most. Where commands touch few features each, more would be
+/// kept for what they take.
+const MOST_ENTERED: usize = 6160;
+
+/// Of how many old revisions that were read of the ledger the features are kept at most, each on bases of its own.
+const MOST_READ: usize = 2;
+
+impl SnapshotCache {
+    ghost use Rattle.std.specs.Prelude.{◌≡◌, ◌<◌, nat_eq, length, IfOk, List};
+    ghost use Rattle.std.specs.Map.{lookup};
+    ghost use Rattle.std.specs.Option.{option_copied};
+    ghost use Rattle.cad_versions.specs.declared.command.Command.{Command as CommandOf};
+    ghost use Rattle.cad_server.specs.Keeping.{KeepsOf, StaysCached, StaysWith, LetsOldestGo, LetsEnteredGo, cached_at};
+    ghost use Rattle.cad_server.specs.Rooms.{most_read};
+
+    /// Nothing is kept yet. An error is want of memory.
+    pub(crate) fn new(alloc: Global) -> Result<SnapshotCache, AllocError>
+        ensures { IfOk result (λ kept. (commands : List CommandOf) → KeepsOf commands kept) }
+    {
+        let entered = cache(alloc, MOST_ENTERED)?;
+        let read = cache(alloc, MOST_READ)?;
+        Ok(SnapshotCache { entered, read })
+    }
+
+    /// The features of the revision, where it is one of those that were entered last.
+    pub(crate) fn entered_at(&self, revision: u64) -> Option<&Snapshot>
+        ensures { option_copied result ≡ lookup (nat_eq revision) self.now.entered.entries }
+    {
+        self.entered.peek(&revision)
+    }
+
+    /// The features of the revision, where they are kept.
+    pub(crate) fn at(&self, revision: u64) -> Option<&Snapshot>
+        ensures { option_copied result ≡ cached_at revision self.now }
+    {
+        match self.entered_at(revision) {
+            Some(snapshot) => Some(snapshot),
+            None => self.read.peek(&revision),
+        }
+    }
+
+    /// Of how many revisions that were entered last something is kept.
+    pub(crate) fn entered_count(&self) -> usize
+        ensures { result ≡ length self.now.entered.entries }
+    {
+        self.entered.len()
+    }
+
+    /// What had been spent on the features of the oldest of them.
+    pub(crate) fn oldest_spent(&self) -> Option<usize> {
+        let (_, oldest) = self.entered.peek_lru()?;
+        Some(oldest.spent())
+    }
+
+    /// The revision was asked for: of the old ones that were read those go first that were not asked for longest.
+    pub(crate) fn touch(&mut self, revision: u64)
+        ensures { StaysCached self.old self.new }
+    {
+        let _ = self.read.promote(&revision);
+    }
+
+    /// Lets the oldest of the revisions go that were entered last.
+    pub(crate) fn let_oldest_go(&mut self)
+        ensures { LetsOldestGo self.old self.new }
+    {
+        drop(self.entered.pop_lru());
+    }
+
+    /// Lets all of them go.
+    pub(crate) fn let_entered_go(&mut self)
+        ensures { LetsEnteredGo self.old self.new }
+    {
+        self.entered.clear();
+    }
+
+    /// Lets an old revision go that was read of the ledger, where no other can be kept beside those that are.
+    pub(crate) fn make_room(&mut self)
+        ensures kept { StaysCached self.old self.new }
+        ensures room { length self.new.read.entries < most_read }
+    {
+        if self.read.len() < MOST_READ {
+            return;
+        }
+        drop(self.read.pop_lru());
+    }
+
+    /// Keeps features of the revision in force, if there is memory.
+    pub(crate) fn add(&mut self, snapshot: Snapshot)
+        ensures { StaysWith snapshot self.old self.new }
+    {
+        let revision = snapshot.revision();
+        drop(self.entered.put(revision, snapshot));
+    }
+
+    /// Keeps features of an old revision that were read of the ledger, if there is memory.
+    pub(crate) fn add_read(&mut self, snapshot: Snapshot)
+        ensures { StaysWith snapshot self.old self.new }
+    {
+        let revision = snapshot.revision();
+        drop(self.read.put(revision, snapshot));
+    }
+}
+
+/// A cache of so many features by revision, for which no room is taken yet.
+fn cache(alloc: Global, most: usize) -> Result<LruCache<u64, Snapshot>, AllocError>
+    requires { 0 < most }
+    ensures { IfOk result (λ cache. cache ≡ lru_cache [] most) }
+{
+    let Some(most) = NonZeroUsize::new(most) else {
+        unreachable!()
+    };
+    LruCache::sparse(alloc, most)
+}

@@ -1,0 +1,158 @@
+//! The server.
+
+use crate::laws::requests_have_one_reply;
+use crate::records::{MOST_CHANGES, Records};
+use cad_head::reply_bytes;
+use cad_json::word_body;
+use cad_request::ParsedRequest;
+use cad_resource::{Check, Routes, decide};
+use cad_stream::{Answer, Responder};
+use cad_versions::{Command, Ledger, RegisterFault};
+use httparse::spans::{HeaderSpan, RequestSpans};
+use std::alloc::{AllocError, Global};
+
+/// Answers requests over a ledger. It keeps the features of the revisions that were asked for last or entered last: those of the
+/// newest revision follow those of the one before it, and only of a revision that is older than what is kept is the ledger read.
+pub struct Server<L: Ledger> {
+    records: Records<L>,
+    routes: Routes,
+    alloc: Global,
+}
+
+impl<L: Ledger + Drop> Drop for Server<L> {
+    fn drop(self) {
+        let Server {
+            records: _,
+            routes: _,
+            alloc: _,
+        } = self;
+    }
+}
+
+impl<L: Ledger> Server<L> {
+    ghost use Rattle.std.specs.Prelude.{◌≡◌, List, IfOk, IfErr};
+    ghost use Rattle.cad_versions.specs.declared.command.Command.{Command as CommandOf};
+    ghost use Rattle.cad_server.specs.Servers.{bound_of, ledger_of, IsServerOf};
+
+    /// A server over the ledger, or the ledger back where there is no memory.
+    pub fn new(alloc: Global, ledger: L) -> Result<Server<L>, L>
+        ensures made { IfOk result (λ server. (commands : List CommandOf) → L.Ledger.stands_for ledger commands →
+            IsServerOf L.Ledger server commands) }
+        ensures same { IfOk result (λ server. ledger_of server ≡ ledger) }
+        ensures back { IfErr result (λ back. back ≡ ledger) }
+        ensures bound { IfOk result (λ server. bound_of server ≡ 2048) }
+    {
+        Server::with_changes(alloc, ledger, MOST_CHANGES)
+    }
+
+    /// The same, where the bases of a collection get at most so many changes before new ones are made.
+    pub fn with_changes(alloc: Global, ledger: L, most_changes: usize) -> Result<Server<L>, L>
+        ensures made { IfOk result (λ server. (commands : List CommandOf) → L.Ledger.stands_for ledger commands →
+            IsServerOf L.Ledger server commands) }
+        ensures same { IfOk result (λ server. ledger_of server ≡ ledger) }
+        ensures back { IfErr result (λ back. back ≡ ledger) }
+        ensures bound { IfOk result (λ server. bound_of server ≡ most_changes) }
+    {
+        let Ok(routes) = Routes::new(alloc) else {
+            return Err(ledger);
+        };
+        let records = Records::new(alloc, ledger, most_changes)?;
+        Ok(Server {
+            records,
+            routes,
+            alloc,
+        })
+    }
+
+    /// The ledger.
+    pub fn release(self) -> L
+        ensures { result ≡ ledger_of self }
+    {
+        let Server {
+            records,
+            routes: _,
+            alloc: _,
+        } = self;
+        records.release()
+    }
+}
+
+impl<L: Ledger> Responder for Server<L> {
+    ghost use Rattle.cad_resource.specs.Requested.{ends_after};
+    ghost use Rattle.cad_server.specs.Replies.{IsReply, bad_head_reply, Asks, FailsToAnswer};
+    ghost use Rattle.cad_server.specs.Servers.{ledger_of, IsServerOf, RefusesToAnswer, DamagedForAnswer};
+    ghost use Rattle.cad_server.specs.Refusing.{failing_keeps};
+
+    ghost stands_for = { IsServerOf L.Ledger };
+
+    ghost counts = { λ server. L.Ledger.counts (ledger_of server) };
+
+    ghost lives = { λ server. L.Ledger.lives (ledger_of server) };
+
+    ghost fails = { λ old new. L.Ledger.fails (ledger_of old) (ledger_of new) };
+
+    ghost replies = { IsReply };
+
+    ghost closes = { ends_after };
+
+    ghost bad_head = { bad_head_reply };
+
+    ghost asks = { Asks };
+
+    ghost fails_to_answer = { FailsToAnswer L.Ledger.fails_to_list };
+
+    ghost fails_to_enter = { L.Ledger.fails_to_apply };
+
+    ghost refuses_answer = { RefusesToAnswer L.Ledger };
+
+    ghost refuses_command = { λ old new. L.Ledger.refuses_command (ledger_of old) (ledger_of new) };
+
+    ghost damaged_for_answer = { DamagedForAnswer L.Ledger };
+
+    ghost damaged_for_command = { λ old new. L.Ledger.damaged_for_command (ledger_of old) (ledger_of new) };
+
+    ghost remains = { λ old new. L.Ledger.remains (ledger_of old) (ledger_of new) };
+
+    ghost answer_keeps = { failing_keeps L.Ledger.list_keeps };
+
+    ghost enter_keeps = { L.Ledger.apply_keeps };
+
+    ghost remains_here = { λ server. L.Ledger.remains_here (ledger_of server) };
+
+    ghost remains_then = { λ old mid new. L.Ledger.remains_then (ledger_of old) (ledger_of mid) (ledger_of new) };
+
+    ghost fails_before = { λ old mid new. L.Ledger.fails_before (ledger_of old) (ledger_of mid) (ledger_of new) };
+
+    fn answer(
+        &mut self,
+        bytes: &[u8],
+        headers: &[HeaderSpan],
+        spans: &RequestSpans,
+    ) -> Result<Answer, RegisterFault> {
+        let decision = decide(&self.routes, bytes, headers, spans);
+        let wanted = ParsedRequest::of(self.alloc, &decision.requested)?;
+        let response = self.records.tell(wanted)?;
+        let ends = decision.ends;
+        let bytes = reply_bytes(self.alloc, response.status, ends, response.body.as_str())?;
+        Ok(Answer { bytes, ends })
+    }
+
+    fn bad_head(&self) -> Result<Vec<u8>, AllocError> {
+        let check = Check::BadHead;
+        let body = word_body(self.alloc, check.word())?;
+        reply_bytes(
+            self.alloc,
+            check.status(),
+            check.ends_connection(),
+            body.as_str(),
+        )
+    }
+
+    fn enter(&mut self, command: Command) -> Result<u64, RegisterFault> {
+        self.records.enter(command)
+    }
+
+    fn one_reply() {
+        requests_have_one_reply();
+    }
+}

@@ -1,0 +1,91 @@
+//! What is sought among the features of a revision.
+
+ghost use Rattle.std.specs.Prelude.{◌≡◌, IfOk, option_copied};
+ghost use Rattle.cad_parameters.specs.Identifiers.{numbers_of};
+ghost use Rattle.cad_snapshot.specs.Snapshots.{features_at};
+ghost use Rattle.cad_server.specs.Contents.{content_in, content_in_response, feature_with, feature_content, revision_sought};
+
+use cad_feature::Feature;
+use cad_head::Status;
+use cad_json::word_body;
+use cad_layer::laws::identifiers_are_unique;
+use cad_page::{body, feature_body};
+use cad_parameters::Identifier;
+use cad_request::{FeatureRequest, Response};
+use cad_schema::Collection;
+use cad_snapshot::Snapshot;
+use std::alloc::{AllocError, Global};
+
+/// The revision at which it is sought: the one that is asked for, or the newest.
+pub(crate) fn revision_of(sought: &FeatureRequest, newest: u64) -> u64
+    ensures { result ≡ revision_sought sought.now newest }
+{
+    match sought {
+        FeatureRequest::Page(ask) => ask.continuation.revision.unwrap_or(newest),
+        FeatureRequest::Feature { .. } => newest,
+    }
+}
+
+/// What is told of it. An error is want of memory.
+pub(crate) fn response_in(
+    alloc: Global,
+    sought: &FeatureRequest,
+    snapshot: &Snapshot,
+) -> Result<Response, AllocError>
+    ensures { IfOk result (λ response. content_in_response response ≡ content_in sought.now snapshot.now) }
+{
+    match sought {
+        FeatureRequest::Page(ask) => {
+            let body = body(alloc, ask, snapshot)?;
+            Ok(Response {
+                status: Status::Ok,
+                body,
+            })
+        }
+        FeatureRequest::Feature {
+            collection,
+            identifier,
+        } => {
+            let feature = feature_in(snapshot, *collection, *identifier);
+            feature_response(alloc, *collection, feature)
+        }
+    }
+}
+
+/// The collection's feature with that identifier.
+fn feature_in(
+    snapshot: &Snapshot,
+    collection: Collection,
+    identifier: Identifier,
+) -> Option<&Feature>
+    ensures { option_copied result ≡ feature_with (numbers_of identifier) (features_at snapshot.now collection) }
+{
+    identifiers_are_unique();
+    snapshot.feature(collection, identifier.object, identifier.number)
+}
+
+/// What is told of the feature, or that there is none.
+fn feature_response(
+    alloc: Global,
+    collection: Collection,
+    feature: Option<&Feature>,
+) -> Result<Response, AllocError>
+    ensures { IfOk result (λ response. content_in_response response ≡ feature_content collection (option_copied feature.entry)) }
+{
+    match feature {
+        Some(feature) => {
+            let body = feature_body(alloc, collection, feature)?;
+            Ok(Response {
+                status: Status::Ok,
+                body,
+            })
+        }
+        None => {
+            let body = word_body(alloc, "no-feature")?;
+            Ok(Response {
+                status: Status::NotFound,
+                body,
+            })
+        }
+    }
+}

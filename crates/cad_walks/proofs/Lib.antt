@@ -1,8 +1,0 @@
-pub mod AskingLemmas
-pub mod CountLemmas
-pub mod ListingLemmas
-pub mod PartLemmas
-pub mod AcceptedLemmas
-pub mod WalkLemmas
-pub mod VisitLemmas
-pub mod RestartLemmas

@@ -1,5 +1,0 @@
-use Rattle.cad_walks.proofs.RestartLemmas.{connections_among}
-use Rattle.cad_walks.proofs.laws.connections_among_restarts_are_visits.Goals as goal
-
-pub returns : goal.returns
-returns g c = connections_among _ c.connections_are_visits.ensures

@@ -1,6 +1,0 @@
-use Rattle.cad_desk.specs.Desks.{rules_of}
-use Rattle.cad_walks.proofs.VisitLemmas.{runs_keep_accepted}
-use Rattle.cad_walks.proofs.laws.runs_keep_accepted.Goals as goal
-
-pub returns : goal.returns
-returns g c = runs_keep_accepted (rules_of g.R.Responder)

@@ -1,5 +1,0 @@
-use Rattle.cad_walks.proofs.CountLemmas.{count}
-use Rattle.cad_walks.proofs.laws.walks_have_that_many_pages.Goals as goal
-
-pub returns : goal.returns
-returns c = count c.walks_are_whole.ensures

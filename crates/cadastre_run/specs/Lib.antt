@@ -1,0 +1,6 @@
+pub mod Commands
+pub mod Outcomes
+pub mod Serving
+pub mod Listening
+pub mod Entering
+pub mod lemmas

@@ -1,0 +1,29 @@
+//! A run of the program over any ledger: what a command line asks for, the work, and how it ended.
+//!
+//! - [`Command`], [`Service`]: what the words of a command line ask for
+//! - `answer_over`, `answer_sample`: one connection, over a reader and a writer, served over a ledger
+//! - `listen_over`: connections taken at an address and served over a ledger
+//! - `enter_commands`: the lines of the land office entered into a ledger
+//! - [`Outcome`]: how a run ended, its status, and what is told of it
+//!
+//! No database is known here: `cadastre`, the program, finds the register of a file and lends it to these calls.
+//!
+//! ```text
+//! Command::of_words(&["cadastre", "serve", "land.db", "127.0.0.1:0", "3"])
+//!     // Some(Command::Serve { file: "land.db", service: Service { address: "127.0.0.1:0", count: 3 } })
+//! answer_sample(alloc, MemoryLedger::new(alloc), &mut input, &mut output).0.status()
+//!     // 0 once the peer ended or a reply closed the connection
+//! ```
+#![tactic(auto)]
+
+mod command;
+mod entering;
+mod listening;
+mod outcome;
+mod serving;
+
+pub use command::{Command, Service};
+pub use entering::enter_commands;
+pub use listening::listen_over;
+pub use outcome::Outcome;
+pub use serving::{answer_over, answer_sample};

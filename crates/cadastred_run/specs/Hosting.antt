@@ -1,0 +1,52 @@
+-- A desk over a ledger at two sockets, and how that ends a run (own profile).
+use Rattle.std.specs.Prelude.{◌≡◌, ◌⊎◌, ℕ, List, Option, None, Some, Result, Ok, Err}
+use Rattle.std.specs.Io.KnownBytes.{Appends}
+use Rattle.std.specs.declared.net.socket_addr.SocketAddr.{SocketAddr}
+use Rattle.cad_serve.specs.Arguments.{listening_line, IsBoundFor}
+use Rattle.cad_serve.specs.Statuses.{EndsWithout}
+use Rattle.cad_versions.specs.declared.fault.RegisterFault.TheVariants as register
+use Rattle.cad_versions.specs.declared.ledger.Ledger as ledger
+use Rattle.cad_stream.specs.declared.responder.Responder as responder
+use Rattle.cad_desk.specs.declared.desk.Desk.{Desk}
+use Rattle.cad_desk.specs.Desks.{responder_of}
+use Rattle.cad_server.specs.declared.server.Server.{Server}
+use Rattle.cad_server.specs.Servers.{ledger_of}
+use Rattle.cadastre_run.specs.Serving.{answers_of, IsDeskOver}
+use Rattle.cad_event_loop.specs.declared.stopped.Stopped.{Stopped}
+use Rattle.cad_event_loop.specs.declared.stopped.Stopped.TheVariants.{Asked, StoreRefused, RoundsSpent}
+use Rattle.cad_event_loop.specs.Works.{Hosts}
+use Rattle.cadastred_run.specs.declared.outcome.Outcome.{Outcome}
+use Rattle.cadastred_run.specs.declared.outcome.Outcome.TheVariants as outcome
+
+-- how hosting ends a run
+abbrev pub outcome_of_hosting : {E : Type 0} → Result Stopped E → Outcome
+outcome_of_hosting (Ok Asked) = outcome.Good
+outcome_of_hosting (Ok StoreRefused) = outcome.Register register.Store
+outcome_of_hosting (Ok RoundsSpent) = outcome.Failed
+outcome_of_hosting (Err error) = outcome.Failed
+
+-- the address that was asked for, and what standard output holds before and after
+module _ (asked : SocketAddr) (before after : Option (List ℕ)) where
+  -- the line that tells the address that is bound is written, and nothing else
+  abbrev pub TellsAddress : Type 0
+  TellsAddress = (bound : SocketAddr) × IsBoundFor asked bound × Appends before after (listening_line bound)
+
+  -- the address can't be had, and nothing is told or asked of the desk; or it is told, and the desk is hosted until the office asks to stop, or the database refuses; or telling it or hosting failed, and the database did not refuse
+  abbrev pub EndsHosting : {R : Type 0} → responder.Ghosts R → Desk R → Outcome → Desk R → Type 0
+  EndsHosting g old outcome.Address new = (after ≡ before) × (new ≡ old)
+  EndsHosting g old outcome.Good new = TellsAddress × Hosts g (Some Asked) old new
+  EndsHosting g old (outcome.Register fault) new = (fault ≡ register.Store) × TellsAddress × Hosts g (Some StoreRefused) old new
+  EndsHosting g old outcome.Failed new = Hosts g None old new ⊎ Hosts g (Some Asked) old new
+  EndsHosting g old other new = ⊥
+
+  -- a desk over the ledger is hosted, and the ledger is given back
+  pub record EndsHosted {L : Type 0} (g : ledger.Ghosts L) (lent : L) (ended : Outcome × L) : Type 0 where
+    pub old : Desk (Server L)
+    pub new : Desk (Server L)
+    pub over : IsDeskOver g lent old
+    pub hosting : EndsHosting (answers_of g) old ended.0 new
+    pub back : ended.1 ≡ ledger_of (responder_of new)
+
+  -- there is no memory for a desk, and nothing is told; or one is hosted
+  abbrev pub HostsOver : {L : Type 0} → ledger.Ghosts L → L → Outcome × L → Type 0
+  HostsOver g lent ended = EndsWithout (after ≡ before) (outcome.Register register.Memory) lent ended ⊎ EndsHosted g lent ended

@@ -1,0 +1,28 @@
+-- What a command line asks for (own profile).
+use Rattle.std.specs.Prelude.{ℕ, Bool, true, false, List, [], ◌∷◌, codes, Option, Some, None, if◌then◌else◌}
+use Rattle.std.specs.Str.{bytes_eq}
+use Rattle.cadastred_run.specs.declared.invocation.Invocation.{Invocation}
+use Rattle.cadastred_run.specs.declared.invocation.Invocation.TheVariants.{Help, Version, Serve}
+
+-- a command line, as what it asks for: a service of a file, at an address and for the office at a path, with a log or without
+pub data CommandLine : Type 0 where
+  nothing : CommandLine
+  help : CommandLine
+  version : CommandLine
+  a_service : Bool → List ℕ → List ℕ → List ℕ → CommandLine
+
+-- what the words behind the program's name ask for
+abbrev pub command_line_of : List (List ℕ) → CommandLine
+command_line_of [] = nothing
+command_line_of (program ∷ []) = nothing
+command_line_of (program ∷ option ∷ []) = if bytes_eq option (codes "--help") then help else (if bytes_eq option (codes "--version") then version else nothing)
+command_line_of (program ∷ file ∷ address ∷ []) = nothing
+command_line_of (program ∷ file ∷ address ∷ office ∷ []) = a_service false file address office
+command_line_of (program ∷ option ∷ file ∷ address ∷ office ∷ []) = if bytes_eq option (codes "--log") then a_service true file address office else nothing
+command_line_of (program ∷ option ∷ file ∷ address ∷ office ∷ other ∷ words) = nothing
+
+abbrev pub command_line : Option Invocation → CommandLine
+command_line None = nothing
+command_line (Some Help) = help
+command_line (Some Version) = version
+command_line (Some (Serve service)) = a_service service.logs service.file.now service.address.now service.office.now

@@ -1,0 +1,55 @@
+//! What the arguments ask for.
+
+/// Which register is served, and where.
+#[derive(Clone, Copy, Debug, PartialEq, Eq)]
+pub struct Service<'a> {
+    /// The path of the register's file.
+    pub file: &'a str,
+    /// The text of the address at which clients come.
+    pub address: &'a str,
+    /// The path of the socket at which the land office comes.
+    pub office: &'a str,
+    /// Whether a line is written for each reply.
+    pub logs: bool,
+}
+
+/// What the program is to do.
+#[derive(Clone, Copy, Debug, PartialEq, Eq)]
+pub enum Invocation<'a> {
+    /// Tell how it is called.
+    Help,
+    /// Tell its version.
+    Version,
+    /// Serve.
+    Serve(Service<'a>),
+}
+
+impl<'a> Invocation<'a> {
+    ghost use Rattle.std.specs.Prelude.{◌≡◌, map, string_bytes};
+    ghost use Rattle.cadastred_run.specs.Invocations.{command_line_of, command_line};
+
+    /// The invocation of a command line, which begins with the program's name.
+    pub fn of_words(words: &'a [String]) -> Option<Invocation<'a>>
+        ensures { command_line result ≡ command_line_of (map (λ word. string_bytes word) words.now) }
+    {
+        match words {
+            [_, option] if option.as_str() == "--help" => Some(Invocation::Help),
+            [_, option] if option.as_str() == "--version" => Some(Invocation::Version),
+            [_, file, address, office] => Some(Invocation::Serve(Service {
+                file: file.as_str(),
+                address: address.as_str(),
+                office: office.as_str(),
+                logs: false,
+            })),
+            [_, option, file, address, office] if option.as_str() == "--log" => Some(
+                Invocation::Serve(Service {
+                    file: file.as_str(),
+                    address: address.as_str(),
+                    office: office.as_str(),
+                    logs: true,
+                }),
+            ),
+            _ => None,
+        }
+    }
+}

@@ -1,0 +1,85 @@
+//! How a run ended: its status, and the line that tells it.
+
+use cad_event_loop::Stopped;
+use cad_serve::{ADDRESS, Fault, Message, REGISTER, status};
+use cad_versions::RegisterFault;
+use std::io::{ErrorKind, Result};
+
+/// How the program is called.
+pub const HELP: &str = "usage: cadastred [--log] FILE ADDRESS OFFICE | --help | --version";
+
+/// How a run ended.
+#[derive(Clone, Copy, Debug, PartialEq, Eq)]
+pub enum Outcome {
+    /// All went well.
+    Good,
+    /// The system refused what serving needs: memory, descriptors, the clock, or waiting for sockets.
+    Failed,
+    /// There was no register or no desk over it, or its database refused what it was asked.
+    Register(RegisterFault),
+    /// The arguments are wrong.
+    Usage,
+    /// The address cannot be read or bound.
+    Address,
+    /// The office's socket cannot be bound.
+    Office,
+}
+
+impl Outcome {
+    ghost use Rattle.std.specs.Prelude.{◌≡◌};
+    ghost use Rattle.cadastred_run.specs.Hosting.{outcome_of_hosting};
+    ghost use Rattle.cadastred_run.specs.Outcomes.{line_of, outcome_without_arguments, status_of};
+    ghost use Rattle.cad_serve.specs.Statuses.{message_line};
+
+    /// How a run ends whose command line cannot be had for this cause.
+    pub fn without_arguments(cause: ErrorKind) -> Outcome
+        ensures { result ≡ outcome_without_arguments cause }
+    {
+        match cause {
+            ErrorKind::OutOfMemory => Outcome::Failed,
+            _ => Outcome::Usage,
+        }
+    }
+
+    /// How hosting ends a run.
+    pub(crate) fn of_hosting(hosted: Result<Stopped>) -> Outcome
+        ensures { result ≡ outcome_of_hosting hosted }
+    {
+        match hosted {
+            Ok(Stopped::Asked) => Outcome::Good,
+            Ok(Stopped::StoreRefused) => Outcome::Register(RegisterFault::Store),
+            Ok(Stopped::RoundsSpent) | Err(_) => Outcome::Failed,
+        }
+    }
+
+    /// The status of the process.
+    pub fn status(self) -> u8
+        ensures { result ≡ status_of self }
+    {
+        match self {
+            Outcome::Good => status::GOOD,
+            Outcome::Failed => status::FAILED,
+            Outcome::Usage => status::WRONG_ARGUMENTS,
+            Outcome::Register(_) => status::NO_REGISTER,
+            Outcome::Address | Outcome::Office => status::NO_ADDRESS,
+        }
+    }
+
+    /// What is told of it on standard error.
+    pub fn message(self) -> Message
+        ensures { message_line result ≡ line_of self }
+    {
+        match self {
+            Outcome::Good => Message::Nothing,
+            Outcome::Failed => Message::Line("host: failed"),
+            Outcome::Usage => Message::Line(HELP),
+            Outcome::Address => Message::Line(ADDRESS),
+            Outcome::Office => Message::Line("office"),
+            Outcome::Register(fault) => Message::Fault(Fault {
+                kind: REGISTER,
+                number: fault.number(),
+                name: fault.name(),
+            }),
+        }
+    }
+}

@@ -1,0 +1,103 @@
+//! The plans for filters and requests: each line of standard input is a case, and a line is printed for it.
+//!
+//! A filter's case is the name of a collection, where a window is asked for `/` and its four numbers, a space, and the text of
+//! a filter, as `parcels/0,0,9,9 area > 390`. It is asked of the sample register, and the answer is
+//!
+//! - the menu, each plan with its cost; then, after `->`, the plan that is chosen, its cost, how many candidates it has, and
+//!   the features that it gives, which are those of which the filter is true:
+//!   `all 5, range(object with 3 with 3) 1 -> range(object with 3 with 3) 1 has 1 gives 3.1`,
+//! - `uncovered` and an identifier, where the filter is true of that feature and a plan of the menu has it not,
+//! - `gives others`, `tests others` or `counted otherwise` and a plan of the menu, where its page lists other features, or one
+//!   of them twice, where another number of features was tested than its candidates, or where these are counted otherwise.
+//!
+//! A request's case is `explain `, the name of a collection and, behind `?`, a query, as
+//! `explain parcels?filter=object+%3D+3`. It is asked of the sample register at the revision that it names, or at the last one,
+//! and the answer is
+//!
+//! - the plan by which its page is found, its cost, how many candidates it has, how many features are tested, the identifiers
+//!   that the page lists, and `and more` where another page follows:
+//!   `range(object with 3 with 3) cost 1 candidates 1 examined 1 gives 3.1`,
+//! - `another page by` and a plan, where a plan of the menu gives another page,
+//! - `refused` and the fault's name, where the query is none, and `no revision`, where the register has none such.
+//!
+//! A page's case is `page `, and a request as that of `explain`; the answer is the body of its page as it is sent and, behind a
+//! space, the target of its link to the next page, if it has one; where the query is none, the body that tells its fault. That of
+//! `grown ` is the same page of the last revision, where each command of the sample register made the features of those before it:
+//! it is made once by these, as changes to bases, and once by the same with new bases; `bases otherwise` and `settled otherwise`
+//! tell that these have changes, or give another page.
+//!
+//! A feature's case is `feature `, the name of a collection, a space and an identifier, as `feature units 10.1`; the answer is the
+//! body of that feature of the sample register, or the body of the word `no-feature`.
+//!
+//! Of parameters, links and bodies without features, the answer stands behind the line itself:
+//!
+//! - `asks QUERY`: what the pairs of the query select and where the page begins, or the first fault
+//! - `self QUERY`: the target of the link to the page itself, over the path `/items`
+//! - `next QUERY REVISION IDENTIFIER`: the target of the link to the next page
+//! - `body PATH`: the body of the landing page, of the collections, of one of them or of its queryables
+//! - `word WORD`, `fault CAUSE PLACE`: the body of a fault, and of that of a filter
+//!
+//! The line `asks limit=1` is answered by `asks limit=1: limit 1`, and `asks ?` by `asks ?: 1 Unknown unknown`.
+//!
+//! `refused` is answered where a text is no filter of that collection, and `no case` where the line is none. A line without
+//! bytes, or one that begins with `#`, is passed over.
+//!
+//! - `cases`: lines with cases
+//! - `answers`: what is answered of a filter's plans
+//! - `bodies`: bodies as they are sent
+//! - `fixed_bodies`: bodies that no feature stands in
+//! - `menus`: the page of a request by each plan of its menu
+//! - `pages`: pages by every plan
+//! - `plans`: plans as they are printed, and their candidates
+//! - `queries`: what parameters ask for, and links
+//! - `ranges`: ranges as they are printed
+//! - `reports`: what is answered of a request
+//! - `sample`: the register that it is asked of
+#![tactic(auto)]
+
+mod answers;
+mod bodies;
+mod cases;
+mod fixed_bodies;
+mod menus;
+mod pages;
+mod plans;
+mod queries;
+mod ranges;
+mod reports;
+mod sample;
+
+use cases::answer;
+use sample::sample_versions;
+use std::io::{Error, ErrorKind, Read, Result};
+use std::process::ExitCode;
+
+/// The status where memory is refused.
+const NO_MEMORY: u8 = 7;
+
+fn run(rt: &HostRuntime) -> Result<()> {
+    let mut input = Vec::new(rt.alloc());
+    rt.stdin().read_to_end(&mut input)?;
+    let versions = sample_versions(rt.alloc())?;
+    for line in input.split(|byte| *byte == b'\n') {
+        if !line.is_empty() && !line.starts_with(b"#") {
+            println!(rt; "{}", answer(rt.alloc(), &versions, line)?.as_str())?;
+        }
+    }
+    Ok(())
+}
+
+fn status_of(error: Error) -> u8 {
+    if error.kind() == ErrorKind::OutOfMemory {
+        NO_MEMORY
+    } else {
+        1
+    }
+}
+
+fn main(rt: HostRuntime) -> ExitCode {
+    match run(&rt) {
+        Ok(()) => ExitCode::from(0),
+        Err(error) => ExitCode::from(status_of(error)),
+    }
+}
