@@ -6,9 +6,16 @@ BUILD = RT="$(RT)" scripts/build $(if $(JOBS),--jobs $(JOBS))
 # What `make explain` is asked: a query as a request has it, and of which collection.
 QUERY ?=
 COLLECTION ?= parcels
-export QUERY COLLECTION
+# What `make look` is asked: a path with its query.
+REQUEST ?=
+export QUERY COLLECTION REQUEST
 
-.PHONY: sample cadastred explain cases test random check wrong-bodies tests-refuse refused damage bench register-file office-file serve-file stops host clients proxy import viewer deb clean
+.PHONY: look sample cadastred explain cases test random check wrong-bodies tests-refuse refused damage bench register-file office-file serve-file stops host clients proxy import viewer deb clean
+
+# Answers a request over the sample register without a proof, in a few minutes: that of crates/cadastre/stdin, or
+# `make look REQUEST='/collections/parcels/items?filter=area+>+400'`.
+look:
+	@RT="$(RT)" scripts/try_request "$$REQUEST"
 
 # Proves and builds the program and all that it stands on, and answers the request in crates/cadastre/stdin. Crates that do not wait for each other are proved side by side.
 sample:
@@ -26,8 +33,9 @@ explain:
 	@cd crates/page_cases && printf 'explain %s?%s\n' "$$COLLECTION" "$$QUERY" | $(RT) run
 
 # Holds the stored answers of the cases of filters, of the server, of clients, of days and of parameters, and the examples of docs/FILTERS.md,
-# against second readings of the rules, the examples of docs/API.md against the server's cases, and docs/PROMISES.md against the crates;
-# and counts what the cases of commands under joined names have.
+# against second readings of the rules, the examples of docs/API.md against the server's cases, docs/PROMISES.md against the crates, docs/READING.md
+# against what has to be read, and names in the code against the words of docs/ARCHITECTURE.md; and counts what the cases of commands under
+# joined names have.
 cases:
 	scripts/check_filter_cases
 	scripts/check_further_cases
@@ -36,6 +44,8 @@ cases:
 	scripts/check_clients_cases
 	scripts/check_api_examples
 	scripts/count_promises
+	scripts/count_reading
+	scripts/check_words
 
 # The whole gate: the cases held against a second reading, every proof from nothing, the must-fail edits, the tests, each program as two compilers build it, and the programs on files of the office, with stops at each call of them and growths refused in a database, at an address and at an office's socket.
 test: cases
