@@ -3,8 +3,8 @@
 ghost use Rattle.std.specs.Prelude.{◌≡◌};
 ghost use Rattle.cad_serve.specs.Listening.{failure_of, line_of};
 
+use crate::{Ending, ServeFault};
 use cad_desk::DeskFault;
-use cad_serve::{Ending, ServeFault};
 use cad_versions::RegisterFault;
 
 /// What goes wrong with a connection, and is told.

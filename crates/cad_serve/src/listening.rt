@@ -5,9 +5,9 @@ ghost use Rattle.cad_serve.specs.Listening.{IsServedNext, IsTold, Listens};
 
 use crate::failure::{Failure, failure_in, line};
 use crate::status::{FAILED, GOOD, NO_REGISTER};
+use crate::{Ending, ServeFault, serve};
 use cad_desk::Desk;
 use cad_io::{Counted, CountedWriter, write_whole};
-use cad_serve::{Ending, ServeFault, serve};
 use cad_stream::Responder;
 use std::alloc::Global;
 use std::io::Write;

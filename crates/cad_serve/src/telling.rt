@@ -5,8 +5,8 @@ ghost use Rattle.std.specs.Io.KnownBytes.{Appends};
 ghost use Rattle.cad_serve.specs.Arguments.{listening_line, IsBoundFor};
 ghost use Rattle.cad_serve.specs.Statuses.{message_line};
 
+use crate::ServeFault;
 use crate::message::{Fault, Message};
-use cad_serve::ServeFault;
 use std::io::{Result as IoResult, Write};
 use std::net::SocketAddr;
 
