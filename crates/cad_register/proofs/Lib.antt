@@ -23,3 +23,4 @@ pub mod RefusingLemmas
 pub mod NamingLemmas
 pub mod InquiringLemmas
 pub mod OpeningLemmas
+pub mod ImageLemmas

@@ -17,5 +17,6 @@ pub mod Keeping
 pub mod Opening
 pub mod Ledgers
 pub mod Images
+pub mod Running
 pub mod Laws
 pub mod lemmas

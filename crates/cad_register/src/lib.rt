@@ -1,7 +1,7 @@
 //! The land register: versions in SQLite, and the register at any revision.
 //!
 //! - `Register`: made by `create`, `open` or `open_or_create` over a connection, changed by `apply`, read by `as_of`.
-//! - `open_file`: opens the database of a file over what it held.
+//! - `open_file`, `open_standing_file`: open the database of a file over what it held.
 //! - `laws`: what holds of every register, and of the rows that it is kept in.
 //! - The types of versions, commands and faults are those of `cad_versions`.
 //!
@@ -31,5 +31,5 @@ mod stored_version;
 mod writing;
 
 pub use cad_versions::{Body, Class, Command, ObjectId, RegisterFault, Share, Version, Words};
-pub use file::open_file;
+pub use file::{open_file, open_standing_file};
 pub use register::{Register, Revision};

@@ -14,7 +14,13 @@ use Rattle.sqlite_resolve.specs.Compile.{table_defined_by, index_defined_by}
 use Rattle.sqlite_catalog.specs.Listing.{is_table_row, is_index_row, is_view_row, IsTableRow, IsIndexRow, IsViewRow, IsDefined, automatic, AreListed, IsSound}
 use Rattle.sqlite_catalog.proofs.StepLemmas.{same_itself, named_once}
 use Rattle.sqlite_catalog.proofs.AlterLemmas.{numbers_differ}
-use Rattle.cad_tables.specs.Tables.{register_schema}
+use Rattle.sqlite_resolve.specs.declared.error.CompileError.TheVariants.{NoSuchTable}
+use Rattle.sqlite.specs.Listing.{understood, listing_schema}
+use Rattle.sqlite.proofs.ListingLemmas.{empty_is_sound}
+use Rattle.sqlite_tied.specs.Compute.{everything}
+use Rattle.cad_tables.specs.Opening.{LacksColumns}
+use Rattle.cad_tables.specs.Tables.{register_schema, no_schema}
+use Rattle.cad_tables.specs.Texts.{listing_text}
 
 zip_same : {A B : Type 0} (R : A → B → Type 0) → ((a : A) (x y : B) → R a x → R a y → x ≡ y) → (rows : List A) (xs ys : List B) → AllZip R rows xs → AllZip R rows ys → xs ≡ ys
 zip_same R one [] [] [] p q = refl
@@ -80,3 +86,12 @@ schema_same rows a b none p q =
 -- trees that list the register's schema list no other
 pub register_schema_only : (db : Trees) (schema : Schema) → IsSound register_schema db → IsSound schema db → schema ≡ register_schema
 register_schema_only db schema p q = schema_same (db catalog_tree) register_schema schema refl p.lists.listed q.lists.listed
+
+-- trees whose catalog is empty list none
+pub no_schema_only : (db : Trees) (schema : Schema) → db catalog_tree ≡ [] → IsSound schema db → schema ≡ no_schema
+no_schema_only db schema none q = schema_same (db catalog_tree) no_schema schema refl (empty_is_sound db none).lists.listed q.lists.listed
+
+-- without a table no column of `version` stands
+pub no_schema_lacks : LacksColumns no_schema
+unfolding understood listing_schema everything
+no_schema_lacks = (NoSuchTable, refl, refl)
