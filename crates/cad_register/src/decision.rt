@@ -42,12 +42,12 @@ fn is_entered<S: Alter>(
 
 /// Whether all that the body names was entered.
 fn are_entered<S: Alter>(connection: &mut Connection<S>, body: &Body) -> Result<bool, RegisterFault>
+    ensures damaged { IfErr result (NamesFirst S.Store connection.old connection.new (body_asked body.now)) }
     ensures inquires { Inquires S.Store connection.old connection.new (IsForBody body.now)
         (λ commands known. known ≡ all_entered (versions commands) body.now)
         (λ commands fault. IsStoreFault fault) result }
     ensures shown { IfOk result (λ known. known ≡ true →
         TellAll S.Store connection.new (body_asked body.now) connection.old connection.new) }
-    ensures damaged { IfErr result (NamesFirst S.Store connection.old connection.new (body_asked body.now)) }
 {
     if is_entered(connection, Class::Unit, body.unit())? {
         let known = is_entered(connection, Class::Party, body.party())?;
@@ -82,13 +82,13 @@ fn check_addition<S: Alter>(
     revision: u32,
     body: &Body,
 ) -> Result<(), RegisterFault>
+    ensures damaged { IfErr result
+        (NamesFirst S.Store connection.old connection.new (addition_asked (Some body.now) revision)) }
     ensures inquires { Inquires S.Store connection.old connection.new (IsForAddition (Some body.now) revision)
         (λ commands _. revision ≡ length commands →
         refuses_body (versions commands) (Some body.now) ≡ None)
         (λ commands fault. revision ≡ length commands →
         IsRefusal (refuses_body (versions commands) (Some body.now)) fault) result }
-    ensures damaged { IfErr result
-        (NamesFirst S.Store connection.old connection.new (addition_asked (Some body.now) revision)) }
 {
     if !are_entered(connection, body)? {
         return Err(RegisterFault::UnknownReference);
@@ -106,14 +106,14 @@ pub(crate) fn decide<S: Alter>(
     revision: u32,
     command: &Command,
 ) -> Result<usize, RegisterFault>
+    ensures damaged { IfErr result
+        (NamesFirst S.Store connection.old connection.new (command_asked command.now revision)) }
     ensures inquires { Inquires S.Store connection.old connection.new (IsForCommand command.now revision)
         (λ commands count. revision ≡ length commands →
         (refusal (versions commands) command.now ≡ None) ×
         (count ≡ length (history (object_named command.now) (versions commands))))
         (λ commands fault. revision ≡ length commands →
         IsRefusal (refusal (versions commands) command.now) fault) result }
-    ensures damaged { IfErr result
-        (NamesFirst S.Store connection.old connection.new (command_asked command.now revision)) }
 {
     let standing = standing_of(connection, command.object())?;
     if let Some(fault) = command.refused_by_object(standing.class, standing.open_since) {
