@@ -1,5 +1,5 @@
 -- The register of the files that a program finds (SQLite, Atomic Commit; own profile).
-use Rattle.std.specs.Prelude.{◌≡◌, List, length, IsTrue}
+use Rattle.std.specs.Prelude.{◌≡◌, ◌⊎◌, List, length, IsTrue}
 use Rattle.sqlite_trees.specs.Tree.{Trees}
 use Rattle.sqlite.specs.Recovery.{Image}
 use Rattle.sqlite.specs.State.{State, HasCleanDisk}
@@ -35,3 +35,7 @@ opening_fault other = register.Store
 -- it is told of one of the errors that an open may have
 abbrev pub IsOpeningFault : RegisterFault → Type 0
 IsOpeningFault fault = (e : Error) × IsTrue (is_open_error e) × (fault ≡ opening_fault e)
+
+-- why the register of a file that has to stand is not found: there is none, or the file is not opened
+abbrev pub IsFindingFault : RegisterFault → Type 0
+IsFindingFault fault = (fault ≡ register.NotARegister) ⊎ IsOpeningFault fault

@@ -1,9 +1,9 @@
 //! Opening the database of a register's file.
 
-ghost use Rattle.std.specs.Prelude.{◌≡◌, ◌⊎◌, IfOk, IfErr};
+ghost use Rattle.std.specs.Prelude.{◌≡◌, IfOk, IfErr};
 ghost use Rattle.sqlite.specs.Files.{file_state};
 ghost use Rattle.sqlite.specs.WalFiles.{image_at};
-ghost use Rattle.cad_register.specs.Images.{FindsRegister, IsOpeningFault, opening_fault};
+ghost use Rattle.cad_register.specs.Images.{FindsRegister, IsOpeningFault, IsFindingFault, opening_fault};
 
 use cad_versions::RegisterFault;
 use sqlite::{Connection, Error, ErrorCode, FileFrom, FileStore, Start};
@@ -50,7 +50,7 @@ pub fn open_standing_file<S: Start>(
     start: S,
 ) -> Result<Connection<FileStore<FileFrom<S>>>, RegisterFault>
     ensures found { IfOk result (λ connection. FindsRegister (image_at S.Start) (file_state connection)) }
-    ensures cause { IfErr result (λ fault. (fault ≡ RegisterFault.NotARegister) ⊎ IsOpeningFault fault) }
+    ensures cause { IfErr result IsFindingFault }
 {
     if is_nothing(rt, path) {
         return Err(RegisterFault::NotARegister);
