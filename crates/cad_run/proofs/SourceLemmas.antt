@@ -1,9 +1,9 @@
 -- What is left in segments of which the last stands first.
-use Rattle.std.proofs.Common.{◌≡◌, ◌∙◌, ℕ, ℤ, ◌+◌, ◌-◌, ◌<◌, ◌^◌, false, refl, List, [], ◌∷◌, ◌++◌, length, take, drop, get_or, ap, sym, subst, arith, MatchOption, Bor, Option, Some, None, slice_index_or, slice_set}
+use Rattle.std.proofs.Common.{◌≡◌, ◌∙◌, ℕ, ℤ, ◌+◌, ◌-◌, ◌<◌, ◌≤◌, ◌^◌, false, refl, List, [], ◌∷◌, ◌++◌, length, take, drop, get_or, ap, sym, subst, arith, MatchOption, Bor, Option, Some, None, slice_index_or, slice_set}
 use Rattle.std.specs.List.{AllByRecursion}
 use Rattle.std.specs.List.Sorted.{IsStrictlySortedBy}
 use Rattle.std.proofs.lemmas.List.Kept.{IsStrictlySortedBy-filter}
-use Rattle.std.proofs.lemmas.List.{append_assoc, append-nil, drop-drop, drop-set-lt, get_or-drop, length-set, nil_from_length, take-set, take_all, take_more, take_more_set}
+use Rattle.std.proofs.lemmas.List.{append_assoc, append-nil, drop-set-lt, drop_more, length-set, nil_from_length, take-set, take_all, take_more, take_more_set}
 use Rattle.std.proofs.lemmas.List.Elements.{filter-append}
 use Rattle.cad_versions.specs.lemmas.ListLemmas.{filter_fewer}
 use Rattle.cad_feature.specs.Features.{Item, by_identifier}
@@ -101,23 +101,26 @@ module _ (last : Option (ℤ × ℤ)) (before now : List SegmentCandidates) (at 
   abbrev pub AreSought : Type 0
   AreSought = (all_left (take at now) ≡ later last (all_left (take at before))) × (drop at now ≡ drop at before)
 
-  module _ (source new : SegmentCandidates) (h : at < length before) (is : source ≡ get_or now at source) (left : segment_left new ≡ later last (segment_left source)) (sought : AreSought) where
+  module _ (d new : SegmentCandidates) (h : at < length before) (left : segment_left new ≡ later last (segment_left (get_or now at d))) (sought : AreSought) where
     abbrev changed_there : List SegmentCandidates
     changed_there = slice_set now at new
 
-    stood : source ≡ get_or before at source
-    stood = is ∙ sym (get_or-drop at now 0 source) ∙ ap (λ ss. get_or ss 0 source) sought.1 ∙ get_or-drop at before 0 source
+    from_there : get_or now at d ∷ drop (at + 1) now ≡ get_or before at d ∷ drop (at + 1) before
+    from_there = sym (drop_more now at d (omega (arith, long, h))) ∙ sought.1 ∙ drop_more before at d h
+
+    stood : get_or now at d ≡ get_or before at d
+    stood = ap (λ ss. get_or ss 0 d) from_there
 
     pub one_more_sought : all_left (take (at + 1) changed_there) ≡ later last (all_left (take (at + 1) before))
     one_more_sought =
         ap all_left (take_more_set now at new (omega (arith, long, h))) ∙ last_left (take at now) new
-        ∙ ap (λ xs. xs ++ all_left (take at now)) left
-        ∙ ap (λ xs. later last (segment_left source) ++ xs) sought.0
-        ∙ sym (ap (later last) (ap all_left (take_more before at source h ∙ ap (λ s. take at before ++ (s ∷ [])) (sym stood)) ∙ last_left (take at before) source)
-        ∙ filter-append (is_later last) (segment_left source) (all_left (take at before)))
+        ∙ ap (λ xs. xs ++ all_left (take at now)) (left ∙ ap (λ s. later last (segment_left s)) stood)
+        ∙ ap (λ xs. later last (segment_left (get_or before at d)) ++ xs) sought.0
+        ∙ sym (ap (later last) (ap all_left (take_more before at d h) ∙ last_left (take at before) (get_or before at d))
+        ∙ filter-append (is_later last) (segment_left (get_or before at d)) (all_left (take at before)))
 
     pub others_stand : drop (at + 1) changed_there ≡ drop (at + 1) before
-    others_stand = drop-set-lt (at + 1) now at new (omega arith) ∙ sym (drop-drop 1 at now) ∙ ap (drop 1) sought.1 ∙ drop-drop 1 at before
+    others_stand = drop-set-lt (at + 1) now at new (omega arith) ∙ ap (drop 1) from_there
 
   pub all_sought : length before ≤ at → AreSought → all_left now ≡ later last (all_left before)
   all_sought h sought =

@@ -30,11 +30,7 @@ impl<'a> Bases<'a> {
     ghost use Rattle.cad_run.specs.Bases.{rows_left};
 
     /// The plan's candidates in the base. An error is want of memory.
-    pub(crate) fn of(
-        alloc: Global,
-        plan: &Plan,
-        base: &'a Base,
-    ) -> Result<Bases<'a>, AllocError>
+    pub(crate) fn of(alloc: Global, plan: &Plan, base: &'a Base) -> Result<Bases<'a>, AllocError>
         ensures { IfOk result (λ bases. rows_left bases ≡ filter (is_candidate plan.now) base.now.features) }
     {
         let features = base.features();

@@ -19,12 +19,14 @@ use std::alloc::{AllocError, Global};
 fn left_after<'a, S: FeatureSource<'a>>(source: S, after: Option<(ObjectId, u32)>) -> S
     ensures { S.left result ≡ later (option_map identifier after) (S.left source) }
 {
-    let Some(last) = after else {
-        return source;
-    };
-    let mut source = source;
-    source.seek(last);
-    source
+    match after {
+        None => source,
+        Some(last) => {
+            let mut source = source;
+            source.seek(last);
+            source
+        }
+    }
 }
 
 /// The page of the plan's candidates that pass the test: the first of them after the one that is named, `limit` of them at

@@ -1,4 +1,4 @@
-use Rattle.std.proofs.Common.{◌≡◌, ◌∙◌, ap, length, filter, take, nat_lt, option_map}
+use Rattle.std.proofs.Common.{◌∙◌, ap, length, filter, take, nat_lt, option_map}
 use Rattle.cad_lookup.specs.Candidates.{candidates}
 use Rattle.cad_run.specs.Slices.{identifier, is_later, later}
 use Rattle.cad_run.proofs.LeftLemmas.{turned}

@@ -8,11 +8,11 @@ invariant_of-self c =
     let s = c.args.self.now in
     let last = Some (identifier c.args.last) in
     record {
-      order = sought_in_order last _ _ _ _ c.seek.ensures c.changes_after.ensures s.order;
-      passing = sought_passing s.plan.now last _ s.changes.now _ _ c.seek.ensures c.changes_after.ensures s.passing;
+      order = sought_in_order last _ _ _ _ c.seek.ensures c.changes_after-self.ensures s.order;
+      passing = sought_passing s.plan.now last _ s.changes.now _ _ c.seek.ensures c.changes_after-self.ensures s.passing;
     }
 
 pub returns : goal.returns
 returns c =
     let s = c.args.self.now in
-    sought_left s.plan.now (Some (identifier c.args.last)) _ _ _ _ c.seek.ensures c.changes_after.ensures s.order
+    sought_left s.plan.now (Some (identifier c.args.last)) _ _ _ _ c.seek.ensures c.changes_after-self.ensures s.order
