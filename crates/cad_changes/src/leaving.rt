@@ -235,7 +235,7 @@ fn candidates_left(
 {
     let collection = features.collection();
     let mut all = Vec::new(alloc);
-    let mut left = Candidates::of(alloc, plan, features, None)?;
+    let mut left = Candidates::of(alloc, plan, features)?;
     while let Some(feature) = left.next() {
         push_left(alloc, command, collection, name, feature, &mut all)?;
     }

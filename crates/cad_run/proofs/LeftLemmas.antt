@@ -1,9 +1,9 @@
--- The candidates that are left of a base and of the changes to it, from their front.
+-- The candidates that are left of a base and of the changes to it, after a search and from their front.
 use Rattle.std.proofs.Common.{◌≡◌, ◌∙◌, ℤ, Bool, true, false, cond, List, [], ◌∷◌, Bor, length, filter, ap, sym, refl, subst, arith, true≢false, MatchOption, Option, Some, None, Equal, is_eq, is_gt}
 use Rattle.std.specs.Prelude.{if◌then◌else◌}
 use Rattle.std.specs.List.{All, AllByRecursion}
 use Rattle.std.specs.List.Sorted.{IsStrictlySortedBy}
-use Rattle.std.proofs.lemmas.List.Elements.{All-from_recursion, All-tail}
+use Rattle.std.proofs.lemmas.List.Elements.{All-filter, All-from_recursion, All-tail}
 use Rattle.std.proofs.lemmas.List.Kept.{IsStrictlySortedBy-filter}
 use Rattle.std.proofs.lemmas.List.{nil_from_length}
 use Rattle.cad_versions.specs.Identifiers.{identifier_cmp}
@@ -40,9 +40,23 @@ all_passing : (p : Item → Bool) (xs : List Item) → AllByRecursion (λ y. p y
 all_passing p [] = tt
 all_passing p (x ∷ xs) = passing_one p (p x) x (filter p xs) refl (all_passing p xs)
 
-pub same_later : (last : Option (ℤ × ℤ)) (x y : Item) → by_identifier x y ≡ Equal → is_later last x ≡ is_later last y
+same_later : (last : Option (ℤ × ℤ)) (x y : Item) → by_identifier x y ≡ Equal → is_later last x ≡ is_later last y
 same_later None x y e = refl
 same_later (Some named) x y e = ap (λ i. is_gt (identifier_cmp i named)) (equal_is (identifier_of x) (identifier_of y) e)
+
+pub all_later : (xs : List Item) → xs ≡ later None xs
+all_later [] = refl
+all_later (x ∷ xs) = ap (λ ys. x ∷ ys) (all_later xs)
+
+module _ (last : Option (ℤ × ℤ)) where
+  pub later_merged : (bases changes : List Item) → IsStrictlySortedBy by_identifier bases → later last (all_in bases changes) ≡ all_in (later last bases) (later last changes)
+  later_merged bases changes up = filter_merged by_identifier items_total (is_later last) (same_later last) bases changes up
+
+  pub later_rises : (xs ys : List Item) → ys ≡ later last xs → IsStrictlySortedBy by_identifier xs → IsStrictlySortedBy by_identifier ys
+  later_rises xs ys is up = subst (IsStrictlySortedBy by_identifier) (sym is) (IsStrictlySortedBy-filter by_identifier (is_later last) xs up)
+
+  pub sought_in_order : (bases changes bs cs : List Item) → bs ≡ later last bases → cs ≡ later last changes → IsInOrder bases changes → IsInOrder bs cs
+  sought_in_order bases changes bs cs is_base is up = (later_rises bases bs is_base up.0, later_rises changes cs is up.1)
 
 module _ (plan : Plan) where
   abbrev test : Item → Bool
@@ -53,24 +67,26 @@ module _ (plan : Plan) where
 
   -- ---- at the beginning
 
-  module _ (last : Option (ℤ × ℤ)) (base changes bs cs : List Item) (is_base : bs ≡ filter test (later last base)) (is : cs ≡ later last changes) (up : IsInOrder base changes) where
-    later_rises : IsStrictlySortedBy by_identifier (later last base)
-    later_rises = IsStrictlySortedBy-filter by_identifier (is_later last) base up.0
-
-    pub begins_in_order : IsInOrder bs cs
-    begins_in_order = (
-      subst (IsStrictlySortedBy by_identifier) (sym is_base) (IsStrictlySortedBy-filter by_identifier test (later last base) later_rises),
-      subst (IsStrictlySortedBy by_identifier) (sym is) (IsStrictlySortedBy-filter by_identifier (is_later last) changes up.1),
-    )
+  module _ (base changes bs : List Item) (is_base : bs ≡ filter test base) (up : IsInOrder base changes) where
+    pub begins_in_order : IsInOrder bs changes
+    begins_in_order = (subst (IsStrictlySortedBy by_identifier) (sym is_base) (IsStrictlySortedBy-filter by_identifier test base up.0), up.1)
 
     pub begins_passing : AllPass bs
-    begins_passing = subst AllPass (sym is_base) (All-from_recursion (λ x. test x ≡ true) (filter test (later last base)) (all_passing test (later last base)))
+    begins_passing = subst AllPass (sym is_base) (All-from_recursion (λ x. test x ≡ true) (filter test base) (all_passing test base))
 
-    pub begins_with : (xs : List Item) → all_in base changes ≡ xs → filter test (all_in bs cs) ≡ later last (candidates plan xs)
-    begins_with xs all =
-        rw (is_base, is) (merged_filtered by_identifier items_total test (later last base) (later last changes) later_rises)
-        ∙ ap (filter test) (sym (filter_merged by_identifier items_total (is_later last) (same_later last) base changes up.0) ∙ ap (later last) all)
-        ∙ turned test (is_later last) xs
+    pub begins_with : (xs : List Item) → all_in base changes ≡ xs → filter test (all_in bs changes) ≡ candidates plan xs
+    begins_with xs all = rw is_base (merged_filtered by_identifier items_total test base changes up.0) ∙ ap (filter test) all
+
+  -- ---- after a search
+
+  module _ (last : Option (ℤ × ℤ)) (bases changes bs cs : List Item) (is_base : bs ≡ later last bases) (is : cs ≡ later last changes) where
+    pub sought_passing : AllPass bases → AllPass bs
+    sought_passing all = subst AllPass (sym is_base) (All-filter (is_later last) (λ x. test x ≡ true) bases all)
+
+    pub sought_left : IsInOrder bases changes → filter test (all_in bs cs) ≡ later last (filter test (all_in bases changes))
+    sought_left up =
+        rw (is_base, is) (ap (filter test) (sym (later_merged last bases changes up.0)))
+        ∙ turned test (is_later last) (all_in bases changes)
 
   -- ---- a change that stands first
 

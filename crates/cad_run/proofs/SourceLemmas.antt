@@ -1,9 +1,9 @@
 -- What is left in segments of which the last stands first.
-use Rattle.std.proofs.Common.{◌≡◌, ◌∙◌, ℕ, ℤ, ◌+◌, ◌-◌, ◌<◌, ◌^◌, false, refl, List, [], ◌∷◌, ◌++◌, length, take, ap, sym, subst, arith, MatchOption, Bor, Option, Some, None, slice_index_or, slice_set}
+use Rattle.std.proofs.Common.{◌≡◌, ◌∙◌, ℕ, ℤ, ◌+◌, ◌-◌, ◌<◌, ◌≤◌, ◌^◌, false, refl, List, [], ◌∷◌, ◌++◌, length, take, drop, get_or, ap, sym, subst, arith, MatchOption, Bor, Option, Some, None, slice_index_or, slice_set}
 use Rattle.std.specs.List.{AllByRecursion}
 use Rattle.std.specs.List.Sorted.{IsStrictlySortedBy}
 use Rattle.std.proofs.lemmas.List.Kept.{IsStrictlySortedBy-filter}
-use Rattle.std.proofs.lemmas.List.{append_assoc, append-nil, length-set, nil_from_length, take-set, take_all, take_more, take_more_set}
+use Rattle.std.proofs.lemmas.List.{append_assoc, append-nil, drop-set-lt, drop_more, length-set, nil_from_length, take-set, take_all, take_more, take_more_set}
 use Rattle.std.proofs.lemmas.List.Elements.{filter-append}
 use Rattle.cad_versions.specs.lemmas.ListLemmas.{filter_fewer}
 use Rattle.cad_feature.specs.Features.{Item, by_identifier}
@@ -26,13 +26,12 @@ last_joined : (ss : List SegmentFeatures) (s : SegmentFeatures) → joined (ss +
 last_joined [] s = append-nil s.features
 last_joined (t ∷ ss) s = ap (λ xs. t.features ++ xs) (last_joined ss s) ∙ sym (append_assoc t.features (joined ss) s.features)
 
-module _ (plan : Plan) (last : Option (ℤ × ℤ)) where
-  abbrev pub wanted : List Item → List Item
-  wanted xs = later last (candidates plan xs)
+module _ (plan : Plan) where
+  abbrev wanted : List Item → List Item
+  wanted xs = candidates plan xs
 
   wanted_of_both : (xs ys : List Item) → wanted (xs ++ ys) ≡ wanted xs ++ wanted ys
-  wanted_of_both xs ys =
-      ap (later last) (filter-append (is_candidate plan) xs ys) ∙ filter-append (is_later last) (candidates plan xs) (candidates plan ys)
+  wanted_of_both xs ys = filter-append (is_candidate plan) xs ys
 
   pub none_taken : (sources : List SegmentCandidates) (xs : List Item) → sources ≡ [] → wanted xs ++ all_left sources ≡ wanted xs
   none_taken sources xs is = ap (λ ss. wanted xs ++ all_left ss) is ∙ append-nil (wanted xs)
@@ -52,7 +51,7 @@ module _ (plan : Plan) (last : Option (ℤ × ℤ)) where
   -- a segment that has no candidates
   pub last_left_out : (segments before : List SegmentFeatures) (segment : SegmentFeatures) (extents : Extents) (sources : List SegmentCandidates) (all : List Item) → segments ≡ before ++ (segment ∷ []) → AllByRecursion (IsWithin extents) segment.features → ((x : Item) → IsWithin extents x → is_candidate plan x ≡ false) → wanted (joined segments) ++ all_left sources ≡ all → wanted (joined before) ++ all_left sources ≡ all
   last_left_out segments before segment extents sources all are within fails same =
-      let none = ap (later last) (none_wanted extents segment.features within fails) in
+      let none = none_wanted extents segment.features within fails in
       let whole = ap (λ ss. wanted (joined ss)) are ∙ ap wanted (last_joined before segment) ∙ wanted_of_both (joined before) segment.features ∙ ap (λ xs. wanted (joined before) ++ xs) none ∙ append-nil (wanted (joined before)) in
       ap (λ xs. xs ++ all_left sources) (sym whole) ∙ same
 
@@ -60,13 +59,10 @@ module _ (plan : Plan) (last : Option (ℤ × ℤ)) where
   all_taken segments sources all none same = ap (λ ss. wanted (joined ss) ++ all_left sources) (sym (nil_from_length segments none)) ∙ same
 
   pub few_wanted : (xs left : List Item) (count : ℕ) → count ≡ length xs → count < 2 ^ 64 → left ≡ wanted xs → length left < 2 ^ 64
-  few_wanted xs left count counted small is =
-      omega (arith, counted, small, ap length is, filter_fewer (is_later last) (candidates plan xs), filter_fewer (is_candidate plan) xs)
+  few_wanted xs left count counted small is = omega (arith, counted, small, ap length is, filter_fewer (is_candidate plan) xs)
 
   pub ascending_wanted : (xs left : List Item) → IsStrictlySortedBy by_identifier xs → left ≡ wanted xs → IsStrictlySortedBy by_identifier left
-  ascending_wanted xs left up is =
-      subst (IsStrictlySortedBy by_identifier) (sym is)
-      (IsStrictlySortedBy-filter by_identifier (is_later last) (candidates plan xs) (IsStrictlySortedBy-filter by_identifier (is_candidate plan) xs up))
+  ascending_wanted xs left up is = subst (IsStrictlySortedBy by_identifier) (sym is) (IsStrictlySortedBy-filter by_identifier (is_candidate plan) xs up)
 
 -- ---- from the front
 
@@ -97,6 +93,41 @@ module _ (sources : List SegmentCandidates) (at : ℕ) (first new : SegmentCandi
   first_dropped rest none are =
       ap all_left (are ∙ ap (λ n. take n changed) all_but_one ∙ take-set sources at new)
       ∙ sym (before_it ∙ ap (λ xs. xs ++ all_left others) none)
+
+-- ---- after a search
+
+module _ (last : Option (ℤ × ℤ)) (before now : List SegmentCandidates) (at : ℕ) (long : length now ≡ length before) where
+  -- those before a place were sought, and the others stand as they were
+  abbrev pub AreSought : Type 0
+  AreSought = (all_left (take at now) ≡ later last (all_left (take at before))) × (drop at now ≡ drop at before)
+
+  module _ (d new : SegmentCandidates) (h : at < length before) (left : segment_left new ≡ later last (segment_left (get_or now at d))) (sought : AreSought) where
+    abbrev changed_there : List SegmentCandidates
+    changed_there = slice_set now at new
+
+    from_there : get_or now at d ∷ drop (at + 1) now ≡ get_or before at d ∷ drop (at + 1) before
+    from_there = sym (drop_more now at d (omega (arith, long, h))) ∙ sought.1 ∙ drop_more before at d h
+
+    stood : get_or now at d ≡ get_or before at d
+    stood = ap (λ ss. get_or ss 0 d) from_there
+
+    pub one_more_sought : all_left (take (at + 1) changed_there) ≡ later last (all_left (take (at + 1) before))
+    one_more_sought =
+        ap all_left (take_more_set now at new (omega (arith, long, h))) ∙ last_left (take at now) new
+        ∙ ap (λ xs. xs ++ all_left (take at now)) (left ∙ ap (λ s. later last (segment_left s)) stood)
+        ∙ ap (λ xs. later last (segment_left (get_or before at d)) ++ xs) sought.0
+        ∙ sym (ap (later last) (ap all_left (take_more before at d h) ∙ last_left (take at before) (get_or before at d))
+        ∙ filter-append (is_later last) (segment_left (get_or before at d)) (all_left (take at before)))
+
+    pub others_stand : drop (at + 1) changed_there ≡ drop (at + 1) before
+    others_stand = drop-set-lt (at + 1) now at new (omega arith) ∙ ap (drop 1) from_there
+
+  pub all_sought : length before ≤ at → AreSought → all_left now ≡ later last (all_left before)
+  all_sought h sought =
+      ap all_left (sym (take_all at now (omega (arith, long, h)))) ∙ sought.0 ∙ ap (λ ss. later last (all_left ss)) (take_all at before h)
+
+pub few_later : (last : Option (ℤ × ℤ)) (xs ys : List Item) → ys ≡ later last xs → length xs < 2 ^ 64 → length ys < 2 ^ 64
+few_later last xs ys is few = omega (arith, ap length is, filter_fewer (is_later last) xs, few)
 
 pub fewer_left : (found : Option (Bor Item)) (old new : List Item) → MatchOption found ((old ≡ []) × (new ≡ [])) (λ x. old ≡ x.now ∷ new) → length old < 2 ^ 64 → length new < 2 ^ 64
 fewer_left None old new e few = omega (arith, ap length e.1)

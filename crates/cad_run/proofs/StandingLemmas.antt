@@ -20,7 +20,7 @@ use Rattle.cad_run.specs.Peeked.{stands_first, without}
 use Rattle.cad_run.specs.Slices.{is_later, later}
 use Rattle.cad_run.specs.Standing.{is_replaced, standing, stands}
 use Rattle.cad_run.proofs.FrontLemmas.{IsTaken, behind_is, first_change}
-use Rattle.cad_run.proofs.LeftLemmas.{same_later, turned}
+use Rattle.cad_run.proofs.LeftLemmas.{later_merged, turned}
 
 -- ---- a search
 
@@ -160,26 +160,22 @@ merged_passing p xs cs up rises =
 
 -- ---- at the beginning
 
-module _ (p : Item → Bool) (last : Option (ℤ × ℤ)) (base older : List Item) (up : IsInOrder base older) (bs os after : List Item) (is_base : bs ≡ filter p (later last base)) (is_older : os ≡ filter p (later last older)) (is_after : after ≡ later last older) where
-  base_rises : IsStrictlySortedBy by_identifier (later last base)
-  base_rises = IsStrictlySortedBy-filter by_identifier (is_later last) base up.0
-
-  older_rises : IsStrictlySortedBy by_identifier (later last older)
-  older_rises = IsStrictlySortedBy-filter by_identifier (is_later last) older up.1
-
-  pub begins_ascending : IsStrictlySortedBy by_identifier after
-  begins_ascending = subst (IsStrictlySortedBy by_identifier) (sym is_after) older_rises
-
+module _ (p : Item → Bool) (base older : List Item) (up : IsInOrder base older) (bs os : List Item) (is_base : bs ≡ filter p base) (is_older : os ≡ filter p older) where
   pub begins_ordered : IsInOrder bs os
   begins_ordered = (
-    subst (IsStrictlySortedBy by_identifier) (sym is_base) (IsStrictlySortedBy-filter by_identifier p (later last base) base_rises),
-    subst (IsStrictlySortedBy by_identifier) (sym is_older) (IsStrictlySortedBy-filter by_identifier p (later last older) older_rises),
+    subst (IsStrictlySortedBy by_identifier) (sym is_base) (IsStrictlySortedBy-filter by_identifier p base up.0),
+    subst (IsStrictlySortedBy by_identifier) (sym is_older) (IsStrictlySortedBy-filter by_identifier p older up.1),
   )
 
-  pub begins_indexed : (xs : List Item) → all_in base older ≡ xs → all_in (standing after bs) os ≡ filter p (later last xs)
-  begins_indexed xs all =
-      rw (is_base, is_older, is_after) (sym (merged_passing p (later last base) (later last older) base_rises older_rises))
-      ∙ ap (filter p) (sym (filter_merged by_identifier items_total (is_later last) (same_later last) base older up.0) ∙ ap (later last) all)
+  pub begins_indexed : (cs xs : List Item) → cs ≡ older → all_in base older ≡ xs → all_in (standing cs bs) os ≡ filter p xs
+  begins_indexed cs xs is all = rw (is_base, is_older, is) (sym (merged_passing p base older up.0 up.1)) ∙ ap (filter p) all
+
+-- ---- after a search
+
+pub sought_indexed : (last : Option (ℤ × ℤ)) (cs bases olders bs os : List Item) → bs ≡ later last bases → os ≡ later last olders → IsStrictlySortedBy by_identifier bases → all_in (standing cs bs) os ≡ later last (all_in (standing cs bases) olders)
+sought_indexed last cs bases olders bs os is_base is_older up =
+    rw (is_base, is_older) (ap (λ ys. all_in ys (later last olders)) (turned (stands cs) (is_later last) bases))
+    ∙ sym (later_merged last (standing cs bases) olders (IsStrictlySortedBy-filter by_identifier (stands cs) bases up))
 
 -- ---- from its front
 

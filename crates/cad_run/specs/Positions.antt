@@ -1,5 +1,5 @@
 -- Positions in a list of features, and the features at them.
-use Rattle.std.specs.Prelude.{ℕ, Bool, false, List, [], ◌∷◌, slice_get, Option, Some, None}
+use Rattle.std.specs.Prelude.{◌≡◌, ℕ, nat_le, Bool, false, List, [], ◌∷◌, slice_get, Option, Some, None}
 use Rattle.cad_feature.specs.Features.{Item}
 
 -- there is a feature, and it passes
@@ -10,6 +10,10 @@ holds_for test (Some x) = test x
 -- the feature at the position passes; past the last feature none does
 abbrev pub holds_at : (Item → Bool) → List Item → ℕ → Bool
 holds_at test xs k = holds_for test (slice_get xs k)
+
+-- the features from a position on pass, and none before it
+abbrev pub PassFrom : (Item → Bool) → List Item → ℕ → Type 0
+PassFrom test xs start = (k : ℕ) (x : Item) → slice_get xs k ≡ Some x → test x ≡ nat_le start k
 
 abbrev pub found_then : Option Item → List Item → List Item
 found_then None xs = xs

@@ -1,3 +1,2 @@
 -- Lemmas about the definitions, for the proofs of crates above. No contract cites them.
-pub mod LaterLemmas
 pub mod AscendingLemmas

@@ -1,11 +1,12 @@
 //! The candidates among features with indexes.
 
+ghost use Rattle.std.specs.Prelude.{◌≤◌, length};
 ghost use Rattle.std.specs.List.Sorted.{IsStrictlySortedBy};
 ghost use Rattle.std.proofs.Props.{props};
 ghost use Rattle.cad_feature.specs.Features.{by_identifier};
 
 use crate::feature_source::FeatureSource;
-use crate::first_after::first_after;
+use crate::first_later::first_later;
 use crate::planned::source_of;
 use cad_feature::Feature;
 use cad_index::Base;
@@ -20,29 +21,24 @@ pub(crate) struct Bases<'a> {
     features: &'a [Feature],
     rows: Rows<'a>,
     ghost ascending: { IsStrictlySortedBy by_identifier features.now } by { Prim.hlevel props },
+    ghost few: { length features.now ≤ 4294967295 },
 }
 
 impl<'a> Bases<'a> {
-    ghost use Rattle.std.specs.Prelude.{◌≡◌, IfOk, filter, option_map};
+    ghost use Rattle.std.specs.Prelude.{◌≡◌, IfOk, filter};
     ghost use Rattle.cad_lookup.specs.Candidates.{is_candidate};
     ghost use Rattle.cad_run.specs.Bases.{rows_left};
-    ghost use Rattle.cad_run.specs.Slices.{identifier, later};
 
-    /// The plan's candidates in the base, after the one that is named. An error is want of memory.
-    pub(crate) fn of(
-        alloc: Global,
-        plan: &Plan,
-        base: &'a Base,
-        after: Option<(ObjectId, u32)>,
-    ) -> Result<Bases<'a>, AllocError>
-        ensures { IfOk result (λ bases. rows_left bases ≡ filter (is_candidate plan.now) (later (option_map identifier after) base.now.features)) }
+    /// The plan's candidates in the base. An error is want of memory.
+    pub(crate) fn of(alloc: Global, plan: &Plan, base: &'a Base) -> Result<Bases<'a>, AllocError>
+        ensures { IfOk result (λ bases. rows_left bases ≡ filter (is_candidate plan.now) base.now.features) }
     {
         let features = base.features();
-        let start = first_after(features, after);
         let source = source_of(alloc, plan, base)?;
-        let mut rows = Rows::of(source);
-        rows.seek(start as u32);
-        Ok(Bases { features, rows })
+        Ok(Bases {
+            features,
+            rows: Rows::of(source),
+        })
     }
 }
 
@@ -63,5 +59,10 @@ impl<'a> FeatureSource<'a> for Bases<'a> {
             }
         }
         None
+    }
+
+    fn seek(&mut self, last: (ObjectId, u32)) {
+        let start = first_later(self.features, last);
+        self.rows.seek(start as u32);
     }
 }

@@ -1,6 +1,6 @@
 //! The candidates of a layer, in the order of identifiers.
 
-ghost use Rattle.std.specs.Prelude.{◌≡◌, ◌<◌, ◌^◌, ◌-◌, [], ◌∷◌, length, take, IfOk, MatchOption, option_map};
+ghost use Rattle.std.specs.Prelude.{◌≡◌, ◌<◌, ◌^◌, ◌-◌, [], ◌∷◌, length, take, IfOk, MatchOption, Some};
 ghost use Rattle.std.specs.List.Sorted.{IsStrictlySortedBy};
 ghost use Rattle.std.proofs.Props.{props};
 ghost use Rattle.cad_feature.specs.Features.{by_identifier};
@@ -32,15 +32,14 @@ fn sources_of<'a, 'p>(
     alloc: Global,
     plan: &'p Plan,
     segments: &'a [Segment],
-    after: Option<(ObjectId, u32)>,
 ) -> Result<Vec<SegmentCandidates<'a, 'p>>, AllocError>
-    ensures { IfOk result (λ sources. all_left sources.items ≡ later (option_map identifier after) (candidates plan.now (joined segments.now))) }
+    ensures { IfOk result (λ sources. all_left sources.items ≡ candidates plan.now (joined segments.now)) }
 {
     let mut sources = Vec::new(alloc);
     let mut segments = segments;
     while let Some((segment, before)) = segments.split_last() {
         if may_have(plan, segment.extents()) {
-            let source = SegmentCandidates::of(alloc, plan, segment, after)?;
+            let source = SegmentCandidates::of(alloc, plan, segment)?;
             sources.push(source)?;
         }
         segments = before;
@@ -67,22 +66,30 @@ fn take_first<'a>(sources: &mut Vec<SegmentCandidates<'a, '_>>) -> Option<&'a Fe
     None
 }
 
+/// Drops what is left of each up to the feature that is named.
+fn seek_each(sources: &mut [SegmentCandidates<'_, '_>], last: (ObjectId, u32))
+    ensures { all_left sources.new ≡ later (Some (identifier last)) (all_left sources.old) }
+{
+    for source in sources.iter_mut() {
+        source.seek(last);
+    }
+}
+
 impl<'a, 'p> Candidates<'a, 'p> {
     ghost use Rattle.cad_run.specs.Left.{candidates_left};
 
-    /// Those of the layer after the one that is named. An error is want of memory.
+    /// Those of the layer. An error is want of memory.
     pub fn of(
         alloc: Global,
         plan: &'p Plan,
         layer: &'a Layer,
-        after: Option<(ObjectId, u32)>,
     ) -> Result<Candidates<'a, 'p>, AllocError>
-        ensures { IfOk result (λ left. candidates_left left ≡ later (option_map identifier after) (candidates plan.now layer.now.features)) }
+        ensures { IfOk result (λ left. candidates_left left ≡ candidates plan.now layer.now.features) }
     {
         // Features ascend, and a counter holds how many there are: so it is of the candidates that are left.
         let _collection = layer.collection();
         let _count = layer.count();
-        let sources = sources_of(alloc, plan, layer.segments(), after)?;
+        let sources = sources_of(alloc, plan, layer.segments())?;
         Ok(Candidates { sources })
     }
 }
@@ -98,5 +105,9 @@ impl<'a> FeatureSource<'a> for Candidates<'a, '_> {
 
     fn next(&mut self) -> Option<&'a Feature> {
         take_first(&mut self.sources)
+    }
+
+    fn seek(&mut self, last: (ObjectId, u32)) {
+        seek_each(&mut self.sources, last);
     }
 }

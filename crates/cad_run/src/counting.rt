@@ -24,6 +24,6 @@ fn count_left<'a, S: FeatureSource<'a>>(source: S) -> u64
 pub fn candidate_count(alloc: Global, plan: &Plan, layer: &Layer) -> Result<u64, AllocError>
     ensures { IfOk result (λ count. count ≡ length (candidates plan.now layer.now.features)) }
 {
-    let left = Candidates::of(alloc, plan, layer, None)?;
+    let left = Candidates::of(alloc, plan, layer)?;
     Ok(count_left(left))
 }

@@ -10,7 +10,6 @@ ghost use Rattle.cad_run.specs.Peeked.{peeked_left};
 
 use crate::bases::Bases;
 use crate::feature_source::FeatureSource;
-use crate::first_after::features_later;
 use crate::peeked::Peeked;
 use crate::replaced::is_replaced;
 use cad_feature::Feature;
@@ -31,27 +30,24 @@ pub(crate) struct IndexedCandidates<'a> {
 }
 
 impl<'a> IndexedCandidates<'a> {
-    ghost use Rattle.std.specs.Prelude.{◌≡◌, IfOk, filter, option_map};
+    ghost use Rattle.std.specs.Prelude.{◌≡◌, IfOk, filter};
     ghost use Rattle.cad_lookup.specs.Candidates.{is_candidate};
-    ghost use Rattle.cad_run.specs.Slices.{identifier, later};
     ghost use Rattle.cad_run.specs.IndexedLeft.{indexed_left, BaseStandsFirst};
 
-    /// Those after the one that is named. An error is want of memory.
+    /// Those of the indexed features. An error is want of memory.
     pub(crate) fn of(
         alloc: Global,
         plan: &Plan,
         indexed: &'a Indexed,
-        after: Option<(ObjectId, u32)>,
     ) -> Result<IndexedCandidates<'a>, AllocError>
-        ensures { IfOk result (λ left. indexed_left left ≡ filter (is_candidate plan.now) (later (option_map identifier after) indexed.now.features)) }
+        ensures { IfOk result (λ left. indexed_left left ≡ filter (is_candidate plan.now) indexed.now.features) }
     {
         let (base, older) = indexed.parts();
-        let bases = Bases::of(alloc, plan, base, after)?;
-        let olders = Bases::of(alloc, plan, older, after)?;
-        let older = features_later(older.features(), after);
+        let bases = Bases::of(alloc, plan, base)?;
+        let olders = Bases::of(alloc, plan, older)?;
         Ok(IndexedCandidates {
             bases: Peeked::new(bases),
-            older,
+            older: older.features(),
             olders: Peeked::new(olders),
         })
     }
@@ -89,5 +85,10 @@ impl<'a> FeatureSource<'a> for IndexedCandidates<'a> {
         } else {
             self.bases.next()
         }
+    }
+
+    fn seek(&mut self, last: (ObjectId, u32)) {
+        self.bases.seek(last);
+        self.olders.seek(last);
     }
 }

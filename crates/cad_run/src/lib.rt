@@ -2,7 +2,7 @@
 //!
 //! - [`page`]: the first of a plan's candidates that pass a test, after one that is named, and whether more are left: a
 //!   [`Page`], with how many were tested
-//! - [`FeatureSource`]: features that are taken one after the other, in the order of identifiers
+//! - [`FeatureSource`]: features that are taken one after the other, in the order of identifiers, or dropped up to one that is named
 //! - [`Candidates`]: a plan's candidates as such a source
 //! - [`Kept`]: the features of any source that a test keeps, and how many were tested
 //! - [`RowSource`]: positions one after the other; of these a base's candidates are made
@@ -21,7 +21,7 @@ mod counting;
 mod feature_source;
 mod feature_test;
 mod finding;
-mod first_after;
+mod first_later;
 mod indexed_candidates;
 mod joining;
 mod kept;

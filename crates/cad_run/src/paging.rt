@@ -6,6 +6,7 @@ ghost use Rattle.cad_run.specs.Pages.{examined_of};
 ghost use Rattle.cad_run.specs.Slices.{identifier, slice, is_more, later, rows_of};
 
 use crate::candidates::Candidates;
+use crate::feature_source::FeatureSource;
 use crate::feature_test::FeatureTest;
 use crate::finding::find;
 use crate::rows::Page;
@@ -13,6 +14,20 @@ use cad_layer::Layer;
 use cad_lookup::Plan;
 use cad_versions::ObjectId;
 use std::alloc::{AllocError, Global};
+
+/// What is left of the source after the feature that is named, or all of it.
+fn left_after<'a, S: FeatureSource<'a>>(source: S, after: Option<(ObjectId, u32)>) -> S
+    ensures { S.left result ≡ later (option_map identifier after) (S.left source) }
+{
+    match after {
+        None => source,
+        Some(last) => {
+            let mut source = source;
+            source.seek(last);
+            source
+        }
+    }
+}
 
 /// The page of the plan's candidates that pass the test: the first of them after the one that is named, `limit` of them at
 /// most. An error is want of memory.
@@ -33,7 +48,8 @@ pub fn page<'a, T: FeatureTest>(
     ensures examined { IfOk result (λ page. page.examined
         ≡ examined_of (T.passes test.now) limit (later (option_map identifier after) (candidates plan.now layer.now.features))) }
 {
-    let left = Candidates::of(alloc, plan, layer, after)?;
+    let all = Candidates::of(alloc, plan, layer)?;
+    let left = left_after(all, after);
     let page = find(alloc, left, test, limit as usize)?;
     Ok(page)
 }

@@ -1,7 +1,9 @@
 //! A source whose first feature is looked at before it is taken.
 
 use crate::feature_source::FeatureSource;
+use crate::first_later::comes_after;
 use cad_feature::Feature;
+use cad_versions::ObjectId;
 use std::cmp::Ordering;
 
 /// What is left of a source, behind the feature that was looked at and not taken yet.
@@ -12,8 +14,9 @@ pub(crate) struct Peeked<'a, S> {
 }
 
 impl<'a, S: FeatureSource<'a>> Peeked<'a, S> {
-    ghost use Rattle.std.specs.Prelude.{◌≡◌, [], ◌∷◌, MatchOption};
+    ghost use Rattle.std.specs.Prelude.{◌≡◌, [], ◌∷◌, MatchOption, Some};
     ghost use Rattle.cad_run.specs.Peeked.{peeked_left, stands_first, without};
+    ghost use Rattle.cad_run.specs.Slices.{identifier, later};
 
     /// The source, of which nothing was looked at yet.
     pub(crate) fn new(source: S) -> Self
@@ -44,6 +47,19 @@ impl<'a, S: FeatureSource<'a>> Peeked<'a, S> {
         let first = self.peek();
         self.front = None;
         first
+    }
+
+    /// Drops them up to the one that is named.
+    pub(crate) fn seek(&mut self, last: (ObjectId, u32))
+        ensures { peeked_left S.left self.new ≡ later (Some (identifier last)) (peeked_left S.left self.old) }
+    {
+        self.source.seek(last);
+        let Some(front) = self.front else {
+            return;
+        };
+        if !comes_after(front, last) {
+            self.front = None;
+        }
     }
 
     /// Whether the change stands before all of them, or in the place of the first, which is dropped.

@@ -9,11 +9,10 @@ ghost use Rattle.cad_run.specs.Peeked.{peeked_left};
 ghost use Rattle.cad_run.specs.IndexedLeft.{indexed_left};
 
 use crate::candidacy::is_candidate;
-use crate::first_after::changes_later;
 use crate::indexed_candidates::IndexedCandidates;
 use crate::peeked::Peeked;
 use cad_feature::Feature;
-use cad_layer::{Change, Segment};
+use cad_layer::{Change, Segment, changes_after};
 use cad_lookup::Plan;
 use cad_versions::ObjectId;
 use std::alloc::{AllocError, Global};
@@ -29,23 +28,21 @@ pub(crate) struct SegmentCandidates<'a, 'p> {
 }
 
 impl<'a, 'p> SegmentCandidates<'a, 'p> {
-    ghost use Rattle.std.specs.Prelude.{◌≡◌, [], ◌∷◌, IfOk, MatchOption, option_map};
+    ghost use Rattle.std.specs.Prelude.{◌≡◌, [], ◌∷◌, IfOk, MatchOption, Some};
     ghost use Rattle.cad_lookup.specs.Candidates.{candidates};
     ghost use Rattle.cad_run.specs.SegmentLeft.{segment_left};
     ghost use Rattle.cad_run.specs.Slices.{identifier, later};
 
-    /// Those of the segment after the one that is named. An error is want of memory.
+    /// Those of the segment. An error is want of memory.
     pub(crate) fn of(
         alloc: Global,
         plan: &'p Plan,
         segment: &'a Segment,
-        after: Option<(ObjectId, u32)>,
     ) -> Result<SegmentCandidates<'a, 'p>, AllocError>
-        ensures { IfOk result (λ left. segment_left left ≡ later (option_map identifier after) (candidates plan.now segment.now.features)) }
+        ensures { IfOk result (λ left. segment_left left ≡ candidates plan.now segment.now.features) }
     {
         let (indexed, changes) = segment.parts();
-        let bases = IndexedCandidates::of(alloc, plan, indexed, after)?;
-        let changes = changes_later(changes, after);
+        let bases = IndexedCandidates::of(alloc, plan, indexed)?;
         Ok(SegmentCandidates {
             plan,
             bases: Peeked::new(bases),
@@ -68,5 +65,13 @@ impl<'a, 'p> SegmentCandidates<'a, 'p> {
             }
         }
         self.bases.next()
+    }
+
+    /// Drops them up to the one that is named.
+    pub(crate) fn seek(&mut self, last: (ObjectId, u32))
+        ensures { segment_left self.new ≡ later (Some (identifier last)) (segment_left self.old) }
+    {
+        self.bases.seek(last);
+        self.changes = changes_after(self.changes, last.0, last.1);
     }
 }
