@@ -2,7 +2,7 @@
 use Rattle.std.proofs.Common.{◌≡◌, ◌∙◌, ap, refl, sym, ℕ, suc, ◌+◌, ◌≤◌, min, Bool, true, false, nat_lt, if◌then◌else◌, List, [], ◌∷◌, ◌++◌, append_assoc, map, filter, length, get_or, drop, add-one, drop-cons, arith, append-nil}
 use Rattle.std.proofs.lemmas.List.{drop_all}
 use Rattle.cad_lookup.specs.Ways.{Way, Counts, cost, min_of, most, total}
-use Rattle.cql_rewrite.specs.Choices.{Costs, after, filter_step, min_moved}
+use Rattle.cql_rewrite.specs.Choices.{Costs, ways_after, filter_step, min_moved}
 use Rattle.cql_rewrite.specs.Menus.{is_narrow}
 use Rattle.cad_plan.specs.Gathered.{with_if}
 
@@ -55,7 +55,7 @@ least_next least part next whole left cs e n h =
 
 -- ---- ways other than all
 
-after_if : (b : Bool) (old rest : List Way) (w : Way) → with_if b old w ++ rest ≡ old ++ after b w rest
+after_if : (b : Bool) (old rest : List Way) (w : Way) → with_if b old w ++ rest ≡ old ++ ways_after b w rest
 after_if true old rest w = append_assoc old (w ∷ []) rest
 after_if false old rest w = refl
 
