@@ -34,7 +34,8 @@ explain:
 
 # Holds the stored answers of the cases of filters, of the server, of clients, of days and of parameters, and the examples of docs/FILTERS.md,
 # against second readings of the rules, the examples of docs/API.md against the server's cases, docs/PROMISES.md against the crates, docs/READING.md
-# against what has to be read, names in the code against the words of docs/ARCHITECTURE.md, and lists of collections against the code; and counts
+# against what has to be read, names in the code against the words of docs/ARCHITECTURE.md, lists of collections against the code, and
+# the sentences of documents against docs/STYLE.md; and counts
 # what the cases of commands under joined names have.
 cases:
 	scripts/check_filter_cases
@@ -47,6 +48,7 @@ cases:
 	scripts/count_reading
 	scripts/check_words
 	scripts/check_collections
+	scripts/check_prose
 
 # The whole gate: the cases held against a second reading, every proof from nothing, the must-fail edits, the tests, each program as two compilers build it, and the programs on files of the office, with stops at each call of them and growths refused in a database, at an address and at an office's socket.
 test: cases
