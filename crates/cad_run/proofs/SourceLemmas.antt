@@ -27,21 +27,15 @@ last_joined [] s = append-nil s.features
 last_joined (t ∷ ss) s = ap (λ xs. t.features ++ xs) (last_joined ss s) ∙ sym (append_assoc t.features (joined ss) s.features)
 
 module _ (plan : Plan) where
-  abbrev wanted : List Item → List Item
-  wanted xs = candidates plan xs
+  pub none_taken : (sources : List SegmentCandidates) (xs : List Item) → sources ≡ [] → candidates plan xs ++ all_left sources ≡ candidates plan xs
+  none_taken sources xs is = ap (λ ss. candidates plan xs ++ all_left ss) is ∙ append-nil (candidates plan xs)
 
-  wanted_of_both : (xs ys : List Item) → wanted (xs ++ ys) ≡ wanted xs ++ wanted ys
-  wanted_of_both xs ys = filter-append (is_candidate plan) xs ys
-
-  pub none_taken : (sources : List SegmentCandidates) (xs : List Item) → sources ≡ [] → wanted xs ++ all_left sources ≡ wanted xs
-  none_taken sources xs is = ap (λ ss. wanted xs ++ all_left ss) is ∙ append-nil (wanted xs)
-
-  pub last_taken : (segments before : List SegmentFeatures) (segment : SegmentFeatures) (old new : List SegmentCandidates) (source : SegmentCandidates) (all : List Item) → segments ≡ before ++ (segment ∷ []) → new ≡ old ++ (source ∷ []) → segment_left source ≡ wanted segment.features → wanted (joined segments) ++ all_left old ≡ all → wanted (joined before) ++ all_left new ≡ all
+  pub last_taken : (segments before : List SegmentFeatures) (segment : SegmentFeatures) (old new : List SegmentCandidates) (source : SegmentCandidates) (all : List Item) → segments ≡ before ++ (segment ∷ []) → new ≡ old ++ (source ∷ []) → segment_left source ≡ candidates plan segment.features → candidates plan (joined segments) ++ all_left old ≡ all → candidates plan (joined before) ++ all_left new ≡ all
   last_taken segments before segment old new source all are added is same =
-      ap (λ ss. wanted (joined before) ++ all_left ss) added
-      ∙ ap (λ xs. wanted (joined before) ++ xs) (last_left old source ∙ ap (λ xs. xs ++ all_left old) is)
-      ∙ sym (append_assoc (wanted (joined before)) (wanted segment.features) (all_left old))
-      ∙ ap (λ xs. xs ++ all_left old) (sym (ap (λ ss. wanted (joined ss)) are ∙ ap wanted (last_joined before segment) ∙ wanted_of_both (joined before) segment.features))
+      ap (λ ss. candidates plan (joined before) ++ all_left ss) added
+      ∙ ap (λ xs. candidates plan (joined before) ++ xs) (last_left old source ∙ ap (λ xs. xs ++ all_left old) is)
+      ∙ sym (append_assoc (candidates plan (joined before)) (candidates plan segment.features) (all_left old))
+      ∙ ap (λ xs. xs ++ all_left old) (sym (ap (λ ss. candidates plan (joined ss)) are ∙ ap (candidates plan) (last_joined before segment) ∙ filter-append (is_candidate plan) (joined before) segment.features))
       ∙ same
 
   none_wanted : (extents : Extents) (xs : List Item) → AllByRecursion (IsWithin extents) xs → ((x : Item) → IsWithin extents x → is_candidate plan x ≡ false) → candidates plan xs ≡ []
@@ -49,19 +43,19 @@ module _ (plan : Plan) where
   none_wanted extents (x ∷ xs) all fails = rw (fails x all.0) (none_wanted extents xs all.1 fails)
 
   -- a segment that has no candidates
-  pub last_left_out : (segments before : List SegmentFeatures) (segment : SegmentFeatures) (extents : Extents) (sources : List SegmentCandidates) (all : List Item) → segments ≡ before ++ (segment ∷ []) → AllByRecursion (IsWithin extents) segment.features → ((x : Item) → IsWithin extents x → is_candidate plan x ≡ false) → wanted (joined segments) ++ all_left sources ≡ all → wanted (joined before) ++ all_left sources ≡ all
+  pub last_left_out : (segments before : List SegmentFeatures) (segment : SegmentFeatures) (extents : Extents) (sources : List SegmentCandidates) (all : List Item) → segments ≡ before ++ (segment ∷ []) → AllByRecursion (IsWithin extents) segment.features → ((x : Item) → IsWithin extents x → is_candidate plan x ≡ false) → candidates plan (joined segments) ++ all_left sources ≡ all → candidates plan (joined before) ++ all_left sources ≡ all
   last_left_out segments before segment extents sources all are within fails same =
       let none = none_wanted extents segment.features within fails in
-      let whole = ap (λ ss. wanted (joined ss)) are ∙ ap wanted (last_joined before segment) ∙ wanted_of_both (joined before) segment.features ∙ ap (λ xs. wanted (joined before) ++ xs) none ∙ append-nil (wanted (joined before)) in
+      let whole = ap (λ ss. candidates plan (joined ss)) are ∙ ap (candidates plan) (last_joined before segment) ∙ filter-append (is_candidate plan) (joined before) segment.features ∙ ap (λ xs. candidates plan (joined before) ++ xs) none ∙ append-nil (candidates plan (joined before)) in
       ap (λ xs. xs ++ all_left sources) (sym whole) ∙ same
 
-  pub all_taken : (segments : List SegmentFeatures) (sources : List SegmentCandidates) (all : List Item) → length segments ≡ 0 → wanted (joined segments) ++ all_left sources ≡ all → all_left sources ≡ all
-  all_taken segments sources all none same = ap (λ ss. wanted (joined ss) ++ all_left sources) (sym (nil_from_length segments none)) ∙ same
+  pub all_taken : (segments : List SegmentFeatures) (sources : List SegmentCandidates) (all : List Item) → length segments ≡ 0 → candidates plan (joined segments) ++ all_left sources ≡ all → all_left sources ≡ all
+  all_taken segments sources all none same = ap (λ ss. candidates plan (joined ss) ++ all_left sources) (sym (nil_from_length segments none)) ∙ same
 
-  pub few_wanted : (xs left : List Item) (count : ℕ) → count ≡ length xs → count < 2 ^ 64 → left ≡ wanted xs → length left < 2 ^ 64
+  pub few_wanted : (xs left : List Item) (count : ℕ) → count ≡ length xs → count < 2 ^ 64 → left ≡ candidates plan xs → length left < 2 ^ 64
   few_wanted xs left count counted small is = omega (arith, counted, small, ap length is, filter_fewer (is_candidate plan) xs)
 
-  pub ascending_wanted : (xs left : List Item) → IsStrictlySortedBy by_identifier xs → left ≡ wanted xs → IsStrictlySortedBy by_identifier left
+  pub ascending_wanted : (xs left : List Item) → IsStrictlySortedBy by_identifier xs → left ≡ candidates plan xs → IsStrictlySortedBy by_identifier left
   ascending_wanted xs left up is = subst (IsStrictlySortedBy by_identifier) (sym is) (IsStrictlySortedBy-filter by_identifier (is_candidate plan) xs up)
 
 -- ---- from the front
