@@ -34,8 +34,8 @@ explain:
 
 # Holds the stored answers of the cases of filters, of the server, of clients, of days and of parameters, and the examples of docs/FILTERS.md,
 # against second readings of the rules, the examples of docs/API.md against the server's cases, docs/PROMISES.md against the crates, docs/READING.md
-# against what has to be read, names in the code against the words of docs/ARCHITECTURE.md, lists of collections against the code, and
-# the sentences of documents against docs/STYLE.md; and counts
+# against what has to be read, names in the code against the words of docs/ARCHITECTURE.md, the files of definitions against its tables,
+# lists of collections against the code, and the sentences of documents against docs/STYLE.md; and counts
 # what the cases of commands under joined names have.
 cases:
 	scripts/check_filter_cases
@@ -47,6 +47,7 @@ cases:
 	scripts/count_promises
 	scripts/count_reading
 	scripts/check_words
+	scripts/check_definitions
 	scripts/check_collections
 	scripts/check_prose
 
