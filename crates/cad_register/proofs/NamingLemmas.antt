@@ -19,7 +19,7 @@ use Rattle.cad_register.specs.Damage.{ReadsRows}
 use Rattle.cad_register.specs.Leaving.{IsAsBefore, AsksOnly}
 use Rattle.cad_register.specs.Naming.{IsFaultIn, TellStanding, ShowsFor, TellAll, FirstBreaks, NamesFirst}
 use Rattle.cad_tables.specs.Opening.{IsSettled}
-use Rattle.cad_register.specs.Refusing.{asking, IsForObject, RefusesQuestion, history_asked, room_asked}
+use Rattle.cad_register.specs.Refusing.{asking, IsForObject, RefusesQuestion, history_questions, room_questions}
 use Rattle.cad_register.specs.Stands.{IsStoreFault}
 use Rattle.cad_register.proofs.StandLemmas.{IsDecided}
 
@@ -58,18 +58,18 @@ module _ {S : Type 0} (g : Ghosts S) where
 
   -- a fault in the rows of an object names one that was shown
   pub rows_named : (old new : Held S) (object : ObjectId) (n : ℕ) → n ≡ object_number object → (rows : List Row) → (HasCleanDisk (state g new) → IsAsBefore (state g old) (state g new) × Shown history_text (Int (pos n) ∷ []) (state g old) (state g new) rows)
-      → (why : RegisterFault) → IsFaultIn object rows why → NamesFirst g old new (history_asked (Some object)) why
+      → (why : RegisterFault) → IsFaultIn object rows why → NamesFirst g old new (history_questions (Some object)) why
   rows_named old new object n is rows shown (fault.Damaged named number) bad = (new, rows, shows_object old new object n is rows shown, inl (refl, inl (object, refl, bad.0, bad.1)))
   rows_named old new object n is rows shown fault.Memory bad = tt
   rows_named old new object n is rows shown why bad = absurd bad
 
   pub rows_tell : (old new : Held S) (object : ObjectId) (n : ℕ) → n ≡ object_number object → (rows : List Row) → (HasCleanDisk (state g new) → IsAsBefore (state g old) (state g new) × Shown history_text (Int (pos n) ∷ []) (state g old) (state g new) rows)
-      → TellStanding rows → TellAll g new (history_asked (Some object)) old new
+      → TellStanding rows → TellAll g new (history_questions (Some object)) old new
   rows_tell old new object n is rows shown tell = (new, rows, shows_object old new object n is rows shown, tell, refl)
 
   -- a listing that names one is asked for where there may be no room
   pub lines_named : (old new : Held S) (revision : ℕ) (r : Result (Vec VersionedObject Global) RegisterFault) → most_versions ≤ revision → AsksOnly (state g old) (state g new) r
-      → ReadsRows (state g old) (state g new) revision revision r → IfErr r (NamesFirst g old new (room_asked revision))
+      → ReadsRows (state g old) (state g new) revision revision r → IfErr r (NamesFirst g old new (room_questions revision))
   lines_named old new revision (Ok found) many asks reads = tt
   lines_named old new revision (Err (fault.Damaged named number)) many asks reads =
       let asked : nat_le most_versions revision ≡ true = grind (arith, nat_tests) in

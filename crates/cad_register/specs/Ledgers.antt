@@ -15,7 +15,7 @@ use Rattle.cad_versions.specs.Refusals.{refusal}
 use Rattle.cad_register.specs.declared.register.Register.{Register}
 use Rattle.cad_register.specs.Damage.{ReadsRows}
 use Rattle.cad_register.specs.Naming.{FirstBreaks}
-use Rattle.cad_register.specs.Refusing.{IsNotForMemory, RefusesToApply, command_asked}
+use Rattle.cad_register.specs.Refusing.{IsNotForMemory, RefusesToApply, command_questions}
 use Rattle.cad_register.specs.Registers.{connection_of, state_of, revision_of, IsRegisterOf, Remains, HasFailed}
 use Rattle.cad_register.specs.Stands.{IsStoreFault}
 
@@ -40,7 +40,7 @@ RefusesListing g old new revision =
 -- asked for the command, the database shows this damaged row, the first of all that it shows
 abbrev pub DamagedForCommand : {S : Type 0} → Ghosts S → Register S → Register S → Command → ℤ → ℤ → Type 0
 DamagedForCommand g old new command object number =
-    FirstBreaks g (connection_of new) (command_asked command (revision_of old)) object number (connection_of old)
+    FirstBreaks g (connection_of new) (command_questions command (revision_of old)) object number (connection_of old)
 
 -- asked for the revision, it shows such a row
 abbrev pub DamagedForListing : {S : Type 0} → Ghosts S → Register S → Register S → ℕ → ℤ → ℤ → Type 0

@@ -72,26 +72,26 @@ IsForCommand command revision question = IsForObject (object_named command) ques
 -- ---- the same in the order in which they are asked (own profile)
 
 -- for the history of what is named, if anything is
-abbrev pub history_asked : Option ObjectId → List Statement
-history_asked None = []
-history_asked (Some object) = asking history_text (object_number object) ∷ []
+abbrev pub history_questions : Option ObjectId → List Statement
+history_questions None = []
+history_questions (Some object) = asking history_text (object_number object) ∷ []
 
 -- for the history of the unit, and then of the party
-abbrev pub body_asked : Body → List Statement
-body_asked body = history_asked (unit_named body) ++ history_asked (party_named body)
+abbrev pub body_questions : Body → List Statement
+body_questions body = history_questions (unit_named body) ++ history_questions (party_named body)
 
 -- for the lines of the revision, where as many commands were accepted as there may be versions
-abbrev pub room_asked : ℕ → List Statement
-room_asked revision = if nat_le most_versions revision then asking listing_text revision ∷ [] else []
+abbrev pub room_questions : ℕ → List Statement
+room_questions revision = if nat_le most_versions revision then asking listing_text revision ∷ [] else []
 
 -- for what the body names, and then whether there is room
-abbrev pub addition_asked : Option Body → ℕ → List Statement
-addition_asked None revision = []
-addition_asked (Some body) revision = body_asked body ++ room_asked revision
+abbrev pub addition_questions : Option Body → ℕ → List Statement
+addition_questions None revision = []
+addition_questions (Some body) revision = body_questions body ++ room_questions revision
 
 -- for the object of the command, and then for what it adds
-abbrev pub command_asked : Command → ℕ → List Statement
-command_asked command revision = history_asked (Some (object_named command)) ++ addition_asked (body_added command) revision
+abbrev pub command_questions : Command → ℕ → List Statement
+command_questions command revision = history_questions (Some (object_named command)) ++ addition_questions (body_added command) revision
 
 -- ---- what is refused (own profile)
 

@@ -15,7 +15,7 @@ ghost use Rattle.cad_register.specs.Outlines.{IsStanding};
 ghost use Rattle.cad_register.specs.Stands.{Tells, IsStoreFault, IsReadingFault};
 ghost use Rattle.cad_register.specs.Damage.{ReadsRows};
 ghost use Rattle.cad_register.specs.Leaving.{AsksOnly};
-ghost use Rattle.cad_register.specs.Refusing.{Asks, IsForObject, IsForLines, IsNotForMemory, history_asked, register_fault_of};
+ghost use Rattle.cad_register.specs.Refusing.{Asks, IsForObject, IsForLines, IsNotForMemory, history_questions, register_fault_of};
 ghost use Rattle.cad_register.specs.Naming.{TellAll, NamesFirst};
 ghost use Rattle.cad_register.specs.Inquiring.{Inquires};
 
@@ -44,8 +44,8 @@ pub(crate) fn standing_of<S: Alter>(
     ensures inquires { Inquires S.Store connection.old connection.new (IsForObject object)
         (λ commands standing. IsStanding (versions commands) object standing)
         (λ commands fault. IsStoreFault fault) result }
-    ensures shown { IfOk result (λ _. TellAll S.Store connection.new (history_asked (Some object)) connection.old connection.new) }
-    ensures damaged { IfErr result (NamesFirst S.Store connection.old connection.new (history_asked (Some object))) }
+    ensures shown { IfOk result (λ _. TellAll S.Store connection.new (history_questions (Some object)) connection.old connection.new) }
+    ensures damaged { IfErr result (NamesFirst S.Store connection.old connection.new (history_questions (Some object))) }
 {
     match cad_tables::history(connection, object.number()) {
         Ok(rows) => ObjectState::read(object, &rows),

@@ -7,7 +7,7 @@ ghost use Rattle.cad_versions.specs.Versions.{history, versions};
 ghost use Rattle.cad_versions.specs.Refusals.{is_entered as entered, are_entered as all_entered, is_full as filled, refuses_body, refusal};
 ghost use Rattle.cad_register.specs.Stands.{IsStoreFault, IsRefusal};
 ghost use Rattle.cad_register.specs.Refusing.{IsForNamed, IsForBody, IsForRoom, IsForAddition, IsForCommand};
-ghost use Rattle.cad_register.specs.Refusing.{history_asked, body_asked, room_asked, addition_asked, command_asked};
+ghost use Rattle.cad_register.specs.Refusing.{history_questions, body_questions, room_questions, addition_questions, command_questions};
 ghost use Rattle.cad_register.specs.Naming.{TellAll, NamesFirst};
 ghost use Rattle.cad_register.specs.Inquiring.{Inquires};
 
@@ -25,8 +25,8 @@ fn is_entered<S: Alter>(
     ensures inquires { Inquires S.Store connection.old connection.new (IsForNamed object)
         (λ commands known. known ≡ entered (versions commands) class object)
         (λ commands fault. IsStoreFault fault) result }
-    ensures shown { IfOk result (λ _. TellAll S.Store connection.new (history_asked object) connection.old connection.new) }
-    ensures damaged { IfErr result (NamesFirst S.Store connection.old connection.new (history_asked object)) }
+    ensures shown { IfOk result (λ _. TellAll S.Store connection.new (history_questions object) connection.old connection.new) }
+    ensures damaged { IfErr result (NamesFirst S.Store connection.old connection.new (history_questions object)) }
 {
     match object {
         None => Ok(true),
@@ -42,12 +42,12 @@ fn is_entered<S: Alter>(
 
 /// Whether all that the body names was entered.
 fn are_entered<S: Alter>(connection: &mut Connection<S>, body: &Body) -> Result<bool, RegisterFault>
-    ensures damaged { IfErr result (NamesFirst S.Store connection.old connection.new (body_asked body.now)) }
+    ensures damaged { IfErr result (NamesFirst S.Store connection.old connection.new (body_questions body.now)) }
     ensures inquires { Inquires S.Store connection.old connection.new (IsForBody body.now)
         (λ commands known. known ≡ all_entered (versions commands) body.now)
         (λ commands fault. IsStoreFault fault) result }
     ensures shown { IfOk result (λ known. known ≡ true →
-        TellAll S.Store connection.new (body_asked body.now) connection.old connection.new) }
+        TellAll S.Store connection.new (body_questions body.now) connection.old connection.new) }
 {
     if is_entered(connection, Class::Unit, body.unit())? {
         let known = is_entered(connection, Class::Party, body.party())?;
@@ -66,7 +66,7 @@ fn is_full<S: Alter>(
     ensures inquires { Inquires S.Store connection.old connection.new (IsForRoom revision)
         (λ commands full. revision ≡ length commands → full ≡ filled (versions commands))
         (λ commands fault. revision ≡ length commands → IsStoreFault fault) result }
-    ensures damaged { IfErr result (NamesFirst S.Store connection.old connection.new (room_asked revision)) }
+    ensures damaged { IfErr result (NamesFirst S.Store connection.old connection.new (room_questions revision)) }
 {
     if revision < MOST_VERSIONS {
         return Ok(false);
@@ -83,7 +83,7 @@ fn check_addition<S: Alter>(
     body: &Body,
 ) -> Result<(), RegisterFault>
     ensures damaged { IfErr result
-        (NamesFirst S.Store connection.old connection.new (addition_asked (Some body.now) revision)) }
+        (NamesFirst S.Store connection.old connection.new (addition_questions (Some body.now) revision)) }
     ensures inquires { Inquires S.Store connection.old connection.new (IsForAddition (Some body.now) revision)
         (λ commands _. revision ≡ length commands →
         refuses_body (versions commands) (Some body.now) ≡ None)
@@ -107,7 +107,7 @@ pub(crate) fn decide<S: Alter>(
     command: &Command,
 ) -> Result<usize, RegisterFault>
     ensures damaged { IfErr result
-        (NamesFirst S.Store connection.old connection.new (command_asked command.now revision)) }
+        (NamesFirst S.Store connection.old connection.new (command_questions command.now revision)) }
     ensures inquires { Inquires S.Store connection.old connection.new (IsForCommand command.now revision)
         (λ commands count. revision ≡ length commands →
         (refusal (versions commands) command.now ≡ None) ×

@@ -45,7 +45,7 @@ impl<S: Alter> Register<S> {
     ghost use Rattle.cad_register.specs.Opening.{Created, Opened, OpenedOrCreated};
     ghost use Rattle.cad_register.specs.Stands.{IsStoreFault, IsReadingFault};
     ghost use Rattle.cad_register.specs.Naming.{NamesFirst};
-    ghost use Rattle.cad_register.specs.Refusing.{IsNotForMemory, RefusesToApply, command_asked};
+    ghost use Rattle.cad_register.specs.Refusing.{IsNotForMemory, RefusesToApply, command_questions};
     ghost use Rattle.cad_register.specs.Surviving.{Leaves, LeavesEither};
     ghost use Rattle.cad_register.specs.Registers.{connection_of, state_of, revision_of, IsRegisterOf, Remains, IsRefused};
 
@@ -174,7 +174,7 @@ impl<S: Alter> Register<S> {
         ensures named { result ≢ Err RegisterFault.UnknownRevision }
         // Whatever the disk returns, a row that is named is the first of those asked for that breaks a rule.
         ensures damaged { IfErr result
-            (NamesFirst S.Store (connection_of self.old) (connection_of self.new) (command_asked command (revision_of self.old))) }
+            (NamesFirst S.Store (connection_of self.old) (connection_of self.new) (command_questions command (revision_of self.old))) }
         // What the database itself refused, a question for what stands, a statement of the change or its commit.
         ensures store { HasCleanDisk (state_of S.Store self.new) →
             result ≡ Err RegisterFault.Store → (commands : List CommandOf) →

@@ -1,5 +1,5 @@
 use Rattle.std.proofs.Common.{Err, subst, inl, inr}
-use Rattle.cad_register.specs.Refusing.{IsForNamed, history_asked}
+use Rattle.cad_register.specs.Refusing.{IsForNamed, history_questions}
 use Rattle.cad_versions.specs.BodyParts.{unit_named, party_named}
 use Rattle.cad_register.specs.Naming.{TellAll, NamesFirst}
 use Rattle.cad_register.proofs.NamingLemmas.{told_on, tell_later, tell_then, names_more, names_then}
@@ -22,8 +22,8 @@ returns-in_err-is_entered-clause-damaged g c =
     let old = c.args.connection.now in
     let new = c.is_entered.new.connection in
     let why = c.in_err-is_entered.field-0.0 in
-    let unit = subst (λ o. NamesFirst g.S.Store old new (history_asked o) why) c.unit.ensures c.in_err-is_entered.ensures.damaged in
-    told_on _ why c.from_residual.result c.from_residual.ensures.1 (names_more g.S.Store old new (history_asked (unit_named c.args.body.now)) (history_asked (party_named c.args.body.now)) why unit)
+    let unit = subst (λ o. NamesFirst g.S.Store old new (history_questions o) why) c.unit.ensures c.in_err-is_entered.ensures.damaged in
+    told_on _ why c.from_residual.result c.from_residual.ensures.1 (names_more g.S.Store old new (history_questions (unit_named c.args.body.now)) (history_questions (party_named c.args.body.now)) why unit)
 
 pub returns-in_err-known-clause-damaged : goal.returns-in_err-known-clause-damaged
 returns-in_err-known-clause-damaged g c =
@@ -31,18 +31,18 @@ returns-in_err-known-clause-damaged g c =
     let mid = c.is_entered.new.connection in
     let new = c.is_entered-then-branch.new.connection in
     let why = c.in_err-known.field-0.0 in
-    let unit = subst (λ o. TellAll g.S.Store mid (history_asked o) old mid) c.unit.ensures c.in_ok-is_entered.ensures.shown in
-    let party = subst (λ o. NamesFirst g.S.Store mid new (history_asked o) why) c.party.ensures c.in_err-known.ensures.damaged in
+    let unit = subst (λ o. TellAll g.S.Store mid (history_questions o) old mid) c.unit.ensures c.in_ok-is_entered.ensures.shown in
+    let party = subst (λ o. NamesFirst g.S.Store mid new (history_questions o) why) c.party.ensures c.in_err-known.ensures.damaged in
     told_on _ why c.from_residual-in_err-known.result c.from_residual-in_err-known.ensures.1
-    (names_then g.S.Store old mid new (history_asked (unit_named c.args.body.now)) (history_asked (party_named c.args.body.now)) why c.in_err-known.ensures.inquires.leaves.later.clean unit party)
+    (names_then g.S.Store old mid new (history_questions (unit_named c.args.body.now)) (history_questions (party_named c.args.body.now)) why c.in_err-known.ensures.inquires.leaves.later.clean unit party)
 
 pub returns-in_ok-known-clause-shown : goal.returns-in_ok-known-clause-shown
 returns-in_ok-known-clause-shown g c = λ known.
     let old = c.args.connection.now in
     let mid = c.is_entered.new.connection in
     let new = c.is_entered-then-branch.new.connection in
-    let unit = subst (λ o. TellAll g.S.Store mid (history_asked o) old mid) c.unit.ensures c.in_ok-is_entered.ensures.shown in
-    let party = subst (λ o. TellAll g.S.Store new (history_asked o) mid new) c.party.ensures c.in_ok-known.ensures.shown in
-    let units = history_asked (unit_named c.args.body.now) in
-    tell_then g.S.Store new units (history_asked (party_named c.args.body.now)) old mid new
+    let unit = subst (λ o. TellAll g.S.Store mid (history_questions o) old mid) c.unit.ensures c.in_ok-is_entered.ensures.shown in
+    let party = subst (λ o. TellAll g.S.Store new (history_questions o) mid new) c.party.ensures c.in_ok-known.ensures.shown in
+    let units = history_questions (unit_named c.args.body.now) in
+    tell_then g.S.Store new units (history_questions (party_named c.args.body.now)) old mid new
     (tell_later g.S.Store mid new units old mid c.in_ok-known.ensures.inquires.leaves.later.clean unit) party

@@ -1,5 +1,5 @@
 use Rattle.std.proofs.Common.{rules, ◌≡◌, true, Err, inl, inr}
-use Rattle.cad_register.specs.Refusing.{body_asked, room_asked}
+use Rattle.cad_register.specs.Refusing.{body_questions, room_questions}
 use Rattle.cad_register.proofs.NamingLemmas.{told_on, names_more, names_then}
 use Rattle.cad_register.proofs.InquiringLemmas.{inquires_on, inquires_then}
 use Rattle.cad_register.proofs.decision.check_addition.Goals as goal
@@ -18,12 +18,12 @@ pub returns-in_err-are_entered-clause-damaged : goal.returns-in_err-are_entered-
 returns-in_err-are_entered-clause-damaged g c =
     let why = c.in_err-are_entered.field-0.0 in
     told_on _ why c.from_residual.result c.from_residual.ensures.1
-    (names_more g.S.Store c.args.connection.now c.are_entered.new.connection (body_asked c.args.body.now) (room_asked c.args.revision) why c.in_err-are_entered.ensures.damaged)
+    (names_more g.S.Store c.args.connection.now c.are_entered.new.connection (body_questions c.args.body.now) (room_questions c.args.revision) why c.in_err-are_entered.ensures.damaged)
 
 pub returns-in_err-is_full-clause-damaged : goal.returns-in_err-is_full-clause-damaged
 returns-in_err-is_full-clause-damaged g c =
     let why = c.in_err-is_full.field-0.0 in
     let known : c.in_ok-are_entered.field-0 ≡ true = search rules in
     told_on _ why c.from_residual-in_err-is_full.result c.from_residual-in_err-is_full.ensures.1
-    (names_then g.S.Store c.args.connection.now c.are_entered.new.connection c.is_full.new.connection (body_asked c.args.body.now) (room_asked c.args.revision) why
+    (names_then g.S.Store c.args.connection.now c.are_entered.new.connection c.is_full.new.connection (body_questions c.args.body.now) (room_questions c.args.revision) why
     c.in_err-is_full.ensures.inquires.leaves.later.clean (c.in_ok-are_entered.ensures.shown known) c.in_err-is_full.ensures.damaged)

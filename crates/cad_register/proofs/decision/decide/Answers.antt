@@ -2,7 +2,7 @@ use Rattle.std.proofs.Common.{Err, Some, ◌∙◌, ◌≡◌, length, sym, subs
 use Rattle.cad_versions.specs.Versions.{versions}
 use Rattle.cad_versions.specs.Refusals.{refusal}
 use Rattle.cad_register.specs.Stands.{IsRefusal}
-use Rattle.cad_register.specs.Refusing.{IsForObject, IsForAddition, history_asked, addition_asked}
+use Rattle.cad_register.specs.Refusing.{IsForObject, IsForAddition, history_questions, addition_questions}
 use Rattle.cad_versions.specs.Command.{object_named, body_added}
 use Rattle.cad_register.specs.Naming.{TellAll, NamesFirst}
 use Rattle.cad_register.proofs.NamingLemmas.{told_on, decided_named, names_more, names_then}
@@ -35,9 +35,9 @@ returns-in_err-standing-clause-damaged g c =
     let old = c.args.connection.now in
     let new = c.standing_of.new.connection in
     let why = c.in_err-standing.field-0.0 in
-    let own = subst (λ o. NamesFirst g.S.Store old new (history_asked (Some o)) why) c.object.ensures c.in_err-standing.ensures.damaged in
+    let own = subst (λ o. NamesFirst g.S.Store old new (history_questions (Some o)) why) c.object.ensures c.in_err-standing.ensures.damaged in
     told_on _ why c.from_residual.result c.from_residual.ensures.1
-    (names_more g.S.Store old new (history_asked (Some (object_named c.args.command.now))) (addition_asked (body_added c.args.command.now) c.args.revision) why own)
+    (names_more g.S.Store old new (history_questions (Some (object_named c.args.command.now))) (addition_questions (body_added c.args.command.now) c.args.revision) why own)
 
 pub returns-in-Some-clause-damaged : goal.returns-in-Some-clause-damaged
 returns-in-Some-clause-damaged g c =
@@ -49,7 +49,7 @@ returns-in_err-check_addition-clause-damaged g c =
     let mid = c.standing_of.new.connection in
     let new = c.check_addition.new.connection in
     let why = c.in_err-check_addition.field-0.0 in
-    let own = subst (λ o. TellAll g.S.Store mid (history_asked (Some o)) old mid) c.object.ensures c.in_ok-standing.ensures.shown in
-    let added = subst (λ o. NamesFirst g.S.Store mid new (addition_asked o c.args.revision) why) c.in-Some-body.ensures c.in_err-check_addition.ensures.damaged in
+    let own = subst (λ o. TellAll g.S.Store mid (history_questions (Some o)) old mid) c.object.ensures c.in_ok-standing.ensures.shown in
+    let added = subst (λ o. NamesFirst g.S.Store mid new (addition_questions o c.args.revision) why) c.in-Some-body.ensures c.in_err-check_addition.ensures.damaged in
     told_on _ why c.from_residual-in_err-check_addition.result c.from_residual-in_err-check_addition.ensures.1
-    (names_then g.S.Store old mid new (history_asked (Some (object_named c.args.command.now))) (addition_asked (body_added c.args.command.now) c.args.revision) why c.in_err-check_addition.ensures.inquires.leaves.later.clean own added)
+    (names_then g.S.Store old mid new (history_questions (Some (object_named c.args.command.now))) (addition_questions (body_added c.args.command.now) c.args.revision) why c.in_err-check_addition.ensures.inquires.leaves.later.clean own added)
