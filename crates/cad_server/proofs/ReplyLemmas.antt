@@ -26,7 +26,7 @@ use Rattle.cad_resource.specs.Places.{Place, landing, collections, collection, q
 use Rattle.cad_request.specs.declared.request.ParsedRequest.{ParsedRequest}
 use Rattle.cad_request.specs.declared.request.ParsedRequest.TheVariants as parsed
 use Rattle.cad_request.specs.declared.response.Response.{Response}
-use Rattle.cad_request.specs.ParsedRequests.{IsTold, IsRefusal, IsPlain, IsTellingOf, has_pairs, fault_text, IsPageRequest, IsFeatureOf, IsIdentified, IsFeatureWanted, IsWantedAt, IsParsedRequest}
+use Rattle.cad_request.specs.ParsedRequests.{IsResponse, IsRefusal, IsPlain, IsAnsweredBy, has_pairs, fault_text, IsPageRequest, IsFeatureOf, IsIdentified, IsFeatureRequest, IsRequestAt, IsParsedRequest}
 use Rattle.cad_request.specs.declared.feature_request.FeatureRequest.TheVariants.{Page, Feature}
 use Rattle.cad_server.specs.Contents.{content_in_response, feature_content, feature_with, refusal, snapshot_at, revision_sought, content_in, content_of, content_requested}
 use Rattle.cad_server.specs.Replies.{reply_of}
@@ -38,14 +38,14 @@ Alike v w = (commands : List Command) → content_requested v commands ≡ conte
 
 -- ---- what is told without the register
 
-told_alike : (status : Status) (text : List ℕ) (a b : Response) → IsTold status text a → IsTold status text b → content_in_response a ≡ content_in_response b
+told_alike : (status : Status) (text : List ℕ) (a b : Response) → IsResponse status text a → IsResponse status text b → content_in_response a ≡ content_in_response b
 told_alike status text a b f g = ap₂ (λ (s : Status) (t : List ℕ). (s, t)) (f.status_is ∙ sym g.status_is) (f.body_is ∙ sym g.body_is)
 
 -- all that a predicate lets pass is told alike
 abbrev TellsOne : (Response → Type 0) → Type 0
 TellsOne P = (a b : Response) → P a → P b → content_in_response a ≡ content_in_response b
 
-telling_alike : (P : Response → Type 0) → TellsOne P → (v w : ParsedRequest) → IsTellingOf P v → IsTellingOf P w → Alike v w
+telling_alike : (P : Response → Type 0) → TellsOne P → (v w : ParsedRequest) → IsAnsweredBy P v → IsAnsweredBy P w → Alike v w
 telling_alike P one (parsed.Immediate a) (parsed.Immediate b) f g = λ commands. one a b f g
 telling_alike P one (parsed.Immediate a) (parsed.Features sought) f g = absurd g
 telling_alike P one (parsed.Features sought) w f g = absurd f
@@ -53,7 +53,7 @@ telling_alike P one (parsed.Features sought) w f g = absurd f
 plain_one : (pairs : List PairText) (text : List ℕ) → TellsOne (IsPlain pairs text)
 plain_one pairs text a b f g = go (has_pairs pairs) f g
   where
-    go : (has : Bool) → MatchBool has (IsTold status.BadRequest (compact_text (word_data (codes "unknown"))) a) (IsTold status.Ok text a) → MatchBool has (IsTold status.BadRequest (compact_text (word_data (codes "unknown"))) b) (IsTold status.Ok text b) → content_in_response a ≡ content_in_response b
+    go : (has : Bool) → MatchBool has (IsResponse status.BadRequest (compact_text (word_data (codes "unknown"))) a) (IsResponse status.Ok text a) → MatchBool has (IsResponse status.BadRequest (compact_text (word_data (codes "unknown"))) b) (IsResponse status.Ok text b) → content_in_response a ≡ content_in_response b
     go true f g = told_alike status.BadRequest _ a b f g
     go false f g = told_alike status.Ok text a b f g
 
@@ -68,10 +68,10 @@ page_content answered a b same commands =
 -- ---- one feature
 
 abbrev nothing_told : ParsedRequest → Type 0
-nothing_told w = IsTellingOf (IsRefusal status.NotFound (codes "no-feature")) w
+nothing_told w = IsAnsweredBy (IsRefusal status.NotFound (codes "no-feature")) w
 
 abbrev unknown_told : ParsedRequest → Type 0
-unknown_told w = IsTellingOf (IsRefusal status.BadRequest (codes "unknown")) w
+unknown_told w = IsAnsweredBy (IsRefusal status.BadRequest (codes "unknown")) w
 
 feature_alike : (c : Collection) (numbers : Numbers) (v w : ParsedRequest) → IsFeatureOf c numbers v → IsFeatureOf c numbers w → Alike v w
 feature_alike c numbers (parsed.Features (Feature d i)) (parsed.Features (Feature e j)) f g = λ commands.
@@ -88,7 +88,7 @@ identified_alike c text v w f g = go (identifier_named text) f g
     go None f g = telling_alike (IsRefusal status.NotFound (codes "no-feature")) (told_alike status.NotFound _) v w f g
     go (Some numbers) f g = feature_alike c numbers v w f g
 
-feature_wanted : (c : Collection) (pairs : List PairText) (text : List ℕ) (v w : ParsedRequest) → IsFeatureWanted c pairs text v → IsFeatureWanted c pairs text w → Alike v w
+feature_wanted : (c : Collection) (pairs : List PairText) (text : List ℕ) (v w : ParsedRequest) → IsFeatureRequest c pairs text v → IsFeatureRequest c pairs text w → Alike v w
 feature_wanted c pairs text v w f g = go (has_pairs pairs) f g
   where
     go : (has : Bool) → MatchBool has (unknown_told v) (IsIdentified c text v) → MatchBool has (unknown_told w) (IsIdentified c text w) → Alike v w
@@ -104,11 +104,11 @@ module _ (one : PairsAskOneThing) (fault : HasOneFirstFault) (or : HasFaultOrAsk
   page_alike c pairs (parsed.Features (Page a)) (parsed.Features (Feature d i)) f g = absurd g
   page_alike c pairs (parsed.Immediate a) (parsed.Features (Page b)) f g = absurd (or c pairs f.0 f.1 (asks_well c pairs b g))
   page_alike c pairs (parsed.Immediate a) (parsed.Immediate b) f g = λ commands.
-      told_alike status.BadRequest (fault_text f.0) a b f.2 (subst (λ (x : AskFault). IsTold status.BadRequest (fault_text x) b) (fault c pairs g.0 f.0 g.1 f.1) g.2)
+      told_alike status.BadRequest (fault_text f.0) a b f.2 (subst (λ (x : AskFault). IsResponse status.BadRequest (fault_text x) b) (fault c pairs g.0 f.0 g.1 f.1) g.2)
   page_alike c pairs (parsed.Immediate a) (parsed.Features (Feature d i)) f g = absurd g
   page_alike c pairs (parsed.Features (Feature d i)) w f g = absurd f
 
-  wanted_at : (place : Place Collection) (pairs : List PairText) (v w : ParsedRequest) → IsWantedAt place pairs v → IsWantedAt place pairs w → Alike v w
+  wanted_at : (place : Place Collection) (pairs : List PairText) (v w : ParsedRequest) → IsRequestAt place pairs v → IsRequestAt place pairs w → Alike v w
   wanted_at landing pairs v w f g = telling_alike (IsPlain pairs (compact_text landing_data)) (plain_one pairs (compact_text landing_data)) v w f g
   wanted_at collections pairs v w f g = telling_alike (IsPlain pairs (compact_text collections_data)) (plain_one pairs (compact_text collections_data)) v w f g
   wanted_at (collection c) pairs v w f g = telling_alike (IsPlain pairs (compact_text (collection_data c))) (plain_one pairs (compact_text (collection_data c))) v w f g

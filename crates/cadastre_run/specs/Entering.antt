@@ -3,7 +3,7 @@ use Rattle.std.specs.Prelude.{◌≡◌, ℕ, Bool, List, Option, Result, IsOk}
 use Rattle.cad_versions.specs.declared.command.Command.{Command}
 use Rattle.cad_versions.specs.declared.fault.RegisterFault.{RegisterFault}
 use Rattle.cad_office.specs.declared.fault.OfficeFault.{OfficeFault}
-use Rattle.cad_office.specs.Keeping.{AnswersLines, IsKept, IsPaced}
+use Rattle.cad_office.specs.Keeping.{AnswersLines, LinesAreAnswered, IsPaced}
 use Rattle.cad_io.specs.Known.{ReadsAndWrites}
 use Rattle.cadastre_run.specs.declared.outcome.Outcome.{Outcome}
 use Rattle.cadastre_run.specs.Outcomes.{office_outcome_of}
@@ -13,4 +13,4 @@ pub record EndsOffice {L : Type 0} (applies : L → Command → Result ℕ Regis
   pub result : Result Bool OfficeFault
   pub ends : outcome ≡ office_outcome_of result
   pub all : IsOk result → AtEnd
-  pub kept : ReadsAndWrites from to before after (λ read written. IsKept (AnswersLines applies old new) AtEnd result read written × IsPaced result read)
+  pub kept : ReadsAndWrites from to before after (λ read written. LinesAreAnswered (AnswersLines applies old new) AtEnd result read written × IsPaced result read)
