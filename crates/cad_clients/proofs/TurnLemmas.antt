@@ -1,6 +1,6 @@
 -- Turns of a connection, and one more.
 use Rattle.std.proofs.Common.{◌≡◌, ◌⊎◌, inl, inr, ℕ, ◌+◌, ◌≤◌, Bool, true, false, if◌then◌else◌, List, [], ◌∷◌, ◌++◌, length, Option, None, Some, IsSome, IsSomeAnd, refl, ap, subst, ◌∙◌, arith}
-use Rattle.cad_network.specs.Deeds.{Deed, Adds, AddsSome, left}
+use Rattle.cad_network.specs.Deeds.{Deed, AddsSome, left}
 use Rattle.cad_network.specs.lemmas.DeedLemmas.{Adds-trans}
 use Rattle.std.proofs.lemmas.Bool.{eq-eqb}
 use Rattle.cad_stream.specs.declared.responder.Responder.{Ghosts}

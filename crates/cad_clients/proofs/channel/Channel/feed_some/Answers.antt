@@ -1,7 +1,7 @@
 use Rattle.std.proofs.Common.{◌≡◌, [], refl}
 use Rattle.cad_network.specs.lemmas.DeedLemmas.{Adds-nil}
 use Rattle.cad_clients.specs.Channels.{unfed}
-use Rattle.cad_clients.proofs.ChannelLemmas.{is_piece, is_left, is_last, refused, unfed_refused}
+use Rattle.cad_clients.proofs.ChannelLemmas.{is_piece, is_left, is_last, refused}
 use Rattle.cad_clients.proofs.channel.Channel.feed_some.Goals as goal
 
 pub returns-in-Ok-Sent : goal.returns-in-Ok-Sent

@@ -12,7 +12,7 @@ returns g c =
           ([], Adds-nil _, (told, refl, (w.new.result, w.new.ensures.socket, w.new.ensures.new, w.new.ensures.goes_on, w.new.ensures.notes, w.put.ensures)))
           )
       | in-Err w ↦ rw (w.result-is, w.self-is, w.net-is) (
-          let t = w.tell.ensures in
+          let t = w.tell_fault.ensures in
           (t.0 ++ left (g.N.Network.name c.args.socket) ∷ [], Adds-trans _ _ _ t.0 _ t.1 w.let_go.ensures, (w.in-Err.ensures, (λ d. refl), (t.0, t.2, refl)))
           )
     ]

@@ -1,5 +1,5 @@
-use Rattle.std.proofs.Common.{refl, sym, ap, ◌∙◌, Some, None, ◌∷◌, [], ◌++◌, append-nil}
-use Rattle.cad_network.specs.lemmas.DeedLemmas.{Adds-nil, Adds-trans}
+use Rattle.std.proofs.Common.{refl, sym, ◌∙◌, Some, None, ◌∷◌, [], ◌++◌, append-nil}
+use Rattle.cad_network.specs.lemmas.DeedLemmas.{Adds-trans}
 use Rattle.cad_network.specs.Deeds.{left}
 use Rattle.cad_clients.proofs.SlotLemmas.{put_back}
 use Rattle.cad_clients.proofs.TurnLemmas.{last_of, none_of}

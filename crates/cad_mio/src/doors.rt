@@ -55,7 +55,7 @@ pub enum DoorFault {
 }
 
 impl Doors {
-    ghost use Rattle.cad_event_loop.specs.Doors.{address_asked};
+    ghost use Rattle.cad_mio.specs.Doors.{address_asked};
 
     /// Binds both. The office's path may be that of a socket which a host left behind.
     pub fn open<N: Net + Files>(
