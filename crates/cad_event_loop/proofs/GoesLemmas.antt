@@ -1,7 +1,8 @@
 -- What is done, one thing after the other, and then more.
 use Rattle.std.specs.Prelude.{⊤}
-use Rattle.std.proofs.Common.{◌≡◌, ℕ, ◌<◌, nat_eq, Bool, true, false, ◌||◌, List, [], ◌∷◌, ◌++◌, map, length, Option, None, Some, option_map, Result, Ok, Err, refl, sym, ap, subst, ◌∙◌, append_assoc, append-nil, inl, inr, if◌then◌else◌, arith}
-use Rattle.std.proofs.lemmas.Bool.{eqb-true, eq-eqb}
+use Rattle.std.proofs.Common.{◌≡◌, ℕ, ◌+◌, ◌<◌, ◌≤◌, nat_eq, Bool, true, false, ◌||◌, List, [], ◌∷◌, ◌++◌, map, length, Option, None, Some, IsSomeAnd, option_map, Result, Ok, Err, refl, sym, ap, subst, ◌∙◌, append_assoc, append-nil, inl, inr, if◌then◌else◌, arith}
+use Rattle.std.proofs.lemmas.Bool.{cases_lt, eqb-true, eq-eqb}
+use Rattle.std.proofs.lemmas.Option.{slice_get_past}
 use Rattle.std.specs.Option.{option_or}
 use Rattle.cad_stream.specs.declared.responder.Responder.{Ghosts}
 use Rattle.cad_desk.specs.declared.desk.Desk.{Desk}
@@ -22,7 +23,7 @@ use Rattle.cad_clients.specs.declared.clients.Clients.{Clients}
 use Rattle.cad_clients.specs.declared.served.Served.{Served}
 use Rattle.cad_clients.specs.declared.served.Served.TheVariants.{Stays, Over as Served-Over, Unknown}
 use Rattle.cad_clients.specs.Notes as notes
-use Rattle.cad_clients.specs.Slots.{client_at, Changes, Keeps}
+use Rattle.cad_clients.specs.Slots.{client_in, client_at, Changes, Keeps}
 use Rattle.cad_clients.specs.Steps as steps
 use Rattle.cad_office_socket.specs.declared.turned.EntryTurned.{EntryTurned}
 use Rattle.cad_office_socket.specs.declared.turned.EntryTurned.TheVariants as entry
@@ -181,8 +182,8 @@ module _ {R : Type 0} (g : Ghosts R) where
 
   pub hosts-one : (May : Work → Type 0) (end : Option Stopped) (from to : Option (List Deed)) (a b : Desk R) (p q : Place) (work : Work)
       → Adds from to (deeds_of work) → end_by work ≡ end → Works g a p work b q → May work → Hosts g May end from a p to b q
-  hosts-one May end from to a b p q work adds ends works may =
-      (work ∷ [], subst (λ (l : List Deed). Adds from to l) (sym (all_deeds-one work)) adds, or_nothing (end_by work) ∙ ends, (b, q, works, (refl, refl)), (may, tt))
+  hosts-one May end from to a b p q work adds is works may =
+      (work ∷ [], subst (λ (l : List Deed). Adds from to l) (sym (all_deeds-one work)) adds, or_nothing (end_by work) ∙ is, (b, q, works, (refl, refl)), (may, tt))
 
   -- the network told of some sockets
   pub hosts_woken : (May : Work → Type 0) (from to : Option (List Deed)) (a : Desk R) (p q : Place) → ((places : List ℕ) → May (wakes places)) → AddsSome from to IsWoken → Same p.slots q.slots → q.office ≡ p.office
@@ -326,3 +327,45 @@ away_hosts g t from mid to old here comes away =
     hosts-one g IsServing None from to old old here here (aside (came t ∷ away.0) None)
     (Adds-trans from mid to (came t ∷ []) away.0 comes away.1) refl
     (tt, refl, (λ c. refl), inr (inl (t, Memory, away.2.0, away.2.1, ap (λ (l : List Deed). came t ∷ l) away.2.2)), refl) tt
+
+-- the network told of more sockets
+pub woken_more : (places : List ℕ) (place : ℕ) → map woke places ++ woke place ∷ [] ≡ map woke (places ++ place ∷ [])
+woken_more [] place = refl
+woken_more (first ∷ places) place = ap (λ (l : List Deed). woke first ∷ l) (woken_more places place)
+
+pub woken_then : (a b d : Option (List Deed)) → Adds a b [] → AddsSome b d IsWoken → AddsSome a d IsWoken
+woken_then a b d none told = (told.0, Adds-trans a b d [] told.0 none told.1, told.2)
+
+-- connection c is not open since it was closed, and others are not that were not
+module _ {R S : Type 0} (g : Ghosts R) (name : S → ℕ) (c : ℕ) (clients next : Clients S) (old new : Desk R) where
+  closed_none : (one : Option (Client S)) (deeds : List Deed) → client_at clients c ≡ one → steps.ClosesAt g name c one old clients new next deeds → (d : ℕ) → (nat_eq c d ≡ false → held_at name clients d ≡ None) → held_at name next d ≡ None
+  closed_none None deeds at s d before = ap (held_of name) (s.2 d) ∙ go (nat_eq c d) refl
+    where
+      go : (same : Bool) → nat_eq c d ≡ same → held_at name clients d ≡ None
+      go true e = ap (held_of name) (ap (client_at clients) (sym (eqb-true c d e)) ∙ at)
+      go false e = before e
+  closed_none (Some client) deeds at s d before = ap (held_of name) (s.2 d) ∙ go (nat_eq c d) refl
+    where
+      go : (same : Bool) → nat_eq c d ≡ same → held_of name (if nat_eq c d then None else client_at clients d) ≡ None
+      go true e = rw e refl
+      go false e = rw e (before e)
+
+  pub closed_more : (deeds : List Deed) → steps.Closes g name c old clients new next deeds → ((d : ℕ) → d < c → held_at name clients d ≡ None) → (d : ℕ) → d < c + 1 → held_at name next d ≡ None
+  closed_more deeds s before d within = closed_none (client_at clients c) deeds refl s d (λ e. before d (let differ : (c ≡ d → ⊥) = (λ same. let yes = eq-eqb c d same in let clash : true ≡ false = sym yes ∙ e in cc) in below d within differ))
+    where
+      below : (d : ℕ) → d < c + 1 → (c ≡ d → ⊥) → d < c
+      below d within differ = omega (arith, within, differ)
+
+-- no number is above the last
+pub none_beyond : {S : Type 0} (name : S → ℕ) (clients : Clients S) (d : ℕ) → 64 ≤ d → held_at name clients d ≡ None
+none_beyond {S} name clients d past = let room = clients.room in ap (λ (o : Option (Option (Client S))). held_of name (client_in o)) (slice_get_past clients.slots.items d (omega (arith, past, room)))
+
+pub all_none : {S : Type 0} (name : S → ℕ) (clients : Clients S) → ((d : ℕ) → d < 64 → held_at name clients d ≡ None) → (d : ℕ) → held_at name clients d ≡ None
+all_none name clients below d = elim (cases_lt d 64) [
+  | inl within ↦ below d within
+  | inr past ↦ none_beyond name clients d past
+]
+
+-- what is said of the one that is there
+pub some_has : {S : Type 0} (o : Option (Client S)) → IsSomeAnd o notes.IsSending → (client : Client S) → o ≡ Some client → IsSending client.channel
+some_has {S} o has client at = subst (λ (it : Option (Client S)). IsSomeAnd it notes.IsSending) at has

@@ -5,3 +5,4 @@ pub mod LifeLemmas
 pub mod ApartLemmas
 pub mod SocketLemmas
 pub mod OfficeLemmas
+pub mod HostLemmas

@@ -28,6 +28,7 @@ use Rattle.cad_event_loop.specs.declared.stopped.Stopped.TheVariants.{Asked, Sto
 use Rattle.cad_event_loop.specs.Hosting.{Each, IsServing, IsClosing, Hosts}
 use Rattle.cad_event_loop.specs.Offices.{office_at, HasBegun as OfficeHasBegun, HasBegunUnless, end_of_office, is_over, left_deeds, left_at, HasOfficeTurns, HasSent}
 use Rattle.cad_event_loop.specs.Works.{Said, AtOffice, Place, place_of, Held, Same, Work, enters, office_comes, office_leaves, aside, all_deeds, store_end, end_of_turned, end_in, is_last, SaysSo, IsLineSaid, Tells, Works, Goes}
+use Rattle.cad_event_loop.proofs.LifeLemmas.{none_some, one_some}
 use Rattle.cad_event_loop.proofs.GoesLemmas.{all_deeds-append, or_nothing, goes-append, end_in-append, each-append, hosts-one}
 
 -- what is left after a turn, as serving tells it
@@ -243,21 +244,21 @@ module _ {R : Type 0} (g : Ghosts R) where
         let t = s.2 in
         let slots : Held = (place_of name clients None).slots in
         let go = served_go slots (name office.socket) result.0 old new office.entry t.0 t.1 begun t.2 in
-        let goes = subst (λ (left : AtOffice). Goes g old (at_entry slots (name office.socket) office.entry) go.0 new (record { slots = slots; office = left })) (sym t.4) go.3 in
+        let goes = subst (λ (it : AtOffice). Goes g old (at_entry slots (name office.socket) office.entry) go.0 new (record { slots = slots; office = it })) (sym t.4) go.3 in
         (go.0, subst (λ (l : List Deed). Adds from to l) (t.3 ∙ go.1) s.1, go.2, goes, go.4)
 
     entry_begun : (o : ℕ) (after : Entry) (office : Office S) → IsBegun after → ◌≡◌ {A = AtOffice} (Some (name office.socket, office.entry)) (Some (o, after)) → IsBegun office.entry
-    entry_begun o after office begun at = let same : office.entry ≡ after = cc in subst IsBegun (sym same) begun
+    entry_begun o after office begun at = subst IsBegun (sym (ap (λ (p : ℕ × Entry). p.1) (one_some {X = ℕ × Entry} (name office.socket, office.entry) (o, after) at))) begun
 
-    begun_at : (end : EntryServed) (o : ℕ) (after : Entry) (left : Option (Office S)) → BegunIf (Some end) after → office_at name left ≡ left_at (is_over end) o after → HasBegunUnless (end_of_office end) left
+    begun_at : (end : EntryServed) (o : ℕ) (after : Entry) (it : Option (Office S)) → BegunIf (Some end) after → office_at name it ≡ left_at (is_over end) o after → HasBegunUnless (end_of_office end) it
     begun_at served.Goes o after None begun at = tt
     begun_at served.Goes o after (Some office) begun at = entry_begun o after office begun at
     begun_at served.Waits o after None begun at = tt
     begun_at served.Waits o after (Some office) begun at = entry_begun o after office begun at
     begun_at served.Over o after None begun at = tt
-    begun_at served.Over o after (Some office) begun at = absurd (let clash : ◌≡◌ {A = AtOffice} (Some (name office.socket, office.entry)) None = at in cc)
-    begun_at served.Stops o after left begun at = tt
-    begun_at served.StoreRefused o after left begun at = tt
+    begun_at served.Over o after (Some office) begun at = absurd (none_some {X = ℕ × Entry} (name office.socket, office.entry) (sym at))
+    begun_at served.Stops o after it begun at = tt
+    begun_at served.StoreRefused o after it begun at = tt
 
     -- and of what is left of it a line has begun
     pub office_begun : (office : Office S) (result : EntryServed × Option (Office S)) (old new : Desk R) (deeds : List Deed) → IsBegun office.entry → HasOfficeTurns g name old office result new deeds
@@ -306,3 +307,11 @@ module _ {R : Type 0} (g : Ghosts R) where
     left_hosts office from to old clients adds =
         hosts-one g IsClosing None from to old old (place_of name clients (office_at name (Some office))) (place_of name clients None) (office_leaves (name office.socket)) adds refl
         (office.entry, refl, refl, (λ c. refl), refl) tt
+
+pub none_is : {X : Type 0} (o : Option X) → is_none o ≡ true → o ≡ None
+none_is None e = refl
+none_is (Some x) e = absurd (let clash : false ≡ true = e in cc)
+
+-- the office that was taken out is the one that was here
+pub was_begun : {S : Type 0} (office : Office S) (at : Option (Office S)) → Some office ≡ at → OfficeHasBegun at → IsBegun office.entry
+was_begun {S} office at same begun = subst (λ (o : Option (Office S)). OfficeHasBegun o) (sym {a = Some office} same) begun

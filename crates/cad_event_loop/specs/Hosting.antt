@@ -1,5 +1,5 @@
 -- What hosting does, by how it ended (own profile).
-use Rattle.std.specs.Prelude.{◌≡◌, ◌⊎◌, ⊤, ℕ, List, [], ◌++◌, ◌∷◌, map, Option, None, Some, Result, Ok, Err}
+use Rattle.std.specs.Prelude.{◌≡◌, ◌⊎◌, ⊤, ℕ, List, [], ◌++◌, ◌∷◌, map, Option, None, Some, Result, Ok, Err, IsErr}
 use Rattle.cad_stream.specs.declared.responder.Responder.{Ghosts}
 use Rattle.cad_desk.specs.declared.desk.Desk.{Desk}
 use Rattle.cad_desk.specs.declared.fault.DeskFault.TheVariants.{Memory}
@@ -31,6 +31,10 @@ end_of_rounds (Ok Asked) = Some Asked
 end_of_rounds (Ok StoreRefused) = Some StoreRefused
 end_of_rounds (Ok RoundsSpent) = None
 end_of_rounds (Err error) = None
+
+-- what is told of it: a stop that the office asked for may be told as a failure of the system that came then
+abbrev pub IsLastOf : {E : Type 0} → Result Stopped E → Result Stopped E → Type 0
+IsLastOf hosted result = (result ≡ hosted) ⊎ ((hosted ≡ Ok Asked) × IsErr result)
 
 -- the network told of some sockets
 abbrev pub IsWoken : List Deed → Type 0

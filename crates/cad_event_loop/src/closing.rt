@@ -76,6 +76,22 @@ impl<S: Drop> Rounds<S> {
         Ok(())
     }
 
+    /// The same, if the network was not at fault.
+    fn send_if<N: Network<Socket = S>, R: Responder>(
+        &mut self,
+        is_sound: bool,
+        net: &mut N,
+        desk: &mut Desk<R>,
+    ) -> Result<()>
+        ensures { Hosts R.Responder IsClosing None (N.history net.old) desk.old (here N.name self.old) (N.history net.new) desk.new (here N.name self.new) }
+    {
+        if is_sound {
+            self.send_last(net, desk)
+        } else {
+            Ok(())
+        }
+    }
+
     /// Lets the land office go, if it is here.
     fn part_office<N: Network<Socket = S>, R: Responder>(&mut self, net: &mut N, desk: &mut Desk<R>)
         ensures clients { self.new.peers ≡ self.old.peers }
@@ -106,14 +122,9 @@ impl<S: Drop> Rounds<S> {
         ensures nobody { IsEmpty (here N.name self.new) }
         ensures hosts { Hosts R.Responder IsClosing None (N.history net.old) desk.old (here N.name self.old) (N.history net.new) desk.new (here N.name self.new) }
     {
-        let sent = if is_sound {
-            self.send_last(net, desk)
-        } else {
-            Ok(())
-        };
+        let sent = self.send_if(is_sound, net, desk);
         self.part(net, desk);
         let drained = net.drain();
-        sent?;
-        drained
+        sent.and(drained)
     }
 }

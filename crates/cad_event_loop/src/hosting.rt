@@ -1,6 +1,6 @@
 //! The loop over readiness.
 
-ghost use Rattle.cad_event_loop.specs.Hosting.{Hosted};
+ghost use Rattle.cad_event_loop.specs.Hosting.{Hosted, IsLastOf};
 
 use crate::rounds::Rounds;
 use crate::stopped::Stopped;
@@ -10,6 +10,21 @@ use cad_network::Network;
 use cad_stream::Responder;
 use std::alloc::Global;
 use std::io::Result;
+
+/// How hosting ended, by the rounds and by what came then. A refusal of the database is told whatever the system refuses then.
+fn last_of(hosted: Result<Stopped>, ended: Result<()>) -> Result<Stopped>
+    ensures { IsLastOf hosted result }
+{
+    match hosted {
+        Ok(Stopped::Asked) => match ended {
+            Ok(()) => Ok(Stopped::Asked),
+            Err(error) => Err(error),
+        },
+        Ok(Stopped::StoreRefused) => Ok(Stopped::StoreRefused),
+        Ok(Stopped::RoundsSpent) => Ok(Stopped::RoundsSpent),
+        Err(error) => Err(error),
+    }
+}
 
 /// Takes clients at one door of a network, up to 64 at once, and the land office at the other, one at a time, and serves them by
 /// turns until the office asks to stop or the register's database refuses, whether or not the office is told that. A client that
@@ -27,10 +42,5 @@ pub fn host<N: Network, R: Responder, L: AccessLog<N::Socket>>(
     let mut rounds = Rounds::new(alloc)?;
     let hosted = rounds.run(net, desk, log);
     let ended = rounds.end(hosted.is_ok(), net, desk);
-    let stopped = hosted?;
-    // A refusal of the database is told whatever the system refuses now.
-    if let Stopped::Asked = stopped {
-        ended?;
-    }
-    Ok(stopped)
+    last_of(hosted, ended)
 }

@@ -1,0 +1,22 @@
+use Rattle.std.specs.declared.io.Error.{Error}
+use Rattle.cad_event_loop.proofs.HostLemmas.{hosted_so, nobody_is}
+use Rattle.std.proofs.Common.{inl}
+use Rattle.cad_event_loop.specs.Hosting.{end_of_rounds}
+use Rattle.cad_event_loop.specs.Rounds.{here}
+use Rattle.cad_event_loop.proofs.HostLemmas.{hosted_by, unhosted}
+use Rattle.std.proofs.lemmas.Result.{err_from_is_err_and}
+use Rattle.cad_event_loop.proofs.hosting.host.Goals as goal
+
+pub returns-in_err-rounds : goal.returns-in_err-rounds
+returns-in_err-rounds g c =
+    let p = err_from_is_err_and c.from_residual.result c.from_residual.ensures.1 in
+    rw p.1 (inl (unhosted g.R.Responder (g.N.Network.history c.args.net.now) c.args.desk.now))
+
+pub run-hosted-requires : goal.run-hosted-requires
+run-hosted-requires g c = rw c.in_ok-rounds.ensures.1 tt
+
+pub returns : goal.returns
+returns g c =
+    let first = nobody_is g.N.Network.name c.in_ok-rounds.rounds c.in_ok-rounds.ensures in
+    let all = hosted_by g.R.Responder (end_of_rounds c.run-hosted.result) _ _ _ c.args.desk.now c.run-hosted.new.desk c.end-ended.new.desk (here g.N.Network.name c.in_ok-rounds.rounds) (here g.N.Network.name c.run-hosted.new.self) (here g.N.Network.name c.end-ended.new.self) first c.end-ended.ensures.nobody c.run-hosted.ensures c.end-ended.ensures.hosts in
+    hosted_so g.R.Responder Error c.run-hosted.result c.last_of.result _ _ c.args.desk.now c.end-ended.new.desk c.last_of.ensures all
