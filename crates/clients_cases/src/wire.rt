@@ -92,12 +92,14 @@ impl Wire {
 
     fn come(&mut self) -> std::result::Result<(), AllocError> {
         let name = self.add_peer()?;
-        self.clients.waiting.push(name)
+        self.clients.waiting.push(name)?;
+        Ok(())
     }
 
     fn come_office(&mut self) -> std::result::Result<(), AllocError> {
         let name = self.add_peer()?;
-        self.offices.waiting.push(name)
+        self.offices.waiting.push(name)?;
+        Ok(())
     }
 
     /// Does a step of a peer.
