@@ -1,9 +1,9 @@
 -- What is kept of a connection beside its channel, and what follows from it (own profile).
 use Rattle.std.specs.Prelude.{◌⊎◌, ℕ, ◌-◌, ◌≤◌, ◌==◌, Bool, true, false, IsTrue, List, length, Option, None, Some, IsSomeAnd, if◌then◌else◌}
 use Rattle.std.specs.Option.{option_or}
-use Rattle.cad_client_socket.specs.declared.turned.Turned.{Turned}
-use Rattle.cad_client_socket.specs.declared.turned.Turned.TheVariants.{Wrote, Took, Fed, Waits, Over}
-use Rattle.cad_client_socket.specs.Channels as channels
+use Rattle.cad_clients.specs.declared.turned.Turned.{Turned}
+use Rattle.cad_clients.specs.declared.turned.Turned.TheVariants.{Wrote, Took, Fed, Waits, Over}
+use Rattle.cad_clients.specs.Channels as channels
 use Rattle.cad_clients.specs.declared.client.Client.{Client}
 use Rattle.cad_clients.specs.declared.limits.Limits.{Limits}
 
@@ -14,7 +14,7 @@ pub record Notes : Type 0 where
   pub begun : Option ℕ
 
 -- what is kept of this connection
-abbrev pub notes_of : Client → Notes
+abbrev pub notes_of : {S : Type 0} → Client S → Notes
 notes_of client = record { is_ready = client.is_ready; moved = client.moved; begun = client.begun }
 
 -- what is kept of a connection that is opened at this moment
@@ -32,17 +32,17 @@ noted now Waits left notes = record notes { is_ready = false }
 noted now (Over ending) left notes = notes
 
 -- the connection, whose socket may give or take something
-abbrev pub marked : Client → Client
+abbrev pub marked : {S : Type 0} → Client S → Client S
 marked client = record client { is_ready = true }
 
 -- its socket may give or take something
-abbrev pub MayGoOn : Client → Type 0
+abbrev pub MayGoOn : {S : Type 0} → Client S → Type 0
 MayGoOn client = IsTrue client.is_ready
 
 -- a reply has not gone out
-abbrev pub IsSending : Client → Type 0
+abbrev pub IsSending : {S : Type 0} → Client S → Type 0
 IsSending client = channels.IsSending client.channel
 
 -- no byte was read or written for too long, or a request is under way for too long; where the clock is behind, no time has passed
-abbrev pub IsOverdue : ℕ → Limits → Client → Type 0
+abbrev pub IsOverdue : {S : Type 0} → ℕ → Limits → Client S → Type 0
 IsOverdue now limits client = (limits.idle ≤ now - client.moved) ⊎ IsSomeAnd client.begun (λ begun. limits.request ≤ now - begun)

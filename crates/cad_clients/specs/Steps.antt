@@ -6,16 +6,17 @@ use Rattle.cad_desk.specs.declared.event.Event.TheVariants.{Open}
 use Rattle.cad_desk.specs.declared.event.Reply.TheVariants.{Opened}
 use Rattle.cad_desk.specs.declared.fault.DeskFault.{DeskFault}
 use Rattle.cad_desk.specs.Desks as desks
-use Rattle.cad_client_socket.specs.declared.turned.Turned.{Turned}
-use Rattle.cad_client_socket.specs.declared.turned.Turned.TheVariants.{Fed, Waits, Over}
-use Rattle.cad_client_socket.specs.Channels as channels
-use Rattle.cad_client_socket.specs.Laws.{IsNew}
+use Rattle.cad_clients.specs.declared.turned.Turned.{Turned}
+use Rattle.cad_clients.specs.declared.turned.Turned.TheVariants.{Fed, Waits, Over}
+use Rattle.cad_clients.specs.Channels as channels
+use Rattle.cad_clients.specs.Laws.{IsNew}
 use Rattle.cad_clients.specs.declared.client.Client.{Client}
 use Rattle.cad_clients.specs.declared.clients.Clients.{Clients}
 use Rattle.cad_clients.specs.declared.served.Served.{Served}
 use Rattle.cad_clients.specs.declared.served.Served.TheVariants.{Stays, Over as Served-Over, Unknown}
 use Rattle.cad_clients.specs.Notes.{notes_of, first_notes, noted, IsSending}
 use Rattle.cad_clients.specs.Slots.{client_at, Changes, Keeps}
+use Rattle.cad_network.specs.Deeds.{Deed, left}
 
 -- the connection is over
 abbrev pub is_over : Turned → Bool
@@ -23,8 +24,13 @@ is_over (Over ending) = true
 is_over other = false
 
 -- the connection that is left after a turn
-abbrev pub left_after : Turned → Client → Option Client
+abbrev pub left_after : {S : Type 0} → Turned → Client S → Option (Client S)
 left_after turned client = if is_over turned then None else Some client
+
+-- the deed by which the socket of a connection that is over is let go
+abbrev pub last_deed : Turned → ℕ → List Deed
+last_deed (Over ending) s = left s ∷ []
+last_deed other s = []
 
 -- at one of these turns it was over
 abbrev pub any_over : List Turned → Bool
@@ -41,51 +47,58 @@ fed_in [] = 0
 fed_in (turned ∷ turns) = fed_by turned + fed_in turns
 
 -- after these turns, the last of them first, connection c has no more for now: at the last one its socket gave or took nothing, or the reply to a piece went out, or there were four
-abbrev pub IsEnough : ℕ → List Turned → Clients → Type 0
+abbrev pub IsEnough : {S : Type 0} → ℕ → List Turned → Clients S → Type 0
 IsEnough c turns next =
     ((before : List Turned) × (turns ≡ Waits ∷ before)) ⊎ (((fed_in turns ≡ 1) × ¬ IsSomeAnd (client_at next c) IsSending) ⊎ (length turns ≡ 4))
 
-module _ {R : Type 0} (g : Ghosts R) (c now : ℕ) where
-  -- the desk opens connection c, which has a new channel then, or refuses it
-  abbrev pub Opens : Desk R → Clients → Result (Unit {0}) DeskFault → Desk R → Clients → Type 0
-  Opens old clients (Ok done) new next =
-      desks.Steps g old (Open c) (Ok Opened) new
-      × ((client : Client) × IsNew client.channel × (channels.has_ended client.channel ≡ false) × (notes_of client ≡ first_notes now)
+-- what is done for connection c, where sockets of this type have these names
+module _ {R S : Type 0} (g : Ghosts R) (name : S → ℕ) (c now : ℕ) where
+  -- the desk opens connection c, which has this socket and a new channel then; or it refuses it, which is told, and the socket is let go
+  abbrev pub Opens : S → Desk R → Clients S → Result (Unit {0}) DeskFault → Desk R → Clients S → List Deed → Type 0
+  Opens socket old clients (Ok done) new next deeds =
+      desks.Steps g old (Open c) (Ok Opened) new × (deeds ≡ [])
+      × ((client : Client S) × (client.socket ≡ socket) × IsNew client.channel × (channels.has_ended client.channel ≡ false) × (notes_of client ≡ first_notes now)
       × Changes clients next c (Some client))
-  Opens old clients (Err fault) new next = desks.Steps g old (Open c) (Err fault) new × Keeps clients next
+  Opens socket old clients (Err fault) new next deeds =
+      desks.Steps g old (Open c) (Err fault) new × Keeps clients next
+      × ((told : List Deed) × channels.IsTold (name socket) fault told × (deeds ≡ told ++ left (name socket) ∷ []))
 
-  -- connection c has a turn, by its own channel and its own number at the desk, and it is kept what came of it; all others are as they were
-  abbrev pub HasTurn : Desk R → Clients → Option Turned → Desk R → Clients → List ℕ → List ℕ → Type 0
-  HasTurn old clients None new next read written =
-      (client_at clients c ≡ None) × (read ≡ []) × (written ≡ []) × (new ≡ old) × Keeps clients next
-  HasTurn old clients (Some turned) new next read written =
-      (client : Client) × (after : Client) × (client_at clients c ≡ Some client)
-      × channels.IsTurn g c old client.channel turned new after.channel read written
+  -- connection c has a turn, by its own channel, its own socket and its own number at the desk, and it is kept what came of it; all others are as they were
+  abbrev pub HasTurn : Desk R → Clients S → Option Turned → Desk R → Clients S → List Deed → Type 0
+  HasTurn old clients None new next deeds =
+      (client_at clients c ≡ None) × (deeds ≡ []) × (new ≡ old) × Keeps clients next
+  HasTurn old clients (Some turned) new next deeds =
+      (client : Client S) × (after : Client S) × (own : List Deed) × (client_at clients c ≡ Some client) × (after.socket ≡ client.socket)
+      × channels.IsTurn g c (name client.socket) old client.channel turned new after.channel own
+      × (deeds ≡ own ++ last_deed turned (name client.socket))
       × (notes_of after ≡ noted now turned (channels.unsent after.channel) (notes_of client)) × Changes clients next c (left_after turned after)
 
   -- connection c has these turns, the last of them first
-  abbrev pub HasTurns : Desk R → Clients → List Turned → Desk R → Clients → List ℕ → List ℕ → Type 0
-  HasTurns old clients [] new next read written = (read ≡ []) × (written ≡ []) × (new ≡ old) × (next ≡ clients)
-  HasTurns old clients (turned ∷ before) new next read written =
-      (mid : Desk R) × (between : Clients) × (front : List ℕ) × (out : List ℕ) × (piece : List ℕ) × (sent : List ℕ)
-      × HasTurns old clients before mid between front out × HasTurn mid between (Some turned) new next piece sent
-      × (read ≡ front ++ piece) × (written ≡ out ++ sent)
+  abbrev pub HasTurns : Desk R → Clients S → List Turned → Desk R → Clients S → List Deed → Type 0
+  HasTurns old clients [] new next deeds = (deeds ≡ []) × (new ≡ old) × (next ≡ clients)
+  HasTurns old clients (turned ∷ before) new next deeds =
+      (mid : Desk R) × (between : Clients S) × (front : List Deed) × (last : List Deed)
+      × HasTurns old clients before mid between front × HasTurn mid between (Some turned) new next last
+      × (deeds ≡ front ++ last)
 
   -- connection c has turns at which it is not over, and then this comes of a turn of it
-  abbrev pub EndsWith : Desk R → Clients → Turned → Desk R → Clients → List ℕ → List ℕ → Type 0
-  EndsWith old clients last new next read written =
-      (before : List Turned) × (mid : Desk R) × (between : Clients) × (front : List ℕ) × (out : List ℕ) × (piece : List ℕ) × (sent : List ℕ)
-      × HasTurns old clients before mid between front out × HasTurn mid between (Some last) new next piece sent
-      × (read ≡ front ++ piece) × (written ≡ out ++ sent) × (fed_in before ≤ 1) × (any_over before ≡ false)
+  abbrev pub EndsWith : Desk R → Clients S → Turned → Desk R → Clients S → List Deed → Type 0
+  EndsWith old clients last new next deeds =
+      (before : List Turned) × HasTurns old clients (last ∷ before) new next deeds × (fed_in before ≤ 1) × (any_over before ≡ false)
 
   -- connection c is served by turns of its own, in which the desk takes one piece at most: as many as it has for now, at none of which it is over, or up to the one at which it is; none, where there is no such connection
-  abbrev pub IsServed : Desk R → Clients → Served → Desk R → Clients → List ℕ → List ℕ → Type 0
-  IsServed old clients Stays new next read written =
-      (turns : List Turned) × HasTurns old clients turns new next read written × (fed_in turns ≤ 1) × IsEnough c turns next × (any_over turns ≡ false)
-  IsServed old clients (Served-Over ending) new next read written = EndsWith old clients (Over ending) new next read written
-  IsServed old clients Unknown new next read written = HasTurn old clients None new next read written
+  abbrev pub IsServed : Desk R → Clients S → Served → Desk R → Clients S → List Deed → Type 0
+  IsServed old clients Stays new next deeds =
+      (turns : List Turned) × HasTurns old clients turns new next deeds × (fed_in turns ≤ 1) × IsEnough c turns next × (any_over turns ≡ false)
+  IsServed old clients (Served-Over ending) new next deeds = EndsWith old clients (Over ending) new next deeds
+  IsServed old clients Unknown new next deeds = HasTurn old clients None new next deeds
 
-module _ {R : Type 0} (g : Ghosts R) (c : ℕ) where
-  -- connection c is closed at the desk, and is not open then
-  abbrev pub Closes : Desk R → Clients → Desk R → Clients → Type 0
-  Closes old clients new next = channels.Closes g c old new × Changes clients next c None
+-- and when connection c is let go
+module _ {R S : Type 0} (g : Ghosts R) (name : S → ℕ) (c : ℕ) where
+  -- connection c is closed at the desk, is not open then, and its socket is let go; nothing is done where it is not open
+  abbrev pub ClosesAt : Option (Client S) → Desk R → Clients S → Desk R → Clients S → List Deed → Type 0
+  ClosesAt None old clients new next deeds = (deeds ≡ []) × (new ≡ old) × Keeps clients next
+  ClosesAt (Some client) old clients new next deeds = (deeds ≡ left (name client.socket) ∷ []) × channels.Closes g c old new × Changes clients next c None
+
+  abbrev pub Closes : Desk R → Clients S → Desk R → Clients S → List Deed → Type 0
+  Closes old clients new next deeds = ClosesAt (client_at clients c) old clients new next deeds

@@ -1,15 +1,17 @@
-//! A connection, and when something was done for it.
+//! A connection, its socket, and when something was done for it.
 
+use crate::channel::Channel;
 use crate::limits::Limits;
-use cad_client_socket::{Channel, Turned};
+use crate::turned::Turned;
 use cad_desk::Desk;
+use cad_network::Network;
 use cad_stream::Responder;
 use std::alloc::Global;
-use std::io::{Read, Write};
 
-/// A connection between its socket and the desk, and when bytes of it came or went.
+/// A connection with its socket, and when bytes of it came or went.
 #[derive(Drop)]
-pub(crate) struct Client {
+pub(crate) struct Client<S> {
+    pub(crate) socket: S,
     pub(crate) channel: Channel,
     /// Its socket may give or take something.
     pub(crate) is_ready: bool,
@@ -19,22 +21,22 @@ pub(crate) struct Client {
     begun: Option<u64>,
 }
 
-impl Client {
+impl<S> Client<S> {
     ghost use Rattle.std.specs.Prelude.{◌≡◌, ◌↔◌, false, IsTrue};
-    ghost use Rattle.std.specs.Io.KnownBytes.{IsAtEnd};
-    ghost use Rattle.cad_client_socket.specs.declared.turned.Ending.TheVariants.{PeerEnded};
-    ghost use Rattle.cad_io.specs.Known.{ReadsAndWrites};
-    ghost use Rattle.cad_client_socket.specs.Channels.{has_ended, unsent, IsTurn};
-    ghost use Rattle.cad_client_socket.specs.Laws.{IsNew};
+    ghost use Rattle.cad_network.specs.Deeds.{AddsSome};
+    ghost use Rattle.cad_clients.specs.Channels.{has_ended, unsent, IsTurn};
+    ghost use Rattle.cad_clients.specs.Laws.{IsNew};
     ghost use Rattle.cad_clients.specs.Notes.{first_notes, noted, notes_of, IsOverdue};
 
     /// A connection that was just opened.
-    pub(crate) fn new(alloc: Global, now: u64) -> Client
+    pub(crate) fn new(alloc: Global, socket: S, now: u64) -> Client<S>
+        ensures socket { result.socket ≡ socket }
         ensures new { IsNew result.channel }
         ensures goes_on { has_ended result.channel ≡ false }
         ensures notes { notes_of result ≡ first_notes now }
     {
         Client {
+            socket,
             channel: Channel::new(alloc),
             is_ready: true,
             moved: now,
@@ -42,8 +44,23 @@ impl Client {
         }
     }
 
+    /// Its socket. All else is dropped.
+    pub(crate) fn into_socket(self) -> S
+        ensures { result ≡ self.socket }
+    {
+        let Client {
+            socket,
+            channel: _,
+            is_ready: _,
+            moved: _,
+            begun: _,
+        } = self;
+        socket
+    }
+
     /// Keeps what came of a turn, and when it was.
     fn note(&mut self, turned: Turned, now: u64)
+        ensures socket { self.new.socket ≡ self.old.socket }
         ensures channel { self.new.channel ≡ self.old.channel }
         ensures notes { notes_of self.new ≡ noted now turned (unsent self.old.channel) (notes_of self.old) }
     {
@@ -65,22 +82,20 @@ impl Client {
     }
 
     /// A turn of the channel.
-    pub(crate) fn turn<I: Read, W: Write, R: Responder>(
+    pub(crate) fn turn<N: Network<Socket = S>, R: Responder>(
         &mut self,
         alloc: Global,
         c: u32,
         now: u64,
-        reader: &mut I,
-        writer: &mut W,
+        net: &mut N,
         desk: &mut Desk<R>,
     ) -> Turned
-        ensures turn { ReadsAndWrites (I.remaining reader.old) (I.remaining reader.new)
-            (W.contents writer.old) (W.contents writer.new)
-            (IsTurn R.Responder c desk.old self.old.channel result desk.new self.new.channel) }
-        ensures all { result ≡ Turned.Over PeerEnded → IsAtEnd (I.remaining reader.new) }
+        ensures turn { AddsSome (N.history net.old) (N.history net.new)
+            (IsTurn R.Responder c (N.name self.old.socket) desk.old self.old.channel result desk.new self.new.channel) }
+        ensures socket { self.new.socket ≡ self.old.socket }
         ensures notes { notes_of self.new ≡ noted now result (unsent self.new.channel) (notes_of self.old) }
     {
-        let turned = self.channel.turn(alloc, c, reader, writer, desk);
+        let turned = self.channel.turn(alloc, c, net, &self.socket, desk);
         self.note(turned, now);
         turned
     }

@@ -2,15 +2,16 @@
 
 ghost use Rattle.std.specs.Prelude.{◌≡◌, length};
 
+use crate::calls::tell_fault;
 use crate::client::Client;
 use crate::limits::Limits;
 use crate::logging::AccessLog;
 use crate::served::{Served, is_over};
-use cad_client_socket::Turned;
+use crate::turned::Turned;
 use cad_desk::{Desk, DeskFault, Event, Reply};
+use cad_network::Network;
 use cad_stream::Responder;
 use std::alloc::{AllocError, Global};
-use std::io::{Read, Write};
 
 /// The most connections that are open.
 pub const ROOM: u32 = 64;
@@ -20,22 +21,20 @@ const TURNS: u32 = 4;
 
 /// The open connections by their numbers, which are below 64.
 #[derive(Drop)]
-pub struct Clients {
-    slots: Vec<Option<Client>>,
+pub struct Clients<S> {
+    slots: Vec<Option<Client<S>>>,
     pub ghost room: { length slots.items ≡ 64 },
 }
 
-impl Clients {
+impl<S: Drop> Clients<S> {
     ghost use Rattle.std.specs.Prelude.{ℕ, ◌<◌, ◌↔◌, None, Some, IsTrue, IsSome, IsSomeAnd, IfOk, IfSome, option_copied, option_map};
-    ghost use Rattle.std.specs.Io.KnownBytes.{IsAtEnd};
-    ghost use Rattle.cad_io.specs.Known.{ReadsAndWrites};
-    ghost use Rattle.cad_client_socket.specs.declared.turned.Ending.TheVariants.{PeerEnded};
+    ghost use Rattle.cad_network.specs.Deeds.{AddsSome};
     ghost use Rattle.cad_clients.specs.Notes.{marked, IsOverdue, IsSending, MayGoOn};
     ghost use Rattle.cad_clients.specs.Slots.{client_at, Changes};
     ghost use Rattle.cad_clients.specs.Steps.{Opens, HasTurn, Closes, IsServed};
 
     /// No connection, and room for 64.
-    pub fn new(alloc: Global) -> Result<Clients, AllocError>
+    pub fn new(alloc: Global) -> Result<Clients<S>, AllocError>
         ensures { IfOk result (λ clients. (c : ℕ) → client_at clients c ≡ None) }
     {
         let mut slots = Vec::new(alloc);
@@ -46,7 +45,7 @@ impl Clients {
     }
 
     /// Takes a connection out of its slot.
-    fn take(&mut self, c: u32) -> Option<Client>
+    fn take(&mut self, c: u32) -> Option<Client<S>>
         ensures was { result ≡ client_at self.old c }
         ensures is_number { IsSome result → c < 64 }
         ensures rest { Changes self.old self.new c None }
@@ -59,7 +58,7 @@ impl Clients {
     }
 
     /// Puts a connection into its slot.
-    fn put(&mut self, c: u32, client: Client)
+    fn put(&mut self, c: u32, client: Client<S>)
         requires { c < 64 }
         ensures { Changes self.old self.new c (Some client) }
     {
@@ -79,58 +78,71 @@ impl Clients {
         None
     }
 
-    /// Opens a connection by this number.
-    pub fn open<R: Responder>(
+    /// Opens a connection by this number, for a socket. One that the desk refuses is told so, and let go.
+    pub fn open<N: Network<Socket = S>, R: Responder>(
         &mut self,
         alloc: Global,
         c: u32,
         now: u64,
+        socket: S,
+        net: &mut N,
         desk: &mut Desk<R>,
     ) -> Result<(), DeskFault>
         requires { c < 64 }
-        ensures { Opens R.Responder c now desk.old self.old result desk.new self.new }
+        ensures { AddsSome (N.history net.old) (N.history net.new)
+            (Opens R.Responder N.name c now socket desk.old self.old result desk.new self.new) }
     {
         match desk.step(Event::Open(c)) {
             Ok(Reply::Opened) => {
-                self.put(c, Client::new(alloc, now));
+                self.put(c, Client::new(alloc, socket, now));
                 Ok(())
             }
             Ok(Reply::Closed | Reply::Sent { bytes: _, ends: _ } | Reply::Entered(_)) =>
                 unreachable!(),
-            Err(fault) => Err(fault),
+            Err(fault) => {
+                tell_fault(net, &socket, fault);
+                net.let_go(socket);
+                Err(fault)
+            }
         }
     }
 
-    /// A turn of the connection of this number, if there is one. Its number is free where it is over.
-    pub fn turn<I: Read, W: Write, R: Responder>(
+    /// A turn of the connection of this number, if there is one. Where it is over, its number is free, and its socket is let go.
+    pub fn turn<N: Network<Socket = S>, R: Responder>(
         &mut self,
         alloc: Global,
         c: u32,
         now: u64,
-        reader: &mut I,
-        writer: &mut W,
+        net: &mut N,
         desk: &mut Desk<R>,
     ) -> Option<Turned>
-        ensures turn { ReadsAndWrites (I.remaining reader.old) (I.remaining reader.new)
-            (W.contents writer.old) (W.contents writer.new)
-            (HasTurn R.Responder c now desk.old self.old result desk.new self.new) }
-        ensures all { result ≡ Some (Turned.Over PeerEnded) → IsAtEnd (I.remaining reader.new) }
+        ensures { AddsSome (N.history net.old) (N.history net.new)
+            (HasTurn R.Responder N.name c now desk.old self.old result desk.new self.new) }
     {
         let mut client = self.take(c)?;
-        let turned = client.turn(alloc, c, now, reader, writer, desk);
+        let turned = client.turn(alloc, c, now, net, desk);
         if is_over(turned) {
+            net.let_go(client.into_socket());
             return Some(turned);
         }
         self.put(c, client);
         Some(turned)
     }
 
-    /// Closes a connection at the desk, and frees its number.
-    pub fn close<R: Responder>(&mut self, c: u32, desk: &mut Desk<R>)
-        ensures { Closes R.Responder c desk.old self.old desk.new self.new }
+    /// Closes a connection at the desk, frees its number, and lets its socket go.
+    pub fn close<N: Network<Socket = S>, R: Responder>(
+        &mut self,
+        c: u32,
+        net: &mut N,
+        desk: &mut Desk<R>,
+    )
+        ensures { AddsSome (N.history net.old) (N.history net.new)
+            (Closes R.Responder N.name c desk.old self.old desk.new self.new) }
     {
-        drop(desk.step(Event::Close(c)));
-        drop(self.take(c));
+        if let Some(client) = self.take(c) {
+            drop(desk.step(Event::Close(c)));
+            net.let_go(client.into_socket());
+        }
     }
 
     /// The socket of this connection may give or take something.
@@ -143,7 +155,7 @@ impl Clients {
         }
     }
 
-    fn client(&self, c: u32) -> Option<&Client>
+    fn client(&self, c: u32) -> Option<&Client<S>>
         ensures { option_copied result ≡ client_at self.now c }
     {
         if c < ROOM {
@@ -177,7 +189,7 @@ impl Clients {
     }
 
     /// Tells what the desk took of a connection and sends for it.
-    fn tell<L: AccessLog>(&self, c: u32, log: &mut L) {
+    fn tell<L: AccessLog<S>>(&self, c: u32, log: &mut L) {
         if let Some(client) = self.client(c) {
             log.note(c, client.channel.last_fed(), client.channel.sending());
         }
@@ -185,27 +197,24 @@ impl Clients {
 
     /// Serves the connection of this number: some turns, up to one at which its socket gives or takes nothing, and not beyond
     /// the reply to one piece, so that each other connection waits for one reply at most.
-    pub fn serve<I: Read, W: Write, R: Responder, L: AccessLog>(
+    pub fn serve<N: Network<Socket = S>, R: Responder, L: AccessLog<S>>(
         &mut self,
         alloc: Global,
         c: u32,
         now: u64,
-        reader: &mut I,
-        writer: &mut W,
+        net: &mut N,
         desk: &mut Desk<R>,
         log: &mut L,
     ) -> Served
-        ensures served { ReadsAndWrites (I.remaining reader.old) (I.remaining reader.new)
-            (W.contents writer.old) (W.contents writer.new)
-            (IsServed R.Responder c now desk.old self.old result desk.new self.new) }
-        ensures all { result ≡ Served.Over PeerEnded → IsAtEnd (I.remaining reader.new) }
+        ensures { AddsSome (N.history net.old) (N.history net.new)
+            (IsServed R.Responder N.name c now desk.old self.old result desk.new self.new) }
     {
         let mut has_fed = false;
         for _ in 0..TURNS {
             if has_fed && !self.is_sending(c) {
                 return Served::Stays;
             }
-            let Some(turned) = self.turn(alloc, c, now, reader, writer, desk) else {
+            let Some(turned) = self.turn(alloc, c, now, net, desk) else {
                 return Served::Unknown;
             };
             match turned {

@@ -1,4 +1,8 @@
-pub mod WorkLemmas
-pub mod ClientLemmas
-pub mod OfficeLemmas
+pub mod GoesLemmas
 pub mod StandLemmas
+pub mod EnteredLemmas
+pub mod LifeLemmas
+pub mod ApartLemmas
+pub mod SocketLemmas
+pub mod OfficeLemmas
+pub mod HostLemmas

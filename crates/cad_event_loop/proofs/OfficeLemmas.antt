@@ -1,162 +1,317 @@
--- What turns of the land office's connection are among all that is done.
+-- What turns of the land office are among all that is done.
 use Rattle.std.specs.Prelude.{⊤}
-use Rattle.std.proofs.Common.{◌≡◌, ℕ, Bool, true, false, ◌&&◌, List, [], ◌∷◌, ◌++◌, Option, None, Some, is_none, refl, sym, ap, subst, ◌∙◌, inl, inr, if◌then◌else◌}
+use Rattle.std.specs.Option.{option_or}
+use Rattle.std.proofs.Common.{◌≡◌, ℕ, Bool, true, false, not, ◌&&◌, List, [], ◌∷◌, ◌++◌, Option, None, Some, is_none, Result, Ok, Err, refl, sym, ap, subst, ◌∙◌, append-nil, append_assoc, inl, inr, if◌then◌else◌}
 use Rattle.cad_stream.specs.declared.responder.Responder.{Ghosts}
 use Rattle.cad_desk.specs.declared.desk.Desk.{Desk}
+use Rattle.cad_desk.specs.declared.event.Event.TheVariants.{Office as Entering}
+use Rattle.cad_desk.specs.declared.event.Reply.TheVariants as reply
+use Rattle.cad_desk.specs.Faults.{fault_of}
+use Rattle.cad_network.specs.Deeds.{Deed, office_came, left, Adds, AddsSome}
+use Rattle.cad_network.specs.lemmas.DeedLemmas.{Adds-trans}
+use Rattle.cad_office.specs.declared.print.Answer.{Answer}
+use Rattle.cad_office.specs.declared.print.Answer.TheVariants.{Entered, Refused, NotACommand}
+use Rattle.cad_office.specs.Keeping.{AnswersLine}
 use Rattle.cad_office_socket.specs.declared.entry.Entry.{Entry}
 use Rattle.cad_office_socket.specs.declared.turned.EntryServed.{EntryServed}
 use Rattle.cad_office_socket.specs.declared.turned.EntryServed.TheVariants as served
 use Rattle.cad_office_socket.specs.declared.turned.EntryTurned.{EntryTurned}
 use Rattle.cad_office_socket.specs.declared.turned.EntryTurned.TheVariants.{Wrote, Took, Added, Answered, Lost, Stops, Waits, Over}
-use Rattle.cad_office_socket.specs.Turns.{HasBegun, IsBegun, EndsLine, IsTaken, IsEntryTurn}
+use Rattle.cad_office_socket.specs.Entries.{EntersAtDesk}
+use Rattle.cad_office_socket.specs.Turns.{HasBegun, IsBegun, EndsLine, IsTaken, IsEntryTurn, IsNewEntry, IsSending, SendsSome}
 use Rattle.cad_office_socket.specs.Serving.{is_store, end_at, all_go_on, IsEnough, HasTurns, IsEntryServed}
 use Rattle.cad_office_socket.specs.lemmas.BegunLemmas.{Later, begun_later}
+use Rattle.cad_clients.specs.declared.clients.Clients.{Clients}
+use Rattle.cad_event_loop.specs.declared.office.Office.{Office}
 use Rattle.cad_event_loop.specs.declared.stopped.Stopped.{Stopped}
-use Rattle.cad_event_loop.specs.declared.stopped.Stopped.TheVariants.{Asked}
-use Rattle.cad_event_loop.specs.Hosting.{end_of_office, BegunAfter}
-use Rattle.cad_event_loop.specs.Works.{answers, asks_to_stop, store_end, ReadsStop, Hosts}
-use Rattle.cad_event_loop.proofs.WorkLemmas.{hosts-same, hosts-one, hosts-then}
+use Rattle.cad_event_loop.specs.declared.stopped.Stopped.TheVariants.{Asked, StoreRefused}
+use Rattle.cad_event_loop.specs.Hosting.{Each, IsServing, IsClosing, Hosts}
+use Rattle.cad_event_loop.specs.Offices.{office_at, HasBegun as OfficeHasBegun, HasBegunUnless, end_of_office, is_over, left_deeds, left_at, HasOfficeTurns, HasSent}
+use Rattle.cad_event_loop.specs.Works.{Said, AtOffice, Place, place_of, Held, Same, Work, enters, office_comes, office_leaves, aside, all_deeds, store_end, end_of_turned, end_in, is_last, SaysSo, IsLineSaid, Tells, Works, Goes}
+use Rattle.cad_event_loop.proofs.LifeLemmas.{none_some, one_some}
+use Rattle.cad_event_loop.proofs.GoesLemmas.{all_deeds-append, or_nothing, goes-append, end_in-append, each-append, hosts-one}
 
--- why hosting ends by a turn
-abbrev end_of_turned : EntryTurned → Option Stopped
-end_of_turned Wrote = None
-end_of_turned Took = None
-end_of_turned Added = None
-end_of_turned (Answered answer) = store_end (is_store answer)
-end_of_turned (Lost answer) = store_end (is_store answer)
-end_of_turned Stops = Some Asked
-end_of_turned Waits = None
-end_of_turned Over = None
+-- what is left after a turn, as serving tells it
+abbrev end_of_some : Option EntryServed → Option Stopped
+end_of_some None = None
+end_of_some (Some it) = end_of_office it
 
-abbrev stopped_of : Option EntryServed → Option Stopped
-stopped_of None = None
-stopped_of (Some it) = end_of_office it
+abbrev over_of_some : Option EntryServed → Bool
+over_of_some None = false
+over_of_some (Some it) = is_over it
 
-abbrev BegunOf : Option EntryServed → Entry → Type 0
-BegunOf None next = IsBegun next
-BegunOf (Some it) next = BegunAfter it next
-
-same_end : (turned : EntryTurned) → end_of_turned turned ≡ stopped_of (end_at turned)
+same_end : (turned : EntryTurned) → end_of_turned turned ≡ end_of_some (end_at turned)
 same_end Wrote = refl
 same_end Took = refl
 same_end Added = refl
 same_end (Answered answer) = go (is_store answer)
   where
-    go : (refused : Bool) → store_end refused ≡ stopped_of (if refused then Some served.StoreRefused else None)
+    go : (refused : Bool) → store_end refused ≡ end_of_some (if refused then Some served.StoreRefused else None)
     go true = refl
     go false = refl
 same_end (Lost answer) = go (is_store answer)
   where
-    go : (refused : Bool) → store_end refused ≡ stopped_of (if refused then Some served.StoreRefused else Some served.Over)
+    go : (refused : Bool) → store_end refused ≡ end_of_some (if refused then Some served.StoreRefused else Some served.Over)
     go true = refl
     go false = refl
 same_end Stops = refl
 same_end Waits = refl
 same_end Over = refl
 
-begun_then : (turned : EntryTurned) (next : Entry) → Later turned next → BegunOf (end_at turned) next
+same_last : (turned : EntryTurned) → is_last turned ≡ over_of_some (end_at turned)
+same_last Wrote = refl
+same_last Took = refl
+same_last Added = refl
+same_last (Answered answer) = go (is_store answer)
+  where
+    go : (refused : Bool) → false ≡ over_of_some (if refused then Some served.StoreRefused else None)
+    go true = refl
+    go false = refl
+same_last (Lost answer) = go (is_store answer)
+  where
+    go : (refused : Bool) → not refused ≡ over_of_some (if refused then Some served.StoreRefused else Some served.Over)
+    go true = refl
+    go false = refl
+same_last Stops = refl
+same_last Waits = refl
+same_last Over = refl
+
+both_go : (end : Option EntryServed) (rest : Bool) → (is_none end && rest) ≡ true → (end ≡ None) × (rest ≡ true)
+both_go None rest both = (refl, both)
+both_go (Some it) rest both = absurd (let clash : false ≡ true = both in cc)
+
+-- of what goes on a line has begun
+abbrev BegunIf : Option EntryServed → Entry → Type 0
+BegunIf None next = IsBegun next
+BegunIf (Some served.Goes) next = IsBegun next
+BegunIf (Some served.Waits) next = IsBegun next
+BegunIf (Some served.Over) next = ⊤
+BegunIf (Some served.Stops) next = ⊤
+BegunIf (Some served.StoreRefused) next = ⊤
+
+begun_then : (turned : EntryTurned) (next : Entry) → Later turned next → BegunIf (end_at turned) next
 begun_then Wrote next l = l
 begun_then Took next l = l
 begun_then Added next l = l
 begun_then (Answered answer) next l = go (is_store answer) l
   where
-    go : (refused : Bool) → IsBegun next → BegunOf (if refused then Some served.StoreRefused else None) next
+    go : (refused : Bool) → IsBegun next → BegunIf (if refused then Some served.StoreRefused else None) next
     go true l = tt
     go false l = l
 begun_then (Lost answer) next l = go (is_store answer)
   where
-    go : (refused : Bool) → BegunOf (if refused then Some served.StoreRefused else Some served.Over) next
+    go : (refused : Bool) → BegunIf (if refused then Some served.StoreRefused else Some served.Over) next
     go true = tt
     go false = tt
 begun_then Stops next l = tt
 begun_then Waits next l = l
 begun_then Over next l = tt
 
-both_go : (end : Option EntryServed) (rest : Bool) → (is_none end && rest) ≡ true → (end ≡ None) × (rest ≡ true)
-both_go None rest both = (refl, both)
-both_go (Some it) rest both = absurd (let clash : false ≡ true = both in cc)
-
 module _ {R : Type 0} (g : Ghosts R) where
-  -- a line ended, and it is not one that asks to stop
-  ended : (text : List ℕ) (turned : EntryTurned) (old new : Desk R) (next : Entry) → (turned ≡ Stops → ReadsStop g old) → EndsLine g text old turned new next → Hosts g (end_of_turned turned) old new
-  ended text Added old new next stop e = hosts-same g old new e.1
-  ended text (Answered answer) old new next stop e = hosts-one g old new (answers text answer) (e.0, e.1)
-  ended text (Lost answer) old new next stop e = hosts-one g old new (answers text answer) (e.0, e.1)
-  ended text Stops old new next stop e = hosts-one g old new asks_to_stop (stop refl, e.1)
-  ended text Over old new next stop e = absurd e
-  ended text Wrote old new next stop e = absurd e
-  ended text Took old new next stop e = absurd e
-  ended text Waits old new next stop e = absurd e
+  -- what the desk is told by the line that ended, if one did
+  abbrev IsSaid : Desk R → EntryTurned → Desk R → Type 0
+  IsSaid old turned new = (text : List ℕ) × (said : Said) × IsLineSaid text turned said × Tells g old said new
 
-  taken_hosts : (begun : List ℕ) (turned : EntryTurned) (old new : Desk R) (entry next : Entry) → HasBegun begun entry → (turned ≡ Stops → ReadsStop g old) → IsTaken g ⊤ old entry turned new next → Hosts g (end_of_turned turned) old new
-  taken_hosts begun turned old new entry next has stop t = elim t.1 [
+  answer_said : (text : List ℕ) (answer : Answer) (old new : Desk R) → AnswersLine (EntersAtDesk g) text old answer new → (said : Said) × SaysSo text answer said × Tells g old said new
+  answer_said text (Entered revision) old new a = (Some (Entering a.0, Ok (reply.Entered revision)), (a.0, a.1, refl), a.2)
+  answer_said text (Refused fault) old new a = elim a [
+    | inl refused ↦ (Some (Entering refused.0, Err (fault_of fault)), inl (refused.0, refused.1, refl), refused.2)
+    | inr none ↦ (None, inr (none.0, none.1, refl), none.2)
+  ]
+  answer_said text NotACommand old new a = (None, (a.0, refl), a.1)
+
+  ended : (text : List ℕ) (turned : EntryTurned) (old new : Desk R) (next : Entry) → EndsLine g text old turned new next → IsSaid old turned new
+  ended text Added old new next e = (text, None, refl, e.1)
+  ended text (Answered answer) old new next e = let s = answer_said text answer old new e.1 in (text, s.0, (e.0, s.1), s.2)
+  ended text (Lost answer) old new next e = let s = answer_said text answer old new e.1 in (text, s.0, (e.0, s.1), s.2)
+  ended text Stops old new next e = (text, None, (e.0, refl), e.1)
+  ended text Over old new next e = absurd e
+  ended text Wrote old new next e = absurd e
+  ended text Took old new next e = absurd e
+  ended text Waits old new next e = absurd e
+
+  taken_said : (o : ℕ) (begun : List ℕ) (turned : EntryTurned) (old new : Desk R) (entry next : Entry) (deeds : List Deed) → HasBegun begun entry → IsTaken g o old entry turned new next deeds → IsSaid old turned new
+  taken_said o begun turned old new entry next deeds has t = elim t.1 [
     | inl some ↦
-        let f = some.1 begun has in
+        let f = some.2 begun has in
         elim f.2 [
-          | inl goes ↦ subst (λ (it : EntryTurned). Hosts g (end_of_turned it) old new) (sym goes.0) (hosts-same g old new goes.1)
-          | inr ends ↦ ended (begun ++ f.0) turned old new next stop ends.1
+          | inl goes ↦ subst (λ (it : EntryTurned). IsSaid old it new) (sym goes.0) ([], None, refl, goes.1)
+          | inr ends ↦ ended (begun ++ f.0) turned old new next ends.1
         ]
-    | inr last ↦ ended begun turned old new next stop (last.2 begun has).0
+    | inr last ↦ ended begun turned old new next (last.2 begun has).0
   ]
 
-  -- nothing was done where the line that asks to stop was read
-  stop_same : (begun : List ℕ) (old new : Desk R) (entry next : Entry) → HasBegun begun entry → IsTaken g ⊤ old entry Stops new next → new ≡ old
-  stop_same begun old new entry next has t = elim t.1 [
-    | inl some ↦
-        let f = some.1 begun has in
-        elim f.2 [
-          | inl goes ↦ goes.1
-          | inr ends ↦ ends.1.1
+  turn_said : (o : ℕ) (turned : EntryTurned) (old new : Desk R) (entry next : Entry) (deeds : List Deed) → IsBegun entry → IsEntryTurn g o old entry turned new next deeds → IsSaid old turned new
+  turn_said o Wrote old new entry next deeds begun t = ([], None, refl, t.6)
+  turn_said o Took old new entry next deeds begun t = ([], None, refl, t.7)
+  turn_said o Added old new entry next deeds begun t = taken_said o begun.0 Added old new entry next deeds begun.1 t
+  turn_said o (Answered answer) old new entry next deeds begun t = taken_said o begun.0 (Answered answer) old new entry next deeds begun.1 t
+  turn_said o (Lost answer) old new entry next deeds begun t = taken_said o begun.0 (Lost answer) old new entry next deeds begun.1 t
+  turn_said o Stops old new entry next deeds begun t = taken_said o begun.0 Stops old new entry next deeds begun.1 t
+  turn_said o Waits old new entry next deeds begun t = ([], None, refl, t.2)
+  turn_said o Over old new entry next deeds begun t = ([], None, refl, t.1)
+
+  module _ (slots : Held) (o : ℕ) where
+    abbrev at_entry : Entry → Place
+    at_entry entry = record { slots = slots; office = Some (o, entry) }
+
+    abbrev left_with : Bool → Entry → Place
+    left_with over entry = record { slots = slots; office = left_at over o entry }
+
+    -- a turn is one thing
+    abbrev IsOneWork : Desk R → Entry → EntryTurned → Desk R → Entry → List Deed → Type 0
+    IsOneWork old entry turned new next own =
+        (text : List ℕ) × (said : Said) × Works g old (at_entry entry) (enters o text turned (own ++ left_deeds (is_last turned) o) said) new (left_with (is_last turned) next)
+
+    turn_works : (turned : EntryTurned) (old new : Desk R) (entry next : Entry) (own : List Deed) → IsBegun entry → IsEntryTurn g o old entry turned new next own → IsOneWork old entry turned new next own
+    turn_works turned old new entry next own begun t =
+        let said = turn_said o turned old new entry next own begun t in
+        (said.0, said.1, (entry, next, own, refl, t, refl, said.2, said.3, refl, λ c. refl))
+
+    -- turns that go on
+    turns_go : (turns : List EntryTurned) (old new : Desk R) (entry next : Entry) (deeds : List Deed) → IsBegun entry → all_go_on turns ≡ true → HasTurns g o old entry turns new next deeds
+        → (works : List Work) × (deeds ≡ all_deeds works) × (end_in works ≡ None) × Goes g old (at_entry entry) works new (at_entry next) × Each IsServing works × IsBegun next
+    turns_go [] old new entry next deeds begun go t = ([], t.0, refl, (t.1, ap at_entry t.2), tt, subst IsBegun (sym t.2) begun)
+    turns_go (turned ∷ before) old new entry next deeds begun go t =
+        let both = both_go (end_at turned) (all_go_on before) go in
+        let first = turns_go before old t.0 entry t.1 t.2 begun both.1 t.4 in
+        let one = turn_works turned t.0 new t.1 next t.3 first.5 t.5 in
+        let goes : is_last turned ≡ false = same_last turned ∙ ap over_of_some both.0 in
+        let none : end_of_turned turned ≡ None = same_end turned ∙ ap end_of_some both.0 in
+        let work = enters o one.0 turned (t.3 ++ left_deeds (is_last turned) o) one.1 in
+        let same : t.3 ++ left_deeds (is_last turned) o ≡ t.3 = rw goes (append-nil t.3) in
+        let works = subst (λ (last : Bool). Works g t.0 (at_entry t.1) work new (left_with last next)) goes one.2 in
+        let later = begun_then turned next (begun_later g o turned t.0 new t.1 next t.3 first.5 t.5) in (
+          first.0 ++ work ∷ [],
+          t.6 ∙ (ap (λ (l : List Deed). l ++ t.3) first.1 ∙ (ap (λ (l : List Deed). all_deeds first.0 ++ l) (sym same ∙ sym (append-nil (t.3 ++ left_deeds (is_last turned) o))) ∙ sym (all_deeds-append first.0 (work ∷ [])))),
+          end_in-append first.0 (work ∷ []) ∙ rw (or_nothing (end_of_turned turned), first.2, none) refl,
+          goes-append g first.0 (work ∷ []) old t.0 new (at_entry entry) (at_entry t.1) (at_entry next) first.3 (new, at_entry next, works, (refl, refl)),
+          each-append IsServing first.0 (work ∷ []) first.4 (tt, tt),
+          subst (λ (end : Option EntryServed). BegunIf end next) both.0 later,
+        )
+
+    -- and the last one
+    turns_end : (end : EntryServed) (turned : EntryTurned) (before : List EntryTurned) (old new : Desk R) (entry next : Entry) (deeds : List Deed) → IsBegun entry → all_go_on before ≡ true
+        → HasTurns g o old entry (turned ∷ before) new next deeds → end_of_turned turned ≡ end_of_office end → is_last turned ≡ is_over end
+        → (works : List Work) × (deeds ++ left_deeds (is_over end) o ≡ all_deeds works) × (end_in works ≡ end_of_office end) × Goes g old (at_entry entry) works new (left_with (is_over end) next) × Each IsServing works
+    turns_end end turned before old new entry next deeds begun go t ends over =
+        let first = turns_go before old t.0 entry t.1 t.2 begun go t.4 in
+        let one = turn_works turned t.0 new t.1 next t.3 first.5 t.5 in
+        let work = enters o one.0 turned (t.3 ++ left_deeds (is_last turned) o) one.1 in
+        let works = subst (λ (last : Bool). Works g t.0 (at_entry t.1) work new (left_with last next)) over one.2 in
+        let same : t.3 ++ left_deeds (is_over end) o ≡ t.3 ++ left_deeds (is_last turned) o = ap (λ (last : Bool). t.3 ++ left_deeds last o) (sym over) in (
+          first.0 ++ work ∷ [],
+          ap (λ (l : List Deed). l ++ left_deeds (is_over end) o) (t.6 ∙ ap (λ (l : List Deed). l ++ t.3) first.1)
+              ∙ (append_assoc (all_deeds first.0) t.3 (left_deeds (is_over end) o)
+              ∙ (ap (λ (l : List Deed). all_deeds first.0 ++ l) (same ∙ sym (append-nil (t.3 ++ left_deeds (is_last turned) o))) ∙ sym (all_deeds-append first.0 (work ∷ [])))),
+          end_in-append first.0 (work ∷ []) ∙ rw (or_nothing (end_of_turned turned), first.2, ends) refl,
+          goes-append g first.0 (work ∷ []) old t.0 new (at_entry entry) (at_entry t.1) (left_with (is_over end) next) first.3 (new, left_with (is_over end) next, works, (refl, refl)),
+          each-append IsServing first.0 (work ∷ []) first.4 (tt, tt),
+        )
+
+    -- the office was served
+    served_go : (end : EntryServed) (old new : Desk R) (entry next : Entry) (deeds : List Deed) → IsBegun entry → IsEntryServed g o old entry end new next deeds
+        → (works : List Work) × (deeds ++ left_deeds (is_over end) o ≡ all_deeds works) × (end_in works ≡ end_of_office end) × Goes g old (at_entry entry) works new (left_with (is_over end) next) × Each IsServing works
+    served_go end old new entry next deeds begun s = go s.0 s.1 s.2
+      where
+        go : (turns : List EntryTurned) → HasTurns g o old entry turns new next deeds → IsEnough turns end next
+            → (works : List Work) × (deeds ++ left_deeds (is_over end) o ≡ all_deeds works) × (end_in works ≡ end_of_office end) × Goes g old (at_entry entry) works new (left_with (is_over end) next) × Each IsServing works
+        go [] t enough = absurd enough
+        go (turned ∷ before) t enough = elim enough.1 [
+          | inl ends ↦ turns_end end turned before old new entry next deeds begun enough.0 t (same_end turned ∙ ap end_of_some ends) (same_last turned ∙ ap over_of_some ends)
+          | inr goes ↦ turns_end end turned before old new entry next deeds begun enough.0 t (same_end turned ∙ (ap end_of_some goes.0 ∙ ap end_of_office (sym goes.1))) (same_last turned ∙ (ap over_of_some goes.0 ∙ ap is_over (sym goes.1)))
         ]
-    | inr last ↦ (last.2 begun has).0.1
-  ]
 
-  turned_hosts : (turned : EntryTurned) (old new : Desk R) (entry next : Entry) (read written : List ℕ) → IsBegun entry → IsEntryTurn g ⊤ old entry turned new next read written → Hosts g (end_of_turned turned) old new
-  turned_hosts Wrote old new entry next read written begun t = hosts-same g old new t.5
-  turned_hosts Took old new entry next read written begun t = hosts-same g old new t.6
-  turned_hosts Added old new entry next read written begun t = taken_hosts begun.0 Added old new entry next begun.1 (λ e. absurd (let clash : Added ≡ Stops = e in cc)) t.1
-  turned_hosts (Answered answer) old new entry next read written begun t = taken_hosts begun.0 (Answered answer) old new entry next begun.1 (λ e. absurd (let clash : Answered answer ≡ Stops = e in cc)) t.1
-  turned_hosts (Lost answer) old new entry next read written begun t = taken_hosts begun.0 (Lost answer) old new entry next begun.1 (λ e. absurd (let clash : Lost answer ≡ Stops = e in cc)) t.1
-  turned_hosts Stops old new entry next read written begun t =
-      let same = stop_same begun.0 old new entry next begun.1 t.1 in
-      let here = subst (λ (it : Desk R). IsEntryTurn g ⊤ old entry Stops it next read written) same t in
-      hosts-one g old new asks_to_stop ((entry, next, read, written, begun, here), same)
-  turned_hosts Waits old new entry next read written begun t = hosts-same g old new t.2
-  turned_hosts Over old new entry next read written begun t = hosts-same g old new t.2
-
-  -- turns that go on
-  turns_host : (turns : List EntryTurned) (old new : Desk R) (entry next : Entry) (read written : List ℕ) → IsBegun entry → all_go_on turns ≡ true → HasTurns g old entry turns new next read written
-      → Hosts g None old new × IsBegun next
-  turns_host [] old new entry next read written begun go t = (hosts-same g old new t.2, subst IsBegun (sym t.3) begun)
-  turns_host (turned ∷ before) old new entry next read written begun go t =
-      let both = both_go (end_at turned) (all_go_on before) go in
-      let first = turns_host before old t.0 entry t.1 t.2 t.3 begun both.1 t.6 in
-      let one = turned_hosts turned t.0 new t.1 next t.4 t.5 first.1 t.7 in
-      let none : end_of_turned turned ≡ None = same_end turned ∙ ap stopped_of both.0 in
-      let later = begun_then turned next (begun_later g ⊤ turned t.0 new t.1 next t.4 t.5 first.1 t.7) in (
-        hosts-then g None old t.0 new first.0 (subst (λ (end : Option Stopped). Hosts g end t.0 new) none one),
-        subst (λ (end : Option EntryServed). BegunOf end next) both.0 later,
-      )
-
-  -- the office was served
-  pub served_hosts : (it : EntryServed) (old new : Desk R) (entry next : Entry) (read written : List ℕ) → IsBegun entry → IsEntryServed g old entry it new next read written
-      → Hosts g (end_of_office it) old new × BegunAfter it next
-  served_hosts it old new entry next read written begun s = go s.0 s.1 s.2
+  -- where it goes on a line has begun
+  served_begun : (o : ℕ) (end : EntryServed) (old new : Desk R) (entry next : Entry) (deeds : List Deed) → IsBegun entry → IsEntryServed g o old entry end new next deeds → BegunIf (Some end) next
+  served_begun o end old new entry next deeds begun s = go s.0 s.1 s.2
     where
-      go : (turns : List EntryTurned) → HasTurns g old entry turns new next read written → IsEnough turns it next → Hosts g (end_of_office it) old new × BegunAfter it next
+      go : (turns : List EntryTurned) → HasTurns g o old entry turns new next deeds → IsEnough turns end next → BegunIf (Some end) next
       go [] t enough = absurd enough
       go (turned ∷ before) t enough =
-          let first = turns_host before old t.0 entry t.1 t.2 t.3 begun enough.0 t.6 in
-          let one = turned_hosts turned t.0 new t.1 next t.4 t.5 first.1 t.7 in
-          let all = hosts-then g (end_of_turned turned) old t.0 new first.0 one in
-          let later = begun_then turned next (begun_later g ⊤ turned t.0 new t.1 next t.4 t.5 first.1 t.7) in
+          let first = turns_go (λ c. None) o before old t.0 entry t.1 t.2 begun enough.0 t.4 in
+          let later = begun_then turned next (begun_later g o turned t.0 new t.1 next t.3 first.5 t.5) in
           elim enough.1 [
-            | inl ends ↦ (
-              subst (λ (end : Option Stopped). Hosts g end old new) (same_end turned ∙ ap stopped_of ends) all,
-              subst (λ (end : Option EntryServed). BegunOf end next) ends later,
-            )
-            | inr goes ↦ rw goes.1 (
-              subst (λ (end : Option Stopped). Hosts g end old new) (same_end turned ∙ ap stopped_of goes.0) all,
-              subst (λ (end : Option EntryServed). BegunOf end next) goes.0 later,
-            )
+            | inl ends ↦ subst (λ (it : Option EntryServed). BegunIf it next) ends later
+            | inr goes ↦ subst (λ (it : EntryServed). BegunIf (Some it) next) (sym goes.1) (subst (λ (it : Option EntryServed). BegunIf it next) goes.0 later)
           ]
+
+  module _ {S : Type 0} (name : S → ℕ) where
+    -- the land office was served
+    pub office_hosts : (office : Office S) (result : EntryServed × Option (Office S)) (from to : Option (List Deed)) (old new : Desk R) (clients : Clients S) → IsBegun office.entry
+        → AddsSome from to (HasOfficeTurns g name old office result new) → Hosts g IsServing (end_of_office result.0) from old (place_of name clients (office_at name (Some office))) to new (place_of name clients (office_at name result.1))
+    office_hosts office result from to old new clients begun s =
+        let t = s.2 in
+        let slots : Held = (place_of name clients None).slots in
+        let go = served_go slots (name office.socket) result.0 old new office.entry t.0 t.1 begun t.2 in
+        let goes = subst (λ (it : AtOffice). Goes g old (at_entry slots (name office.socket) office.entry) go.0 new (record { slots = slots; office = it })) (sym t.4) go.3 in
+        (go.0, subst (λ (l : List Deed). Adds from to l) (t.3 ∙ go.1) s.1, go.2, goes, go.4)
+
+    entry_begun : (o : ℕ) (after : Entry) (office : Office S) → IsBegun after → ◌≡◌ {A = AtOffice} (Some (name office.socket, office.entry)) (Some (o, after)) → IsBegun office.entry
+    entry_begun o after office begun at = subst IsBegun (sym (ap (λ (p : ℕ × Entry). p.1) (one_some {X = ℕ × Entry} (name office.socket, office.entry) (o, after) at))) begun
+
+    begun_at : (end : EntryServed) (o : ℕ) (after : Entry) (it : Option (Office S)) → BegunIf (Some end) after → office_at name it ≡ left_at (is_over end) o after → HasBegunUnless (end_of_office end) it
+    begun_at served.Goes o after None begun at = tt
+    begun_at served.Goes o after (Some office) begun at = entry_begun o after office begun at
+    begun_at served.Waits o after None begun at = tt
+    begun_at served.Waits o after (Some office) begun at = entry_begun o after office begun at
+    begun_at served.Over o after None begun at = tt
+    begun_at served.Over o after (Some office) begun at = absurd (none_some {X = ℕ × Entry} (name office.socket, office.entry) (sym at))
+    begun_at served.Stops o after it begun at = tt
+    begun_at served.StoreRefused o after it begun at = tt
+
+    -- and of what is left of it a line has begun
+    pub office_begun : (office : Office S) (result : EntryServed × Option (Office S)) (old new : Desk R) (deeds : List Deed) → IsBegun office.entry → HasOfficeTurns g name old office result new deeds
+        → HasBegunUnless (end_of_office result.0) result.1
+    office_begun office result old new deeds begun t =
+        begun_at result.0 (name office.socket) t.0 result.1 (served_begun (name office.socket) result.0 old new office.entry t.0 t.1 begun t.2) t.4
+
+    -- an answer was written on
+    pub sent_hosts : (office : Office S) (result : EntryTurned × Option (Office S)) (from to : Option (List Deed)) (old : Desk R) (clients : Clients S)
+        → AddsSome from to (HasSent name office result) → Hosts g IsClosing None from old (place_of name clients (office_at name (Some office))) to old (place_of name clients (office_at name result.1))
+    sent_hosts office result from to old clients s =
+        let t = s.2 in
+        let turn = by_send result.0 t.0 t.1 t.3 in
+        hosts-one g IsClosing None from to old old (place_of name clients (office_at name (Some office))) (place_of name clients (office_at name result.1))
+        (enters (name office.socket) [] result.0 s.0 None) s.1 turn.0
+        (office.entry, t.0, t.1, refl, turn.1 t.2, t.4, turn.2, refl, t.5, λ c. refl) turn.3
+      where
+        by_send : (turned : EntryTurned) (after : Entry) (own : List Deed) → SendsSome (name office.socket) office.entry turned after own
+            → (end_of_turned turned ≡ None) × (IsSending office.entry → IsEntryTurn g (name office.socket) old office.entry turned old after own) × IsLineSaid [] turned None × IsClosing (enters (name office.socket) [] turned own None)
+        by_send Wrote after own w = (refl, (λ sending. (w.0, w.1, w.2, w.3, w.4, w.5, refl, w.6)), refl, tt)
+        by_send Waits after own w = (refl, (λ sending. (w.0, inl sending, refl, w.1)), refl, tt)
+        by_send Over after own w = (refl, (λ sending. (inr (inl (w, sending)), refl)), refl, tt)
+        by_send Took after own w = absurd w
+        by_send Added after own w = absurd w
+        by_send (Answered answer) after own w = absurd w
+        by_send (Lost answer) after own w = absurd w
+        by_send Stops after own w = absurd w
+
+    -- the office comes
+    pub came_hosts : (office : Office S) (socket : S) (from to : Option (List Deed)) (old : Desk R) (clients : Clients S)
+        → office.socket ≡ socket → IsNewEntry office.entry → Adds from to (office_came (name socket) ∷ [])
+        → Hosts g IsServing None from old (place_of name clients None) to old (place_of name clients (office_at name (Some office)))
+    came_hosts office socket from to old clients same is_new adds =
+        hosts-one g IsServing None from to old old (place_of name clients None) (place_of name clients (office_at name (Some office))) (office_comes (name socket)) adds refl
+        (office.entry, refl, is_new, ap (λ (it : S). Some (name it, office.entry)) same, (λ c. refl), refl) tt
+
+    -- the office comes, and the network can't tell of it
+    pub unwatched_hosts : (t : ℕ) (from mid to : Option (List Deed)) (old : Desk R) (here : Place) → Adds from mid (office_came t ∷ []) → Adds mid to (left t ∷ []) → Hosts g IsServing None from old here to old here
+    unwatched_hosts t from mid to old here comes goes =
+        hosts-one g IsServing None from to old old here here (aside (office_came t ∷ left t ∷ []) None) (Adds-trans from mid to (office_came t ∷ []) (left t ∷ []) comes goes) refl
+        (tt, refl, (λ c. refl), inr (inr (t, refl)), refl) tt
+
+    -- the office is let go
+    pub left_hosts : (office : Office S) (from to : Option (List Deed)) (old : Desk R) (clients : Clients S) → Adds from to (left (name office.socket) ∷ [])
+        → Hosts g IsClosing None from old (place_of name clients (office_at name (Some office))) to old (place_of name clients None)
+    left_hosts office from to old clients adds =
+        hosts-one g IsClosing None from to old old (place_of name clients (office_at name (Some office))) (place_of name clients None) (office_leaves (name office.socket)) adds refl
+        (office.entry, refl, refl, (λ c. refl), refl) tt
+
+pub none_is : {X : Type 0} (o : Option X) → is_none o ≡ true → o ≡ None
+none_is None e = refl
+none_is (Some x) e = absurd (let clash : false ≡ true = e in cc)
+
+-- the office that was taken out is the one that was here
+pub was_begun : {S : Type 0} (office : Office S) (at : Option (Office S)) → Some office ≡ at → OfficeHasBegun at → IsBegun office.entry
+was_begun {S} office at same begun = subst (λ (o : Option (Office S)). OfficeHasBegun o) (sym {a = Some office} same) begun

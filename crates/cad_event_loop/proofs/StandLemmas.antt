@@ -1,97 +1,121 @@
 -- What keeps the commands, over all that is done.
-use Rattle.std.proofs.Common.{◌≡◌, ℕ, ◌+◌, List, [], ◌∷◌, ◌++◌, length, Result, Ok, Err, refl, sym, subst, append_assoc, append-nil, length-append, inl, inr}
+use Rattle.std.proofs.Common.{◌≡◌, ℕ, List, [], ◌∷◌, ◌++◌, Option, None, Some, Result, Ok, Err, refl, sym, ap, subst, ◌∙◌, inl, inr}
 use Rattle.cad_versions.specs.declared.command.Command.{Command}
-use Rattle.cad_versions.specs.declared.fault.RegisterFault.{RegisterFault}
 use Rattle.cad_stream.specs.declared.responder.Responder.{Ghosts}
 use Rattle.cad_desk.specs.declared.desk.Desk.{Desk}
 use Rattle.cad_desk.specs.declared.event.Event.{Event}
 use Rattle.cad_desk.specs.declared.event.Event.TheVariants.{Open, Bytes, Close, Office}
 use Rattle.cad_desk.specs.declared.event.Reply.{Reply}
+use Rattle.cad_desk.specs.declared.event.Reply.TheVariants.{Opened, Sent}
 use Rattle.cad_desk.specs.declared.fault.DeskFault.{DeskFault}
-use Rattle.cad_desk.specs.Desks.{responder_of, IsShutAtDesk, Steps}
+use Rattle.cad_desk.specs.Desks.{responder_of, Steps}
 use Rattle.cad_desk.specs.Events.{commands_after}
-use Rattle.cad_desk.specs.Faults.{fault_of}
-use Rattle.cad_office.specs.declared.print.Answer.{Answer}
-use Rattle.cad_office.specs.declared.print.Answer.TheVariants.{Entered, Refused, NotACommand}
-use Rattle.cad_office.specs.Keeping.{AnswersLine}
-use Rattle.cad_office_socket.specs.Entries.{EntersAtDesk}
-use Rattle.cad_event_loop.specs.Works.{Work, serves, answers, asks_to_stop, IsOfClient, Works, Goes}
-use Rattle.cad_event_loop.specs.Laws.{AreEntered, MayAsk, LedgerStands}
+use Rattle.cad_clients.specs.declared.channel.Channel.{Channel}
+use Rattle.cad_clients.specs.Channels.{Act, wrote, took, fed, Does}
+use Rattle.cad_network.specs.Deeds.{Deed}
+use Rattle.cad_event_loop.specs.Works.{Held, Place, Said, Work, wakes, opens, acts, waits, ends, office_comes, enters, office_leaves, aside, said_by, SaysSo, IsEventOf, IsOf, IsOfNone, Tells, Works, Goes, MayAsk, MayGoOn}
+use Rattle.cad_event_loop.specs.Laws.{commands_told, commands_in}
 
--- a client's event adds no command
-client_same : (commands : List Command) (event : Event) (answer : Result Reply DeskFault) → IsOfClient event → commands_after commands event answer ≡ commands
-client_same commands (Open c) answer of = refl
-client_same commands (Bytes c piece) answer of = refl
-client_same commands (Close c) answer of = refl
-client_same commands (Office command) answer of = absurd of
+-- a refusal adds no command
+refused_same : (commands : List Command) (event : Event) (fault : DeskFault) → commands_after commands event (Err fault) ≡ commands
+refused_same commands (Open c) fault = refl
+refused_same commands (Bytes c piece) fault = refl
+refused_same commands (Close c) fault = refl
+refused_same commands (Office command) fault = refl
+
+-- nor does what a client says
+client_same : (commands : List Command) (d : ℕ) (said : Said) → IsOf d said → commands_told commands said ≡ commands
+client_same commands d None of = refl
+client_same commands d (Some told) of = by_event told.0 told.1 of
+  where
+    by_event : (event : Event) (answer : Result Reply DeskFault) → IsEventOf d event → commands_after commands event answer ≡ commands
+    by_event (Open c) answer of = absurd of
+    by_event (Bytes c piece) answer of = refl
+    by_event (Close c) answer of = refl
+    by_event (Office command) answer of = absurd of
+
+-- nor does a connection that is not opened
+none_same : (commands : List Command) (slots : Held) (said : Said) → IsOfNone slots said → commands_told commands said ≡ commands
+none_same commands slots None of = refl
+none_same commands slots (Some told) of = ap (λ (e : Event). commands_after commands e told.1) of.2
 
 module _ {R : Type 0} (g : Ghosts R) where
   same_counts : (old mid : Desk R) → mid ≡ old → g.counts (responder_of mid) → g.counts (responder_of old)
   same_counts old mid e counts = subst (λ (d : Desk R). g.counts (responder_of d)) e counts
 
-  line_clean : (text : List ℕ) (answer : Answer) (old mid : Desk R) → AnswersLine (EntersAtDesk g) text old answer mid → g.counts (responder_of mid) → g.counts (responder_of old)
-  line_clean text (Entered revision) old mid a counts = a.2.clean counts
-  line_clean text (Refused fault) old mid a counts = elim a [
-    | inl refused ↦ refused.2.clean counts
-    | inr none ↦ same_counts old mid none.2 counts
+  act_clean : (d : ℕ) (old mid : Desk R) (channel after : Channel) (act : Act) → Does g d old channel act mid after → g.counts (responder_of mid) → g.counts (responder_of old)
+  act_clean d old mid channel after (wrote bytes) does counts = same_counts old mid does.3 counts
+  act_clean d old mid channel after (took bytes) does counts = same_counts old mid does.4 counts
+  act_clean d old mid channel after (fed piece out over) does counts = does.5.clean counts
+
+  tells_clean : (old mid : Desk R) (said : Said) → Tells g old said mid → g.counts (responder_of mid) → g.counts (responder_of old)
+  tells_clean old mid None tells counts = same_counts old mid tells counts
+  tells_clean old mid (Some told) tells counts = tells.clean counts
+
+  work_clean : (old mid : Desk R) (slots between : Place) (work : Work) → Works g old slots work mid between → g.counts (responder_of mid) → g.counts (responder_of old)
+  work_clean old mid slots between (wakes places) w counts = same_counts old mid w.0 counts
+  work_clean old mid slots between (opens s c) w counts = w.3.clean counts
+  work_clean old mid slots between (acts s c act) w counts = act_clean c old mid w.0 w.1 act w.3 counts
+  work_clean old mid slots between (waits s c) w counts = same_counts old mid w.3 counts
+  work_clean old mid slots between (ends s c cause deeds said) w counts = tells_clean old mid said w.4 counts
+  work_clean old mid slots between (office_comes o) w counts = same_counts old mid w.5 counts
+  work_clean old mid slots between (enters o text turned deeds said) w counts = tells_clean old mid said w.7 counts
+  work_clean old mid slots between (office_leaves o) w counts = same_counts old mid w.4 counts
+  work_clean old mid slots between (aside deeds said) w counts = tells_clean old mid said w.1 counts
+
+  pub goes_clean : (works : List Work) (old new : Desk R) (slots next : Place) → Goes g old slots works new next → g.counts (responder_of new) → g.counts (responder_of old)
+  goes_clean [] old new slots next goes counts = same_counts old new goes.0 counts
+  goes_clean (work ∷ later) old new slots next goes counts = work_clean old goes.0 slots goes.1 work goes.2 (goes_clean later goes.0 new goes.1 next goes.3 counts)
+
+  -- a step leads to the commands after it
+  step_stands : (commands : List Command) (old mid : Desk R) (event : Event) (answer : Result Reply DeskFault) → Steps g old event answer mid → g.counts (responder_of mid) → MayAsk g old (Some (event, answer)) mid
+      → g.stands_for (responder_of old) commands → g.stands_for (responder_of mid) (commands_after commands event answer)
+  step_stands commands old mid event (Ok reply) s counts may stands = s.kept counts commands stands
+  step_stands commands old mid event (Err fault) s counts may stands = elim (s.unchanged counts commands stands) [
+    | inl same ↦ subst (λ (cs : List Command). g.stands_for (responder_of mid) cs) (sym (refused_same commands event fault)) same
+    | inr shut ↦ absurd (may shut)
   ]
-  line_clean text NotACommand old mid a counts = same_counts old mid a.1 counts
-
-  work_clean : (work : Work) (old mid : Desk R) → Works g old work mid → g.counts (responder_of mid) → g.counts (responder_of old)
-  work_clean (serves event answer) old mid w counts = w.1.clean counts
-  work_clean (answers text answer) old mid w counts = line_clean text answer old mid w.1 counts
-  work_clean asks_to_stop old mid w counts = same_counts old mid w.1 counts
-
-  goes_clean : (works : List Work) (old new : Desk R) → Goes g old works new → g.counts (responder_of new) → g.counts (responder_of old)
-  goes_clean [] old new goes counts = same_counts old new goes counts
-  goes_clean (work ∷ later) old new goes counts = work_clean work old goes.0 goes.1 (goes_clean later goes.0 new goes.2 counts)
 
   same_stands : (commands : List Command) (old mid : Desk R) → mid ≡ old → g.stands_for (responder_of old) commands → g.stands_for (responder_of mid) commands
   same_stands commands old mid e stands = subst (λ (d : Desk R). g.stands_for (responder_of d) commands) (sym e) stands
 
-  -- a client's event leaves them
-  client_stands : (commands : List Command) (event : Event) (answer : Result Reply DeskFault) (old mid : Desk R) → IsOfClient event → Steps g old event answer mid → g.counts (responder_of mid)
-      → MayAsk g old (serves event answer) mid → g.stands_for (responder_of old) commands → g.stands_for (responder_of mid) commands
-  client_stands commands event (Ok reply) old mid of s counts may stands =
-      subst (λ (cs : List Command). g.stands_for (responder_of mid) cs) (client_same commands event (Ok reply) of) (s.kept counts commands stands)
-  client_stands commands event (Err fault) old mid of s counts may stands = elim (s.unchanged counts commands stands) [
-    | inl same ↦ same
-    | inr shut ↦ absurd (may shut)
-  ]
+  tells_stand : (commands : List Command) (old mid : Desk R) (said : Said) → Tells g old said mid → g.counts (responder_of mid) → MayAsk g old said mid
+      → g.stands_for (responder_of old) commands → g.stands_for (responder_of mid) (commands_told commands said)
+  tells_stand commands old mid None tells counts may stands = same_stands commands old mid tells stands
+  tells_stand commands old mid (Some told) tells counts may stands = step_stands commands old mid told.0 told.1 tells counts may stands
 
-  -- a refused command leaves them
-  refused_stands : (commands : List Command) (command : Command) (fault : RegisterFault) (old mid : Desk R) → Steps g old (Office command) (Err (fault_of fault)) mid → g.counts (responder_of mid)
-      → (IsShutAtDesk g old (fault_of fault) mid → ⊥) → g.stands_for (responder_of old) commands → g.stands_for (responder_of mid) commands
-  refused_stands commands command fault old mid s counts may stands = elim (s.unchanged counts commands stands) [
-    | inl same ↦ same
-    | inr shut ↦ absurd (may shut)
-  ]
+  act_stands : (commands : List Command) (d : ℕ) (old mid : Desk R) (channel after : Channel) (act : Act) → Does g d old channel act mid after → g.counts (responder_of mid)
+      → g.stands_for (responder_of old) commands → g.stands_for (responder_of mid) commands
+  act_stands commands d old mid channel after (wrote bytes) does counts stands = same_stands commands old mid does.3 stands
+  act_stands commands d old mid channel after (took bytes) does counts stands = same_stands commands old mid does.4 stands
+  act_stands commands d old mid channel after (fed piece out over) does counts stands = does.5.kept counts commands stands
 
-  pub ledger_stands : LedgerStands g
-  ledger_stands commands [] old new goes may counts stands =
-      ([], refl, subst (λ (cs : List Command). g.stands_for (responder_of new) cs) (sym (append-nil commands)) (same_stands commands old new goes stands))
-  ledger_stands commands (serves event answer ∷ later) old new goes may counts stands =
-      let after = goes_clean later goes.0 new goes.2 counts in
-      ledger_stands commands later goes.0 new goes.2 may.1 counts (client_stands commands event answer old goes.0 goes.1.0 goes.1.1 after may.0 stands)
-  ledger_stands commands (asks_to_stop ∷ later) old new goes may counts stands =
-      ledger_stands commands later goes.0 new goes.2 may.1 counts (same_stands commands old goes.0 goes.1.1 stands)
-  ledger_stands commands (answers text NotACommand ∷ later) old new goes may counts stands =
-      ledger_stands commands later goes.0 new goes.2 may.1 counts (same_stands commands old goes.0 goes.1.1.1 stands)
-  ledger_stands commands (answers text (Refused fault) ∷ later) old new goes may counts stands =
-      let after = goes_clean later goes.0 new goes.2 counts in
-      let kept : g.stands_for (responder_of goes.0) commands = elim goes.1.1 [
-        | inl refused ↦ refused_stands commands refused.0 fault old goes.0 refused.2 after may.0 stands
-        | inr none ↦ same_stands commands old goes.0 none.2 stands
-      ] in
-      ledger_stands commands later goes.0 new goes.2 may.1 counts kept
-  ledger_stands commands (answers text (Entered revision) ∷ later) old new goes may counts stands =
-      let after = goes_clean later goes.0 new goes.2 counts in
-      let line = goes.1.1 in
-      let kept = line.2.kept after commands stands in
-      let told = line.2.stepped.1 after commands stands in
-      let rest = ledger_stands (commands ++ line.0 ∷ []) later goes.0 new goes.2 may.1 counts kept in
-      let count : length (commands ++ line.0 ∷ []) ≡ length commands + 1 = length-append commands (line.0 ∷ []) in (
-        line.0 ∷ rest.0,
-        (line.1, told.1, subst (λ (n : ℕ). AreEntered later n rest.0) count rest.1),
-        subst (λ (cs : List Command). g.stands_for (responder_of new) cs) (append_assoc commands (line.0 ∷ []) rest.0) rest.2,
-      )
+  -- all that is done leads to the commands after it
+  pub goes_stands : (commands : List Command) (works : List Work) (old new : Desk R) (here next : Place) → (goes : Goes g old here works new next) → MayGoOn g works old new here next goes
+      → g.counts (responder_of new) → g.stands_for (responder_of old) commands → g.stands_for (responder_of new) (commands_in commands works)
+  goes_stands commands [] old new slots next goes may counts stands = same_stands commands old new goes.0 stands
+  goes_stands commands (wakes places ∷ later) old new slots next goes may counts stands =
+      goes_stands commands later goes.0 new goes.1 next goes.3 may.1 counts (same_stands commands old goes.0 goes.2.0 stands)
+  goes_stands commands (opens s c ∷ later) old new slots next goes may counts stands =
+      let after = goes_clean later goes.0 new goes.1 next goes.3 counts in
+      goes_stands commands later goes.0 new goes.1 next goes.3 may.1 counts (goes.2.3.kept after commands stands)
+  goes_stands commands (acts s c act ∷ later) old new slots next goes may counts stands =
+      let after = goes_clean later goes.0 new goes.1 next goes.3 counts in
+      goes_stands commands later goes.0 new goes.1 next goes.3 may.1 counts (act_stands commands c old goes.0 goes.2.0 goes.2.1 act goes.2.3 after stands)
+  goes_stands commands (waits s c ∷ later) old new slots next goes may counts stands =
+      goes_stands commands later goes.0 new goes.1 next goes.3 may.1 counts (same_stands commands old goes.0 goes.2.3 stands)
+  goes_stands commands (ends s c cause deeds said ∷ later) old new slots next goes may counts stands =
+      let after = goes_clean later goes.0 new goes.1 next goes.3 counts in
+      let told = tells_stand commands old goes.0 said goes.2.4 after may.0 stands in
+      goes_stands commands later goes.0 new goes.1 next goes.3 may.1 counts (subst (λ (cs : List Command). g.stands_for (responder_of goes.0) cs) (client_same commands c said goes.2.3) told)
+  goes_stands commands (office_comes o ∷ later) old new slots next goes may counts stands =
+      goes_stands commands later goes.0 new goes.1 next goes.3 may.1 counts (same_stands commands old goes.0 goes.2.5 stands)
+  goes_stands commands (office_leaves o ∷ later) old new slots next goes may counts stands =
+      goes_stands commands later goes.0 new goes.1 next goes.3 may.1 counts (same_stands commands old goes.0 goes.2.4 stands)
+  goes_stands commands (enters o text turned deeds said ∷ later) old new slots next goes may counts stands =
+      let after = goes_clean later goes.0 new goes.1 next goes.3 counts in
+      goes_stands (commands_told commands said) later goes.0 new goes.1 next goes.3 may.1 counts (tells_stand commands old goes.0 said goes.2.7 after may.0 stands)
+  goes_stands commands (aside deeds said ∷ later) old new slots next goes may counts stands =
+      let after = goes_clean later goes.0 new goes.1 next goes.3 counts in
+      let told = tells_stand commands old goes.0 said goes.2.1 after may.0 stands in
+      goes_stands commands later goes.0 new goes.1 next goes.3 may.1 counts (subst (λ (cs : List Command). g.stands_for (responder_of goes.0) cs) (none_same commands slots.slots said goes.2.0) told)

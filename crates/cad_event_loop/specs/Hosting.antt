@@ -1,61 +1,109 @@
--- What hosting does at the desk, by how it ended (own profile).
-use Rattle.std.specs.Prelude.{◌⊎◌, ⊤, Option, None, Some, Result, Ok, Err}
+-- What hosting does, by how it ended (own profile).
+use Rattle.std.specs.Prelude.{◌≡◌, ◌⊎◌, ⊤, ℕ, List, [], ◌++◌, ◌∷◌, map, Option, None, Some, Result, Ok, Err, IsErr}
 use Rattle.cad_stream.specs.declared.responder.Responder.{Ghosts}
 use Rattle.cad_desk.specs.declared.desk.Desk.{Desk}
+use Rattle.cad_desk.specs.declared.fault.DeskFault.TheVariants.{Memory}
+use Rattle.cad_network.specs.Deeds.{Deed, woke, left, Adds}
 use Rattle.cad_clients.specs.declared.served.Served.{Served}
 use Rattle.cad_clients.specs.declared.served.Served.TheVariants as client
-use Rattle.cad_client_socket.specs.declared.turned.Ending.{Ending}
-use Rattle.cad_client_socket.specs.declared.turned.Ending.TheVariants.{PeerEnded, WeEnded, Refused, ReadFailed, WriteFailed}
-use Rattle.cad_office_socket.specs.declared.entry.Entry.{Entry}
-use Rattle.cad_office_socket.specs.declared.turned.EntryServed.{EntryServed}
-use Rattle.cad_office_socket.specs.declared.turned.EntryServed.TheVariants as entry
-use Rattle.cad_office_socket.specs.Turns.{IsBegun}
-use Rattle.cad_event_loop.specs.declared.office.Office.{Office}
+use Rattle.cad_clients.specs.declared.turned.Ending.{Ending}
+use Rattle.cad_clients.specs.declared.turned.Ending.TheVariants.{WriteFailed}
+use Rattle.cad_clients.specs.Channels.{Act, wrote, IsTold}
+use Rattle.cad_office_socket.specs.declared.turned.EntryTurned.{EntryTurned}
+use Rattle.cad_office_socket.specs.declared.turned.EntryTurned.TheVariants as turn
 use Rattle.cad_event_loop.specs.declared.stopped.Stopped.{Stopped}
 use Rattle.cad_event_loop.specs.declared.stopped.Stopped.TheVariants.{Asked, StoreRefused, RoundsSpent}
-use Rattle.cad_event_loop.specs.Works.{is_store, store_end, Hosts}
+use Rattle.cad_event_loop.specs.Works.{Place, IsEmpty, Said, Work, wakes, opens, acts, waits, ends, office_comes, enters, office_leaves, aside, all_deeds, end_with, end_in, Goes}
 
--- why hosting ends by what came of serving a client, and of serving the land office
-abbrev pub end_with : Ending → Option Stopped
-end_with PeerEnded = None
-end_with WeEnded = None
-end_with (Refused fault) = store_end (is_store (Err fault))
-end_with ReadFailed = None
-end_with WriteFailed = None
-
+-- why hosting ends by what came of serving a client
 abbrev pub end_of_client : Served → Option Stopped
 end_of_client client.Stays = None
 end_of_client (client.Over ending) = end_with ending
 end_of_client client.Unknown = None
 
-abbrev pub end_of_office : EntryServed → Option Stopped
-end_of_office entry.Goes = None
-end_of_office entry.Waits = None
-end_of_office entry.Over = None
-end_of_office entry.Stops = Some Asked
-end_of_office entry.StoreRefused = Some StoreRefused
+-- and by a round, and by all of them, where the system did not refuse before
+abbrev pub end_of_round : {E : Type 0} → Result (Option Stopped) E → Option Stopped
+end_of_round (Ok end) = end
+end_of_round (Err error) = None
 
--- of what is left of the office's connection a line has begun, where it goes on
-abbrev pub BegunAfter : EntryServed → Entry → Type 0
-BegunAfter entry.Goes next = IsBegun next
-BegunAfter entry.Waits next = IsBegun next
-BegunAfter entry.Over next = ⊤
-BegunAfter entry.Stops next = ⊤
-BegunAfter entry.StoreRefused next = ⊤
+abbrev pub end_of_rounds : {E : Type 0} → Result Stopped E → Option Stopped
+end_of_rounds (Ok Asked) = Some Asked
+end_of_rounds (Ok StoreRefused) = Some StoreRefused
+end_of_rounds (Ok RoundsSpent) = None
+end_of_rounds (Err error) = None
 
--- of the land office, if it is here, a line has begun
-abbrev pub HasBegun : Option Office → Type 0
-HasBegun None = ⊤
-HasBegun (Some office) = IsBegun office.entry
+-- what is told of it: a stop that the office asked for may be told as a failure of the system that came then
+abbrev pub IsLastOf : {E : Type 0} → Result Stopped E → Result Stopped E → Type 0
+IsLastOf hosted result = (result ≡ hosted) ⊎ ((hosted ≡ Ok Asked) × IsErr result)
 
--- where hosting goes on
-abbrev pub HasBegunUnless : Option Stopped → Option Office → Type 0
-HasBegunUnless None office = HasBegun office
-HasBegunUnless (Some stopped) office = ⊤
+-- the network told of some sockets
+abbrev pub IsWoken : List Deed → Type 0
+IsWoken deeds = (places : List ℕ) × (deeds ≡ map woke places)
+
+-- socket s is told that there is no room, and let go
+abbrev pub IsTurnedAway : ℕ → List Deed → Type 0
+IsTurnedAway s deeds = (told : List Deed) × IsTold s Memory told × (deeds ≡ told ++ left s ∷ [])
+
+-- each of these is so
+module _ (May : Work → Type 0) where
+  abbrev pub Each : List Work → Type 0
+  Each [] = ⊤
+  Each (work ∷ later) = May work × Each later
+
+-- while clients and the land office are served, it is let go only where it is over
+abbrev pub IsServing : Work → Type 0
+IsServing (office_leaves o) = ⊥
+IsServing other = ⊤
+
+-- where hosting ends nobody comes and nothing is read or answered: what is under way is written, and all are let go
+abbrev pub IsLastAct : Act → Type 0
+IsLastAct (wrote bytes) = ⊤
+IsLastAct other = ⊥
+
+abbrev pub IsLastEnding : Option Ending → Type 0
+IsLastEnding None = ⊤
+IsLastEnding (Some WriteFailed) = ⊤
+IsLastEnding (Some other) = ⊥
+
+abbrev pub IsLastTurn : EntryTurned → Type 0
+IsLastTurn turn.Wrote = ⊤
+IsLastTurn turn.Waits = ⊤
+IsLastTurn turn.Over = ⊤
+IsLastTurn other = ⊥
+
+abbrev pub IsClosing : Work → Type 0
+IsClosing (wakes places) = ⊤
+IsClosing (opens s c) = ⊥
+IsClosing (acts s c act) = IsLastAct act
+IsClosing (waits s c) = ⊤
+IsClosing (ends s c cause deeds said) = IsLastEnding cause
+IsClosing (office_comes o) = ⊥
+IsClosing (enters o text turned deeds said) = IsLastTurn turned
+IsClosing (office_leaves o) = ⊤
+IsClosing (aside deeds said) = deeds ≡ []
 
 module _ {R : Type 0} (g : Ghosts R) where
+  -- such works are done and nothing else; why hosting ends by them, if it does
+  abbrev pub Hosts : (Work → Type 0) → Option Stopped → Option (List Deed) → Desk R → Place → Option (List Deed) → Desk R → Place → Type 0
+  Hosts May end from old here to new next =
+      (works : List Work) × Adds from to (all_deeds works) × (end_in works ≡ end) × Goes g old here works new next × Each May works
+
+  -- from nobody on these works are done, whose deeds are all that is done at the network, until hosting ends by one of them; and then others, until nobody is here
+  pub record HostsBy (end : Option Stopped) (from : Option (List Deed)) (old : Desk R) (to : Option (List Deed)) (new : Desk R) : Type 0 where
+    pub works : List Work
+    pub closing : List Work
+    pub first : Place
+    pub last : Place
+    pub deeds : Adds from to (all_deeds (works ++ closing))
+    pub ends : end_in works ≡ end
+    pub served : Each IsServing works
+    pub closed : Each IsClosing closing
+    pub nobody_first : IsEmpty first
+    pub nobody_last : IsEmpty last
+    pub goes : Goes g old first (works ++ closing) new last
+
   -- it ended as the office asked to stop, or as the register's database refused, where that was the first of these that came; or the rounds were spent, or the system refused, and the database did not refuse
-  abbrev pub Hosted : {E : Type 0} → Desk R → Result Stopped E → Desk R → Type 0
-  Hosted old (Ok RoundsSpent) new = Hosts g None old new
-  Hosted old (Ok stopped) new = Hosts g (Some stopped) old new
-  Hosted old (Err error) new = Hosts g None old new ⊎ Hosts g (Some Asked) old new
+  abbrev pub Hosted : {E : Type 0} → Option (List Deed) → Desk R → Result Stopped E → Option (List Deed) → Desk R → Type 0
+  Hosted from old (Ok RoundsSpent) to new = HostsBy None from old to new
+  Hosted from old (Ok stopped) to new = HostsBy (Some stopped) from old to new
+  Hosted from old (Err error) to new = HostsBy None from old to new ⊎ HostsBy (Some Asked) from old to new

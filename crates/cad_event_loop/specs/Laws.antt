@@ -1,14 +1,39 @@
--- What holds of all that a host does (own profile).
-use Rattle.std.specs.Prelude.{◌≡◌, ⊤, ℕ, ◌+◌, List, [], ◌∷◌, ◌++◌, length, IfErr}
+-- What holds of all that is done (own profile).
+use Rattle.std.specs.Prelude.{◌≡◌, ℕ, ◌+◌, length, false, List, [], ◌∷◌, ◌++◌, Option, None, Some}
 use Rattle.cad_versions.specs.declared.command.Command.{Command}
 use Rattle.cad_stream.specs.declared.responder.Responder.{Ghosts}
 use Rattle.cad_desk.specs.declared.desk.Desk.{Desk}
-use Rattle.cad_desk.specs.Desks.{responder_of, IsShutAtDesk}
-use Rattle.cad_desk.specs.Faults.{fault_of}
+use Rattle.cad_desk.specs.Desks.{responder_of}
+use Rattle.cad_desk.specs.Events.{commands_after}
+use Rattle.cad_network.specs.Deeds.{Deed, given_by, taken_by, comes}
+use Rattle.cad_clients.specs.declared.channel.Channel.{Channel}
+use Rattle.cad_clients.specs.declared.turned.Ending.{Ending}
+use Rattle.cad_clients.specs.Acts.{Happening, read_of, written_of}
+use Rattle.cad_clients.specs.Laws.{IsPassedOn, IsAnswered, exchanges_with}
 use Rattle.cad_office.specs.declared.print.Answer.{Answer}
 use Rattle.cad_office.specs.declared.print.Answer.TheVariants.{Entered, Refused, NotACommand}
 use Rattle.cad_office.specs.Keeping.{Asks}
-use Rattle.cad_event_loop.specs.Works.{Work, serves, answers, asks_to_stop, Goes}
+use Rattle.cad_office_socket.specs.declared.turned.EntryTurned.{EntryTurned}
+use Rattle.cad_office_socket.specs.declared.turned.EntryTurned.TheVariants.{Answered, Lost}
+use Rattle.cad_event_loop.specs.Works.{Place, Said, Work, wakes, opens, acts, waits, ends, office_comes, enters, office_leaves, aside, IsEmpty, all_deeds, Goes, MayGoOn}
+use Rattle.cad_event_loop.specs.Lives.{last_deeds, IsLeft}
+
+-- the commands in force after what is said, and after all that is done: only what the land office entered adds to them
+abbrev pub commands_told : List Command → Said → List Command
+commands_told commands None = commands
+commands_told commands (Some told) = commands_after commands told.0 told.1
+
+abbrev pub commands_in : List Command → List Work → List Command
+commands_in commands [] = commands
+commands_in commands (wakes places ∷ later) = commands_in commands later
+commands_in commands (opens s c ∷ later) = commands_in commands later
+commands_in commands (acts s c act ∷ later) = commands_in commands later
+commands_in commands (waits s c ∷ later) = commands_in commands later
+commands_in commands (ends s c cause deeds said ∷ later) = commands_in commands later
+commands_in commands (office_comes o ∷ later) = commands_in commands later
+commands_in commands (enters o text turned deeds said ∷ later) = commands_in (commands_told commands said) later
+commands_in commands (office_leaves o ∷ later) = commands_in commands later
+commands_in commands (aside deeds said ∷ later) = commands_in commands later
 
 -- these commands, after so many, are those that were entered, in their order: each is what the text of a line says that was answered by its revision
 module _ (AreLater : ℕ → List Command → Type 0) where
@@ -18,26 +43,43 @@ module _ (AreLater : ℕ → List Command → Type 0) where
   AreFirst count text (Refused fault) entered = AreLater count entered
   AreFirst count text NotACommand entered = AreLater count entered
 
+  -- by a turn of the land office in which the line with this text ended
+  abbrev pub AreFirstBy : ℕ → List ℕ → EntryTurned → List Command → Type 0
+  AreFirstBy count text (Answered answer) entered = AreFirst count text answer entered
+  AreFirstBy count text (Lost answer) entered = AreFirst count text answer entered
+  AreFirstBy count text other entered = AreLater count entered
+
 abbrev pub AreEntered : List Work → ℕ → List Command → Type 0
 AreEntered [] count entered = entered ≡ []
-AreEntered (serves event answer ∷ later) count entered = AreEntered later count entered
-AreEntered (answers text answer ∷ later) count entered = AreFirst (AreEntered later) count text answer entered
-AreEntered (asks_to_stop ∷ later) count entered = AreEntered later count entered
+AreEntered (enters o text turned deeds said ∷ later) count entered = AreFirstBy (AreEntered later) count text turned entered
+AreEntered (other ∷ later) count entered = AreEntered later count entered
 
 module _ {R : Type 0} (g : Ghosts R) where
-  -- what keeps the commands was not closed by it
-  abbrev pub MayAsk : Desk R → Work → Desk R → Type 0
-  MayAsk old (serves event answer) new = IfErr answer (λ fault. ¬ IsShutAtDesk g old fault new)
-  MayAsk old (answers text (Refused fault)) new = ¬ IsShutAtDesk g old (fault_of fault) new
-  MayAsk old (answers text other) new = ⊤
-  MayAsk old asks_to_stop new = ⊤
-
-  abbrev pub MayGoOn : (works : List Work) (old new : Desk R) → Goes g old works new → Type 0
-  MayGoOn [] old new goes = ⊤
-  MayGoOn (work ∷ later) old new goes = MayAsk old work goes.0 × MayGoOn later goes.0 new goes.2
-
-  -- what keeps the commands stands at the end for those before, and for those that the land office was told the revisions of, and no others
+  -- what keeps the commands stands at the end for those before, and for those that the land office was answered the revisions of, and no others
   abbrev pub LedgerStands : Type 0
-  LedgerStands = (commands : List Command) (works : List Work) (old new : Desk R) → (goes : Goes g old works new) → MayGoOn works old new goes
+  LedgerStands = (commands : List Command) (works : List Work) (old new : Desk R) (here next : Place) → (goes : Goes g old here works new next) → MayGoOn g works old new here next goes
       → g.counts (responder_of new) → g.stands_for (responder_of old) commands
-      → (entered : List Command) × AreEntered works (length commands) entered × g.stands_for (responder_of new) (commands ++ entered)
+      → (entered : List Command) × AreEntered works (length commands) entered × (commands_in commands works ≡ commands ++ entered) × g.stands_for (responder_of new) (commands ++ entered)
+
+  -- of a socket that came once, and became connection c: what was read from it, and what was written to it
+  pub record IsServedSocket (s c : ℕ) (commands : List Command) (all : List Deed) (next : Place) : Type 0 where
+    pub happenings : List Happening
+    pub mid : Desk R
+    pub last : Channel
+    pub ended : Option (Option Ending × List Deed)
+    -- the deeds of its end aside, it was read and written in the acts of connection c alone
+    pub read : given_by s all ≡ read_of happenings ++ given_by s (last_deeds ended)
+    pub written : taken_by s all ≡ written_of happenings ++ taken_by s (last_deeds ended)
+    -- it goes on, or ended so
+    pub left : IsLeft g c s mid last ended next.slots
+    -- what was read went to the desk under its own number, and what was written are the replies to that
+    pub passed : IsPassedOn (exchanges_with c commands happenings) (read_of happenings) (written_of happenings) last
+    pub answered : IsAnswered g (exchanges_with c commands happenings) (written_of happenings) last
+
+  -- whatever else is done
+  abbrev pub SocketsAreTheirOwn : Type 0
+  SocketsAreTheirOwn = (s c : ℕ) (commands : List Command) (before later : List Work) (old new : Desk R) (first next : Place)
+      → IsEmpty first → (goes : Goes g old first (before ++ opens s c ∷ later) new next) → MayGoOn g (before ++ opens s c ∷ later) old new first next goes
+      → comes s (all_deeds before) ≡ false → comes s (all_deeds later) ≡ false
+      → g.counts (responder_of new) → g.stands_for (responder_of old) commands
+      → IsServedSocket s c (commands_in commands before) (all_deeds (before ++ opens s c ∷ later)) next

@@ -1,37 +1,122 @@
--- What is done at the desk of a host, one thing after the other (own profile).
-use Rattle.std.specs.Prelude.{◌≡◌, ⊤, ℕ, Bool, true, false, List, [], ◌∷◌, Option, None, Some, Result, Ok, Err, if◌then◌else◌}
+-- What is done for clients and the land office at a desk and at their sockets, one thing after the other (own profile).
+use Rattle.std.specs.Prelude.{◌≡◌, ◌⊎◌, ⊤, ℕ, ◌≤◌, nat_eq, Bool, true, false, not, List, [], ◌∷◌, ◌++◌, length, map, codes, Option, None, Some, IsErr, Result, Ok, Err, IfErr, if◌then◌else◌}
 use Rattle.std.specs.Option.{option_or}
-use Rattle.cad_versions.specs.declared.fault.RegisterFault.TheVariants.{Store}
+use Rattle.cad_versions.specs.declared.command.Command.{Command}
+use Rattle.cad_versions.specs.declared.fault.RegisterFault.TheVariants.{Store, Memory}
 use Rattle.cad_stream.specs.declared.responder.Responder.{Ghosts}
 use Rattle.cad_desk.specs.declared.desk.Desk.{Desk}
 use Rattle.cad_desk.specs.declared.event.Event.{Event}
 use Rattle.cad_desk.specs.declared.event.Event.TheVariants.{Open, Bytes, Close, Office}
 use Rattle.cad_desk.specs.declared.event.Reply.{Reply}
+use Rattle.cad_desk.specs.declared.event.Reply.TheVariants as reply
 use Rattle.cad_desk.specs.declared.fault.DeskFault.{DeskFault}
 use Rattle.cad_desk.specs.declared.fault.DeskFault.TheVariants.{Register}
-use Rattle.cad_desk.specs.Desks.{Steps}
+use Rattle.cad_desk.specs.Desks.{IsShutAtDesk, Steps}
+use Rattle.cad_desk.specs.Faults.{fault_of}
+use Rattle.cad_network.specs.Deeds.{Deed, came, office_came, woke, blocked, left, Adds}
+use Rattle.cad_network.specs.Deeds as deed
+use Rattle.cad_clients.specs.declared.channel.Channel.{Channel}
+use Rattle.cad_clients.specs.declared.client.Client.{Client}
+use Rattle.cad_clients.specs.declared.clients.Clients.{Clients}
+use Rattle.cad_clients.specs.declared.turned.Ending.{Ending}
+use Rattle.cad_clients.specs.declared.turned.Ending.TheVariants.{PeerEnded, WeEnded, Refused, ReadFailed, WriteFailed}
+use Rattle.cad_clients.specs.Channels.{Act, wrote, took, fed, Does, MayWait, IsTold, EndsSo, Closes}
+use Rattle.cad_clients.specs.Laws.{IsNew}
+use Rattle.cad_clients.specs.Slots.{client_at}
 use Rattle.cad_office.specs.declared.print.Answer.{Answer}
-use Rattle.cad_office.specs.Keeping.{AnswersLine}
+use Rattle.cad_office.specs.declared.print.Answer.TheVariants as answer
+use Rattle.cad_office.specs.Keeping.{Asks}
+use Rattle.cad_office.specs.Lines.{longest_line}
 use Rattle.cad_office_socket.specs.declared.entry.Entry.{Entry}
-use Rattle.cad_office_socket.specs.declared.turned.EntryTurned.TheVariants.{Stops}
-use Rattle.cad_office_socket.specs.Entries.{EntersAtDesk}
+use Rattle.cad_office_socket.specs.declared.turned.EntryTurned.{EntryTurned}
+use Rattle.cad_office_socket.specs.declared.turned.EntryTurned.TheVariants as turn
 use Rattle.cad_office_socket.specs.Serving as serving
-use Rattle.cad_office_socket.specs.Turns.{IsAsking, IsBegun, IsEntryTurn}
+use Rattle.cad_office_socket.specs.Turns.{IsNewEntry, IsAsking, IsEntryTurn}
 use Rattle.cad_event_loop.specs.declared.stopped.Stopped.{Stopped}
 use Rattle.cad_event_loop.specs.declared.stopped.Stopped.TheVariants.{Asked, StoreRefused}
 
--- an event of a client and its answer; a line of the land office with this text, and its answer; or the line that asks to stop
-pub data Work : Type 0 where
-  serves : Event → Result Reply DeskFault → Work
-  answers : List ℕ → Answer → Work
-  asks_to_stop : Work
+-- the open connections by their numbers, each with the name of its socket and its channel
+abbrev pub Held : Type 0
+Held = ℕ → Option (ℕ × Channel)
 
--- the event is of a client
-abbrev pub IsOfClient : Event → Type 0
-IsOfClient (Open c) = ⊤
-IsOfClient (Bytes c piece) = ⊤
-IsOfClient (Close c) = ⊤
-IsOfClient (Office command) = ⊥
+abbrev pub held_of : {S : Type 0} → (S → ℕ) → Option (Client S) → Option (ℕ × Channel)
+held_of name None = None
+held_of name (Some client) = Some (name client.socket, client.channel)
+
+abbrev pub held_at : {S : Type 0} → (S → ℕ) → Clients S → Held
+held_at name clients c = held_of name (client_at clients c)
+
+-- connection c is this one since, or is not open, and all others are as they were
+abbrev pub Puts : Held → Held → ℕ → Option (ℕ × Channel) → Type 0
+Puts old new c one = (d : ℕ) → new d ≡ (if nat_eq c d then one else old d)
+
+abbrev pub Same : Held → Held → Type 0
+Same old new = (d : ℕ) → new d ≡ old d
+
+-- the land office, if it is here: the name of its socket, and what is held of its connection
+abbrev pub AtOffice : Type 0
+AtOffice = Option (ℕ × Entry)
+
+-- who is here
+pub record Place : Type 0 where
+  pub slots : Held
+  pub office : AtOffice
+
+abbrev pub place_of : {S : Type 0} → (S → ℕ) → Clients S → AtOffice → Place
+place_of name clients office = record { slots = held_at name clients; office = office }
+
+-- nobody is here
+abbrev pub IsEmpty : Place → Type 0
+IsEmpty place = ((c : ℕ) → place.slots c ≡ None) × (place.office ≡ None)
+
+-- what the desk is told, if anything, and its answer
+abbrev pub Said : Type 0
+Said = Option (Event × Result Reply DeskFault)
+
+-- the network tells that the sockets at these places may go on; socket s comes and is connection c; connection c acts at socket s; it can't for now; it ends, by a turn of its own or since it is closed, with these deeds; the land office comes at socket o; it has a turn there, in which the line with this text ends if one does; it is let go; or what is done is for none of them
+pub data Work : Type 0 where
+  wakes : List ℕ → Work
+  opens : ℕ → ℕ → Work
+  acts : ℕ → ℕ → Act → Work
+  waits : ℕ → ℕ → Work
+  ends : ℕ → ℕ → Option Ending → List Deed → Said → Work
+  office_comes : ℕ → Work
+  enters : ℕ → List ℕ → EntryTurned → List Deed → Said → Work
+  office_leaves : ℕ → Work
+  aside : List Deed → Said → Work
+
+-- the deeds of each
+abbrev pub deeds_in : ℕ → Act → List Deed
+deeds_in s (wrote bytes) = deed.took s bytes ∷ []
+deeds_in s (took bytes) = deed.gave s bytes ∷ []
+deeds_in s (fed piece out over) = []
+
+abbrev pub deeds_of : Work → List Deed
+deeds_of (wakes places) = map woke places
+deeds_of (opens s c) = came s ∷ []
+deeds_of (acts s c act) = deeds_in s act
+deeds_of (waits s c) = blocked s ∷ []
+deeds_of (ends s c cause deeds said) = deeds
+deeds_of (office_comes o) = office_came o ∷ []
+deeds_of (enters o text turned deeds said) = deeds
+deeds_of (office_leaves o) = left o ∷ []
+deeds_of (aside deeds said) = deeds
+
+abbrev pub all_deeds : List Work → List Deed
+all_deeds [] = []
+all_deeds (work ∷ later) = deeds_of work ++ all_deeds later
+
+-- what the desk is told by each that it may refuse
+abbrev pub said_by : Work → Said
+said_by (wakes places) = None
+said_by (opens s c) = None
+said_by (acts s c act) = None
+said_by (waits s c) = None
+said_by (ends s c cause deeds said) = said
+said_by (office_comes o) = None
+said_by (enters o text turned deeds said) = said
+said_by (office_leaves o) = None
+said_by (aside deeds said) = said
 
 -- the register's database refused
 abbrev pub is_store : Result Reply DeskFault → Bool
@@ -42,34 +127,128 @@ is_store (Err fault) = false
 abbrev pub store_end : Bool → Option Stopped
 store_end refused = if refused then Some StoreRefused else None
 
--- why hosting ends by it, if it does
+-- why hosting ends by the end of a connection, and by a turn of the land office, if it does
+abbrev pub end_with : Ending → Option Stopped
+end_with PeerEnded = None
+end_with WeEnded = None
+end_with (Refused fault) = store_end (is_store (Err fault))
+end_with ReadFailed = None
+end_with WriteFailed = None
+
+abbrev pub end_of_cause : Option Ending → Option Stopped
+end_of_cause None = None
+end_of_cause (Some ending) = end_with ending
+
+abbrev pub end_of_turned : EntryTurned → Option Stopped
+end_of_turned turn.Wrote = None
+end_of_turned turn.Took = None
+end_of_turned turn.Added = None
+end_of_turned (turn.Answered answer) = store_end (serving.is_store answer)
+end_of_turned (turn.Lost answer) = store_end (serving.is_store answer)
+end_of_turned turn.Stops = Some Asked
+end_of_turned turn.Waits = None
+end_of_turned turn.Over = None
+
+-- by what is done
 abbrev pub end_by : Work → Option Stopped
-end_by (serves event answer) = store_end (is_store answer)
-end_by (answers text answer) = store_end (serving.is_store answer)
-end_by asks_to_stop = Some Asked
+end_by (wakes places) = None
+end_by (opens s c) = None
+end_by (acts s c act) = None
+end_by (waits s c) = None
+end_by (ends s c cause deeds said) = end_of_cause cause
+end_by (office_comes o) = None
+end_by (enters o text turned deeds said) = end_of_turned turned
+end_by (office_leaves o) = None
+end_by (aside deeds said) = None
 
 -- and by the first of these by which it does
 abbrev pub end_in : List Work → Option Stopped
 end_in [] = None
 end_in (work ∷ later) = option_or (end_by work) (end_in later)
 
+-- the event is of connection c, and does not open it
+abbrev pub IsEventOf : ℕ → Event → Type 0
+IsEventOf c (Open d) = ⊥
+IsEventOf c (Bytes d piece) = d ≡ c
+IsEventOf c (Close d) = d ≡ c
+IsEventOf c (Office command) = ⊥
+
+abbrev pub IsOf : ℕ → Said → Type 0
+IsOf c None = ⊤
+IsOf c (Some told) = IsEventOf c told.0
+
+-- it is of none: the desk refused to open a connection
+abbrev pub IsOfNone : Held → Said → Type 0
+IsOfNone slots None = ⊤
+IsOfNone slots (Some told) = (c : ℕ) × (slots c ≡ None) × (told.0 ≡ Open c) × IsErr told.1
+
+-- the desk is told the command that the line asks for, and answers so; or it is told none
+abbrev pub SaysSo : List ℕ → Answer → Said → Type 0
+SaysSo text (answer.Entered revision) said = (command : Command) × Asks text command × (said ≡ Some (Office command, Ok (reply.Entered revision)))
+SaysSo text (answer.Refused fault) said =
+    ((command : Command) × Asks text command × (said ≡ Some (Office command, Err (fault_of fault)))) ⊎ ((fault ≡ Memory) × (length text ≤ longest_line) × (said ≡ None))
+SaysSo text answer.NotACommand said = ((command : Command) → ¬ Asks text command) × (said ≡ None)
+
+-- what a turn of the land office tells the desk of the line that ended in it
+abbrev pub IsLineSaid : List ℕ → EntryTurned → Said → Type 0
+IsLineSaid text (turn.Answered answer) said = IsAsking text answer × SaysSo text answer said
+IsLineSaid text (turn.Lost answer) said = IsAsking text answer × SaysSo text answer said
+IsLineSaid text turn.Stops said = (text ≡ codes "stop") × (said ≡ None)
+IsLineSaid text other said = said ≡ None
+
+-- whether the land office is over by the turn: it can't be told more, and the work goes on without it
+abbrev pub is_last : EntryTurned → Bool
+is_last turn.Over = true
+is_last (turn.Lost answer) = not (serving.is_store answer)
+is_last other = false
+
+-- nothing is done at a socket; or one comes and is turned away: it is let go, a client's after it is told why
+abbrev pub IsAside : List Deed → Type 0
+IsAside deeds =
+    (deeds ≡ []) ⊎ (((s : ℕ) × (fault : DeskFault) × (told : List Deed) × IsTold s fault told × (deeds ≡ came s ∷ (told ++ left s ∷ [])))
+    ⊎ ((s : ℕ) × (deeds ≡ office_came s ∷ left s ∷ [])))
+
 module _ {R : Type 0} (g : Ghosts R) where
-  -- a turn of the office's connection at which the line that asks to stop was read
-  abbrev pub ReadsStop : Desk R → Type 0
-  ReadsStop desk =
-      (entry : Entry) × (next : Entry) × (read : List ℕ) × (written : List ℕ) × IsBegun entry × IsEntryTurn g ⊤ desk entry Stops desk next read written
+  abbrev pub Tells : Desk R → Said → Desk R → Type 0
+  Tells old None new = new ≡ old
+  Tells old (Some told) new = Steps g old told.0 told.1 new
+
+  -- connection c is over by a turn of its own, or it is closed; and its socket is let go
+  abbrev pub Leaves : ℕ → ℕ → Desk R → Channel → Option Ending → List Deed → Desk R → Type 0
+  Leaves c s old channel (Some ending) deeds new = (own : List Deed) × (deeds ≡ own ++ left s ∷ []) × EndsSo g c s old channel ending new own
+  Leaves c s old channel None deeds new = (deeds ≡ left s ∷ []) × Closes g c old new
 
   -- one thing is done
-  abbrev pub Works : Desk R → Work → Desk R → Type 0
-  Works old (serves event answer) new = IsOfClient event × Steps g old event answer new
-  Works old (answers text answer) new = IsAsking text answer × AnswersLine (EntersAtDesk g) text old answer new
-  Works old asks_to_stop new = ReadsStop old × (new ≡ old)
+  abbrev pub Works : Desk R → Place → Work → Desk R → Place → Type 0
+  Works old here (wakes places) new next = (new ≡ old) × Same here.slots next.slots × (next.office ≡ here.office)
+  Works old here (opens s c) new next =
+      (channel : Channel) × (here.slots c ≡ None) × IsNew channel × Steps g old (Open c) (Ok reply.Opened) new × Puts here.slots next.slots c (Some (s, channel)) × (next.office ≡ here.office)
+  Works old here (acts s c act) new next =
+      (channel : Channel) × (after : Channel) × (here.slots c ≡ Some (s, channel)) × Does g c old channel act new after × Puts here.slots next.slots c (Some (s, after)) × (next.office ≡ here.office)
+  Works old here (waits s c) new next =
+      (channel : Channel) × (here.slots c ≡ Some (s, channel)) × MayWait channel × (new ≡ old) × Same here.slots next.slots × (next.office ≡ here.office)
+  Works old here (ends s c cause deeds said) new next =
+      (channel : Channel) × (here.slots c ≡ Some (s, channel)) × Leaves c s old channel cause deeds new × IsOf c said × Tells old said new × Puts here.slots next.slots c None × (next.office ≡ here.office)
+  Works old here (office_comes o) new next =
+      (entry : Entry) × (here.office ≡ None) × IsNewEntry entry × (next.office ≡ Some (o, entry)) × Same here.slots next.slots × (new ≡ old)
+  Works old here (enters o text turned deeds said) new next =
+      (entry : Entry) × (after : Entry) × (own : List Deed) × (here.office ≡ Some (o, entry)) × IsEntryTurn g o old entry turned new after own × (deeds ≡ own ++ (if is_last turned then left o ∷ [] else []))
+      × IsLineSaid text turned said × Tells old said new × (next.office ≡ (if is_last turned then None else Some (o, after))) × Same here.slots next.slots
+  Works old here (office_leaves o) new next =
+      (entry : Entry) × (here.office ≡ Some (o, entry)) × (next.office ≡ None) × Same here.slots next.slots × (new ≡ old)
+  Works old here (aside deeds said) new next = IsOfNone here.slots said × Tells old said new × Same here.slots next.slots × IsAside deeds × (next.office ≡ here.office)
 
   -- these things are done, one after the other
-  abbrev pub Goes : Desk R → List Work → Desk R → Type 0
-  Goes old [] new = new ≡ old
-  Goes old (work ∷ later) new = (mid : Desk R) × Works old work mid × Goes mid later new
+  abbrev pub Goes : Desk R → Place → List Work → Desk R → Place → Type 0
+  Goes old here [] new next = (new ≡ old) × (next ≡ here)
+  Goes old here (work ∷ later) new next =
+      (mid : Desk R) × (between : Place) × Works old here work mid between × Goes mid between later new next
 
-  -- something is done, and nothing else; why hosting ends by that, if it does
-  abbrev pub Hosts : Option Stopped → Desk R → Desk R → Type 0
-  Hosts end old new = (works : List Work) × Goes old works new × (end_in works ≡ end)
+  -- what keeps the commands was not closed by a refusal
+  abbrev pub MayAsk : Desk R → Said → Desk R → Type 0
+  MayAsk old None new = ⊤
+  MayAsk old (Some told) new = IfErr told.1 (λ fault. ¬ IsShutAtDesk g old fault new)
+
+  abbrev pub MayGoOn : (works : List Work) (old new : Desk R) (here next : Place) → Goes old here works new next → Type 0
+  MayGoOn [] old new here next goes = ⊤
+  MayGoOn (work ∷ later) old new here next goes = MayAsk old (said_by work) goes.0 × MayGoOn later goes.0 new goes.1 next goes.3

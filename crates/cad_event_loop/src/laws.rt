@@ -1,7 +1,9 @@
 //! What hosting comes to. Each contract is a law; the functions do nothing.
 
-ghost use Rattle.cad_event_loop.specs.Laws.{LedgerStands};
+ghost use Rattle.cad_event_loop.specs.Lives.{EachHasItsLife};
+ghost use Rattle.cad_event_loop.specs.Laws.{LedgerStands, SocketsAreTheirOwn};
 
+use cad_clients::laws::channels_are_their_own;
 use cad_stream::Responder;
 
 /// What keeps the commands stands at the end for those before and for those that the land office's lines asked for which were
@@ -9,3 +11,17 @@ use cad_stream::Responder;
 pub fn ledger_stands<R: Responder>()
     ensures { LedgerStands R.Responder }
 {}
+
+/// From any moment on, an open connection has its life: acts of its own at its own socket, and what the desk is told for others.
+pub fn each_has_its_life<R: Responder>()
+    ensures { EachHasItsLife R.Responder }
+{}
+
+/// Of a socket that came once, all that was read went to the desk under its own number, and what was written are the replies to
+/// that, each with the commands in force when its head came, or all of them and then a front of the fixed head; whatever other
+/// sockets, lines of the land office and readiness come.
+pub fn sockets_are_their_own<R: Responder>()
+    ensures { SocketsAreTheirOwn R.Responder }
+{
+    channels_are_their_own::<R>();
+}

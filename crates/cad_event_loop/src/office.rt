@@ -1,13 +1,16 @@
 //! The land office and its socket.
 
 ghost use Rattle.std.specs.Prelude.{◌≡◌};
-ghost use Rattle.cad_event_loop.specs.Hosting.{end_of_office};
+ghost use Rattle.cad_event_loop.specs.Offices.{end_of_office, is_over as is_over_of};
+ghost use Rattle.cad_event_loop.specs.Works.{is_last as is_last_of};
 
 use crate::stopped::Stopped;
 use cad_desk::Desk;
+use cad_network::Network;
+use cad_office::Answer;
 use cad_office_socket::{Entry, EntryServed, EntryTurned};
 use cad_stream::Responder;
-use mio::net::UnixStream;
+use cad_versions::RegisterFault;
 use std::alloc::Global;
 
 /// Why hosting ends by what came of serving the office, if it does.
@@ -21,20 +24,45 @@ pub(crate) fn end_of(served: EntryServed) -> Option<Stopped>
     }
 }
 
+/// Whether it is over.
+fn is_over(served: EntryServed) -> bool
+    ensures { result ≡ is_over_of served }
+{
+    matches!(served, EntryServed::Over)
+}
+
+/// Whether it is over by a turn.
+fn is_last(turned: EntryTurned) -> bool
+    ensures { result ≡ is_last_of turned }
+{
+    match turned {
+        EntryTurned::Lost(Answer::Refused(RegisterFault::Store)) => false,
+        EntryTurned::Over | EntryTurned::Lost(_) => true,
+        EntryTurned::Wrote
+        | EntryTurned::Took
+        | EntryTurned::Added
+        | EntryTurned::Answered(_)
+        | EntryTurned::Stops
+        | EntryTurned::Waits => false,
+    }
+}
+
 /// The land office and its socket.
 #[derive(Drop)]
-pub(crate) struct Office {
-    socket: UnixStream,
+pub(crate) struct Office<S> {
+    pub(crate) socket: S,
     pub(crate) entry: Entry,
 }
 
-impl Office {
-    ghost use Rattle.cad_office_socket.specs.Turns.{IsBegun};
-    ghost use Rattle.cad_event_loop.specs.Hosting.{BegunAfter};
-    ghost use Rattle.cad_event_loop.specs.Works.{Hosts};
+impl<S: Drop> Office<S> {
+    ghost use Rattle.cad_network.specs.Deeds.{AddsSome};
+    ghost use Rattle.cad_office_socket.specs.Turns.{IsNewEntry, IsSending};
+    ghost use Rattle.cad_event_loop.specs.Offices.{HasOfficeTurns, HasSent};
 
-    pub(crate) fn new(alloc: Global, socket: UnixStream) -> Office
-        ensures { IsBegun result.entry }
+    /// An office of which nothing was read.
+    pub(crate) fn new(alloc: Global, socket: S) -> Office<S>
+        ensures socket { result.socket ≡ socket }
+        ensures new { IsNewEntry result.entry }
     {
         Office {
             socket,
@@ -42,26 +70,43 @@ impl Office {
         }
     }
 
-    /// Some turns of the office.
-    pub(crate) fn serve<R: Responder>(&mut self, alloc: Global, desk: &mut Desk<R>) -> EntryServed
-        requires { IsBegun self.old.entry }
-        ensures begun { BegunAfter result self.new.entry }
-        ensures hosts { Hosts R.Responder (end_of_office result) desk.old desk.new }
+    /// Its socket. All else is dropped.
+    pub(crate) fn into_socket(self) -> S
+        ensures { result ≡ self.socket }
     {
-        self.entry
-            .serve(alloc, &mut &self.socket, &mut &self.socket, desk)
+        let Office { socket, entry: _ } = self;
+        socket
     }
 
-    /// Whether an answer has not gone out.
-    pub(crate) fn is_sending(&self) -> bool {
-        self.entry.is_sending()
-    }
-
-    /// A write of the answer that has not gone out. Nothing is read.
-    pub(crate) fn send(&mut self) -> EntryTurned {
-        if !self.entry.is_sending() {
-            return EntryTurned::Waits;
+    /// Some turns, and what is left. Where it is over, its socket is let go.
+    pub(crate) fn serve<N: Network<Socket = S>, R: Responder>(
+        self,
+        alloc: Global,
+        net: &mut N,
+        desk: &mut Desk<R>,
+    ) -> (EntryServed, Option<Office<S>>)
+        ensures { AddsSome (N.history net.old) (N.history net.new) (HasOfficeTurns R.Responder N.name desk.old self result desk.new) }
+    {
+        let Office { socket, mut entry } = self;
+        let served = entry.serve(alloc, net, &socket, desk);
+        if is_over(served) {
+            net.let_go(socket);
+            return (served, None);
         }
-        self.entry.send(&mut &self.socket)
+        (served, Some(Office { socket, entry }))
+    }
+
+    /// A write of the answer that has not gone out, and what is left. Nothing is read. Where it is over, its socket is let go.
+    pub(crate) fn send<N: Network<Socket = S>>(self, net: &mut N) -> (EntryTurned, Option<Office<S>>)
+        requires { IsSending self.entry }
+        ensures { AddsSome (N.history net.old) (N.history net.new) (HasSent N.name self result) }
+    {
+        let Office { socket, mut entry } = self;
+        let turned = entry.send(net, &socket);
+        if is_last(turned) {
+            net.let_go(socket);
+            return (turned, None);
+        }
+        (turned, Some(Office { socket, entry }))
     }
 }

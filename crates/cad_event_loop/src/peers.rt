@@ -1,19 +1,17 @@
-//! The clients, each with its socket.
+//! The clients, and what the network told of sockets.
 
 ghost use Rattle.std.specs.Prelude.{◌≡◌};
 ghost use Rattle.cad_event_loop.specs.Hosting.{end_of_client};
 
-use crate::departing::Departing;
+use crate::readiness::{CLIENTS_DOOR, OFFICE, OFFICE_DOOR, PLACES, Readiness};
 use crate::stopped::Stopped;
-use cad_client_socket::{Ending, Turned};
-use cad_clients::{AccessLog, Clients, Limits, ROOM, Served};
+use cad_clients::{AccessLog, Clients, Ending, Limits, ROOM, Served, tell_fault};
 use cad_desk::{Desk, DeskFault};
-use cad_serve::write_fixed_head;
+use cad_network::{Network, is_blocked};
 use cad_stream::Responder;
 use cad_versions::RegisterFault;
-use mio::net::TcpStream;
-use mio::{Interest, Registry, Token};
 use std::alloc::{AllocError, Global};
+use std::io::Result;
 
 /// How long clients may take.
 const LIMITS: Limits = Limits {
@@ -21,12 +19,16 @@ const LIMITS: Limits = Limits {
     request: 300,
 };
 
-/// The clients, each with the socket of its number.
+/// The most clients that are taken in a round.
+const TAKEN: u32 = 64;
+
+/// The clients, and what the network told of sockets.
 #[derive(Drop)]
-pub(crate) struct Peers {
-    clients: Clients,
-    sockets: Vec<Option<TcpStream>>,
-    departing: Departing,
+pub(crate) struct Peers<S> {
+    pub(crate) clients: Clients<S>,
+    pub(crate) ready: Readiness,
+    pub(crate) now: u64,
+    pub(crate) alloc: Global,
 }
 
 /// Why hosting ends by what came of serving a client, if it does.
@@ -41,31 +43,23 @@ fn end_of(served: Served) -> Option<Stopped>
     }
 }
 
-impl Peers {
-    ghost use Rattle.std.specs.Prelude.{None};
-    ghost use Rattle.cad_event_loop.specs.Works.{Hosts};
+impl<S: Drop> Peers<S> {
+    ghost use Rattle.std.specs.Prelude.{ℕ, List, [], ◌∷◌, Option, None, IfOk};
+    ghost use Rattle.cad_network.specs.Deeds.{Deed, came, Adds, AddsSome};
+    ghost use Rattle.cad_clients.specs.Slots.{client_at};
+    ghost use Rattle.cad_event_loop.specs.Hosting.{Hosts, IsClosing, IsServing, IsTurnedAway, IsWoken};
+    ghost use Rattle.cad_event_loop.specs.Works.{held_at, place_of, AtOffice, Same};
 
     /// No client.
-    pub(crate) fn new(alloc: Global) -> Result<Peers, AllocError> {
-        let mut sockets = Vec::new(alloc);
-        for _ in 0..ROOM {
-            sockets.push(None)?;
-        }
+    pub(crate) fn new(alloc: Global) -> std::result::Result<Peers<S>, AllocError>
+        ensures { IfOk result (λ peers. (c : ℕ) → client_at peers.clients c ≡ None) }
+    {
         Ok(Peers {
             clients: Clients::new(alloc)?,
-            sockets,
-            departing: Departing::new(alloc)?,
+            ready: Readiness::new(),
+            now: 0,
+            alloc,
         })
-    }
-
-    /// The socket of this client may give or take something.
-    pub(crate) fn mark(&mut self, c: u32) {
-        self.clients.mark(c);
-    }
-
-    /// Whether this client may go on at once.
-    pub(crate) fn is_ready(&self, c: u32) -> bool {
-        self.clients.is_ready(c)
     }
 
     /// Whether a client may go on at once.
@@ -78,151 +72,195 @@ impl Peers {
         (0..ROOM).any(|c| self.clients.is_sending(c))
     }
 
-    /// The socket of a client that is over.
-    fn part(&mut self, c: u32, now: u64) {
-        let Some(slot) = self.sockets.get_mut(c as usize) else {
-            return;
-        };
-        if let Some(socket) = slot.take() {
-            self.departing.add(socket, now);
+    /// The socket at this place may give or take something.
+    fn mark<N: Network<Socket = S>>(&mut self, place: usize)
+        ensures { Same (held_at N.name self.old.clients) (held_at N.name self.new.clients) }
+    {
+        if place == CLIENTS_DOOR {
+            self.ready.clients_door = true;
+        } else if place == OFFICE_DOOR {
+            self.ready.office_door = true;
+        } else if place == OFFICE {
+            self.ready.office = true;
+        } else if let Ok(c) = u32::try_from(place) {
+            self.clients.mark(c);
         }
     }
 
-    /// The same where all clients are let go.
-    fn part_last(&mut self, c: u32, now: u64) {
-        let Some(slot) = self.sockets.get_mut(c as usize) else {
-            return;
-        };
-        if let Some(socket) = slot.take() {
-            self.departing.add_last(socket, now);
+    /// Marks what the network tells.
+    fn note<N: Network<Socket = S>>(&mut self, net: &mut N)
+        ensures told { AddsSome (N.history net.old) (N.history net.new) IsWoken }
+        ensures held { Same (held_at N.name self.old.clients) (held_at N.name self.new.clients) }
+    {
+        for _ in 0..PLACES {
+            let Some(place) = net.next_ready() else {
+                return;
+            };
+            self.mark::<N>(place);
         }
     }
 
-    /// Serves a client. Why hosting ends by that, if it does.
-    pub(crate) fn serve_one<R: Responder, L: AccessLog>(
+    /// Waits until a socket may give or take something, or for so long, and looks at the clock.
+    pub(crate) fn wait<N: Network<Socket = S>>(&mut self, net: &mut N, milliseconds: u64) -> Result<()>
+        ensures told { AddsSome (N.history net.old) (N.history net.new) IsWoken }
+        ensures held { Same (held_at N.name self.old.clients) (held_at N.name self.new.clients) }
+    {
+        let seconds = net.wait(milliseconds)?;
+        self.now = self.now.max(seconds);
+        self.note(net);
+        Ok(())
+    }
+
+    /// Serves a client, if it may go on. Why hosting ends by that, if it does.
+    pub(crate) fn serve_one<N: Network<Socket = S>, R: Responder, L: AccessLog<S>>(
         &mut self,
-        alloc: Global,
         c: u32,
-        now: u64,
+        net: &mut N,
         desk: &mut Desk<R>,
         log: &mut L,
     ) -> Option<Stopped>
-        ensures { Hosts R.Responder result desk.old desk.new }
+        ensures { (office : AtOffice) → Hosts R.Responder IsServing result (N.history net.old) desk.old (place_of N.name self.old.clients office)
+            (N.history net.new) desk.new (place_of N.name self.new.clients office) }
     {
-        let Some(Some(socket)) = self.sockets.get(c as usize) else {
-            return None;
-        };
-        let served = self
-            .clients
-            .serve(alloc, c, now, &mut &*socket, &mut &*socket, desk, log);
-        match served {
-            Served::Stays => {}
-            Served::Unknown | Served::Over(_) => self.part(c, now),
-        }
-        end_of(served)
+        end_of(
+            self.clients
+                .serve(self.alloc, c, self.now, net, desk, log),
+        )
     }
 
-    /// A write of what has not gone out to a client, if its socket may take something.
-    fn send_one<R: Responder>(&mut self, alloc: Global, c: u32, now: u64, desk: &mut Desk<R>)
-        ensures { Hosts R.Responder None desk.old desk.new }
+    /// Writes what has not gone out to a client, once.
+    fn send_one<N: Network<Socket = S>, R: Responder>(
+        &mut self,
+        c: u32,
+        net: &mut N,
+        desk: &mut Desk<R>,
+    )
+        ensures { (office : AtOffice) → Hosts R.Responder IsClosing None (N.history net.old) desk.old (place_of N.name self.old.clients office)
+            (N.history net.new) desk.new (place_of N.name self.new.clients office) }
     {
-        if !self.clients.is_ready(c) || !self.clients.is_sending(c) {
-            return;
-        }
-        let Some(Some(socket)) = self.sockets.get(c as usize) else {
-            return;
-        };
-        let turned = self
-            .clients
-            .turn(alloc, c, now, &mut &*socket, &mut &*socket, desk);
-        if matches!(turned, Some(Turned::Over(_))) {
-            self.part(c, now);
+        if self.clients.is_ready(c) && self.clients.is_sending(c) {
+            let _ = self.clients.turn(self.alloc, c, self.now, net, desk);
         }
     }
 
     /// Writes what has not gone out, to each client once. Nothing is read or answered.
-    pub(crate) fn send_ready<R: Responder>(&mut self, alloc: Global, now: u64, desk: &mut Desk<R>)
-        ensures { Hosts R.Responder None desk.old desk.new }
+    pub(crate) fn send_ready<N: Network<Socket = S>, R: Responder>(&mut self, net: &mut N, desk: &mut Desk<R>)
+        ensures { (office : AtOffice) → Hosts R.Responder IsClosing None (N.history net.old) desk.old (place_of N.name self.old.clients office)
+            (N.history net.new) desk.new (place_of N.name self.new.clients office) }
     {
         for c in 0..ROOM {
-            self.send_one(alloc, c, now, desk);
+            self.send_one(c, net, desk);
         }
     }
 
     /// Drops a client that is overdue.
-    fn drop_one<R: Responder>(&mut self, c: u32, now: u64, desk: &mut Desk<R>)
-        ensures { Hosts R.Responder None desk.old desk.new }
+    fn drop_one<N: Network<Socket = S>, R: Responder>(
+        &mut self,
+        c: u32,
+        net: &mut N,
+        desk: &mut Desk<R>,
+    )
+        ensures { (office : AtOffice) → Hosts R.Responder IsServing None (N.history net.old) desk.old (place_of N.name self.old.clients office)
+            (N.history net.new) desk.new (place_of N.name self.new.clients office) }
     {
-        if !self.clients.is_overdue(c, now, &LIMITS) {
-            return;
+        if self.clients.is_overdue(c, self.now, &LIMITS) {
+            self.clients.close(c, net, desk);
         }
-        self.clients.close(c, desk);
-        self.part(c, now);
     }
 
-    /// Drops the clients that are overdue, and the sockets of those that are over for a while.
-    pub(crate) fn drop_overdue<R: Responder>(&mut self, now: u64, desk: &mut Desk<R>)
-        ensures { Hosts R.Responder None desk.old desk.new }
+    /// Drops the clients that are overdue.
+    pub(crate) fn drop_overdue<N: Network<Socket = S>, R: Responder>(&mut self, net: &mut N, desk: &mut Desk<R>)
+        ensures { (office : AtOffice) → Hosts R.Responder IsServing None (N.history net.old) desk.old (place_of N.name self.old.clients office)
+            (N.history net.new) desk.new (place_of N.name self.new.clients office) }
     {
-        self.departing.sweep(now);
         for c in 0..ROOM {
-            self.drop_one(c, now, desk);
+            self.drop_one(c, net, desk);
         }
     }
 
     /// Lets all clients go.
-    pub(crate) fn part_all<R: Responder>(&mut self, now: u64, desk: &mut Desk<R>)
-        ensures { Hosts R.Responder None desk.old desk.new }
+    pub(crate) fn part<N: Network<Socket = S>, R: Responder>(&mut self, net: &mut N, desk: &mut Desk<R>)
+        ensures hosts { (office : AtOffice) → Hosts R.Responder IsClosing None (N.history net.old) desk.old (place_of N.name self.old.clients office)
+            (N.history net.new) desk.new (place_of N.name self.new.clients office) }
+        ensures nobody { (c : ℕ) → held_at N.name self.new.clients c ≡ None }
     {
         for c in 0..ROOM {
-            self.clients.close(c, desk);
-            self.part_last(c, now);
+            self.clients.close(c, net, desk);
         }
     }
 
-    /// Whether the socket of a client that is over is still kept.
-    pub(crate) fn any_departing(&mut self, now: u64) -> bool {
-        self.departing.sweep(now);
-        !self.departing.is_empty()
-    }
-
-    /// Opens a connection for a socket, by the number that it is given. A socket for which there is no room is told so.
-    pub(crate) fn admit<R: Responder>(
-        &mut self,
-        alloc: Global,
-        mut socket: TcpStream,
-        registry: &Registry,
-        now: u64,
-        desk: &mut Desk<R>,
-    ) -> Option<u32>
-        ensures { Hosts R.Responder None desk.old desk.new }
+    /// Tells a socket that there is no room, and lets it go.
+    fn turn_away<N: Network<Socket = S>>(&self, socket: S, net: &mut N)
+        ensures { AddsSome (N.history net.old) (N.history net.new) (IsTurnedAway (N.name socket)) }
     {
-        let _ = socket.set_nodelay(true);
-        let Some(c) = self.clients.free_number() else {
-            self.turn_away(socket, now);
-            return None;
-        };
-        let both = Interest::READABLE | Interest::WRITABLE;
-        if registry
-            .register(&mut socket, Token(c as usize), both)
-            .is_err()
-        {
-            self.turn_away(socket, now);
-            return None;
-        }
-        if self.clients.open(alloc, c, now, desk).is_err() {
-            self.turn_away(socket, now);
-            return None;
-        }
-        if let Some(slot) = self.sockets.get_mut(c as usize) {
-            *slot = Some(socket);
-        }
-        Some(c)
+        tell_fault(net, &socket, DeskFault::Memory);
+        net.let_go(socket);
     }
 
-    /// Tells a socket that there is no room.
-    fn turn_away(&mut self, socket: TcpStream, now: u64) {
-        let _ = write_fixed_head(&mut &socket, DeskFault::Memory);
-        self.departing.add(socket, now);
+    /// Opens a connection for a socket, if there is a number for it and the network tells of it. One that is not opened is told so.
+    fn admit<N: Network<Socket = S>, R: Responder, L: AccessLog<S>>(
+        &mut self,
+        mut socket: S,
+        net: &mut N,
+        desk: &mut Desk<R>,
+        log: &mut L,
+    )
+        ensures { (office : AtOffice) (before : Option (List Deed)) → Adds before (N.history net.old) (came (N.name socket) ∷ [])
+            → Hosts R.Responder IsServing None before desk.old (place_of N.name self.old.clients office)
+            (N.history net.new) desk.new (place_of N.name self.new.clients office) }
+    {
+        let Some(c) = self.clients.free_number() else {
+            self.turn_away(socket, net);
+            return;
+        };
+        if net.watch(&mut socket, c as usize).is_err() {
+            self.turn_away(socket, net);
+            return;
+        }
+        log.open(c, &socket);
+        let _ = self
+            .clients
+            .open(self.alloc, c, self.now, socket, net, desk);
+    }
+
+    /// Takes the client that waits. `false`: none does for now. One that the system could not hand over is passed over: where
+    /// descriptors are wanting it waits at the door until the next round.
+    fn take_client<N: Network<Socket = S>, R: Responder, L: AccessLog<S>>(
+        &mut self,
+        net: &mut N,
+        desk: &mut Desk<R>,
+        log: &mut L,
+    ) -> bool
+        ensures { (office : AtOffice) → Hosts R.Responder IsServing None (N.history net.old) desk.old (place_of N.name self.old.clients office)
+            (N.history net.new) desk.new (place_of N.name self.new.clients office) }
+    {
+        match net.accept() {
+            Ok(socket) => {
+                self.admit(socket, net, desk, log);
+                true
+            }
+            Err(error) => !is_blocked(&error),
+        }
+    }
+
+    /// Takes the clients that wait, if some do.
+    pub(crate) fn take_clients<N: Network<Socket = S>, R: Responder, L: AccessLog<S>>(
+        &mut self,
+        net: &mut N,
+        desk: &mut Desk<R>,
+        log: &mut L,
+    )
+        ensures { (office : AtOffice) → Hosts R.Responder IsServing None (N.history net.old) desk.old (place_of N.name self.old.clients office)
+            (N.history net.new) desk.new (place_of N.name self.new.clients office) }
+    {
+        if !self.ready.clients_door {
+            return;
+        }
+        for _ in 0..TAKEN {
+            if !self.take_client(net, desk, log) {
+                self.ready.clients_door = false;
+                return;
+            }
+        }
     }
 }

@@ -1,20 +1,18 @@
-//! Whose sockets may give or take something.
+//! Places that a network tells by, and who may go on.
 
-use crate::peers::Peers;
 use cad_clients::ROOM;
-use mio::{Events, Token};
 
-/// Where clients come.
-pub(crate) const CLIENTS_DOOR: Token = Token(ROOM as usize);
+/// The place of the door at which clients come: the clients' places are their numbers.
+pub const CLIENTS_DOOR: usize = ROOM as usize;
 
-/// Where the land office comes.
-pub(crate) const OFFICE_DOOR: Token = Token(ROOM as usize + 1);
+/// The place of the door at which the land office comes.
+pub const OFFICE_DOOR: usize = ROOM as usize + 1;
 
-/// The land office.
-pub(crate) const OFFICE: Token = Token(ROOM as usize + 2);
+/// The place of the land office.
+pub const OFFICE: usize = ROOM as usize + 2;
 
-/// How many sockets wait to be told of.
-pub(crate) const SOCKETS: usize = ROOM as usize + 3;
+/// How many places there are.
+pub const PLACES: usize = ROOM as usize + 3;
 
 /// The sockets, beside those of the clients, that may give something. Each is cleared where it says that it does not.
 #[derive(Clone, Copy, Debug)]
@@ -30,22 +28,6 @@ impl Readiness {
             clients_door: false,
             office_door: false,
             office: false,
-        }
-    }
-
-    /// What the system tells.
-    pub(crate) fn note(&mut self, events: &Events, peers: &mut Peers) {
-        for event in events {
-            let token = event.token();
-            if token == CLIENTS_DOOR {
-                self.clients_door = true;
-            } else if token == OFFICE_DOOR {
-                self.office_door = true;
-            } else if token == OFFICE {
-                self.office = true;
-            } else if let Ok(c) = u32::try_from(token.0) {
-                peers.mark(c);
-            }
         }
     }
 }

@@ -1,5 +1,6 @@
 -- Turns of the land office's connection before the others have theirs (own profile).
-use Rattle.std.specs.Prelude.{◌≡◌, ◌⊎◌, ⊤, ℕ, Bool, true, false, ◌&&◌, List, [], ◌∷◌, ◌++◌, length, Option, None, Some, is_none, if◌then◌else◌}
+use Rattle.std.specs.Prelude.{◌≡◌, ◌⊎◌, ℕ, Bool, true, false, ◌&&◌, List, [], ◌∷◌, ◌++◌, length, Option, None, Some, is_none, if◌then◌else◌}
+use Rattle.cad_network.specs.Deeds.{Deed}
 use Rattle.cad_versions.specs.declared.fault.RegisterFault.TheVariants.{Store}
 use Rattle.cad_stream.specs.declared.responder.Responder.{Ghosts}
 use Rattle.cad_desk.specs.declared.desk.Desk.{Desk}
@@ -46,16 +47,14 @@ IsEnough (turned ∷ before) served next =
     (all_go_on before ≡ true) × ((end_at turned ≡ Some served) ⊎ ((end_at turned ≡ None) × (served ≡ entry_served.Goes)
     × ((length (turned ∷ before) ≡ most_turns) ⊎ ((turned ≡ Wrote) × (unwritten next ≡ [])))))
 
-module _ {R : Type 0} (g : Ghosts R) where
-  -- the office has these turns, the last of them first
-  abbrev pub HasTurns : Desk R → Entry → List EntryTurned → Desk R → Entry → List ℕ → List ℕ → Type 0
-  HasTurns old entry [] new next read written = (read ≡ []) × (written ≡ []) × (new ≡ old) × (next ≡ entry)
-  HasTurns old entry (turned ∷ before) new next read written =
-      (mid : Desk R) × (between : Entry) × (front : List ℕ) × (out : List ℕ) × (piece : List ℕ) × (sent : List ℕ)
-      × HasTurns old entry before mid between front out × IsEntryTurn g ⊤ mid between turned new next piece sent
-      × (read ≡ front ++ piece) × (written ≡ out ++ sent)
+module _ {R : Type 0} (g : Ghosts R) (s : ℕ) where
+  -- the office has these turns at its socket s, the last of them first
+  abbrev pub HasTurns : Desk R → Entry → List EntryTurned → Desk R → Entry → List Deed → Type 0
+  HasTurns old entry [] new next deeds = (deeds ≡ []) × (new ≡ old) × (next ≡ entry)
+  HasTurns old entry (turned ∷ before) new next deeds =
+      (mid : Desk R) × (between : Entry) × (front : List Deed) × (last : List Deed)
+      × HasTurns old entry before mid between front × IsEntryTurn g s mid between turned new next last × (deeds ≡ front ++ last)
 
   -- the office is served by turns, as many as it has for now
-  abbrev pub IsEntryServed : Desk R → Entry → EntryServed → Desk R → Entry → List ℕ → List ℕ → Type 0
-  IsEntryServed old entry served new next read written =
-      (turns : List EntryTurned) × HasTurns old entry turns new next read written × IsEnough turns served next
+  abbrev pub IsEntryServed : Desk R → Entry → EntryServed → Desk R → Entry → List Deed → Type 0
+  IsEntryServed old entry served new next deeds = (turns : List EntryTurned) × HasTurns old entry turns new next deeds × IsEnough turns served next

@@ -1,6 +1,7 @@
 -- What the connection of the land office holds between its socket and the desk, and what a turn does (own profile).
-use Rattle.std.specs.Prelude.{◌≡◌, ◌≢◌, ◌⊎◌, ◌<◌, ℕ, ⊤, Bool, true, List, [], ◌∷◌, ◌++◌, length, drop, codes, Option}
-use Rattle.std.specs.Io.KnownBytes.{Consumes}
+use Rattle.std.specs.Prelude.{◌≡◌, ◌≢◌, ◌⊎◌, ◌<◌, ℕ, ⊤, Bool, true, List, [], ◌∷◌, ◌++◌, length, drop, codes}
+use Rattle.cad_network.specs.Deeds.{Deed, blocked, failed}
+use Rattle.cad_network.specs.Deeds as deed
 use Rattle.cad_stream.specs.declared.responder.Responder.{Ghosts}
 use Rattle.cad_desk.specs.declared.desk.Desk.{Desk}
 use Rattle.cad_versions.specs.declared.fault.RegisterFault.TheVariants.{Memory}
@@ -51,21 +52,21 @@ pub record IsNewEntry (entry : Entry) : Type 0 where
   pub none_written : unwritten entry ≡ []
   pub none_begun : HasBegun [] entry
 
--- known bytes are read so
-abbrev pub Reads : Option (List ℕ) → Option (List ℕ) → (List ℕ → Type 0) → Type 0
-Reads old new P = (read : List ℕ) × Consumes old new read × P read
-
 -- a line has begun
 abbrev pub IsBegun : Entry → Type 0
 IsBegun entry = (text : List ℕ) × HasBegun text entry
 
--- an answer is written on, or its socket takes nothing for now, or the write failed; no more is done
-abbrev pub SendsSome : Entry → EntryTurned → Entry → List ℕ → Type 0
-SendsSome entry Wrote next written =
-    (0 < length written) × (unwritten entry ≡ written ++ unwritten next) × (unread next ≡ unread entry) × (next.line ≡ entry.line)
-SendsSome entry Waits next written = (written ≡ []) × (next ≡ entry)
-SendsSome entry Over next written = written ≡ []
-SendsSome entry other next written = ⊥
+-- a write to socket s failed, or took nothing
+abbrev pub IsUnwritten : ℕ → List Deed → Type 0
+IsUnwritten s deeds = (deeds ≡ failed s ∷ []) ⊎ (deeds ≡ deed.took s [] ∷ [])
+
+-- an answer is written on at socket s, or that takes nothing for now, or the write failed; no more is done
+abbrev pub SendsSome : ℕ → Entry → EntryTurned → Entry → List Deed → Type 0
+SendsSome s entry Wrote next deeds =
+    (bytes : List ℕ) × (deeds ≡ deed.took s bytes ∷ []) × (0 < length bytes) × (unwritten entry ≡ bytes ++ unwritten next) × (unread next ≡ unread entry) × (next.line ≡ entry.line) × (has_ended next ≡ has_ended entry)
+SendsSome s entry Waits next deeds = (deeds ≡ blocked s ∷ []) × (next ≡ entry)
+SendsSome s entry Over next deeds = IsUnwritten s deeds
+SendsSome s entry other next deeds = ⊥
 
 -- there was no memory to hold the line
 abbrev pub IsUnheld : LineState → Type 0
@@ -76,10 +77,6 @@ IsUnheld (OutOfMemory count) = ⊤
 -- a line that has an answer: no empty one, and `stop` only where there was no memory to hold it
 abbrev pub IsAsking : List ℕ → Answer → Type 0
 IsAsking text answer = (text ≢ []) × (text ≡ codes "stop" → answer ≡ Refused Memory)
-
--- nothing was read or written
-abbrev pub IsQuiet : List ℕ → List ℕ → Type 0
-IsQuiet read written = (read ≡ []) × (written ≡ [])
 
 -- what the end of a line may come to
 abbrev pub MayEnd : EntryTurned → Type 0
@@ -112,27 +109,32 @@ module _ {R : Type 0} (g : Ghosts R) where
       × (((turned ≡ Added) × (new ≡ old) × (unwritten next ≡ []) × (unread entry ≡ part) × (unread next ≡ []) × HasBegun (begun ++ part) next)
       ⊎ ((unread entry ≡ part ++ 10 ∷ unread next) × EndsLine (begun ++ part) old turned new next))
 
--- and where the reader has nothing left
-module _ {R : Type 0} (g : Ghosts R) (AtEnd : Type 0) where
-  -- the input is at its end, and so is the line that has begun
-  abbrev pub IsAtLastLine : Desk R → Entry → EntryTurned → Desk R → Entry → Type 0
-  IsAtLastLine old entry turned new next = AtEnd × (unread entry ≡ []) × IsLineEnd g old entry turned new next
+-- and the deeds at its socket s
+module _ {R : Type 0} (g : Ghosts R) (s : ℕ) where
+  -- the office sends no more, and the line that has begun ends with that
+  abbrev pub IsAtLastLine : Desk R → Entry → EntryTurned → Desk R → Entry → List Deed → Type 0
+  IsAtLastLine old entry turned new next deeds = (deeds ≡ deed.gave s [] ∷ []) × (unread entry ≡ []) × IsLineEnd g old entry turned new next × (has_ended next ≡ true)
 
   -- bytes that were read are taken, those of a line and no less; or the input is at its end
-  abbrev pub IsTaken : Desk R → Entry → EntryTurned → Desk R → Entry → Type 0
-  IsTaken old entry turned new next = (unwritten entry ≡ [])
-      × (((0 < length (unread entry)) × IsFed g old entry turned new next) ⊎ IsAtLastLine old entry turned new next)
+  abbrev pub IsTaken : Desk R → Entry → EntryTurned → Desk R → Entry → List Deed → Type 0
+  IsTaken old entry turned new next deeds = (unwritten entry ≡ [])
+      × (((deeds ≡ []) × (0 < length (unread entry)) × IsFed g old entry turned new next × (has_ended next ≡ has_ended entry)) ⊎ IsAtLastLine old entry turned new next deeds)
+
+  -- the office sent no more and was answered, or a write failed or took nothing, or a read failed, or there was no memory for what it gave: no line is taken
+  abbrev pub IsCutOff : Entry → List Deed → Type 0
+  IsCutOff entry deeds =
+      ((deeds ≡ []) × (unwritten entry ≡ []) × (has_ended entry ≡ true)) ⊎ ((IsUnwritten s deeds × IsSending entry)
+      ⊎ (((deeds ≡ failed s ∷ []) × IsIdle entry) ⊎ ((bytes : List ℕ) × (deeds ≡ deed.gave s bytes ∷ []) × (0 < length bytes) × IsIdle entry)))
 
   -- what came of a turn: an answer is written before more is taken, and more is read only when all is taken
-  abbrev pub IsEntryTurn : Desk R → Entry → EntryTurned → Desk R → Entry → List ℕ → List ℕ → Type 0
-  IsEntryTurn old entry Wrote new next read written =
-      (read ≡ []) × (0 < length written) × (unwritten entry ≡ written ++ unwritten next) × (unread next ≡ unread entry) × (next.line ≡ entry.line) × (new ≡ old)
-  IsEntryTurn old entry Took new next read written =
-      (written ≡ []) × (0 < length read) × IsIdle entry × (unwritten next ≡ []) × (unread next ≡ read) × (next.line ≡ entry.line) × (new ≡ old)
-  IsEntryTurn old entry Added new next read written = IsQuiet read written × IsTaken old entry Added new next
-  IsEntryTurn old entry (Answered answer) new next read written = IsQuiet read written × IsTaken old entry (Answered answer) new next
-  IsEntryTurn old entry Stops new next read written = IsQuiet read written × IsTaken old entry Stops new next
-  IsEntryTurn old entry Waits new next read written = IsQuiet read written × MayWait entry × (new ≡ old) × (next ≡ entry)
-  IsEntryTurn old entry (Lost answer) new next read written = IsQuiet read written × IsTaken old entry (Lost answer) new next
-  -- a write or a read failed, or the office sends no more: no line is taken
-  IsEntryTurn old entry Over new next read written = (written ≡ []) × (MayWait entry ⊎ (has_ended entry ≡ true)) × (new ≡ old)
+  abbrev pub IsEntryTurn : Desk R → Entry → EntryTurned → Desk R → Entry → List Deed → Type 0
+  IsEntryTurn old entry Wrote new next deeds =
+      (bytes : List ℕ) × (deeds ≡ deed.took s bytes ∷ []) × (0 < length bytes) × (unwritten entry ≡ bytes ++ unwritten next) × (unread next ≡ unread entry) × (next.line ≡ entry.line) × (new ≡ old) × (has_ended next ≡ has_ended entry)
+  IsEntryTurn old entry Took new next deeds =
+      (bytes : List ℕ) × (deeds ≡ deed.gave s bytes ∷ []) × (0 < length bytes) × IsIdle entry × (unwritten next ≡ []) × (unread next ≡ bytes) × (next.line ≡ entry.line) × (new ≡ old) × (has_ended next ≡ has_ended entry)
+  IsEntryTurn old entry Added new next deeds = IsTaken old entry Added new next deeds
+  IsEntryTurn old entry (Answered answer) new next deeds = IsTaken old entry (Answered answer) new next deeds
+  IsEntryTurn old entry (Lost answer) new next deeds = IsTaken old entry (Lost answer) new next deeds
+  IsEntryTurn old entry Stops new next deeds = IsTaken old entry Stops new next deeds
+  IsEntryTurn old entry Waits new next deeds = (deeds ≡ blocked s ∷ []) × MayWait entry × (new ≡ old) × (next ≡ entry)
+  IsEntryTurn old entry Over new next deeds = IsCutOff entry deeds × (new ≡ old)

@@ -7,10 +7,10 @@ use crate::buffering::{add_all, asks_to_stop, first_end};
 use crate::turned::{EntryServed, EntryTurned, end_at};
 use cad_desk::Desk;
 use cad_io::{PIECE_LEN, rest_from};
+use cad_network::{Network, is_blocked};
 use cad_office::{Line, print_answer};
 use cad_stream::Responder;
 use std::alloc::Global;
-use std::io::{Error, ErrorKind, Read, Write};
 
 /// The most turns of the office before the others have theirs.
 const TURNS: u32 = 8;
@@ -29,10 +29,6 @@ pub struct Entry {
     pub ghost output_within: { output_at ≤ length output.items },
 }
 
-fn is_blocked(error: &Error) -> bool {
-    error.kind() == ErrorKind::WouldBlock
-}
-
 /// Whether bytes were written.
 fn has_written(turned: EntryTurned) -> bool
     ensures { IsTrue result → turned ≡ EntryTurned.Wrote }
@@ -41,10 +37,9 @@ fn has_written(turned: EntryTurned) -> bool
 }
 
 impl Entry {
-    ghost use Rattle.std.specs.Prelude.{◌↔◌, []};
-    ghost use Rattle.std.specs.Io.KnownBytes.{IsAtEnd};
-    ghost use Rattle.cad_io.specs.Known.{ReadsAndWrites, Writes};
-    ghost use Rattle.cad_office_socket.specs.Turns.{IsNewEntry, IsFed, IsEntryTurn, IsLineEnd, IsSending, MayEnd, Reads, SendsSome, unread, unwritten};
+    ghost use Rattle.std.specs.Prelude.{◌↔◌, true, []};
+    ghost use Rattle.cad_network.specs.Deeds.{AddsSome};
+    ghost use Rattle.cad_office_socket.specs.Turns.{has_ended, IsNewEntry, IsFed, IsEntryTurn, IsLineEnd, IsSending, MayEnd, SendsSome, unread, unwritten};
     ghost use Rattle.cad_office_socket.specs.Serving.{IsEntryServed};
 
     /// The connection of an office of which nothing was read.
@@ -69,11 +64,11 @@ impl Entry {
     }
 
     /// One write of an answer that has not gone out.
-    pub fn send<W: Write>(&mut self, writer: &mut W) -> EntryTurned
+    pub fn send<N: Network>(&mut self, net: &mut N, socket: &N::Socket) -> EntryTurned
         requires { IsSending self.old }
-        ensures { Writes (W.contents writer.old) (W.contents writer.new) (SendsSome self.old result self.new) }
+        ensures { AddsSome (N.history net.old) (N.history net.new) (SendsSome (N.name socket.now) self.old result self.new) }
     {
-        match writer.write(rest_from(&self.output, self.output_at)) {
+        match net.write(socket, rest_from(&self.output, self.output_at)) {
             Ok(0) => EntryTurned::Over,
             Ok(count) => {
                 self.output_at += count;
@@ -91,6 +86,7 @@ impl Entry {
     fn end_line<R: Responder>(&mut self, alloc: Global, desk: &mut Desk<R>) -> EntryTurned
         requires { unwritten self.old ≡ [] }
         ensures ends { MayEnd result }
+        ensures goes_on { has_ended self.new ≡ has_ended self.old }
         ensures line { IsLineEnd R.Responder desk.old self.old result desk.new self.new }
     {
         if self.line.is_empty() {
@@ -114,6 +110,7 @@ impl Entry {
     fn feed_some<R: Responder>(&mut self, alloc: Global, desk: &mut Desk<R>) -> EntryTurned
         requires { unwritten self.old ≡ [] }
         ensures ends { MayEnd result }
+        ensures goes_on { has_ended self.new ≡ has_ended self.old }
         ensures fed { IsFed R.Responder desk.old self.old result desk.new self.new }
     {
         let rest = rest_from(&self.input, self.input_at);
@@ -131,6 +128,7 @@ impl Entry {
     fn end_input<R: Responder>(&mut self, alloc: Global, desk: &mut Desk<R>) -> EntryTurned
         requires { unwritten self.old ≡ [] }
         ensures ends { MayEnd result }
+        ensures over { has_ended self.new ≡ true }
         ensures line { IsLineEnd R.Responder desk.old self.old result desk.new self.new }
     {
         self.ends = true;
@@ -138,19 +136,20 @@ impl Entry {
     }
 
     /// One read.
-    fn read_some<I: Read, R: Responder>(
+    fn read_some<N: Network, R: Responder>(
         &mut self,
         alloc: Global,
-        reader: &mut I,
+        net: &mut N,
+        socket: &N::Socket,
         desk: &mut Desk<R>,
     ) -> EntryTurned
         requires nothing_unread { unread self.old ≡ [] }
         requires nothing_unwritten { unwritten self.old ≡ [] }
-        ensures { Reads (I.remaining reader.old) (I.remaining reader.new)
-            (λ read. IsEntryTurn R.Responder (IsAtEnd (I.remaining reader.new)) desk.old self.old result desk.new self.new read []) }
+        ensures { AddsSome (N.history net.old) (N.history net.new)
+            (IsEntryTurn R.Responder (N.name socket.now) desk.old self.old result desk.new self.new) }
     {
         let mut buffer = [0; PIECE_LEN];
-        match reader.read(&mut buffer) {
+        match net.read(socket, &mut buffer) {
             Ok(0) => self.end_input(alloc, desk),
             Ok(count) => {
                 let Ok(input) = Vec::from_slice(alloc, &buffer[..count]) else {
@@ -170,19 +169,18 @@ impl Entry {
 
     /// Does one thing: where an answer is to be written, a write; else, where bytes were read and not taken, those of a line,
     /// whose command is entered and answered where it ended; else a read. The last line needs no LF.
-    pub fn turn<I: Read, W: Write, R: Responder>(
+    pub fn turn<N: Network, R: Responder>(
         &mut self,
         alloc: Global,
-        reader: &mut I,
-        writer: &mut W,
+        net: &mut N,
+        socket: &N::Socket,
         desk: &mut Desk<R>,
     ) -> EntryTurned
-        ensures { ReadsAndWrites (I.remaining reader.old) (I.remaining reader.new)
-            (W.contents writer.old) (W.contents writer.new)
-            (IsEntryTurn R.Responder (IsAtEnd (I.remaining reader.new)) desk.old self.old result desk.new self.new) }
+        ensures { AddsSome (N.history net.old) (N.history net.new)
+            (IsEntryTurn R.Responder (N.name socket.now) desk.old self.old result desk.new self.new) }
     {
         if self.output_at < self.output.len() {
-            return self.send(writer);
+            return self.send(net, socket);
         }
         if self.ends {
             return EntryTurned::Over;
@@ -190,24 +188,23 @@ impl Entry {
         if self.input_at < self.input.len() {
             return self.feed_some(alloc, desk);
         }
-        self.read_some(alloc, reader, desk)
+        self.read_some(alloc, net, socket, desk)
     }
 
     /// Serves the office: some turns, up to one that ends its work or at which its socket gives and takes nothing, and not beyond
     /// the first answer that went out. A refusal by the register's database ends its work before its answer is written.
-    pub fn serve<I: Read, W: Write, R: Responder>(
+    pub fn serve<N: Network, R: Responder>(
         &mut self,
         alloc: Global,
-        reader: &mut I,
-        writer: &mut W,
+        net: &mut N,
+        socket: &N::Socket,
         desk: &mut Desk<R>,
     ) -> EntryServed
-        ensures { ReadsAndWrites (I.remaining reader.old) (I.remaining reader.new)
-            (W.contents writer.old) (W.contents writer.new)
-            (IsEntryServed R.Responder desk.old self.old result desk.new self.new) }
+        ensures { AddsSome (N.history net.old) (N.history net.new)
+            (IsEntryServed R.Responder (N.name socket.now) desk.old self.old result desk.new self.new) }
     {
         for _ in 0..TURNS {
-            let turned = self.turn(alloc, reader, writer, desk);
+            let turned = self.turn(alloc, net, socket, desk);
             if let Some(served) = end_at(turned) {
                 return served;
             }

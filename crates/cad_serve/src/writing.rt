@@ -18,7 +18,7 @@ const REGISTER_HEAD: &str =
     "HTTP/1.1 500 Internal Server Error\r\nContent-Length: 0\r\nConnection: close\r\n\r\n";
 
 /// The head that tells the fault. Nothing is told of a connection that the desk does not open.
-fn fixed_head(fault: DeskFault) -> &'static str
+pub fn fixed_head(fault: DeskFault) -> &'static str
     ensures { result.now ≡ fixed_head_of fault }
 {
     match fault {

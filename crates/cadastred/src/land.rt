@@ -4,14 +4,15 @@ ghost use Rattle.std.specs.Prelude.{◌≡◌};
 ghost use Rattle.cadastred.specs.Hosting.{RunsHost};
 ghost use Rattle.cadastred.specs.Opening.{opening_fault};
 
-use cad_event_loop::{Doors, Log, remove_door};
+use cad_clients::AccessLog;
+use cad_mio::{Doors, Log, MioNetwork, remove_door};
+use cad_network::Network;
 use cad_register::{Register, RegisterFault};
 use cadastred_run::{Outcome, Service, host_over, open_doors};
 use sqlite::{Alter, Connection, Error, ErrorCode};
 use std::alloc::Global;
-use std::io::Write;
-use std::net::Net;
-use std::time::Clock;
+use std::io::{Result as IoResult, Write};
+use std::net::SocketAddr;
 
 /// Why a file is not opened.
 fn open_fault(error: Error) -> RegisterFault
@@ -24,19 +25,20 @@ fn open_fault(error: Error) -> RegisterFault
 }
 
 /// Hosts the register of a database, which is made where none stands, and gives the database's connection back.
-fn host_register<N: Net + Clock, S: Alter, W: Write, E: Write>(
-    rt: &N,
+fn host_register<N: Network, S: Alter, W: Write, A: AccessLog<N::Socket>>(
     alloc: Global,
     connection: Connection<S>,
-    doors: Doors,
+    asked: SocketAddr,
+    found: IoResult<SocketAddr>,
+    net: &mut N,
     writer: &mut W,
-    log: &mut Log<E>,
+    log: &mut A,
 ) -> (Outcome, Connection<S>)
-    ensures { RunsHost S.Store doors (W.contents writer.old) (W.contents writer.new) log.old log.new connection result }
+    ensures { RunsHost S.Store asked (W.contents writer.old) (W.contents writer.new) (N.history net.old) (N.history net.new) log.old log.new connection result }
 {
     match Register::open_or_create(alloc, connection) {
         Ok(register) => {
-            let (outcome, register) = host_over(rt, alloc, register, doors, writer, log);
+            let (outcome, register) = host_over(alloc, register, asked, found, net, writer, log);
             (outcome, register.release())
         }
         Err((fault, connection)) => (Outcome::Register(fault), connection),
@@ -50,7 +52,11 @@ fn host_file(rt: &HostRuntime, service: Service<'_>, doors: Doors) -> Outcome {
     } else {
         None
     };
-    let Ok(mut log) = Log::new(rt.alloc(), errors) else {
+    let Ok(mut log) = Log::new(rt, rt.alloc(), errors) else {
+        return Outcome::Failed;
+    };
+    let (asked, found) = (doors.asked(), doors.address());
+    let Ok(mut net) = MioNetwork::new(rt, rt.alloc(), doors) else {
         return Outcome::Failed;
     };
     let connection = match Connection::open(rt, service.file) {
@@ -58,10 +64,11 @@ fn host_file(rt: &HostRuntime, service: Service<'_>, doors: Doors) -> Outcome {
         Err(error) => return Outcome::Register(open_fault(error)),
     };
     let (outcome, connection) = host_register(
-        rt,
         rt.alloc(),
         connection,
-        doors,
+        asked,
+        found,
+        &mut net,
         &mut rt.stdout(),
         &mut log,
     );

@@ -3,20 +3,16 @@ use Rattle.std.proofs.Common.{◌≡◌, ℕ, List, [], Option, None, Some, Resu
 use Rattle.std.specs.declared.net.socket_addr.SocketAddr.{SocketAddr}
 use Rattle.cad_stream.specs.declared.responder.Responder.{Ghosts}
 use Rattle.cad_desk.specs.declared.desk.Desk.{Desk}
+use Rattle.cad_network.specs.Deeds.{Deed}
 use Rattle.cad_event_loop.specs.declared.stopped.Stopped.{Stopped}
 use Rattle.cad_event_loop.specs.declared.stopped.Stopped.TheVariants.{Asked, StoreRefused, RoundsSpent}
 use Rattle.cad_event_loop.specs.Hosting.{Hosted}
-use Rattle.cad_event_loop.specs.Works.{Hosts}
 use Rattle.cadastred_run.specs.Hosting.{outcome_of_hosting, TellsAddress, EndsHosting}
 
-module _ {R : Type 0} (g : Ghosts R) (asked : SocketAddr) (before after : Option (List ℕ)) where
+module _ {R : Type 0} (g : Ghosts R) (asked : SocketAddr) (before after : Option (List ℕ)) (from to : Option (List Deed)) where
   -- once the address was told
-  pub hosted_ends : (E : Type 0) (hosted : Result Stopped E) (old new : Desk R) → TellsAddress asked before after → Hosted g old hosted new → EndsHosting asked before after g old (outcome_of_hosting hosted) new
+  pub hosted_ends : (E : Type 0) (hosted : Result Stopped E) (old new : Desk R) → TellsAddress asked before after from to → Hosted g from old hosted to new → EndsHosting asked before after from to g old (outcome_of_hosting hosted) new
   hosted_ends E (Ok Asked) old new told h = (told, h)
   hosted_ends E (Ok StoreRefused) old new told h = (refl, told, h)
-  hosted_ends E (Ok RoundsSpent) old new told h = inl h
-  hosted_ends E (Err error) old new told h = h
-
--- where nothing was asked of the desk
-pub unhosted : {R : Type 0} (g : Ghosts R) (desk : Desk R) → Hosts g None desk desk
-unhosted g desk = ([], refl, refl)
+  hosted_ends E (Ok RoundsSpent) old new told h = inr (told, inl h)
+  hosted_ends E (Err error) old new told h = inr (told, h)

@@ -1,5 +1,5 @@
--- A desk over a ledger at two sockets, and how that ends a run (own profile).
-use Rattle.std.specs.Prelude.{◌≡◌, ◌⊎◌, ℕ, List, Option, None, Some, Result, Ok, Err}
+-- A desk over a ledger at a network, and how that ends a run (own profile).
+use Rattle.std.specs.Prelude.{◌≡◌, ◌⊎◌, ℕ, List, [], Option, None, Some, Result, Ok, Err}
 use Rattle.std.specs.Io.KnownBytes.{Appends}
 use Rattle.std.specs.declared.net.socket_addr.SocketAddr.{SocketAddr}
 use Rattle.cad_serve.specs.Arguments.{listening_line, IsBoundFor}
@@ -14,7 +14,8 @@ use Rattle.cad_server.specs.Servers.{ledger_of}
 use Rattle.cadastre_run.specs.Serving.{answers_of, IsDeskOver}
 use Rattle.cad_event_loop.specs.declared.stopped.Stopped.{Stopped}
 use Rattle.cad_event_loop.specs.declared.stopped.Stopped.TheVariants.{Asked, StoreRefused, RoundsSpent}
-use Rattle.cad_event_loop.specs.Works.{Hosts}
+use Rattle.cad_event_loop.specs.Hosting.{HostsBy}
+use Rattle.cad_network.specs.Deeds.{Deed, Adds}
 use Rattle.cadastred_run.specs.declared.outcome.Outcome.{Outcome}
 use Rattle.cadastred_run.specs.declared.outcome.Outcome.TheVariants as outcome
 
@@ -25,18 +26,22 @@ outcome_of_hosting (Ok StoreRefused) = outcome.Register register.Store
 outcome_of_hosting (Ok RoundsSpent) = outcome.Failed
 outcome_of_hosting (Err error) = outcome.Failed
 
--- the address that was asked for, and what standard output holds before and after
-module _ (asked : SocketAddr) (before after : Option (List ℕ)) where
+-- the address that was asked for, what standard output holds before and after, and what was done at the network before and after
+module _ (asked : SocketAddr) (before after : Option (List ℕ)) (from to : Option (List Deed)) where
   -- the line that tells the address that is bound is written, and nothing else
   abbrev pub TellsAddress : Type 0
   TellsAddress = (bound : SocketAddr) × IsBoundFor asked bound × Appends before after (listening_line bound)
 
-  -- the address can't be had, and nothing is told or asked of the desk; or it is told, and the desk is hosted until the office asks to stop, or the database refuses; or telling it or hosting failed, and the database did not refuse
+  -- nothing is done at the network or asked of the desk
+  abbrev pub IsUnhosted : {R : Type 0} → Desk R → Desk R → Type 0
+  IsUnhosted old new = (new ≡ old) × Adds from to []
+
+  -- the address can't be had, and nothing is told; or it is told, and then the desk is hosted until the office asks to stop, or the database refuses; or it can't be told, and nothing is hosted; or it is told and hosting failed, and the database did not refuse
   abbrev pub EndsHosting : {R : Type 0} → responder.Ghosts R → Desk R → Outcome → Desk R → Type 0
-  EndsHosting g old outcome.Address new = (after ≡ before) × (new ≡ old)
-  EndsHosting g old outcome.Good new = TellsAddress × Hosts g (Some Asked) old new
-  EndsHosting g old (outcome.Register fault) new = (fault ≡ register.Store) × TellsAddress × Hosts g (Some StoreRefused) old new
-  EndsHosting g old outcome.Failed new = Hosts g None old new ⊎ Hosts g (Some Asked) old new
+  EndsHosting g old outcome.Address new = (after ≡ before) × IsUnhosted old new
+  EndsHosting g old outcome.Good new = TellsAddress × HostsBy g (Some Asked) from old to new
+  EndsHosting g old (outcome.Register fault) new = (fault ≡ register.Store) × TellsAddress × HostsBy g (Some StoreRefused) from old to new
+  EndsHosting g old outcome.Failed new = IsUnhosted old new ⊎ (TellsAddress × (HostsBy g None from old to new ⊎ HostsBy g (Some Asked) from old to new))
   EndsHosting g old other new = ⊥
 
   -- a desk over the ledger is hosted, and the ledger is given back
@@ -47,6 +52,6 @@ module _ (asked : SocketAddr) (before after : Option (List ℕ)) where
     pub hosting : EndsHosting (answers_of g) old ended.0 new
     pub back : ended.1 ≡ ledger_of (responder_of new)
 
-  -- there is no memory for a desk, and nothing is told; or one is hosted
+  -- there is no memory for a desk, and nothing is told or done at the network; or one is hosted
   abbrev pub HostsOver : {L : Type 0} → ledger.Ghosts L → L → Outcome × L → Type 0
-  HostsOver g lent ended = EndsWithout (after ≡ before) (outcome.Register register.Memory) lent ended ⊎ EndsHosted g lent ended
+  HostsOver g lent ended = EndsWithout ((after ≡ before) × Adds from to []) (outcome.Register register.Memory) lent ended ⊎ EndsHosted g lent ended

@@ -2,22 +2,24 @@
 
 ghost use Rattle.std.specs.Prelude.{IfOk};
 ghost use Rattle.std.specs.Net.Grammar.{IsSocketText};
-ghost use Rattle.cad_event_loop.specs.Doors.{address_asked};
+ghost use Rattle.cad_mio.specs.Doors.{address_asked};
 ghost use Rattle.cadastred_run.specs.Hosting.{EndsHosting, HostsOver};
 
 use crate::invocation::Service;
 use crate::outcome::Outcome;
+use cad_clients::AccessLog;
 use cad_desk::Desk;
-use cad_event_loop::{DoorFault, Doors, Log, host};
+use cad_event_loop::host;
+use cad_mio::{DoorFault, Doors};
+use cad_network::Network;
 use cad_serve::{bound_for, read_address, tell_address};
 use cad_server::Server;
 use cad_stream::Responder;
 use cad_versions::{Ledger, RegisterFault};
 use std::alloc::Global;
 use std::fs::Files;
-use std::io::Write;
-use std::net::Net;
-use std::time::Clock;
+use std::io::{Result as IoResult, Write};
+use std::net::{Net, SocketAddr};
 
 /// The sockets of a service, or how a run ends without them.
 pub fn open_doors<N: Net + Files>(rt: &N, service: Service<'_>) -> Result<Doors, Outcome>
@@ -33,42 +35,44 @@ pub fn open_doors<N: Net + Files>(rt: &N, service: Service<'_>) -> Result<Doors,
     }
 }
 
-/// Tells the address, and serves the desk at the sockets.
-fn host_desk<N: Net + Clock, R: Responder, W: Write, E: Write>(
-    rt: &N,
+/// Tells the address, if the one that is found is the one that was asked for, and serves the desk at the network.
+fn host_desk<N: Network, R: Responder, W: Write, A: AccessLog<N::Socket>>(
     alloc: Global,
-    doors: Doors,
+    asked: SocketAddr,
+    found: IoResult<SocketAddr>,
+    net: &mut N,
     writer: &mut W,
-    log: &mut Log<E>,
+    log: &mut A,
     desk: &mut Desk<R>,
 ) -> Outcome
-    ensures { EndsHosting (address_asked doors) (W.contents writer.old) (W.contents writer.new) R.Responder desk.old result desk.new }
+    ensures { EndsHosting asked (W.contents writer.old) (W.contents writer.new) (N.history net.old) (N.history net.new) R.Responder desk.old result desk.new }
 {
-    let Some(bound) = bound_for(doors.asked(), doors.address()) else {
+    let Some(bound) = bound_for(asked, found) else {
         return Outcome::Address;
     };
     match tell_address(writer, bound) {
-        Ok(()) => Outcome::of_hosting(host(rt, alloc, doors, log, desk)),
+        Ok(()) => Outcome::of_hosting(host(alloc, net, desk, log)),
         Err(_) => Outcome::Failed,
     }
 }
 
-/// Tells the address, takes clients and the land office at the sockets, serves them over the ledger until the office asks to
-/// stop, and gives the ledger back.
-pub fn host_over<N: Net + Clock, L: Ledger, W: Write, E: Write>(
-    rt: &N,
+/// Tells the address, if the one that is found is the one that was asked for, takes clients and the land office at the doors of
+/// a network, serves them over the ledger until the office asks to stop, and gives the ledger back.
+pub fn host_over<N: Network, L: Ledger, W: Write, A: AccessLog<N::Socket>>(
     alloc: Global,
     ledger: L,
-    doors: Doors,
+    asked: SocketAddr,
+    found: IoResult<SocketAddr>,
+    net: &mut N,
     writer: &mut W,
-    log: &mut Log<E>,
+    log: &mut A,
 ) -> (Outcome, L)
-    ensures { HostsOver (address_asked doors) (W.contents writer.old) (W.contents writer.new) L.Ledger ledger result }
+    ensures { HostsOver asked (W.contents writer.old) (W.contents writer.new) (N.history net.old) (N.history net.new) L.Ledger ledger result }
 {
     match Server::new(alloc, ledger) {
         Ok(server) => {
             let mut desk = Desk::new(alloc, server);
-            let outcome = host_desk(rt, alloc, doors, writer, log, &mut desk);
+            let outcome = host_desk(alloc, asked, found, net, writer, log, &mut desk);
             (outcome, desk.release().release())
         }
         Err(ledger) => (Outcome::Register(RegisterFault::Memory), ledger),

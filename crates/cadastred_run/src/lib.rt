@@ -2,7 +2,7 @@
 //!
 //! - `Invocation`, `Service`: what the words of a command line ask for
 //! - `open_doors`: the sockets of a service
-//! - `host_over`: clients and the land office taken at those sockets and served over a ledger
+//! - `host_over`: clients and the land office taken at a network and served over a ledger
 //! - `Outcome`: how a run ended, its status, and what is told of it
 //!
 //! No database is known here: the program finds the register of a file and lends it to these calls.

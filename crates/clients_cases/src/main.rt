@@ -2,7 +2,8 @@
 //! input is something that happens, and a line is printed for it.
 //!
 //! - `sockets`: sockets that give and take as they are told
-//! - `room`: the clients, the office and their sockets
+//! - `steps`: what happens at a network; `wire`: the network at which it does
+//! - `room`: the clients, the office and their sockets, each served as it is told; `hosted`: the same by the loop
 //! - `script`: the lines, and what is printed for them
 //!
 //! The lines are
@@ -15,13 +16,22 @@
 //! - `line TEXT`, the office sends a line; `part TEXT`, it sends a part of one; `office-room COUNT`, its socket takes so many
 //!   bytes more; `office`, it is served: how that ended, and what was written to it.
 //!
+//! - `host STEPS`, a desk is hosted at a network with these steps, up to an `end` until each wait is over, and the system refuses
+//!   to wait where there are no more: `come` and `office`, somebody comes, and is numbered; `give N TEXT`, `room N COUNT`,
+//!   `hang N` and `break N` as above, with `_` for LF; `wake PLACES`, it is told that sockets may go on; `second N`;
+//!   `refuse COUNT` and `unwatched COUNT`, so often a client can't be handed over, or a socket can't be watched. It is answered by
+//!   how that ended, and by what was written to each, and whether its socket was let go.
+//!
 //! In what was written `|` stands for LF. A request is answered with its method, its target and the revision in force.
 //! Any other line is answered by `no case`, and an empty one is passed over.
 #![tactic(auto)]
 
+mod hosted;
 mod room;
 mod script;
 mod sockets;
+mod steps;
+mod wire;
 
 use room::Room;
 use script::put_answer;

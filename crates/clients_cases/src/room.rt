@@ -1,6 +1,6 @@
-//! The clients, the land office and their sockets.
+//! The clients, the land office and their sockets, each served as it is told.
 
-use crate::sockets::{Sender, Taker};
+use crate::wire::{Peer, Wire};
 use cad_clients::{Clients, Limits, NoLog, ROOM, Served};
 use cad_desk::Desk;
 use cad_office_socket::{Entry, EntryTurned};
@@ -13,76 +13,51 @@ const LIMITS: Limits = Limits {
     request: 300,
 };
 
-/// The two halves of a socket.
-#[derive(Drop)]
-pub(crate) struct Socket {
-    pub(crate) sender: Sender,
-    pub(crate) taker: Taker,
-}
-
-impl Socket {
-    fn new(alloc: Global) -> Socket {
-        Socket {
-            sender: Sender::new(alloc),
-            taker: Taker::new(alloc),
-        }
-    }
-
-    /// Serves the client of this socket. What was written to it since it was served last.
-    fn serve(
-        &mut self,
-        alloc: Global,
-        clients: &mut Clients,
-        desk: &mut Desk<Echo>,
-        c: u32,
-        now: u64,
-    ) -> (Served, Vec<u8>) {
-        let served = clients.serve(
-            alloc,
-            c,
-            now,
-            &mut self.sender,
-            &mut self.taker,
-            desk,
-            &mut NoLog,
-        );
-        let taken = std::mem::replace(&mut self.taker.taken, Vec::new(alloc));
-        (served, taken)
-    }
-}
-
 /// The clients, the land office and their sockets, at one desk.
 #[derive(Drop)]
 pub(crate) struct Room {
-    alloc: Global,
+    pub(crate) alloc: Global,
     desk: Desk<Echo>,
-    clients: Clients,
-    sockets: Vec<Option<Socket>>,
+    clients: Clients<u32>,
+    wire: Wire,
+    /// The number of each client's peer.
+    names: Vec<Option<u32>>,
     entry: Entry,
-    pub(crate) office: Socket,
+    office: u32,
     pub(crate) now: u64,
 }
 
-/// Adds a place for the socket of each client.
-fn push_places(sockets: &mut Vec<Option<Socket>>) -> Result<(), AllocError> {
+/// Adds a place for the peer of each client.
+fn push_places(names: &mut Vec<Option<u32>>) -> Result<(), AllocError> {
     for _ in 0..ROOM {
-        sockets.push(None)?;
+        names.push(None)?;
     }
     Ok(())
+}
+
+/// What was written to a peer since it was asked last.
+fn take_written(alloc: Global, peer: Option<&mut Peer>) -> Vec<u8> {
+    match peer {
+        Some(peer) => std::mem::replace(&mut peer.taker.taken, Vec::new(alloc)),
+        None => Vec::new(alloc),
+    }
 }
 
 impl Room {
     pub(crate) fn new(alloc: Global) -> Result<Room, AllocError> {
         let clients = Clients::new(alloc)?;
-        let mut sockets = Vec::new(alloc);
-        push_places(&mut sockets)?;
+        let mut names = Vec::new(alloc);
+        push_places(&mut names)?;
+        let mut wire = Wire::new(alloc, Vec::new(alloc));
+        let office = wire.add_peer()?;
         Ok(Room {
             alloc,
             desk: Desk::new(alloc, Echo::new(alloc)),
             clients,
-            sockets,
+            wire,
+            names,
             entry: Entry::new(alloc),
-            office: Socket::new(alloc),
+            office,
             now: 0,
         })
     }
@@ -90,26 +65,45 @@ impl Room {
     /// A client comes, and is told its number, if there is room.
     pub(crate) fn open(&mut self) -> Option<u32> {
         let c = self.clients.free_number()?;
+        let name = self.wire.add_peer().ok()?;
         self.clients
-            .open(self.alloc, c, self.now, &mut self.desk)
+            .open(
+                self.alloc,
+                c,
+                self.now,
+                name,
+                &mut self.wire,
+                &mut self.desk,
+            )
             .ok()?;
-        self.set_socket(c, Some(Socket::new(self.alloc)));
+        self.set_name(c, Some(name));
         Some(c)
     }
 
-    /// The socket of a client.
-    pub(crate) fn socket(&mut self, c: u32) -> Option<&mut Socket> {
-        match self.sockets.get_mut(c as usize) {
-            Some(Some(socket)) => Some(socket),
-            _ => None,
+    /// The number of a client's peer, if the client is there.
+    fn name(&self, c: u32) -> Option<u32> {
+        match self.names.get(c as usize) {
+            Some(name) => *name,
+            None => None,
         }
     }
 
-    /// Keeps this socket of a client from now on, or none.
-    fn set_socket(&mut self, c: u32, socket: Option<Socket>) {
-        if let Some(slot) = self.sockets.get_mut(c as usize) {
-            *slot = socket;
+    /// The client's peer has this number from now on, or there is none.
+    fn set_name(&mut self, c: u32, name: Option<u32>) {
+        if let Some(slot) = self.names.get_mut(c as usize) {
+            *slot = name;
         }
+    }
+
+    /// The peer of a client.
+    pub(crate) fn peer(&mut self, c: u32) -> Option<&mut Peer> {
+        let name = self.name(c)?;
+        self.wire.peers.get_mut(name as usize)
+    }
+
+    /// The peer of the land office.
+    pub(crate) fn office(&mut self) -> Option<&mut Peer> {
+        self.wire.peers.get_mut(self.office as usize)
     }
 
     /// Whether a reply of this client has not gone out.
@@ -117,22 +111,24 @@ impl Room {
         self.clients.is_sending(c)
     }
 
-    /// Serves a client, and keeps no socket of one that is over. What was written to it since it was served last.
+    /// Serves a client. What was written to it since it was served last.
     pub(crate) fn serve(&mut self, c: u32) -> (Served, Vec<u8>) {
-        let Some(Some(socket)) = self.sockets.get_mut(c as usize) else {
+        let Some(name) = self.name(c) else {
             return (Served::Unknown, Vec::new(self.alloc));
         };
-        let (served, taken) = socket.serve(
+        let served = self.clients.serve(
             self.alloc,
-            &mut self.clients,
-            &mut self.desk,
             c,
             self.now,
+            &mut self.wire,
+            &mut self.desk,
+            &mut NoLog,
         );
+        let written = take_written(self.alloc, self.wire.peers.get_mut(name as usize));
         if served != Served::Stays {
-            self.set_socket(c, None);
+            self.set_name(c, None);
         }
-        (served, taken)
+        (served, written)
     }
 
     /// Drops a client, if it did nothing for too long or a request of it takes too long.
@@ -140,8 +136,8 @@ impl Room {
         if !self.clients.is_overdue(c, self.now, &LIMITS) {
             return false;
         }
-        self.clients.close(c, &mut self.desk);
-        self.set_socket(c, None);
+        self.clients.close(c, &mut self.wire, &mut self.desk);
+        self.set_name(c, None);
         true
     }
 
@@ -149,11 +145,11 @@ impl Room {
     pub(crate) fn serve_office(&mut self) -> (EntryTurned, Vec<u8>) {
         let turned = self.entry.turn(
             self.alloc,
-            &mut self.office.sender,
-            &mut self.office.taker,
+            &mut self.wire,
+            &self.office,
             &mut self.desk,
         );
-        let taken = std::mem::replace(&mut self.office.taker.taken, Vec::new(self.alloc));
-        (turned, taken)
+        let written = take_written(self.alloc, self.wire.peers.get_mut(self.office as usize));
+        (turned, written)
     }
 }

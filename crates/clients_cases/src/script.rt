@@ -1,23 +1,13 @@
 //! The lines, and what is printed for them.
 
-use crate::room::{Room, Socket};
+use crate::hosted::put_hosted;
+use crate::room::Room;
 use crate::sockets::Sender;
-use cad_client_socket::Ending;
-use cad_clients::{ROOM, Served};
+use crate::steps::read_bytes;
+use crate::wire::Peer;
+use cad_clients::{Ending, ROOM, Served};
 use cad_office_socket::EntryTurned;
 use std::alloc::AllocError;
-
-/// A peer sends the bytes of a text, in which `|` stands for CR and LF.
-fn give_text(sender: &mut Sender, text: &str) -> Result<(), AllocError> {
-    for byte in text.as_bytes() {
-        if *byte == b'|' {
-            sender.give(b"\r\n")?;
-        } else {
-            sender.give(&[*byte])?;
-        }
-    }
-    Ok(())
-}
 
 /// A peer sends so many bytes `a`.
 fn give_often(sender: &mut Sender, count: usize) -> Result<(), AllocError> {
@@ -28,7 +18,7 @@ fn give_often(sender: &mut Sender, count: usize) -> Result<(), AllocError> {
 }
 
 /// Appends the text of bytes, in which `|` stands for LF, and CR is left out.
-fn put_text(answer: &mut String, bytes: &[u8]) -> Result<(), AllocError> {
+pub(crate) fn put_text(answer: &mut String, bytes: &[u8]) -> Result<(), AllocError> {
     for byte in bytes {
         match *byte {
             b'\n' => answer.push('|')?,
@@ -118,48 +108,53 @@ fn put_dropped(answer: &mut String, room: &mut Room, second: u64) -> Result<(), 
     Ok(())
 }
 
-/// What a client's socket does.
-fn at_socket(
+/// What a client's peer does.
+fn at_peer(
     answer: &mut String,
-    socket: &mut Socket,
+    peer: &mut Peer,
     word: &str,
     rest: &str,
+    given: &[u8],
 ) -> Result<(), AllocError> {
     match (word, rest.parse::<usize>()) {
-        ("give", _) => give_text(&mut socket.sender, rest)?,
-        ("long", Ok(count)) => give_often(&mut socket.sender, count)?,
-        ("room", Ok(count)) => socket.taker.room = socket.taker.room.saturating_add(count),
-        ("hang", _) => socket.sender.has_ended = true,
+        ("give", _) => peer.sender.give(given)?,
+        ("long", Ok(count)) => give_often(&mut peer.sender, count)?,
+        ("room", Ok(count)) => peer.taker.room = peer.taker.room.saturating_add(count),
+        ("hang", _) => peer.sender.has_ended = true,
         ("break", _) => {
-            socket.sender.is_broken = true;
-            socket.taker.is_broken = true;
+            peer.sender.is_broken = true;
+            peer.taker.is_broken = true;
         }
         _ => return put_no_case(answer),
     }
     answer.push_str("done")
 }
 
-/// What the socket of this client does.
-fn at_socket_of(
+/// What the peer of this client does.
+fn at_peer_of(
     answer: &mut String,
     room: &mut Room,
     word: &str,
     c: u32,
     rest: &str,
 ) -> Result<(), AllocError> {
-    match room.socket(c) {
-        Some(socket) => at_socket(answer, socket, word, rest),
+    let given = read_bytes(room.alloc, rest)?;
+    match room.peer(c) {
+        Some(peer) => at_peer(answer, peer, word, rest, &given),
         None => answer.push_str("unknown"),
     }
 }
 
-/// What the office's socket does.
+/// What the office's peer does.
 fn at_office(
     answer: &mut String,
-    office: &mut Socket,
+    room: &mut Room,
     word: &str,
     rest: &str,
 ) -> Result<(), AllocError> {
+    let Some(office) = room.office() else {
+        return put_no_case(answer);
+    };
     match (word, rest.parse::<usize>()) {
         ("line", _) => {
             office.sender.give(rest.as_bytes())?;
@@ -182,15 +177,18 @@ fn put_words(
     word: &str,
     rest: &str,
 ) -> Result<(), AllocError> {
+    if word == "host" {
+        return put_hosted(answer, room.alloc, rest);
+    }
     let (number, text) = rest.split_once(' ').unwrap_or((rest, ""));
     let Ok(c) = number.parse::<u32>() else {
-        return at_office(answer, &mut room.office, word, rest);
+        return at_office(answer, room, word, rest);
     };
     match word {
         "serve" => put_served(answer, room, c),
         "second" => put_dropped(answer, room, u64::from(c)),
-        "give" | "long" | "room" | "hang" | "break" => at_socket_of(answer, room, word, c, text),
-        _ => at_office(answer, &mut room.office, word, rest),
+        "give" | "long" | "room" | "hang" | "break" => at_peer_of(answer, room, word, c, text),
+        _ => at_office(answer, room, word, rest),
     }
 }
 

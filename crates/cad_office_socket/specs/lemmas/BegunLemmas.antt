@@ -1,5 +1,6 @@
 -- A line that has begun, over a turn.
 use Rattle.std.proofs.Common.{ℕ, List, [], ◌++◌, subst, sym, inl, inr}
+use Rattle.cad_network.specs.Deeds.{Deed}
 use Rattle.cad_stream.specs.declared.responder.Responder.{Ghosts}
 use Rattle.cad_desk.specs.declared.desk.Desk.{Desk}
 use Rattle.cad_office_socket.specs.declared.entry.Entry.{Entry}
@@ -25,10 +26,10 @@ module _ {R : Type 0} (g : Ghosts R) where
   ended text Took old new next e = absurd e
   ended text Waits old new next e = absurd e
 
-  taken_later : (AtEnd : Type 0) (begun : List ℕ) (turned : EntryTurned) (old new : Desk R) (entry next : Entry) → HasBegun begun entry → IsTaken g AtEnd old entry turned new next → Later turned next
-  taken_later AtEnd begun turned old new entry next has t = elim t.1 [
+  taken_later : (s : ℕ) (deeds : List Deed) (begun : List ℕ) (turned : EntryTurned) (old new : Desk R) (entry next : Entry) → HasBegun begun entry → IsTaken g s old entry turned new next deeds → Later turned next
+  taken_later s deeds begun turned old new entry next has t = elim t.1 [
     | inl some ↦
-        let f = some.1 begun has in
+        let f = some.2 begun has in
         elim f.2 [
           | inl goes ↦ subst (λ (it : EntryTurned). Later it next) (sym goes.0) (begun ++ f.0, goes.5)
           | inr ends ↦ ended (begun ++ f.0) turned old new next ends.1
@@ -36,12 +37,12 @@ module _ {R : Type 0} (g : Ghosts R) where
     | inr last ↦ ended begun turned old new next (last.2 begun has).0
   ]
 
-  pub begun_later : (AtEnd : Type 0) (turned : EntryTurned) (old new : Desk R) (entry next : Entry) (read written : List ℕ) → IsBegun entry → IsEntryTurn g AtEnd old entry turned new next read written → Later turned next
-  begun_later AtEnd Wrote old new entry next read written begun t = (begun.0, rw t.4 begun.1)
-  begun_later AtEnd Took old new entry next read written begun t = (begun.0, rw t.5 begun.1)
-  begun_later AtEnd Added old new entry next read written begun t = taken_later AtEnd begun.0 Added old new entry next begun.1 t.1
-  begun_later AtEnd (Answered answer) old new entry next read written begun t = taken_later AtEnd begun.0 (Answered answer) old new entry next begun.1 t.1
-  begun_later AtEnd (Lost answer) old new entry next read written begun t = tt
-  begun_later AtEnd Stops old new entry next read written begun t = tt
-  begun_later AtEnd Waits old new entry next read written begun t = (begun.0, subst (λ (it : Entry). HasBegun begun.0 it) (sym t.3) begun.1)
-  begun_later AtEnd Over old new entry next read written begun t = tt
+  pub begun_later : (s : ℕ) (turned : EntryTurned) (old new : Desk R) (entry next : Entry) (deeds : List Deed) → IsBegun entry → IsEntryTurn g s old entry turned new next deeds → Later turned next
+  begun_later s Wrote old new entry next deeds begun t = (begun.0, rw t.5 begun.1)
+  begun_later s Took old new entry next deeds begun t = (begun.0, rw t.6 begun.1)
+  begun_later s Added old new entry next deeds begun t = taken_later s deeds begun.0 Added old new entry next begun.1 t
+  begun_later s (Answered answer) old new entry next deeds begun t = taken_later s deeds begun.0 (Answered answer) old new entry next begun.1 t
+  begun_later s (Lost answer) old new entry next deeds begun t = tt
+  begun_later s Stops old new entry next deeds begun t = tt
+  begun_later s Waits old new entry next deeds begun t = (begun.0, subst (λ (it : Entry). HasBegun begun.0 it) (sym t.3) begun.1)
+  begun_later s Over old new entry next deeds begun t = tt

@@ -1,14 +1,16 @@
-use Rattle.std.proofs.Common.{inl}
-use Rattle.cad_event_loop.specs.Doors.{address_asked}
+use Rattle.std.proofs.Common.{inl, refl}
+use Rattle.cad_network.specs.lemmas.DeedLemmas.{Adds-nil}
 use Rattle.cadastred_run.specs.Hosting.{TellsAddress}
-use Rattle.cadastred_run.proofs.HostingLemmas.{hosted_ends, unhosted}
+use Rattle.cadastred_run.proofs.HostingLemmas.{hosted_ends}
 use Rattle.cadastred_run.proofs.hosting.host_desk.Goals as goal
 
 pub returns-in-Ok : goal.returns-in-Ok
 returns-in-Ok g c =
-    let bound = rw c.asked.ensures at c.in-Some.ensures.bound.1 in
-    let told : TellsAddress (address_asked c.args.doors) (g.W.Write.contents c.args.writer.now) (g.W.Write.contents c.tell_address.new.writer) = (c.in-Some.bound, bound, c.in-Ok.ensures.told) in
-    rw c.of_hosting.ensures (hosted_ends g.R.Responder (address_asked c.args.doors) _ _ _ c.host.result c.args.desk.now c.host.new.desk told c.host.ensures)
+    let told : TellsAddress c.args.asked (g.W.Write.contents c.args.writer.now) (g.W.Write.contents c.tell_address.new.writer) (g.N.Network.history c.args.net.now) (g.N.Network.history c.host.new.net) = (c.in-Some.bound, c.in-Some.ensures.bound.1, c.in-Ok.ensures.told) in
+    rw c.of_hosting.ensures (hosted_ends g.R.Responder c.args.asked _ _ _ _ _ c.host.result c.args.desk.now c.host.new.desk told c.host.ensures)
 
 pub returns-in-Err : goal.returns-in-Err
-returns-in-Err g c = inl (unhosted g.R.Responder c.args.desk.now)
+returns-in-Err g c = inl (refl, Adds-nil _)
+
+pub returns-in_default : goal.returns-in_default
+returns-in_default g c = (refl, refl, Adds-nil _)

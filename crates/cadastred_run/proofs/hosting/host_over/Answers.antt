@@ -1,4 +1,5 @@
-use Rattle.std.proofs.Common.{ap, ◌∙◌, inr}
+use Rattle.std.proofs.Common.{ap, ◌∙◌, refl, inl, inr}
+use Rattle.cad_network.specs.lemmas.DeedLemmas.{Adds-nil}
 use Rattle.cad_server.specs.Servers.{ledger_of}
 use Rattle.cadastre_run.specs.lemmas.DeskLemmas.{desk_over}
 use Rattle.cadastred_run.proofs.hosting.host_over.Goals as goal
@@ -12,3 +13,6 @@ returns-in-Ok g c =
       hosting = c.host_desk-outcome.ensures;
       back = c.release-in-Ok.ensures ∙ ap ledger_of c.release.ensures;
     })
+
+pub returns-in-Err : goal.returns-in-Err
+returns-in-Err g c = inl (record { ends = refl; back = c.in-Err.ensures.back; nothing = (refl, Adds-nil _) })

@@ -1,8 +1,16 @@
-use Rattle.cad_event_loop.proofs.OfficeLemmas.{served_hosts}
+use Rattle.std.proofs.Common.{[], ◌∷◌, ◌++◌, refl, sym, ◌∙◌, append-nil}
+use Rattle.cad_network.specs.Deeds.{left}
+use Rattle.cad_network.specs.lemmas.DeedLemmas.{Adds-trans}
 use Rattle.cad_event_loop.proofs.office.Office.serve.Goals as goal
 
-pub returns-clause-begun : goal.returns-clause-begun
-returns-clause-begun g c = (served_hosts g.R.Responder c.serve.result c.args.desk.now c.serve.new.desk c.args.self.now.entry c.serve.new.self _ _ c.requires c.serve.ensures.4).1
+pub returns-then-is_over : goal.returns-then-is_over
+returns-then-is_over g c =
+    let t = c.serve-served.ensures in
+    let over = sym c.is_over.ensures ∙ c.if-is_over.true in
+    (t.0 ++ left (g.N.Network.name c.args.self.socket) ∷ [], Adds-trans _ _ _ t.0 _ t.1 c.let_go.ensures, (c.serve-served.new.self, t.0, t.2, rw over refl, rw over refl))
 
-pub returns-clause-hosts : goal.returns-clause-hosts
-returns-clause-hosts g c = (served_hosts g.R.Responder c.serve.result c.args.desk.now c.serve.new.desk c.args.self.now.entry c.serve.new.self _ _ c.requires c.serve.ensures.4).0
+pub returns : goal.returns
+returns g c =
+    let t = c.serve-served.ensures in
+    let goes_on = sym c.is_over.ensures ∙ c.if-is_over.false in
+    (t.0, t.1, (c.serve-served.new.self, t.0, t.2, rw goes_on (sym (append-nil t.0)), rw goes_on refl))

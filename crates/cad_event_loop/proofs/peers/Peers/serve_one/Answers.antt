@@ -1,7 +1,6 @@
-use Rattle.cad_event_loop.proofs.ClientLemmas.{served_hosts}
+use Rattle.cad_event_loop.proofs.GoesLemmas.{served_hosts}
 use Rattle.cad_event_loop.proofs.peers.Peers.serve_one.Goals as goal
 
 pub returns : goal.returns
-returns g c =
-    let served = c.serve-served.ensures.served.4 in
-    rw c.end_of.ensures (served_hosts g.R.Responder c.args.c c.args.now c.serve-served.result c.args.desk.now c.serve-served.new.desk c.args.self.now.clients c.serve-served.new.self _ _ served)
+returns g c = λ office.
+    rw c.end_of.ensures (served_hosts g.R.Responder g.N.Network.name c.args.c office c.args.self.now.now c.serve.result _ _ c.args.desk.now c.serve.new.desk c.args.self.now.clients c.serve.new.self c.serve.ensures)

@@ -1,5 +1,0 @@
-use Rattle.cad_client_socket.proofs.OwnLemmas.{channels_are_their_own}
-use Rattle.cad_client_socket.proofs.laws.channels_are_their_own.Goals as goal
-
-pub returns : goal.returns
-returns g c = channels_are_their_own g.R.Responder c.steps_are_a_run.ensures c.connections_are_their_own.ensures

@@ -1,0 +1,8 @@
+use Rattle.std.proofs.Common.{[], refl}
+use Rattle.cad_network.specs.lemmas.DeedLemmas.{Adds-nil}
+use Rattle.cad_clients.proofs.channel.Channel.keep.Goals as goal
+
+pub returns : goal.returns
+returns g c =
+    let idle = c.requires.idle in
+    ([], Adds-nil _, (_, refl, (idle, c.requires.piece, c.in-Ok.ensures.items, record { all_sent = idle.ready.all_sent; goes_on = idle.ready.goes_on }, refl)))

@@ -1,0 +1,135 @@
+-- What a connection holds between its socket and the desk, and what a turn does (own profile).
+use Rattle.std.specs.Prelude.{◌≡◌, ◌⊎◌, ℕ, ◌-◌, ◌<◌, Bool, true, false, List, [], ◌∷◌, ◌++◌, length, take, drop, Result, Ok, Err}
+use Rattle.std.specs.Global.{Vec}
+use Rattle.cad_stream.specs.declared.responder.Responder.{Ghosts}
+use Rattle.cad_desk.specs.declared.desk.Desk.{Desk}
+use Rattle.cad_desk.specs.declared.event.Event.TheVariants.{Bytes, Close}
+use Rattle.cad_desk.specs.declared.event.Reply.{Reply}
+use Rattle.cad_desk.specs.declared.event.Reply.TheVariants.{Sent}
+use Rattle.cad_desk.specs.declared.fault.DeskFault.{DeskFault}
+use Rattle.cad_desk.specs.declared.fault.DeskFault.TheVariants.{Memory}
+use Rattle.cad_desk.specs.Desks.{Steps}
+use Rattle.cad_io.specs.Writing.{IsFront}
+use Rattle.cad_network.specs.Deeds.{Deed, blocked, failed}
+use Rattle.cad_network.specs.Deeds as deed
+use Rattle.cad_serve.specs.Serving.{IsPiece}
+use Rattle.cad_serve.specs.Writing.{fixed_head}
+use Rattle.cad_clients.specs.declared.channel.Channel.{Channel}
+use Rattle.cad_clients.specs.declared.turned.Ending.{Ending}
+use Rattle.cad_clients.specs.declared.turned.Ending.TheVariants.{PeerEnded, WeEnded, Refused, ReadFailed, WriteFailed}
+use Rattle.cad_clients.specs.declared.turned.Turned.{Turned}
+use Rattle.cad_clients.specs.declared.turned.Turned.TheVariants.{Wrote, Took, Fed, Waits, Over}
+
+-- bytes that were read and that the desk has not taken
+abbrev pub unfed : Channel → List ℕ
+unfed channel = drop channel.input_at channel.input.items
+
+-- bytes that the desk sends and that were not written
+abbrev pub unsent : Channel → List ℕ
+unsent channel = drop channel.output_at channel.output.items
+
+-- the piece that the desk took last
+abbrev pub last_fed : Channel → List ℕ
+last_fed channel = take (channel.input_at - channel.fed_at) (drop channel.fed_at channel.input.items)
+
+-- a reply ended the connection
+abbrev pub has_ended : Channel → Bool
+has_ended channel = channel.ends
+
+-- all that the desk sends was written, and the connection goes on: only then more is taken from it
+pub record IsReady (channel : Channel) : Type 0 where
+  pub all_sent : unsent channel ≡ []
+  pub goes_on : has_ended channel ≡ false
+
+-- the same, and the desk took all that was read
+pub record IsIdle (channel : Channel) : Type 0 where
+  pub ready : IsReady channel
+  pub all_fed : unfed channel ≡ []
+
+-- something is to be written
+abbrev pub IsSending : Channel → Type 0
+IsSending channel = 0 < length (unsent channel)
+
+-- what is next is a write or a read, which the socket may leave undone for now
+abbrev pub MayWait : Channel → Type 0
+MayWait channel = IsSending channel ⊎ IsIdle channel
+
+-- what a turn does to a connection that goes on: it writes bytes, reads bytes, or has the desk take a piece and send something
+pub data Act : Type 0 where
+  wrote : List ℕ → Act
+  took : List ℕ → Act
+  fed : Vec ℕ → Vec ℕ → Bool → Act
+
+abbrev pub read_in : Act → List ℕ
+read_in (wrote bytes) = []
+read_in (took bytes) = bytes
+read_in (fed piece out ends) = []
+
+abbrev pub written_in : Act → List ℕ
+written_in (wrote bytes) = bytes
+written_in (took bytes) = []
+written_in (fed piece out ends) = []
+
+module _ {R : Type 0} (g : Ghosts R) (c : ℕ) where
+  -- the act leads from this channel and desk to those
+  abbrev pub Does : Desk R → Channel → Act → Desk R → Channel → Type 0
+  Does old channel (wrote bytes) new next =
+      (unsent channel ≡ bytes ++ unsent next) × (unfed next ≡ unfed channel) × (has_ended next ≡ has_ended channel) × (new ≡ old)
+  Does old channel (took bytes) new next =
+      IsIdle channel × IsPiece bytes × (unfed next ≡ bytes) × IsReady next × (new ≡ old)
+  Does old channel (fed piece out ends) new next =
+      IsReady channel × IsPiece piece.items × (unfed channel ≡ piece.items ++ unfed next) × (unsent next ≡ out.items) × (has_ended next ≡ ends)
+      × Steps g old (Bytes c piece) (Ok (Sent out ends)) new
+
+  -- the desk is told that the connection closes
+  abbrev pub Closes : Desk R → Desk R → Type 0
+  Closes old new = (answer : Result Reply DeskFault) × Steps g old (Close c) answer new
+
+  -- the desk refused the piece that comes next of what it has not taken
+  abbrev pub IsRefusedPiece : Desk R → Channel → DeskFault → Desk R → Type 0
+  IsRefusedPiece old channel fault new =
+      (piece : Vec ℕ) × (rest : List ℕ) × IsPiece piece.items × (unfed channel ≡ piece.items ++ rest) × Steps g old (Bytes c piece) (Err fault) new
+
+-- the deeds at socket s: the head that tells the fault is written, or a front of it, or that can't be done
+abbrev pub IsTold : ℕ → DeskFault → List Deed → Type 0
+IsTold s fault deeds =
+    (deeds ≡ blocked s ∷ []) ⊎ ((deeds ≡ failed s ∷ []) ⊎ ((front : List ℕ) × IsFront front (fixed_head fault) × (deeds ≡ deed.took s front ∷ [])))
+
+-- a write to socket s failed, or took nothing
+abbrev pub IsUnwritten : ℕ → List Deed → Type 0
+IsUnwritten s deeds = (deeds ≡ failed s ∷ []) ⊎ (deeds ≡ deed.took s [] ∷ [])
+
+-- of connection c at the desk, whose socket is s
+module _ {R : Type 0} (g : Ghosts R) (c s : ℕ) where
+  -- there was no memory: to hand the desk a piece of what it has not taken, or to keep what a read gave
+  abbrev pub HasNoRoom : Desk R → Channel → Desk R → List Deed → List Deed → Type 0
+  HasNoRoom old channel new told deeds =
+      (((deeds ≡ told) × (0 < length (unfed channel))) ⊎ ((bytes : List ℕ) × (deeds ≡ deed.gave s bytes ∷ told) × IsIdle channel × IsPiece bytes)) × Closes g c old new
+
+  -- the desk refused the next piece, or there was no memory; and that was told
+  abbrev pub IsNotTaken : Desk R → Channel → DeskFault → Desk R → List Deed → Type 0
+  IsNotTaken old channel fault new deeds =
+      (told : List Deed) × IsTold s fault told
+      × (((deeds ≡ told) × IsRefusedPiece g c old channel fault new) ⊎ ((fault ≡ Memory) × HasNoRoom old channel new told deeds))
+
+  -- how the connection is over
+  abbrev pub EndsSo : Desk R → Channel → Ending → Desk R → List Deed → Type 0
+  -- all replies were written
+  EndsSo old channel PeerEnded new deeds = (deeds ≡ deed.gave s [] ∷ []) × IsIdle channel × Closes g c old new
+  -- all replies were written, and the last of them ended the connection
+  EndsSo old channel WeEnded new deeds = (deeds ≡ []) × (unsent channel ≡ []) × (has_ended channel ≡ true) × (new ≡ old)
+  -- all replies before the refusal were written
+  EndsSo old channel (Refused fault) new deeds = IsReady channel × IsNotTaken old channel fault new deeds
+  -- all replies were written
+  EndsSo old channel ReadFailed new deeds = (deeds ≡ failed s ∷ []) × IsIdle channel × Closes g c old new
+  -- a reply was to be written
+  EndsSo old channel WriteFailed new deeds = IsUnwritten s deeds × IsSending channel × Closes g c old new
+
+  -- what came of a turn, and the deeds at its socket
+  abbrev pub IsTurn : Desk R → Channel → Turned → Desk R → Channel → List Deed → Type 0
+  IsTurn old channel Wrote new next deeds = (bytes : List ℕ) × (deeds ≡ deed.took s bytes ∷ []) × (0 < length bytes) × Does g c old channel (wrote bytes) new next
+  IsTurn old channel Took new next deeds = (bytes : List ℕ) × (deeds ≡ deed.gave s bytes ∷ []) × Does g c old channel (took bytes) new next
+  IsTurn old channel Fed new next deeds =
+      (deeds ≡ []) × ((piece : Vec ℕ) × (out : Vec ℕ) × (ends : Bool) × Does g c old channel (fed piece out ends) new next × (last_fed next ≡ piece.items))
+  IsTurn old channel Waits new next deeds = (deeds ≡ blocked s ∷ []) × MayWait channel × (new ≡ old) × (next ≡ channel)
+  IsTurn old channel (Over ending) new next deeds = EndsSo old channel ending new deeds

@@ -1,0 +1,34 @@
+//! What a turn asks of the desk and tells the peer.
+
+ghost use Rattle.std.specs.Prelude.{◌≡◌};
+ghost use Rattle.cad_network.specs.Deeds.{AddsSome};
+ghost use Rattle.cad_clients.specs.Channels.{Closes, IsTold};
+
+use crate::turned::{Ending, Turned};
+use cad_desk::{Desk, DeskFault, Event};
+use cad_network::Network;
+use cad_serve::fixed_head;
+use cad_stream::Responder;
+
+/// Tells the desk that the connection closes.
+pub(crate) fn close<R: Responder>(desk: &mut Desk<R>, c: u32)
+    ensures { Closes R.Responder c desk.old desk.new }
+{
+    drop(desk.step(Event::Close(c)));
+}
+
+/// Tells the fault at a socket, as far as one write takes that.
+pub fn tell_fault<N: Network>(net: &mut N, socket: &N::Socket, fault: DeskFault)
+    ensures { AddsSome (N.history net.old) (N.history net.new) (IsTold (N.name socket.now) fault) }
+{
+    let _ = net.write(socket, fixed_head(fault).as_bytes());
+}
+
+/// Tells the fault. Where that cannot be written now, the fault stands all the same.
+pub(crate) fn refuse<N: Network>(net: &mut N, socket: &N::Socket, fault: DeskFault) -> Turned
+    ensures refused { result ≡ Turned.Over (Ending.Refused fault) }
+    ensures head { AddsSome (N.history net.old) (N.history net.new) (IsTold (N.name socket.now) fault) }
+{
+    tell_fault(net, socket, fault);
+    Turned::Over(Ending::Refused(fault))
+}

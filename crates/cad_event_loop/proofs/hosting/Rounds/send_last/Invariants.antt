@@ -1,6 +1,0 @@
-use Rattle.std.proofs.Common.{None}
-use Rattle.cad_event_loop.specs.Works.{Hosts}
-use Rattle.cad_event_loop.proofs.hosting.Rounds.send_last.Given as goal
-
-abbrev pub invariant-loop : goal.invariant-loop
-invariant-loop g l = Hosts g.R.Responder None l.fn.desk l.desk

@@ -1,7 +1,0 @@
-use Rattle.std.proofs.Common.{None}
-use Rattle.cad_event_loop.specs.Hosting.{HasBegun}
-use Rattle.cad_event_loop.specs.Works.{Hosts}
-use Rattle.cad_event_loop.proofs.hosting.host.Given as goal
-
-abbrev pub invariant-loop : goal.invariant-loop
-invariant-loop g l = HasBegun l.rounds.office × Hosts g.R.Responder None l.fn.desk l.desk

@@ -1,0 +1,8 @@
+use Rattle.std.proofs.Common.{None}
+use Rattle.cad_event_loop.specs.Hosting.{Hosts, IsServing}
+use Rattle.cad_event_loop.specs.Offices.{HasBegun}
+use Rattle.cad_event_loop.specs.Rounds.{here}
+use Rattle.cad_event_loop.proofs.rounds.Rounds.run.Given as goal
+
+abbrev pub invariant-loop : goal.invariant-loop
+invariant-loop g l = HasBegun l.self.office × Hosts g.R.Responder IsServing None (g.N.Network.history l.fn.net) l.fn.desk (here g.N.Network.name l.fn.self) (g.N.Network.history l.net) l.desk (here g.N.Network.name l.self)

@@ -1,0 +1,8 @@
+use Rattle.std.proofs.Common.{None}
+use Rattle.cad_event_loop.specs.Hosting.{IsClosing}
+use Rattle.cad_event_loop.specs.Offices.{office_at}
+use Rattle.cad_event_loop.proofs.GoesLemmas.{hosts-then}
+use Rattle.cad_event_loop.proofs.rounds.Rounds.send_all.Goals as goal
+
+pub returns : goal.returns
+returns g c = hosts-then g.R.Responder IsClosing None _ _ _ c.args.desk.now c.send_ready.new.desk c.send_office.new.desk _ _ _ (c.send_ready.ensures (office_at g.N.Network.name c.args.self.now.office)) c.send_office.ensures

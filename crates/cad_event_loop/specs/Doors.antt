@@ -1,7 +1,0 @@
--- The sockets of a host (own profile).
-use Rattle.std.specs.declared.net.socket_addr.SocketAddr.{SocketAddr}
-use Rattle.cad_event_loop.specs.declared.doors.Doors.{Doors}
-
--- the address at which clients were to come
-abbrev pub address_asked : Doors → SocketAddr
-address_asked doors = doors.asked

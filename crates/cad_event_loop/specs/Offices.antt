@@ -1,0 +1,68 @@
+-- The land office as the code holds it, and how it is served (own profile).
+use Rattle.std.specs.Prelude.{◌≡◌, ⊤, ℕ, Bool, true, false, List, [], ◌∷◌, ◌++◌, Option, None, Some, if◌then◌else◌}
+use Rattle.cad_stream.specs.declared.responder.Responder.{Ghosts}
+use Rattle.cad_desk.specs.declared.desk.Desk.{Desk}
+use Rattle.cad_network.specs.Deeds.{Deed, left}
+use Rattle.cad_office_socket.specs.declared.entry.Entry.{Entry}
+use Rattle.cad_office_socket.specs.declared.turned.EntryServed.{EntryServed}
+use Rattle.cad_office_socket.specs.declared.turned.EntryServed.TheVariants as served
+use Rattle.cad_office_socket.specs.declared.turned.EntryTurned.{EntryTurned}
+use Rattle.cad_office_socket.specs.Serving.{IsEntryServed}
+use Rattle.cad_office_socket.specs.Turns.{IsBegun, IsSending, SendsSome}
+use Rattle.cad_event_loop.specs.declared.office.Office.{Office}
+use Rattle.cad_event_loop.specs.declared.stopped.Stopped.{Stopped}
+use Rattle.cad_event_loop.specs.declared.stopped.Stopped.TheVariants.{Asked, StoreRefused}
+use Rattle.cad_event_loop.specs.Works.{AtOffice, is_last}
+
+abbrev pub office_at : {S : Type 0} → (S → ℕ) → Option (Office S) → AtOffice
+office_at name None = None
+office_at name (Some office) = Some (name office.socket, office.entry)
+
+-- of the land office, if it is here, a line has begun
+abbrev pub HasBegun : {S : Type 0} → Option (Office S) → Type 0
+HasBegun None = ⊤
+HasBegun (Some office) = IsBegun office.entry
+
+-- an answer to it is to be written
+abbrev pub IsOfficeSending : {S : Type 0} → Option (Office S) → Type 0
+IsOfficeSending None = ⊥
+IsOfficeSending (Some office) = IsSending office.entry
+
+-- where hosting goes on
+abbrev pub HasBegunUnless : {S : Type 0} → Option Stopped → Option (Office S) → Type 0
+HasBegunUnless None office = HasBegun office
+HasBegunUnless (Some stopped) office = ⊤
+
+-- why hosting ends by what came of serving the land office, if it does
+abbrev pub end_of_office : EntryServed → Option Stopped
+end_of_office served.Goes = None
+end_of_office served.Waits = None
+end_of_office served.Over = None
+end_of_office served.Stops = Some Asked
+end_of_office served.StoreRefused = Some StoreRefused
+
+-- it is over
+abbrev pub is_over : EntryServed → Bool
+is_over served.Over = true
+is_over other = false
+
+-- its socket, and what is left of its connection, unless it is over and its socket is let go
+abbrev pub left_deeds : Bool → ℕ → List Deed
+left_deeds over o = if over then left o ∷ [] else []
+
+abbrev pub left_at : Bool → ℕ → Entry → AtOffice
+left_at over o entry = if over then None else Some (o, entry)
+
+module _ {R S : Type 0} (g : Ghosts R) (name : S → ℕ) where
+  -- the land office is served, and this is left of it
+  abbrev pub HasOfficeTurns : Desk R → Office S → EntryServed × Option (Office S) → Desk R → List Deed → Type 0
+  HasOfficeTurns old office result new deeds =
+      (after : Entry) × (own : List Deed) × IsEntryServed g (name office.socket) old office.entry result.0 new after own
+      × (deeds ≡ own ++ left_deeds (is_over result.0) (name office.socket)) × (office_at name result.1 ≡ left_at (is_over result.0) (name office.socket) after)
+
+-- an answer to the land office is written on, if one is to be, and this is left of it
+module _ {S : Type 0} (name : S → ℕ) where
+  abbrev pub HasSent : Office S → EntryTurned × Option (Office S) → List Deed → Type 0
+  HasSent office result deeds =
+      (after : Entry) × (own : List Deed) × IsSending office.entry × SendsSome (name office.socket) office.entry result.0 after own
+      × (deeds ≡ own ++ left_deeds (is_last result.0) (name office.socket)) × (office_at name result.1 ≡ left_at (is_last result.0) (name office.socket) after)

@@ -1,0 +1,130 @@
+//! What is under way when hosting ends, and letting all go.
+
+use crate::rounds::Rounds;
+use cad_desk::Desk;
+use cad_network::Network;
+use cad_office_socket::EntryTurned;
+use cad_stream::Responder;
+use std::io::Result;
+
+/// For how many seconds replies and the office's answer go out once hosting ends.
+const LAST_SECONDS: u64 = 5;
+
+/// For how many milliseconds nothing is waited for at most meanwhile.
+const LAST_PATIENCE: u64 = 100;
+
+impl<S: Drop> Rounds<S> {
+    ghost use Rattle.std.specs.Prelude.{◌≡◌, None, IsTrue};
+    ghost use Rattle.cad_event_loop.specs.Hosting.{Hosts, IsClosing};
+    ghost use Rattle.cad_event_loop.specs.Offices.{IsOfficeSending};
+    ghost use Rattle.cad_event_loop.specs.Rounds.{here};
+    ghost use Rattle.cad_event_loop.specs.Works.{IsEmpty};
+
+    /// Waits until a socket may take something, or for so long.
+    fn wait_last<N: Network<Socket = S>, R: Responder>(&mut self, net: &mut N, desk: &mut Desk<R>) -> Result<()>
+        ensures { Hosts R.Responder IsClosing None (N.history net.old) desk.old (here N.name self.old) (N.history net.new) desk.new (here N.name self.new) }
+    {
+        self.peers.wait(net, LAST_PATIENCE)
+    }
+
+    /// Whether an answer to the land office has not gone out.
+    fn is_office_sending(&self) -> bool
+        ensures { IsTrue result → IsOfficeSending self.now.office }
+    {
+        match &self.office {
+            Some(office) => office.entry.is_sending(),
+            None => false,
+        }
+    }
+
+    /// A write of the answer that has not gone out to the land office, if it takes something.
+    fn send_office<N: Network<Socket = S>, R: Responder>(&mut self, net: &mut N, desk: &mut Desk<R>)
+        ensures { Hosts R.Responder IsClosing None (N.history net.old) desk.old (here N.name self.old) (N.history net.new) desk.new (here N.name self.new) }
+    {
+        if !self.peers.ready.office || !self.is_office_sending() {
+            return;
+        }
+        let Some(office) = self.office.take() else {
+            return;
+        };
+        let (turned, office) = office.send(net);
+        self.office = office;
+        self.peers.ready.office = !matches!(turned, EntryTurned::Waits);
+    }
+
+    /// A write to each of them of what has not gone out, if it takes something.
+    fn send_all<N: Network<Socket = S>, R: Responder>(&mut self, net: &mut N, desk: &mut Desk<R>)
+        ensures { Hosts R.Responder IsClosing None (N.history net.old) desk.old (here N.name self.old) (N.history net.new) desk.new (here N.name self.new) }
+    {
+        self.peers.send_ready(net, desk);
+        self.send_office(net, desk);
+    }
+
+    /// Lets the replies and the office's answer go out that are under way, for five seconds at most. Nothing is read or answered.
+    fn send_last<N: Network<Socket = S>, R: Responder>(&mut self, net: &mut N, desk: &mut Desk<R>) -> Result<()>
+        ensures { Hosts R.Responder IsClosing None (N.history net.old) desk.old (here N.name self.old) (N.history net.new) desk.new (here N.name self.new) }
+    {
+        let began = self.peers.now;
+        for _ in 0..u64::MAX {
+            self.send_all(net, desk);
+            let is_sending = self.is_office_sending() || self.peers.any_sending();
+            if !is_sending || LAST_SECONDS <= self.peers.now.saturating_sub(began) {
+                return Ok(());
+            }
+            self.wait_last(net, desk)?;
+        }
+        Ok(())
+    }
+
+    /// The same, if the network was not at fault.
+    fn send_if<N: Network<Socket = S>, R: Responder>(
+        &mut self,
+        is_sound: bool,
+        net: &mut N,
+        desk: &mut Desk<R>,
+    ) -> Result<()>
+        ensures { Hosts R.Responder IsClosing None (N.history net.old) desk.old (here N.name self.old) (N.history net.new) desk.new (here N.name self.new) }
+    {
+        if is_sound {
+            self.send_last(net, desk)
+        } else {
+            Ok(())
+        }
+    }
+
+    /// Lets the land office go, if it is here.
+    fn part_office<N: Network<Socket = S>, R: Responder>(&mut self, net: &mut N, desk: &mut Desk<R>)
+        ensures clients { self.new.peers ≡ self.old.peers }
+        ensures nobody { self.new.office ≡ None }
+        ensures hosts { Hosts R.Responder IsClosing None (N.history net.old) desk.old (here N.name self.old) (N.history net.new) desk.new (here N.name self.new) }
+    {
+        if let Some(office) = self.office.take() {
+            net.let_go(office.into_socket());
+        }
+    }
+
+    /// Lets all go.
+    fn part<N: Network<Socket = S>, R: Responder>(&mut self, net: &mut N, desk: &mut Desk<R>)
+        ensures nobody { IsEmpty (here N.name self.new) }
+        ensures hosts { Hosts R.Responder IsClosing None (N.history net.old) desk.old (here N.name self.old) (N.history net.new) desk.new (here N.name self.new) }
+    {
+        self.peers.part(net, desk);
+        self.part_office(net, desk);
+    }
+
+    /// Lets what is under way go out, if the network was not at fault, and then all go.
+    pub(crate) fn end<N: Network<Socket = S>, R: Responder>(
+        &mut self,
+        is_sound: bool,
+        net: &mut N,
+        desk: &mut Desk<R>,
+    ) -> Result<()>
+        ensures nobody { IsEmpty (here N.name self.new) }
+        ensures hosts { Hosts R.Responder IsClosing None (N.history net.old) desk.old (here N.name self.old) (N.history net.new) desk.new (here N.name self.new) }
+    {
+        let sent = self.send_if(is_sound, net, desk);
+        self.part(net, desk);
+        let drained = net.drain();
+        sent.and(drained)
+    }
+}

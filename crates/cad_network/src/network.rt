@@ -1,0 +1,58 @@
+//! Sockets that never wait.
+
+use std::io::Result;
+
+/// A network at whose doors sockets come. None of its calls waits for a peer but `wait` and `drain`.
+pub trait Network {
+    ghost use Rattle.std.specs.Prelude.{◌≡◌, ℕ, List, [], ◌∷◌, Option};
+    ghost use Rattle.std.specs.Io.{ReadsAtMost, WritesAtMost};
+    ghost use Rattle.cad_network.specs.Deeds.{Deed, left, Adds, accepting, accepting_office, reading, waking, writing};
+
+    /// A socket that was taken at a door.
+    type Socket: Drop;
+
+    // What was done at its sockets so far, where that is known.
+    ghost history: { Self → Option (List Deed) };
+
+    // By what number the history tells a socket from all others.
+    ghost name: { Self.Socket → ℕ };
+
+    /// Takes a client's socket.
+    fn accept(&mut self) -> Result<Self::Socket>
+        ensures { Adds (history self.old) (history self.new) (accepting name result) };
+
+    /// Takes the land office's socket.
+    fn accept_office(&mut self) -> Result<Self::Socket>
+        ensures { Adds (history self.old) (history self.new) (accepting_office name result) };
+
+    /// Tells from now on when this socket may give or take something, by this place.
+    fn watch(&mut self, socket: &mut Self::Socket, place: usize) -> Result<()>
+        ensures same { name socket.new ≡ name socket.old }
+        ensures done { Adds (history self.old) (history self.new) [] };
+
+    /// One read.
+    fn read(&mut self, socket: &Self::Socket, buffer: &mut [u8]) -> Result<usize>
+        ensures bound { ReadsAtMost result buffer.new }
+        ensures done { Adds (history self.old) (history self.new) (reading (name socket.now) buffer.new result) };
+
+    /// One write.
+    fn write(&mut self, socket: &Self::Socket, bytes: &[u8]) -> Result<usize>
+        ensures bound { WritesAtMost result bytes.now }
+        ensures done { Adds (history self.old) (history self.new) (writing (name socket.now) bytes.now result) };
+
+    /// Lets a socket go. What its peer still sends is dropped.
+    fn let_go(&mut self, socket: Self::Socket)
+        ensures { Adds (history self.old) (history self.new) (left (name socket) ∷ []) };
+
+    /// Waits until a socket may give or take something, or for so many milliseconds. The seconds since the start.
+    fn wait(&mut self, milliseconds: u64) -> Result<u64>
+        ensures { Adds (history self.old) (history self.new) [] };
+
+    /// The place of a socket that may give or take something, of those that the last wait told.
+    fn next_ready(&mut self) -> Option<usize>
+        ensures { Adds (history self.old) (history self.new) (waking result) };
+
+    /// Waits until the peers of sockets that were let go have what was written to them.
+    fn drain(&mut self) -> Result<()>
+        ensures { Adds (history self.old) (history self.new) [] };
+}

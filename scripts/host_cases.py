@@ -1,0 +1,113 @@
+#!/usr/bin/env python3
+"""Cases of the loop over a network whose peers do as they are told, for crates/clients_cases.
+
+    scripts/host_cases.py [SEED] [COUNT]     prints the cases; those that are stored are of seed 1, 400 of them
+
+Each case is a line `host STEPS`: clients and land offices that come, send, take and fail in some order, and of which the network tells
+in some order; short reads and writes, want of memory for a reply, want of descriptors, more clients than there is room for, offices
+that leave before their answer is written, clients that do nothing for too long, and stops while replies are under way.
+"""
+import random
+import sys
+
+REQUESTS = ["GET /a HTTP/1.1||", "GET /b HTTP/1.1|Host: x||", "GET /c HTTP/1.0||", "POST /d HTTP/1.1|Connection: close||", "GET /lost HTTP/1.1||", "GET /full HTTP/1.1||", "no request|", "GET /e HTTP/1.1|"]
+LINES = ['{"do":"enter","object":%d,"first":"2000-01-01","unit":{}}_', "hello_", "_", '{"do":"enter","object":%d,']
+
+
+def texts(chance):
+    """What a client sends: requests, one after the other, in pieces."""
+    whole = "".join(chance.choice(REQUESTS) for _ in range(chance.randint(1, 4)))
+    while whole:
+        count = chance.choice([1, 5, 17, len(whole), len(whole)])
+        yield whole[:count]
+        whole = whole[count:]
+
+
+class Case:
+    """A case as it is drawn: who is there, and what they have to send yet."""
+
+    def __init__(self, chance):
+        self.chance, self.steps, self.peers, self.unsent, self.offices = chance, [], 0, {}, set()
+
+    def come(self):
+        self.steps.append("come")
+        self.unsent[self.peers] = list(texts(self.chance))
+        self.peers += 1
+
+    def come_office(self):
+        self.steps.append("office")
+        lines = [self.chance.choice(LINES) for _ in range(self.chance.randint(0, 4))]
+        self.unsent[self.peers] = [it % self.chance.randint(1, 6) if "%" in it else it for it in lines]
+        self.offices.add(self.peers)
+        self.peers += 1
+
+    def act(self):
+        """Something that a peer does."""
+        peer = self.chance.randrange(self.peers)
+        what = self.chance.random()
+        if what < 0.5 and self.unsent[peer]:
+            self.steps.append(f"give {peer} {self.unsent[peer].pop(0)}")
+        elif what < 0.85:
+            self.steps.append(f"room {peer} {self.chance.choice([1, 7, 40, 1000, 1000])}")
+        elif what < 0.93:
+            self.steps.append(f"hang {peer}")
+        elif what < 0.97:
+            self.steps.append(f"break {peer}")
+
+    def wait(self, doors=False):
+        """What the network tells, in some order, and the end of a wait."""
+        places = [64, 65, 66] + list(range(min(self.peers, 64)))
+        told = [it for it in places if self.chance.random() < (0.6 if self.peers < 20 else 0.15) or doors and it in (65, 66)]
+        self.chance.shuffle(told)
+        self.steps += [" ".join(["wake"] + [str(it) for it in told])] * bool(told) + ["end"]
+
+    def stop(self):
+        """An office comes and asks to stop."""
+        self.steps += ["office", f"give {self.peers} stop_" if self.chance.random() < 0.8 else f"give {self.peers} stop"]
+        self.unsent[self.peers] = []
+        self.peers += 1
+        self.steps += [f"hang {it}" for it in sorted(self.offices)]
+        for _ in range(self.chance.randint(4, 10)):
+            self.wait(True)
+
+
+def case(chance):
+    drawn = Case(chance)
+    drawn.come()
+    crowd = chance.random() < 0.08
+    if crowd:
+        for _ in range(chance.choice([62, 63, 64, 66])):
+            drawn.come()
+    second = 0
+    for _ in range(chance.randint(4, 16)):
+        for _ in range(chance.randint(0, 4)):
+            what = chance.random()
+            if what < 0.12 and drawn.peers < 12:
+                drawn.come()
+            elif what < 0.18 and drawn.peers < 14:
+                drawn.come_office()
+            elif what < 0.2:
+                drawn.steps.append(f"refuse {chance.randint(1, 70)}")
+            elif what < 0.22:
+                drawn.steps.append(f"unwatched {chance.randint(1, 2)}")
+            elif what < 0.26:
+                second += chance.choice([1, 3, 30, 60, 150])
+                drawn.steps.append(f"second {second}")
+            else:
+                drawn.act()
+        drawn.wait()
+    if chance.random() < 0.7:
+        drawn.stop()
+    return "host " + ";".join(drawn.steps)
+
+
+def main():
+    seed = int(sys.argv[1]) if len(sys.argv) > 1 else 1
+    count = int(sys.argv[2]) if len(sys.argv) > 2 else 400
+    chance = random.Random(seed)
+    for _ in range(count):
+        print(case(chance))
+
+
+if __name__ == "__main__":
+    main()
