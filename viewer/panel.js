@@ -23,17 +23,36 @@ async function choose(kind, object, unit = null) {
   if (matchMedia("(max-width: 900px)").matches) by("side").scrollIntoView({ block: "start" });
 }
 
-function chooseAt(left, top, parcels) {
+/** Chooses what lies at a point of the map: of the parcels that are drawn, or of the register where their density is. */
+async function chooseAt(left, top, parcels) {
   const place = toPlane(left, top);
-  const found = parcels.findLast((it) => holds(it, place));
-  if (found) {
-    choose("parcel", found.properties.object, found.properties.unit);
-    return;
+  try {
+    const some = shown.density && !isComparing() ? await parcelsAt(place) : parcels;
+    const found = some.findLast((it) => holds(it, place));
+    if (found) {
+      choose("parcel", found.properties.object, found.properties.unit);
+      return;
+    }
+    chooseNothing();
+    writeAddress();
+    draw();
+    emptyPanel("No parcel lies here. Click one to see its versions, and the rights, restrictions and responsibilities of its unit.");
+  } catch (fault) {
+    if (fault.name !== "AbortError") emptyPanel(`This could not be read: ${fault.message}.`);
   }
-  chooseNothing();
-  writeAddress();
-  draw();
-  emptyPanel("No parcel lies here. Click one to see its versions, and the rights, restrictions and responsibilities of its unit.");
+}
+
+async function parcelsAt([x, y]) {
+  writing.abort();
+  writing = new AbortController();
+  const { signal } = writing;
+  by("panel").setAttribute("aria-busy", "true");
+  try {
+    const box = [Math.floor(x), Math.floor(y), Math.ceil(x), Math.ceil(y)].join(",");
+    return drawable((await listed("parcels", { ...conditions(), revision: shown.revision, bbox: box }, signal)).features);
+  } finally {
+    if (!signal.aborted) by("panel").removeAttribute("aria-busy");
+  }
 }
 
 function chooseNothing() {
