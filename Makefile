@@ -138,9 +138,9 @@ proxy: sample cadastred
 	scripts/check_proxy
 
 # Opens viewer/ in headless Chromium, behind nginx and `cadastred`, on a village and on 100,000 parcels, and holds what it shows against the register.
-# PICTURE names a file for a picture of the village, PICTURES a folder for pictures of the many. Needs chromium, nginx-light and openssl.
+# PICTURES names a folder for pictures of both, and for the sheet. Needs chromium, nginx-light and openssl.
 viewer: sample cadastred
-	scripts/check_viewer $(PICTURE)
+	scripts/check_viewer $(PICTURES)
 	scripts/check_viewer_many $(PICTURES)
 
 # Puts the programs into a Debian package, looks at it, and where root may installs, uses and removes it. Needs debhelper and lintian.

@@ -36,8 +36,9 @@ class Browser:
         self.send("Network.setExtraHTTPHeaders", headers=fields)
         self.resize(width, height)
 
-    def resize(self, width, height):
-        self.send("Emulation.setDeviceMetricsOverride", width=width, height=height, deviceScaleFactor=1, mobile=False)
+    def resize(self, width, height, mobile=False):
+        self.send("Emulation.setDeviceMetricsOverride", width=width, height=height, deviceScaleFactor=1, mobile=mobile)
+        self.send("Emulation.setTouchEmulationEnabled", enabled=mobile)
 
     def read(self):
         while b"\0" not in self.held:
@@ -86,6 +87,29 @@ class Browser:
     def click(self, left, top):
         for kind in ("mousePressed", "mouseReleased"):
             self.send("Input.dispatchMouseEvent", type=kind, x=left, y=top, button="left", clickCount=1)
+
+    def touch(self, kind, *points):
+        """A touch event (touchStart, touchMove, touchEnd) with fingers at these points."""
+        self.send("Input.dispatchTouchEvent", type=kind, touchPoints=[{"x": x, "y": y, "id": at} for at, (x, y) in enumerate(points)])
+
+    def key(self, name):
+        """Presses a key, which types itself if it is one letter or sign."""
+        codes = {"Tab": 9, "Enter": 13, "Escape": 27, "ArrowLeft": 37, "ArrowUp": 38, "ArrowRight": 39, "ArrowDown": 40}
+        typed = {"text": name} if len(name) == 1 else {"text": "\r"} if name == "Enter" else {}
+        self.send("Input.dispatchKeyEvent", type="keyDown", key=name, windowsVirtualKeyCode=codes.get(name, 0), **typed)
+        self.send("Input.dispatchKeyEvent", type="keyUp", key=name, windowsVirtualKeyCode=codes.get(name, 0))
+
+    def media(self, media="", **features):
+        """Emulates a medium, or features of it by their names with _ for -."""
+        self.send("Emulation.setEmulatedMedia", media=media, features=[{"name": name.replace("_", "-"), "value": value} for name, value in features.items()])
+
+    def pdf(self):
+        """The page as it is printed."""
+        return base64.b64decode(self.send("Page.printToPDF", preferCSSPageSize=True, printBackground=True)["data"])
+
+    def downloads(self, folder):
+        """Files that the page saves go to the folder."""
+        self.send("Page.setDownloadBehavior", behavior="allow", downloadPath=str(folder))
 
     def picture(self, path):
         with open(path, "wb") as it:

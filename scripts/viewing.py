@@ -89,8 +89,10 @@ def shown_text(count, day, revision, last, asked=""):
 
 
 class Page:
-    def __init__(self, at, address):
-        self.at, self.address = at, address
+    """The page in a browser, its address behind the proxy, and that of the server."""
+
+    def __init__(self, at, address, server):
+        self.at, self.address, self.server = at, address, server
 
     def open(self, fragment):
         """Goes to the page; the seconds until it was drawn."""
@@ -105,7 +107,7 @@ class Page:
     def settle(self):
         """Waits until nothing is asked for any more."""
         time.sleep(0.3)
-        self.at.until("document.body.dataset.busy === undefined && !document.getElementById('panel').hasAttribute('aria-busy')")
+        self.at.until("document.body.dataset.busy === undefined && !document.querySelector('[aria-busy]')")
 
     def text(self, identifier):
         return self.at.value(f"document.getElementById({json.dumps(identifier)}).textContent")
@@ -122,9 +124,14 @@ class Page:
         """Where a point of the plane is on the page."""
         return self.at.value(f"(() => {{ const box = canvas.getBoundingClientRect(); const [x, y] = toScreen({json.dumps(point)}); return [box.left + x, box.top + y]; }})()")
 
+    def colour(self, point, canvas="canvas"):
+        """Red, green, blue and opacity at a point of the plane."""
+        pixel = f"document.getElementById('{canvas}').getContext('2d').getImageData(Math.round(x), Math.round(y), 1, 1).data"
+        return self.at.value(f"(() => {{ const [x, y] = toScreen({json.dumps(point)}); return [...{pixel}]; }})()")
+
     def is_drawn(self, point):
         """Whether something is drawn at a point of the plane."""
-        return self.at.value(f"(() => {{ const [x, y] = toScreen({json.dumps(point)}); return canvas.getContext('2d').getImageData(Math.round(x), Math.round(y), 1, 1).data[3] > 0; }})()")
+        return self.colour(point)[3] > 0
 
 
 @contextlib.contextmanager
@@ -134,7 +141,7 @@ def opened(file):
     with tempfile.TemporaryDirectory() as name, served.hosting(file) as address, proxy(Path(name), address) as behind:
         at = browser.Browser(WIDTH, HEIGHT, fields)
         try:
-            yield Page(at, behind)
+            yield Page(at, behind, address)
             need(at.complaints, [], "the console")
         finally:
             at.end()
