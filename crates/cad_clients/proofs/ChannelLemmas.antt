@@ -12,7 +12,7 @@ use Rattle.cad_clients.specs.declared.channel.Channel.{Channel}
 use Rattle.cad_clients.specs.declared.turned.Ending.TheVariants.{Refused}
 use Rattle.cad_clients.specs.declared.turned.Turned.{Turned}
 use Rattle.cad_clients.specs.declared.turned.Turned.TheVariants.{Over}
-use Rattle.cad_clients.specs.Channels.{unfed, IsReady, IsIdle, IsTold, IsRefusedPiece, Closes, IsTurn}
+use Rattle.cad_clients.specs.Channels.{unfed, IsReady, IsIdle, SendsFault, IsRefusedPiece, Closes, IsTurn}
 
 -- what follows a place is so many bytes and what follows them
 pub goes_on_at : (at count : ℕ) (bytes : List ℕ) → drop at bytes ≡ take count (drop at bytes) ++ drop (at + count) bytes
@@ -45,19 +45,19 @@ is_last channel piece part rest e f front =
 module _ {R : Type 0} (g : Ghosts R) (c s : ℕ) where
   -- the desk refused the next piece, and that was told
   pub refused : (a b : Option (List Deed)) (old new : Desk R) (channel next : Channel) (fault : DeskFault) (result : Turned) → result ≡ Over (Refused fault) → IsReady channel
-      → AddsSome a b (IsTold s fault) → IsRefusedPiece g c old channel fault new → AddsSome a b (IsTurn g c s old channel result new next)
+      → AddsSome a b (SendsFault s fault) → IsRefusedPiece g c old channel fault new → AddsSome a b (IsTurn g c s old channel result new next)
   refused a b old new channel next fault result e ready head piece =
       subst (λ (t : Turned). AddsSome a b (IsTurn g c s old channel t new next)) (sym e) (head.0, head.1, (ready, (head.0, head.2, inl (refl, piece))))
 
   -- there was no memory for the next piece
   pub unfed_refused : (a b : Option (List Deed)) (old new : Desk R) (channel next : Channel) (result : Turned) → result ≡ Over (Refused Memory) → IsReady channel
-      → AddsSome a b (IsTold s Memory) → 0 < length (unfed channel) → Closes g c old new → AddsSome a b (IsTurn g c s old channel result new next)
+      → AddsSome a b (SendsFault s Memory) → 0 < length (unfed channel) → Closes g c old new → AddsSome a b (IsTurn g c s old channel result new next)
   unfed_refused a b old new channel next result e ready head some closes =
       subst (λ (t : Turned). AddsSome a b (IsTurn g c s old channel t new next)) (sym e) (head.0, head.1, (ready, (head.0, head.2, inr (refl, (inl (refl, some), closes)))))
 
   -- there was no memory for what was read
   pub unkept : (a b : Option (List Deed)) (old new : Desk R) (channel next : Channel) (bytes : List ℕ) (result : Turned) → result ≡ Over (Refused Memory) → IsIdle channel → IsPiece bytes
-      → AddsSome a b (IsTold s Memory) → Closes g c old new → AddsSome a b (λ told. IsTurn g c s old channel result new next (gave s bytes ∷ told))
+      → AddsSome a b (SendsFault s Memory) → Closes g c old new → AddsSome a b (λ told. IsTurn g c s old channel result new next (gave s bytes ∷ told))
   unkept a b old new channel next bytes result e idle piece head closes =
       subst (λ (t : Turned). AddsSome a b (λ told. IsTurn g c s old channel t new next (gave s bytes ∷ told))) (sym e)
       (head.0, head.1, (idle.ready, (head.0, head.2, inr (refl, (inr (bytes, refl, idle, piece), closes)))))

@@ -91,8 +91,8 @@ module _ {R : Type 0} (g : Ghosts R) (c : ℕ) where
       (piece : Vec ℕ) × (rest : List ℕ) × IsPiece piece.items × (unfed channel ≡ piece.items ++ rest) × Steps g old (Bytes c piece) (Err fault) new
 
 -- the deeds at socket s: the head that tells the fault is written, or a front of it, or that can't be done
-abbrev pub IsTold : ℕ → DeskFault → List Deed → Type 0
-IsTold s fault deeds =
+abbrev pub SendsFault : ℕ → DeskFault → List Deed → Type 0
+SendsFault s fault deeds =
     (deeds ≡ blocked s ∷ []) ⊎ ((deeds ≡ failed s ∷ []) ⊎ ((front : List ℕ) × IsFront front (fixed_head fault) × (deeds ≡ deed.took s front ∷ [])))
 
 -- a write to socket s failed, or took nothing
@@ -109,7 +109,7 @@ module _ {R : Type 0} (g : Ghosts R) (c s : ℕ) where
   -- the desk refused the next piece, or there was no memory; and that was told
   abbrev pub IsNotTaken : Desk R → Channel → DeskFault → Desk R → List Deed → Type 0
   IsNotTaken old channel fault new deeds =
-      (told : List Deed) × IsTold s fault told
+      (told : List Deed) × SendsFault s fault told
       × (((deeds ≡ told) × IsRefusedPiece g c old channel fault new) ⊎ ((fault ≡ Memory) × HasNoRoom old channel new told deeds))
 
   -- how the connection is over

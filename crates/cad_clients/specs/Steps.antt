@@ -61,7 +61,7 @@ module _ {R S : Type 0} (g : Ghosts R) (name : S → ℕ) (c now : ℕ) where
       × Changes clients next c (Some client))
   Opens socket old clients (Err fault) new next deeds =
       desks.Steps g old (Open c) (Err fault) new × Keeps clients next
-      × ((told : List Deed) × channels.IsTold (name socket) fault told × (deeds ≡ told ++ left (name socket) ∷ []))
+      × ((told : List Deed) × channels.SendsFault (name socket) fault told × (deeds ≡ told ++ left (name socket) ∷ []))
 
   -- connection c has a turn, by its own channel, its own socket and its own number at the desk, and it is kept what came of it; all others are as they were
   abbrev pub HasTurn : Desk R → Clients S → Option Turned → Desk R → Clients S → List Deed → Type 0

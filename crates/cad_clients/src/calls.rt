@@ -2,7 +2,7 @@
 
 ghost use Rattle.std.specs.Prelude.{◌≡◌};
 ghost use Rattle.cad_network.specs.Deeds.{AddsSome};
-ghost use Rattle.cad_clients.specs.Channels.{Closes, IsTold};
+ghost use Rattle.cad_clients.specs.Channels.{Closes, SendsFault};
 
 use crate::turned::{Ending, Turned};
 use cad_desk::{Desk, DeskFault, Event};
@@ -19,7 +19,7 @@ pub(crate) fn close<R: Responder>(desk: &mut Desk<R>, c: u32)
 
 /// Tells the fault at a socket, as far as one write takes that.
 pub fn tell_fault<N: Network>(net: &mut N, socket: &N::Socket, fault: DeskFault)
-    ensures { AddsSome (N.history net.old) (N.history net.new) (IsTold (N.name socket.now) fault) }
+    ensures { AddsSome (N.history net.old) (N.history net.new) (SendsFault (N.name socket.now) fault) }
 {
     let _ = net.write(socket, fixed_head(fault).as_bytes());
 }
@@ -27,7 +27,7 @@ pub fn tell_fault<N: Network>(net: &mut N, socket: &N::Socket, fault: DeskFault)
 /// Tells the fault. Where that cannot be written now, the fault stands all the same.
 pub(crate) fn refuse<N: Network>(net: &mut N, socket: &N::Socket, fault: DeskFault) -> Turned
     ensures refused { result ≡ Turned.Over (Ending.Refused fault) }
-    ensures head { AddsSome (N.history net.old) (N.history net.new) (IsTold (N.name socket.now) fault) }
+    ensures head { AddsSome (N.history net.old) (N.history net.new) (SendsFault (N.name socket.now) fault) }
 {
     tell_fault(net, socket, fault);
     Turned::Over(Ending::Refused(fault))

@@ -257,6 +257,7 @@ module _ {R : Type 0} (g : Ghosts R) where
               let name = same_name t s goes.2.1 other (sym (puts f ∙ rw h refl) ∙ at) in
               sym (eqb-true d f h) ∙ one d goes.2.0 (at_d ∙ ap (λ (n : ℕ). Some (n, goes.2.0)) name)
           same false h = one f other (sym (puts f ∙ rw h refl) ∙ at)
+
       go : ((it : Channel) → goes.1.slots c ≡ Some (s, it) → HeldOnce s c goes.1 → IsOwn s c later) → (same : Bool) → nat_eq d c ≡ same → IsOwn s c (acts t d act ∷ later)
       go again true e =
           let name = same_name t s goes.2.0 channel (sym goes.2.2 ∙ (ap place.slots (eqb-true d c e) ∙ here)) in
@@ -278,12 +279,14 @@ module _ {R : Type 0} (g : Ghosts R) where
           same : (is : Bool) → nat_eq d f ≡ is → f ≡ c
           same true h = absurd (none_some {X = ℕ × Channel} (s, other) (sym (puts f ∙ rw h refl) ∙ at))
           same false h = one f other (sym (puts f ∙ rw h refl) ∙ at)
+
       gone_all : (a b : Held) → Puts a b d None → OnceIn s c a → d ≡ c → NotIn s b
       gone_all a b puts one is_c f other at = same (nat_eq d f) refl
         where
           same : (is : Bool) → nat_eq d f ≡ is → ⊥
           same true h = none_some {X = ℕ × Channel} (s, other) (sym (puts f ∙ rw h refl) ∙ at)
           same false h = apart d f h (is_c ∙ sym (one f other (sym (puts f ∙ rw h refl) ∙ at)))
+
       go : comes s (all_deeds later) ≡ false → (goes.1.slots c ≡ Some (s, channel) → HeldOnce s c goes.1 → IsOwn s c later) → (same : Bool) → nat_eq d c ≡ same → IsOwn s c (ends t d cause deeds said ∷ later)
       go none_later again true e =
           let rest = unheld s later goes.0 new goes.1 next goes.3 (gone_all place.slots goes.1.slots goes.2.5 once.0 (eqb-true d c e), kept_office s place.office goes.1.office goes.2.6 once.1) none_later in

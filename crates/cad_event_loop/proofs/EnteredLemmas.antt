@@ -14,7 +14,7 @@ use Rattle.cad_office.specs.Keeping.{Asks}
 use Rattle.cad_office_socket.specs.declared.turned.EntryTurned.{EntryTurned}
 use Rattle.cad_office_socket.specs.declared.turned.EntryTurned.TheVariants.{Wrote, Took, Added, Answered, Lost, Stops, Waits, Over}
 use Rattle.cad_event_loop.specs.Works.{Place, Said, Work, wakes, opens, acts, waits, ends, office_comes, enters, office_leaves, aside, SaysSo, IsLineSaid, Tells, Goes, MayGoOn}
-use Rattle.cad_event_loop.specs.Laws.{commands_told, commands_in, AreEntered, AreFirst, AreFirstBy, LedgerStands}
+use Rattle.cad_event_loop.specs.Laws.{commands_by, commands_in, AreEntered, AreFirst, AreFirstBy, LedgerStands}
 use Rattle.cad_event_loop.proofs.StandLemmas.{goes_clean, goes_stands}
 
 module _ {R : Type 0} (g : Ghosts R) where
@@ -24,17 +24,17 @@ module _ {R : Type 0} (g : Ghosts R) where
 
   -- the same by a line that was answered
   abbrev EnteredBy : List Command → List ℕ → Answer → Said → List Work → Type 0
-  EnteredBy commands text answer said later = (entered : List Command) × AreFirst (AreEntered later) (length commands) text answer entered × (commands_in (commands_told commands said) later ≡ commands ++ entered)
+  EnteredBy commands text answer said later = (entered : List Command) × AreFirst (AreEntered later) (length commands) text answer entered × (commands_in (commands_by commands said) later ≡ commands ++ entered)
 
   module _ (commands : List Command) (text : List ℕ) (said : Said) (later : List Work) (old mid : Desk R) (tells : Tells g old said mid) (counts : g.counts (responder_of mid)) (stands : g.stands_for (responder_of old) commands)
-      (rest : EnteredIn (commands_told commands said) later) where
-    none_more : commands_told commands said ≡ commands → EnteredIn commands later
+      (rest : EnteredIn (commands_by commands said) later) where
+    none_more : commands_by commands said ≡ commands → EnteredIn commands later
     none_more same = subst (λ (cs : List Command). EnteredIn cs later) same rest
 
     answered : (answer : Answer) → SaysSo text answer said → EnteredBy commands text answer said later
     answered (Entered revision) says =
-        let told : commands_told commands said ≡ commands ++ says.0 ∷ [] = rw says.2 refl in
-        let count : length (commands_told commands said) ≡ length commands + 1 = rw told (length-append commands (says.0 ∷ [])) in
+        let told : commands_by commands said ≡ commands ++ says.0 ∷ [] = rw says.2 refl in
+        let count : length (commands_by commands said) ≡ length commands + 1 = rw told (length-append commands (says.0 ∷ [])) in
         let step = subst (λ (it : Said). Tells g old it mid) says.2 tells in
         let revision_is = step.stepped.1 counts commands stands in (
           says.0 ∷ rest.0,
@@ -42,22 +42,22 @@ module _ {R : Type 0} (g : Ghosts R) where
           rest.2 ∙ (ap (λ (cs : List Command). cs ++ rest.0) told ∙ append_assoc commands (says.0 ∷ []) rest.0),
         )
     answered (Refused fault) says =
-        let same : commands_told commands said ≡ commands = elim says [
+        let same : commands_by commands said ≡ commands = elim says [
           | inl refused ↦ rw refused.2 refl
           | inr none ↦ rw none.2 refl
         ] in
         let r = none_more same in
         (r.0, r.1, subst (λ (cs : List Command). commands_in cs later ≡ commands ++ r.0) (sym same) r.2)
     answered NotACommand says =
-        let same : commands_told commands said ≡ commands = rw says.1 refl in
+        let same : commands_by commands said ≡ commands = rw says.1 refl in
         let r = none_more same in
         (r.0, r.1, subst (λ (cs : List Command). commands_in cs later ≡ commands ++ r.0) (sym same) r.2)
 
-    untold : said ≡ None → EnteredIn commands later × (commands_in (commands_told commands said) later ≡ commands_in commands later)
+    untold : said ≡ None → EnteredIn commands later × (commands_in (commands_by commands said) later ≡ commands_in commands later)
     untold none = (none_more (rw none refl), rw none refl)
 
     entered_by : (turned : EntryTurned) → IsLineSaid text turned said
-        → (entered : List Command) × AreFirstBy (AreEntered later) (length commands) text turned entered × (commands_in (commands_told commands said) later ≡ commands ++ entered)
+        → (entered : List Command) × AreFirstBy (AreEntered later) (length commands) text turned entered × (commands_in (commands_by commands said) later ≡ commands ++ entered)
     entered_by (Answered answer) line = answered answer line.1
     entered_by (Lost answer) line = answered answer line.1
     entered_by Stops line = let r = untold line.1 in (r.0.0, r.0.1, r.1 ∙ r.0.2)
@@ -105,7 +105,7 @@ module _ {R : Type 0} (g : Ghosts R) where
   entered_in commands (enters o text turned deeds said ∷ later) old new here next goes may counts stands =
       let after = goes_clean g later goes.0 new goes.1 next goes.3 counts in
       let one = goes_stands g commands (enters o text turned deeds said ∷ []) old goes.0 here goes.1 (goes.0, goes.1, goes.2, (refl, refl)) (may.0, tt) after stands in
-      entered_by commands text said later old goes.0 goes.2.7 after stands (entered_in (commands_told commands said) later goes.0 new goes.1 next goes.3 may.1 counts one) turned goes.2.6
+      entered_by commands text said later old goes.0 goes.2.7 after stands (entered_in (commands_by commands said) later goes.0 new goes.1 next goes.3 may.1 counts one) turned goes.2.6
 
   pub ledger_stands : LedgerStands g
   ledger_stands commands works old new here next goes may counts stands =

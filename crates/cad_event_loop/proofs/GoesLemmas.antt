@@ -17,7 +17,7 @@ use Rattle.cad_clients.specs.declared.turned.Ending.{Ending}
 use Rattle.cad_clients.specs.declared.turned.Ending.TheVariants.{PeerEnded, WeEnded, Refused, ReadFailed, WriteFailed}
 use Rattle.cad_clients.specs.declared.turned.Turned.{Turned}
 use Rattle.cad_clients.specs.declared.turned.Turned.TheVariants.{Wrote, Took, Fed, Waits, Over}
-use Rattle.cad_clients.specs.Channels.{Act, wrote, took, fed, unsent, Does, EndsSo, IsSending, IsTold, Closes}
+use Rattle.cad_clients.specs.Channels.{Act, wrote, took, fed, unsent, Does, EndsSo, IsSending, SendsFault, Closes}
 use Rattle.cad_clients.specs.declared.client.Client.{Client}
 use Rattle.cad_clients.specs.declared.clients.Clients.{Clients}
 use Rattle.cad_clients.specs.declared.served.Served.{Served}
@@ -43,7 +43,7 @@ held_if name true x y = refl
 held_if name false x y = refl
 
 -- a head that is told to socket t
-pub told_quiet : (s t : ℕ) (fault : DeskFault) (told : List Deed) → IsTold t fault told → nat_eq t s ≡ false → IsQuiet s told
+pub told_quiet : (s t : ℕ) (fault : DeskFault) (told : List Deed) → SendsFault t fault told → nat_eq t s ≡ false → IsQuiet s told
 told_quiet s t fault told is e = elim is [
   | inl later ↦ rw later (refl, refl)
   | inr more ↦
@@ -217,9 +217,21 @@ module _ {R : Type 0} (g : Ghosts R) where
     acted : (act : Act) (old new : Desk R) (clients next : Clients S) (client after : Client S) (deeds : List Deed) → client_at clients c ≡ Some client → after.socket ≡ client.socket
         → deeds ≡ deeds_in (name client.socket) act → Does g c old client.channel act new after.channel → Changes clients next c (Some after) → (IsSending client.channel → IsLastAct act)
         → IsOneWork old clients client.channel None new next deeds
-    acted act old new clients next client after deeds at socket are does changes last =
-        (acts (name client.socket) c act, are, (client.channel, after.channel, ap (held_of name) at, does,
-        subst (λ (s : ℕ). Puts (held_at name clients) (held_at name next) c (Some (s, after.channel))) (ap name socket) (held_puts name clients next c (Some after) changes), refl), refl, tt, last)
+    acted act old new clients next client after deeds at socket are does changes last = (
+      acts (name client.socket) c act,
+      are,
+      (
+        client.channel,
+        after.channel,
+        ap (held_of name) at,
+        does,
+        subst (λ (s : ℕ). Puts (held_at name clients) (held_at name next) c (Some (s, after.channel))) (ap name socket) (held_puts name clients next c (Some after) changes),
+        refl,
+      ),
+      refl,
+      tt,
+      last,
+    )
 
     turn_works : (now : ℕ) (turned : Turned) (old new : Desk R) (clients next : Clients S) (deeds : List Deed) → (t : steps.HasTurn g name c now old clients (Some turned) new next deeds)
         → IsOneWork old clients t.0.channel (end_of_turn turned) new next deeds
@@ -298,14 +310,23 @@ module _ {R : Type 0} (g : Ghosts R) where
     opened_hosts now (Ok done) socket from mid to old new clients next free comes s =
         let o = s.2.2 in
         let same = subst (λ (l : List Deed). Adds mid to l) s.2.1 s.1 in
-        hosts-one IsServing None from to old new (place_of name clients office) (place_of name next office) (opens (name socket) c) (Adds-trans from mid to (came (name socket) ∷ []) [] comes same) refl
-        (o.0.channel, ap (held_of name) free, o.2, s.2.0,
-        subst (λ (it : S). Puts (held_at name clients) (held_at name next) c (Some (name it, o.0.channel))) o.1 (held_puts name clients next c (Some o.0) o.5), refl) tt
+        hosts-one IsServing None from to old new (place_of name clients office) (place_of name next office) (opens (name socket) c) (Adds-trans from mid to (came (name socket) ∷ []) [] comes same) refl (
+          o.0.channel,
+          ap (held_of name) free,
+          o.2,
+          s.2.0,
+          subst (λ (it : S). Puts (held_at name clients) (held_at name next) c (Some (name it, o.0.channel))) o.1 (held_puts name clients next c (Some o.0) o.5),
+          refl,
+        ) tt
     opened_hosts now (Err fault) socket from mid to old new clients next free comes s =
         hosts-one IsServing None from to old new (place_of name clients office) (place_of name next office) (aside (came (name socket) ∷ s.0) (Some (Open c, Err fault)))
-        (Adds-trans from mid to (came (name socket) ∷ []) s.0 comes s.1) refl
-        ((c, ap (held_of name) free, refl, refl), s.2.0, held_same name clients next s.2.1,
-        inr (inl (name socket, fault, s.2.2.0, s.2.2.1, ap (λ (l : List Deed). came (name socket) ∷ l) s.2.2.2)), refl) tt
+        (Adds-trans from mid to (came (name socket) ∷ []) s.0 comes s.1) refl (
+          (c, ap (held_of name) free, refl, refl),
+          s.2.0,
+          held_same name clients next s.2.1,
+          inr (inl (name socket, fault, s.2.2.0, s.2.2.1, ap (λ (l : List Deed). came (name socket) ∷ l) s.2.2.2)),
+          refl,
+        ) tt
 
 -- what is held stays so
 pub same-trans : (a b d : Held) → Same a b → Same b d → Same a d

@@ -152,6 +152,7 @@ module _ {R : Type 0} (g : Ghosts R) (c s : ℕ) where
     where
       work : Works g old here_at (acts t d act) goes.0 goes.1
       work = goes.2
+
       go : ((it : Channel) → goes.1.slots c ≡ Some (s, it) → IsLife g c s goes.0 it later new next) → (same : Bool) → nat_eq d c ≡ same → IsLife g c s old channel (acts t d act ∷ later) new next
       go again true e =
           let same = eqb-true d c e in
@@ -177,6 +178,7 @@ module _ {R : Type 0} (g : Ghosts R) (c s : ℕ) where
     where
       work : Works g old here_at (ends t d cause deeds said) goes.0 goes.1
       work = goes.2
+
       go : ((it : Channel) → goes.1.slots c ≡ Some (s, it) → IsLife g c s goes.0 it later new next) → (same : Bool) → nat_eq d c ≡ same → IsLife g c s old channel (ends t d cause deeds said ∷ later) new next
       go again true e =
           let same = eqb-true d c e in

@@ -14,7 +14,7 @@ use Rattle.cad_clients.specs.declared.channel.Channel.{Channel}
 use Rattle.cad_clients.specs.Channels.{Act, wrote, took, fed, Does}
 use Rattle.cad_network.specs.Deeds.{Deed}
 use Rattle.cad_event_loop.specs.Works.{Held, Place, Said, Work, wakes, opens, acts, waits, ends, office_comes, enters, office_leaves, aside, said_by, SaysSo, IsEventOf, IsOf, IsOfNone, Tells, Works, Goes, MayAsk, MayGoOn}
-use Rattle.cad_event_loop.specs.Laws.{commands_told, commands_in}
+use Rattle.cad_event_loop.specs.Laws.{commands_by, commands_in}
 
 -- a refusal adds no command
 refused_same : (commands : List Command) (event : Event) (fault : DeskFault) → commands_after commands event (Err fault) ≡ commands
@@ -24,7 +24,7 @@ refused_same commands (Close c) fault = refl
 refused_same commands (Office command) fault = refl
 
 -- nor does what a client says
-client_same : (commands : List Command) (d : ℕ) (said : Said) → IsOf d said → commands_told commands said ≡ commands
+client_same : (commands : List Command) (d : ℕ) (said : Said) → IsOf d said → commands_by commands said ≡ commands
 client_same commands d None of = refl
 client_same commands d (Some told) of = by_event told.0 told.1 of
   where
@@ -35,7 +35,7 @@ client_same commands d (Some told) of = by_event told.0 told.1 of
     by_event (Office command) answer of = absurd of
 
 -- nor does a connection that is not opened
-none_same : (commands : List Command) (slots : Held) (said : Said) → IsOfNone slots said → commands_told commands said ≡ commands
+none_same : (commands : List Command) (slots : Held) (said : Said) → IsOfNone slots said → commands_by commands said ≡ commands
 none_same commands slots None of = refl
 none_same commands slots (Some told) of = ap (λ (e : Event). commands_after commands e told.1) of.2
 
@@ -80,7 +80,7 @@ module _ {R : Type 0} (g : Ghosts R) where
   same_stands commands old mid e stands = subst (λ (d : Desk R). g.stands_for (responder_of d) commands) (sym e) stands
 
   tells_stand : (commands : List Command) (old mid : Desk R) (said : Said) → Tells g old said mid → g.counts (responder_of mid) → MayAsk g old said mid
-      → g.stands_for (responder_of old) commands → g.stands_for (responder_of mid) (commands_told commands said)
+      → g.stands_for (responder_of old) commands → g.stands_for (responder_of mid) (commands_by commands said)
   tells_stand commands old mid None tells counts may stands = same_stands commands old mid tells stands
   tells_stand commands old mid (Some told) tells counts may stands = step_stands commands old mid told.0 told.1 tells counts may stands
 
@@ -114,7 +114,7 @@ module _ {R : Type 0} (g : Ghosts R) where
       goes_stands commands later goes.0 new goes.1 next goes.3 may.1 counts (same_stands commands old goes.0 goes.2.4 stands)
   goes_stands commands (enters o text turned deeds said ∷ later) old new slots next goes may counts stands =
       let after = goes_clean later goes.0 new goes.1 next goes.3 counts in
-      goes_stands (commands_told commands said) later goes.0 new goes.1 next goes.3 may.1 counts (tells_stand commands old goes.0 said goes.2.7 after may.0 stands)
+      goes_stands (commands_by commands said) later goes.0 new goes.1 next goes.3 may.1 counts (tells_stand commands old goes.0 said goes.2.7 after may.0 stands)
   goes_stands commands (aside deeds said ∷ later) old new slots next goes may counts stands =
       let after = goes_clean later goes.0 new goes.1 next goes.3 counts in
       let told = tells_stand commands old goes.0 said goes.2.1 after may.0 stands in

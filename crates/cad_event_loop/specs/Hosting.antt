@@ -8,7 +8,7 @@ use Rattle.cad_clients.specs.declared.served.Served.{Served}
 use Rattle.cad_clients.specs.declared.served.Served.TheVariants as client
 use Rattle.cad_clients.specs.declared.turned.Ending.{Ending}
 use Rattle.cad_clients.specs.declared.turned.Ending.TheVariants.{WriteFailed}
-use Rattle.cad_clients.specs.Channels.{Act, wrote, IsTold}
+use Rattle.cad_clients.specs.Channels.{Act, wrote, SendsFault}
 use Rattle.cad_office_socket.specs.declared.turned.EntryTurned.{EntryTurned}
 use Rattle.cad_office_socket.specs.declared.turned.EntryTurned.TheVariants as turn
 use Rattle.cad_event_loop.specs.declared.stopped.Stopped.{Stopped}
@@ -42,7 +42,7 @@ IsWoken deeds = (places : List ℕ) × (deeds ≡ map woke places)
 
 -- socket s is told that there is no room, and let go
 abbrev pub IsTurnedAway : ℕ → List Deed → Type 0
-IsTurnedAway s deeds = (told : List Deed) × IsTold s Memory told × (deeds ≡ told ++ left s ∷ [])
+IsTurnedAway s deeds = (told : List Deed) × SendsFault s Memory told × (deeds ≡ told ++ left s ∷ [])
 
 -- each of these is so
 module _ (May : Work → Type 0) where

@@ -19,9 +19,9 @@ use Rattle.cad_event_loop.specs.Works.{Place, Said, Work, wakes, opens, acts, wa
 use Rattle.cad_event_loop.specs.Lives.{last_deeds, IsLeft}
 
 -- the commands in force after what is said, and after all that is done: only what the land office entered adds to them
-abbrev pub commands_told : List Command → Said → List Command
-commands_told commands None = commands
-commands_told commands (Some told) = commands_after commands told.0 told.1
+abbrev pub commands_by : List Command → Said → List Command
+commands_by commands None = commands
+commands_by commands (Some told) = commands_after commands told.0 told.1
 
 abbrev pub commands_in : List Command → List Work → List Command
 commands_in commands [] = commands
@@ -31,7 +31,7 @@ commands_in commands (acts s c act ∷ later) = commands_in commands later
 commands_in commands (waits s c ∷ later) = commands_in commands later
 commands_in commands (ends s c cause deeds said ∷ later) = commands_in commands later
 commands_in commands (office_comes o ∷ later) = commands_in commands later
-commands_in commands (enters o text turned deeds said ∷ later) = commands_in (commands_told commands said) later
+commands_in commands (enters o text turned deeds said ∷ later) = commands_in (commands_by commands said) later
 commands_in commands (office_leaves o ∷ later) = commands_in commands later
 commands_in commands (aside deeds said ∷ later) = commands_in commands later
 

@@ -20,7 +20,7 @@ use Rattle.cad_clients.specs.declared.client.Client.{Client}
 use Rattle.cad_clients.specs.declared.clients.Clients.{Clients}
 use Rattle.cad_clients.specs.declared.turned.Ending.{Ending}
 use Rattle.cad_clients.specs.declared.turned.Ending.TheVariants.{PeerEnded, WeEnded, Refused, ReadFailed, WriteFailed}
-use Rattle.cad_clients.specs.Channels.{Act, wrote, took, fed, Does, MayWait, IsTold, EndsSo, Closes}
+use Rattle.cad_clients.specs.Channels.{Act, wrote, took, fed, Does, MayWait, SendsFault, EndsSo, Closes}
 use Rattle.cad_clients.specs.Laws.{IsNew}
 use Rattle.cad_clients.specs.Slots.{client_at}
 use Rattle.cad_office.specs.declared.print.Answer.{Answer}
@@ -205,7 +205,7 @@ is_last other = false
 -- nothing is done at a socket; or one comes and is turned away: it is let go, a client's after it is told why
 abbrev pub IsAside : List Deed → Type 0
 IsAside deeds =
-    (deeds ≡ []) ⊎ (((s : ℕ) × (fault : DeskFault) × (told : List Deed) × IsTold s fault told × (deeds ≡ came s ∷ (told ++ left s ∷ [])))
+    (deeds ≡ []) ⊎ (((s : ℕ) × (fault : DeskFault) × (told : List Deed) × SendsFault s fault told × (deeds ≡ came s ∷ (told ++ left s ∷ [])))
     ⊎ ((s : ℕ) × (deeds ≡ office_came s ∷ left s ∷ [])))
 
 module _ {R : Type 0} (g : Ghosts R) where

@@ -21,7 +21,11 @@ impl<S: Drop> Rounds<S> {
     ghost use Rattle.cad_event_loop.specs.Works.{IsEmpty};
 
     /// Waits until a socket may take something, or for so long.
-    fn wait_last<N: Network<Socket = S>, R: Responder>(&mut self, net: &mut N, desk: &mut Desk<R>) -> Result<()>
+    fn wait_last<N: Network<Socket = S>, R: Responder>(
+        &mut self,
+        net: &mut N,
+        desk: &mut Desk<R>,
+    ) -> Result<()>
         ensures { Hosts R.Responder IsClosing None (N.history net.old) desk.old (here N.name self.old) (N.history net.new) desk.new (here N.name self.new) }
     {
         self.peers.wait(net, LAST_PATIENCE)
@@ -61,7 +65,11 @@ impl<S: Drop> Rounds<S> {
     }
 
     /// Lets the replies and the office's answer go out that are under way, for five seconds at most. Nothing is read or answered.
-    fn send_last<N: Network<Socket = S>, R: Responder>(&mut self, net: &mut N, desk: &mut Desk<R>) -> Result<()>
+    fn send_last<N: Network<Socket = S>, R: Responder>(
+        &mut self,
+        net: &mut N,
+        desk: &mut Desk<R>,
+    ) -> Result<()>
         ensures { Hosts R.Responder IsClosing None (N.history net.old) desk.old (here N.name self.old) (N.history net.new) desk.new (here N.name self.new) }
     {
         let began = self.peers.now;

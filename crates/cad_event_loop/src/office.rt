@@ -97,7 +97,10 @@ impl<S: Drop> Office<S> {
     }
 
     /// A write of the answer that has not gone out, and what is left. Nothing is read. Where it is over, its socket is let go.
-    pub(crate) fn send<N: Network<Socket = S>>(self, net: &mut N) -> (EntryTurned, Option<Office<S>>)
+    pub(crate) fn send<N: Network<Socket = S>>(
+        self,
+        net: &mut N,
+    ) -> (EntryTurned, Option<Office<S>>)
         requires { IsSending self.entry }
         ensures { AddsSome (N.history net.old) (N.history net.new) (HasSent N.name self result) }
     {

@@ -101,7 +101,11 @@ impl<S: Drop> Peers<S> {
     }
 
     /// Waits until a socket may give or take something, or for so long, and looks at the clock.
-    pub(crate) fn wait<N: Network<Socket = S>>(&mut self, net: &mut N, milliseconds: u64) -> Result<()>
+    pub(crate) fn wait<N: Network<Socket = S>>(
+        &mut self,
+        net: &mut N,
+        milliseconds: u64,
+    ) -> Result<()>
         ensures told { AddsSome (N.history net.old) (N.history net.new) IsWoken }
         ensures held { Same (held_at N.name self.old.clients) (held_at N.name self.new.clients) }
     {
@@ -122,10 +126,7 @@ impl<S: Drop> Peers<S> {
         ensures { (office : AtOffice) → Hosts R.Responder IsServing result (N.history net.old) desk.old (place_of N.name self.old.clients office)
             (N.history net.new) desk.new (place_of N.name self.new.clients office) }
     {
-        end_of(
-            self.clients
-                .serve(self.alloc, c, self.now, net, desk, log),
-        )
+        end_of(self.clients.serve(self.alloc, c, self.now, net, desk, log))
     }
 
     /// Writes what has not gone out to a client, once.
@@ -144,7 +145,11 @@ impl<S: Drop> Peers<S> {
     }
 
     /// Writes what has not gone out, to each client once. Nothing is read or answered.
-    pub(crate) fn send_ready<N: Network<Socket = S>, R: Responder>(&mut self, net: &mut N, desk: &mut Desk<R>)
+    pub(crate) fn send_ready<N: Network<Socket = S>, R: Responder>(
+        &mut self,
+        net: &mut N,
+        desk: &mut Desk<R>,
+    )
         ensures { (office : AtOffice) → Hosts R.Responder IsClosing None (N.history net.old) desk.old (place_of N.name self.old.clients office)
             (N.history net.new) desk.new (place_of N.name self.new.clients office) }
     {
@@ -169,7 +174,11 @@ impl<S: Drop> Peers<S> {
     }
 
     /// Drops the clients that are overdue.
-    pub(crate) fn drop_overdue<N: Network<Socket = S>, R: Responder>(&mut self, net: &mut N, desk: &mut Desk<R>)
+    pub(crate) fn drop_overdue<N: Network<Socket = S>, R: Responder>(
+        &mut self,
+        net: &mut N,
+        desk: &mut Desk<R>,
+    )
         ensures { (office : AtOffice) → Hosts R.Responder IsServing None (N.history net.old) desk.old (place_of N.name self.old.clients office)
             (N.history net.new) desk.new (place_of N.name self.new.clients office) }
     {
@@ -179,7 +188,11 @@ impl<S: Drop> Peers<S> {
     }
 
     /// Lets all clients go.
-    pub(crate) fn part<N: Network<Socket = S>, R: Responder>(&mut self, net: &mut N, desk: &mut Desk<R>)
+    pub(crate) fn part<N: Network<Socket = S>, R: Responder>(
+        &mut self,
+        net: &mut N,
+        desk: &mut Desk<R>,
+    )
         ensures hosts { (office : AtOffice) → Hosts R.Responder IsClosing None (N.history net.old) desk.old (place_of N.name self.old.clients office)
             (N.history net.new) desk.new (place_of N.name self.new.clients office) }
         ensures nobody { (c : ℕ) → held_at N.name self.new.clients c ≡ None }

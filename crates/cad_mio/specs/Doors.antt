@@ -3,5 +3,5 @@ use Rattle.std.specs.declared.net.socket_addr.SocketAddr.{SocketAddr}
 use Rattle.cad_mio.specs.declared.doors.Doors.{Doors}
 
 -- the address at which clients were to come
-abbrev pub address_asked : Doors → SocketAddr
-address_asked doors = doors.asked
+abbrev pub address_requested : Doors → SocketAddr
+address_requested doors = doors.requested

@@ -16,7 +16,7 @@ const OFFICE_MODE: u32 = 0o660;
 pub struct Doors {
     pub(crate) clients: TcpListener,
     pub(crate) office: UnixListener,
-    asked: SocketAddr,
+    requested: SocketAddr,
 }
 
 /// Removes the socket of a host that is no more, which nobody answers. One that is answered is `AddrInUse`.
@@ -55,7 +55,7 @@ pub enum DoorFault {
 }
 
 impl Doors {
-    ghost use Rattle.cad_mio.specs.Doors.{address_asked};
+    ghost use Rattle.cad_mio.specs.Doors.{address_requested};
 
     /// Binds both. The office's path may be that of a socket which a host left behind.
     pub fn open<N: Net + Files>(
@@ -63,7 +63,7 @@ impl Doors {
         address: SocketAddr,
         office: &str,
     ) -> std::result::Result<Doors, DoorFault>
-        ensures { IfOk result (λ doors. address_asked doors ≡ address) }
+        ensures { IfOk result (λ doors. address_requested doors ≡ address) }
     {
         let Ok(clients) = TcpListener::bind(rt, address) else {
             return Err(DoorFault::Address);
@@ -72,17 +72,17 @@ impl Doors {
             Ok(office) => Ok(Doors {
                 clients,
                 office,
-                asked: address,
+                requested: address,
             }),
             Err(_) => Err(DoorFault::Office),
         }
     }
 
     /// Where clients were to come.
-    pub fn asked(&self) -> SocketAddr
-        ensures { result ≡ address_asked self.now }
+    pub fn requested(&self) -> SocketAddr
+        ensures { result ≡ address_requested self.now }
     {
-        self.asked
+        self.requested
     }
 
     /// Where clients come.

@@ -37,11 +37,7 @@ fn wall_seconds(clock: &impl Clock) -> u64 {
 
 impl<'a, C: Clock, E: Write + Drop> Log<'a, C, E> {
     /// A log to this writer, or none.
-    pub fn new(
-        rt: &'a C,
-        alloc: Global,
-        writer: Option<E>,
-    ) -> Result<Log<'a, C, E>, AllocError> {
+    pub fn new(rt: &'a C, alloc: Global, writer: Option<E>) -> Result<Log<'a, C, E>, AllocError> {
         let mut callers = Vec::new(alloc);
         for _ in 0..ROOM {
             callers.push(None)?;

@@ -55,7 +55,7 @@ fn host_file(rt: &HostRuntime, service: Service<'_>, doors: Doors) -> Outcome {
     let Ok(mut log) = Log::new(rt, rt.alloc(), errors) else {
         return Outcome::Failed;
     };
-    let (asked, found) = (doors.asked(), doors.address());
+    let (asked, found) = (doors.requested(), doors.address());
     let Ok(mut net) = MioNetwork::new(rt, rt.alloc(), doors) else {
         return Outcome::Failed;
     };

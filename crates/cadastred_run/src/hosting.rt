@@ -2,7 +2,7 @@
 
 ghost use Rattle.std.specs.Prelude.{IfOk};
 ghost use Rattle.std.specs.Net.Grammar.{IsSocketText};
-ghost use Rattle.cad_mio.specs.Doors.{address_asked};
+ghost use Rattle.cad_mio.specs.Doors.{address_requested};
 ghost use Rattle.cadastred_run.specs.Hosting.{EndsHosting, HostsOver};
 
 use crate::invocation::Service;
@@ -23,7 +23,7 @@ use std::net::{Net, SocketAddr};
 
 /// The sockets of a service, or how a run ends without them.
 pub fn open_doors<N: Net + Files>(rt: &N, service: Service<'_>) -> Result<Doors, Outcome>
-    ensures { IfOk result (λ doors. IsSocketText service.entry.address.now (address_asked doors)) }
+    ensures { IfOk result (λ doors. IsSocketText service.entry.address.now (address_requested doors)) }
 {
     let Some(address) = read_address(service.address) else {
         return Err(Outcome::Address);

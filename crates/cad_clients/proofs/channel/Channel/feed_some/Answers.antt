@@ -36,8 +36,7 @@ returns-in-Err g c =
     let channel = c.args.self.now in
     let part = c.first_part-part.result.now in
     let rest : c.rest_from.result.now ≡ unfed channel = rw c.deref.ensures.value at c.rest_from.ensures in
-    refused g.R.Responder c.args.c _ _ _ c.args.desk.now c.step.new.self channel channel c.in-Err.fault c.refuse-in-Err.result c.refuse-in-Err.ensures.refused c.requires.ready c.refuse-in-Err.ensures.head
-    (
+    refused g.R.Responder c.args.c _ _ _ c.args.desk.now c.step.new.self channel channel c.in-Err.fault c.refuse-in-Err.result c.refuse-in-Err.ensures.refused c.requires.ready c.refuse-in-Err.ensures.head (
       c.in-Ok.piece,
       _,
       is_piece channel c.in-Ok.piece.items part c.rest_from.result.now c.in-Ok.ensures.items rest c.requires.some c.first_part-part.ensures.some c.first_part-part.ensures.within,
