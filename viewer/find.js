@@ -83,6 +83,7 @@ function closeFound() {
 
 /** Chooses what was found, and brings it into view. */
 async function goToFound(kind, object) {
+  focusPanel();
   await choose(kind, object);
   if (chosen.kind !== kind || chosen.object !== object) return;
   fitOutlined();
@@ -110,6 +111,9 @@ function listenToFind() {
     else if (event.key === "ArrowUp") (buttons[at - 1] ?? by("find")).focus();
     else return;
     event.preventDefault();
+  });
+  by("search").addEventListener("focusout", (event) => {
+    if (event.relatedTarget && !by("search").contains(event.relatedTarget)) closeFound();
   });
   document.addEventListener("pointerdown", (event) => {
     if (!by("search").contains(event.target)) closeFound();
