@@ -17,7 +17,8 @@ function findFilter(property, text) {
 
 /** The objects that were found in a collection: of each the version of the day, or its last one. */
 async function foundIn(collection, property, text, signal) {
-  const asked = { revision: shown.revision, filter: findFilter(property, text), limit: 200 };
+  // nothing has been shown yet while the page starts
+  const asked = { revision: shown.target && shown.revision, filter: findFilter(property, text), limit: 200 };
   const body = await page(targetOf(collection, asked), signal);
   const objects = new Map();
   for (const it of body.features) {
