@@ -37,6 +37,7 @@ class Browser:
         self.resize(width, height)
 
     def resize(self, width, height, mobile=False):
+        """Sets the size of the page, on a phone with touch. Once that was left, Chromium delivers touches no more."""
         self.send("Emulation.setDeviceMetricsOverride", width=width, height=height, deviceScaleFactor=1, mobile=mobile)
         self.send("Emulation.setTouchEmulationEnabled", enabled=mobile)
 

@@ -292,6 +292,9 @@ def check_sheet(page, everything, last, folder):
     need(page.at.value("(() => { const it = document.querySelector('#sheet canvas'); return new Set(it.getContext('2d').getImageData(0, 0, it.width, it.height).data).size > 50; })()"), True, "the map of the sheet")
     page.at.media()
     (folder / "sheet.pdf").write_bytes(data)
+    page.open(f"day={DAY}&revision=370&against=369")
+    text = page.at.value("writeSheet(), document.getElementById('sheet').textContent")
+    need([it for it in ("Revisions 369 and 370", "version 1 to 2", "revision=369", "revision=370") if it not in text], [], "a comparison on the sheet")
 
 
 # ---- hands of every kind
@@ -313,13 +316,16 @@ def check_phone(page, everything, picture):
     plane = page.at.value(f"toPlane({x - box[0]}, {y - box[1]})")
     scale = page.at.value("view.scale")
     page.at.touch("touchStart", (x - 40, y), (x + 40, y))
+    page.at.touch("touchEnd")
+    page.settle()
+    need(page.at.value("chosen.kind"), None, "two fingers choose nothing")
+    page.at.touch("touchStart", (x - 40, y), (x + 40, y))
     for at in (50, 60, 80):
         page.at.touch("touchMove", (x - at, y), (x + at, y))
     page.at.touch("touchEnd")
     page.settle()
     where = page.at.value(f"toScreen({json.dumps(plane)})")
     need([abs(page.at.value("view.scale") * 2 / scale - 1) < 0.01, abs(where[0] + box[0] - x) < 2, abs(where[1] + box[1] - y) < 2], [True] * 3, f"two fingers: {where}, {scale} became {page.at.value('view.scale')}")
-    need(page.at.value("chosen.kind"), None, "two fingers choose nothing")
     page.press("whole")
     x, y = page.place([found["geometry"]["coordinates"][0][0][0] + 6000, found["geometry"]["coordinates"][0][0][1] + 6000])
     page.at.touch("touchStart", (x, y))
@@ -373,7 +379,13 @@ def check_keyboard(page, everything):
     need(page.at.value("document.activeElement.closest('#found li') !== null"), True, "a result by keyboard")
     page.at.key("Enter")
     page.settle()
-    need(page.at.value("document.querySelector('#panel h2').textContent.startsWith('Parcel 10/3')"), True, "a parcel that is found by keys")
+    need(page.at.value("[document.querySelector('#panel h2').textContent.startsWith('Parcel 10/3'), document.activeElement.id]"), [True, "side"], "a parcel that is found by keys")
+    for _ in range(40):
+        if page.at.value("document.activeElement.title") != "All that it holds; naturalPerson":
+            page.at.key("Tab")
+    page.at.key("Enter")
+    page.settle()
+    need([page.at.value("chosen.kind"), page.at.value("document.activeElement.id")], ["party", "side"], "a party by keys")
     press(page, "#list summary")
     press(page, "#list li button", "10/2")
     need(texts(page, "#panel h2"), ["Parcel 10/2"], "a parcel of the list")

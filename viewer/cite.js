@@ -91,14 +91,14 @@ function sheetMap() {
   return [made, scale];
 }
 
-/** The panel without its controls. */
-function sheetPanel() {
-  const copy = by("panel").cloneNode(true);
+/** A part of the page without its controls. */
+function sheetPart(part) {
+  const copy = part.cloneNode(true);
   copy.removeAttribute("id");
   copy.querySelectorAll(".bars, .hint, details:not([open]), summary").forEach((it) => it.remove());
   copy.querySelectorAll("button").forEach((it) => it.replaceWith(it.textContent));
   copy.querySelectorAll("p").forEach((it) => it.textContent === "Bring into view" && it.remove());
-  return chosen.kind ? [copy] : [];
+  return copy;
 }
 
 function sheetList() {
@@ -110,13 +110,15 @@ function sheetList() {
 
 /** Writes the sheet for what the page shows now. */
 function writeSheet() {
-  const requests = [shown.target, ...chosen.requests].map((it) => element("li", {}, citedRequest(it)));
+  const ofOther = isComparing() ? [new URL(changes.target, location.origin).href] : [];
+  const requests = [...[shown.target, ...chosen.requests].map(citedRequest), ...ofOther].map((it) => element("li", {}, it));
   by("sheet").replaceChildren(
     element("h1", {}, "Land register"),
     element("p", {}, citedWords()),
     element("p", {}, day.value ? `Day: ${day.value}. Revision: ${shown.revision}. Printed on ${today()}.` : `Every day. Revision: ${shown.revision}. Printed on ${today()}.`),
     element("figure", {}, ...sheetMap()),
-    ...sheetPanel(),
+    ...(isComparing() ? [sheetPart(by("changes"))] : []),
+    ...(chosen.kind ? [sheetPart(by("panel"))] : []),
     ...sheetList(),
     element("h2", {}, "Where this comes from"),
     element("p", {}, "This link shows the view again: ", element("span", { className: "address" }, citedLink())),

@@ -4,6 +4,7 @@
 /** The parcels in view at the other revision, and what differs, by object: the parcel as at the earlier and as at the later revision. */
 const changes = {
   revision: 0,
+  target: "",
   parcels: [],
   byObject: new Map(),
   /** Which of the two a revision is. */

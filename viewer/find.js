@@ -4,29 +4,32 @@
 const MOST_FOUND = 20;
 let finding = new AbortController();
 
-/** A text as a pattern of LIKE that finds it anywhere, in quotes. A quote is written as \' since '' does not work after a backslash. */
+/** A text as a pattern of LIKE, in quotes. A quote is written as \' since '' does not work after a backslash. */
 function patternOf(text) {
-  return `'%${text.replace(/[\\%_]/g, "\\$&").replace(/'/g, "\\'")}%'`;
+  return `'${text.replace(/'/g, "\\'")}'`;
 }
 
-/** The filter of a collection for what was written: its text in the name in any case, or its number as the object. */
-function findFilter(property, text) {
-  const named = `CASEI(${property}) LIKE CASEI(${patternOf(text)})`;
-  return /^\d{1,10}$/.test(text) ? `object = ${text} OR ${named}` : named;
+/** The filter of a collection for what was written: its number as the object, or its text in the name in any case, as all of it or anywhere. */
+function findFilter(property, text, isWhole) {
+  const plain = text.replace(/[\\%_]/g, "\\$&");
+  const named = `CASEI(${property}) LIKE CASEI(${patternOf(isWhole ? plain : `%${plain}%`)})`;
+  return isWhole && /^\d{1,10}$/.test(text) ? `object = ${text} OR ${named}` : named;
 }
 
-/** The objects that were found in a collection: of each the version of the day, or its last one. */
+/** The objects that were found in a collection, first those with this very name or number: of each the version of the day, or its last one. */
 async function foundIn(collection, property, text, signal) {
-  const asked = { revision: shown.revision, filter: findFilter(property, text), limit: 200 };
-  const body = await page(targetOf(collection, asked), signal);
+  // nothing has been shown yet while the page starts
+  const asked = { revision: shown.target && shown.revision, limit: 200 };
+  const search = (isWhole) => page(targetOf(collection, { ...asked, filter: findFilter(property, text, isWhole) }), signal);
+  // no text can end with a backslash
+  const pages = [...(text.endsWith("\\") ? [] : [await search(true)]), await search(false)];
   const objects = new Map();
-  for (const it of body.features) {
+  for (const it of pages.flatMap((it) => it.features)) {
     const { object } = it.properties;
     if (holdsOn(it.properties) || !objects.has(object) || !holdsOn(objects.get(object).properties)) objects.set(object, it);
   }
-  const isExact = (it) => String(it.properties.object) === text || it.properties[property]?.toLowerCase() === text.toLowerCase();
-  const features = [...objects.values()].sort((one, other) => isExact(other) - isExact(one));
-  return { features: features.slice(0, MOST_FOUND), isMore: features.length > MOST_FOUND || nextOf(body) !== undefined };
+  const features = [...objects.values()];
+  return { features: features.slice(0, MOST_FOUND), isMore: features.length > MOST_FOUND || pages.some((it) => nextOf(it) !== undefined) };
 }
 
 function foundButton(kind, feature, name) {
@@ -83,6 +86,7 @@ function closeFound() {
 
 /** Chooses what was found, and brings it into view. */
 async function goToFound(kind, object) {
+  focusPanel();
   await choose(kind, object);
   if (chosen.kind !== kind || chosen.object !== object) return;
   fitOutlined();
@@ -110,6 +114,9 @@ function listenToFind() {
     else if (event.key === "ArrowUp") (buttons[at - 1] ?? by("find")).focus();
     else return;
     event.preventDefault();
+  });
+  by("search").addEventListener("focusout", (event) => {
+    if (event.relatedTarget && !by("search").contains(event.relatedTarget)) closeFound();
   });
   document.addEventListener("pointerdown", (event) => {
     if (!by("search").contains(event.target)) closeFound();

@@ -190,21 +190,22 @@ function paintLabels(pen, parcels, look) {
   }
 }
 
-/** Draws how many parcels lie in each square, against the fullest one. */
+/** Draws how many parcels lie in and round each square, against the fullest one. */
 function paintDensity(pen, { colours, place, box }) {
-  const columns = Math.ceil(box.width / SQUARE);
+  const columns = Math.ceil(box.width / SQUARE) + 2;
   const counts = new Map();
   for (const point of shown.density.points) {
     const [left, top] = place(point);
     if (left < 0 || top < 0 || left >= box.width || top >= box.height) continue;
-    const at = Math.floor(top / SQUARE) * columns + Math.floor(left / SQUARE);
-    counts.set(at, (counts.get(at) ?? 0) + 1);
+    const at = (Math.floor(top / SQUARE) + 1) * columns + Math.floor(left / SQUARE) + 1;
+    // some parcels stand for all, so a square is counted with those round it
+    for (const row of [at - columns, at, at + columns]) for (const it of [row - 1, row, row + 1]) counts.set(it, (counts.get(it) ?? 0) + 1);
   }
   const most = Math.max(...counts.values());
   pen.fillStyle = colours.density;
   for (const [at, count] of counts) {
-    pen.globalAlpha = 0.15 + 0.75 * (count / most);
-    pen.fillRect((at % columns) * SQUARE, Math.floor(at / columns) * SQUARE, SQUARE, SQUARE);
+    pen.globalAlpha = 0.8 * (count / most);
+    pen.fillRect(((at % columns) - 1) * SQUARE, (Math.floor(at / columns) - 1) * SQUARE, SQUARE, SQUARE);
   }
   pen.globalAlpha = 1;
 }

@@ -80,7 +80,9 @@ async function writePanel() {
   try {
     const write = { parcel: parcelParts, unit: unitParts, party: partyParts }[chosen.kind];
     const { parts, outlined, words, unit } = await write(chosen.object, { revision: shown.revision, datetime: day.value }, signal);
+    const hadFocus = panel.contains(document.activeElement);
     panel.replaceChildren(...parts);
+    if (hadFocus) focusPanel();
     Object.assign(chosen, { outlined, unit });
     draw();
     say(words);
@@ -91,6 +93,11 @@ async function writePanel() {
   } finally {
     if (!signal.aborted) panel.removeAttribute("aria-busy");
   }
+}
+
+/** Goes on by keyboard in the panel. */
+function focusPanel() {
+  by("side").focus({ preventScroll: true });
 }
 
 /** The features for the panel; the sheet has the requests. */
