@@ -1,17 +1,29 @@
 #!/usr/bin/env python3
 """Cases of the loop over a network whose peers do as they are told, for crates/clients_cases.
 
-    scripts/host_cases.py [SEED] [COUNT]     prints the cases; those that are stored are of seed 1, 400 of them
+    scripts/host_cases.py [SEED] [COUNT]     prints the cases; those that are stored are of seed 1, 400 of them, and those below
 
 Each case is a line `host STEPS`: clients and land offices that come, send, take and fail in some order, and of which the network tells
 in some order; short reads and writes, want of memory for a reply, want of descriptors, more clients than there is room for, offices
-that leave before their answer is written, clients that do nothing for too long, and stops while replies are under way.
+that leave before their answer is written, clients that do nothing for too long, and stops while replies are under way. Commands for
+object 6 are refused by the database, and that is told at the end whatever becomes of the office: the first cases are of this.
 """
 import random
 import sys
 
 REQUESTS = ["GET /a HTTP/1.1||", "GET /b HTTP/1.1|Host: x||", "GET /c HTTP/1.0||", "POST /d HTTP/1.1|Connection: close||", "GET /lost HTTP/1.1||", "GET /full HTTP/1.1||", "no request|", "GET /e HTTP/1.1|"]
 LINES = ['{"do":"enter","object":%d,"first":"2000-01-01","unit":{}}_', "hello_", "_", '{"do":"enter","object":%d,']
+COMES = "come;office;room 0 5;wake 64 65;end;give 0 GET /a HTTP/1.1||;give 1 "
+BEGINS = COMES + LINES[0] % 1 + ";give 1 " + LINES[0] % 6
+REFUSALS = [
+    COMES + LINES[0] % 6 + ";wake 0 66;end;end;end;end;break 1;wake 66;end;end",
+    BEGINS + ";room 1 11;wake 0 66;end;end;end;end;break 1;wake 66;end;end",
+    BEGINS + ";room 1 18;wake 0 66;end;end;end;end;break 1;wake 66;end;room 0 1000;wake 0;end",
+    BEGINS + ";room 1 11;wake 0 66;end;end;end;end;second 5;end;end",
+    BEGINS + ";room 1 11;wake 0 66;end;end;end;end",
+    BEGINS + ";room 1 11;hang 1;wake 0 66;end;end;end;room 1 1000;wake 66;end;room 0 1000;wake 0;end",
+    BEGINS[:-1] + ";room 1 1000;hang 1;wake 0 66;end;end;end;room 1 1000;wake 66;end;room 0 1000;wake 0;end",
+]
 
 
 def texts(chance):
@@ -105,6 +117,8 @@ def main():
     seed = int(sys.argv[1]) if len(sys.argv) > 1 else 1
     count = int(sys.argv[2]) if len(sys.argv) > 2 else 400
     chance = random.Random(seed)
+    for steps in REFUSALS:
+        print("host " + steps)
     for _ in range(count):
         print(case(chance))
 

@@ -1,5 +1,6 @@
 //! What the loop does at a network whose peers do as they are told.
 
+use crate::refusing::Refusing;
 use crate::script::put_text;
 use crate::steps::read_steps;
 use crate::wire::{Peer, Wire};
@@ -8,7 +9,6 @@ use cad_desk::Desk;
 use cad_event_loop::{Stopped, host};
 use std::alloc::{AllocError, Global};
 use std::io::Result as IoResult;
-use test_support::Echo;
 
 fn stopped_name(hosted: &IoResult<Stopped>) -> &'static str {
     match hosted {
@@ -27,13 +27,9 @@ fn put_peer(answer: &mut String, peer: &Peer) -> Result<(), AllocError> {
 }
 
 /// Hosts a desk at a network with these steps, and appends how that ended and what came of each peer.
-pub(crate) fn put_hosted(
-    answer: &mut String,
-    alloc: Global,
-    text: &str,
-) -> Result<(), AllocError> {
+pub(crate) fn put_hosted(answer: &mut String, alloc: Global, text: &str) -> Result<(), AllocError> {
     let mut wire = Wire::new(alloc, read_steps(alloc, text)?);
-    let mut desk = Desk::new(alloc, Echo::new(alloc));
+    let mut desk = Desk::new(alloc, Refusing::new(alloc));
     let hosted = host(alloc, &mut wire, &mut desk, &mut NoLog);
     answer.push_str(stopped_name(&hosted))?;
     for peer in &wire.peers {

@@ -3,7 +3,8 @@
 //!
 //! - `sockets`: sockets that give and take as they are told
 //! - `steps`: what happens at a network; `wire`: the network at which it does
-//! - `room`: the clients, the office and their sockets, each served as it is told; `hosted`: the same by the loop
+//! - `room`: the clients, the office and their sockets, each served as it is told
+//! - `hosted`: the same by the loop; `refusing`: what answers there, whose database refuses commands for object 6
 //! - `script`: the lines, and what is printed for them
 //!
 //! The lines are
@@ -27,6 +28,7 @@
 #![tactic(auto)]
 
 mod hosted;
+mod refusing;
 mod room;
 mod script;
 mod sockets;

@@ -143,12 +143,9 @@ impl Room {
 
     /// A turn of the land office. What was written to it since its last turn.
     pub(crate) fn serve_office(&mut self) -> (EntryTurned, Vec<u8>) {
-        let turned = self.entry.turn(
-            self.alloc,
-            &mut self.wire,
-            &self.office,
-            &mut self.desk,
-        );
+        let turned = self
+            .entry
+            .turn(self.alloc, &mut self.wire, &self.office, &mut self.desk);
         let written = take_written(self.alloc, self.wire.peers.get_mut(self.office as usize));
         (turned, written)
     }
