@@ -13,4 +13,4 @@ pub returns-in-Err : goal.returns-in-Err
 returns-in-Err g c = inl (refl, Adds-nil _)
 
 pub returns-in_default : goal.returns-in_default
-returns-in_default g c = (refl, refl, Adds-nil _)
+returns-in_default g c = (refl, (refl, Adds-nil _))
