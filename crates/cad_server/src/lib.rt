@@ -22,10 +22,10 @@
 #![tactic(auto)]
 
 mod keeping;
-mod snapshot_cache;
 pub mod laws;
 mod records;
 mod server;
+mod snapshot_cache;
 mod sought;
 
 pub use server::Server;
