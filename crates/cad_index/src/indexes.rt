@@ -82,13 +82,6 @@ impl Indexes {
         })
     }
 
-    /// How many features there are.
-    pub fn count(&self) -> usize
-        ensures { result ≡ self.now.count }
-    {
-        self.count
-    }
-
     /// The ordered index of the property at that place, if it has one.
     pub fn ordered(&self, place: usize) -> Option<&Ordered>
         ensures { option_copied result ≡ ordered_in (index_at self.now.properties.items place) }

@@ -13,7 +13,8 @@ use anyhow::Result;
 use cad_day::Day;
 use cad_feature::{Edge, Feature};
 use cad_index::{Found, Grid, Indexes, Ordered};
-use cad_schema::{Collection, find_property};
+use cad_positions::Positions;
+use cad_schema::{Collection, PropertyKind, find_property};
 use std::alloc::{AllocError, Global};
 
 /// Gives the parcel this value of the property, or none.
@@ -73,29 +74,24 @@ fn near_answer(alloc: Global, grid: &Grid, asked: &str) -> Result<Option<String>
     Ok(Some(near_line(alloc, &near, grid.count(bounds))?))
 }
 
-// The positions whose rank says that they are in the range.
-fn held(alloc: Global, range: &Found, count: u32) -> Result<Vec<u32>, AllocError> {
-    let mut held = Vec::new(alloc);
-    for position in 0..count {
-        if range.holds(position) {
-            held.push(position)?;
+// The positions whose ranks lie from one on, below another.
+fn ranked(alloc: Global, ranks: &[u32], from: u32, to: u32) -> Result<Vec<u32>, AllocError> {
+    let mut rows = Vec::new(alloc);
+    for (row, rank) in ranks.iter().enumerate() {
+        if from <= *rank && *rank < to {
+            rows.push(row as u32)?;
         }
     }
-    Ok(held)
+    Ok(rows)
 }
 
-/// The positions of the range as they are listed and tested.
-fn put_found(
-    alloc: Global,
-    answer: &mut String,
-    range: &Found,
-    features: u32,
-) -> Result<(), AllocError> {
-    let list = range.list(alloc)?;
-    put_positions(answer, "range", &list)?;
-    drop(list);
-    let held = held(alloc, range, features)?;
-    put_positions(answer, " held", &held)
+// The positions of the range, whichever way they are walked.
+fn found(alloc: Global, range: &Found) -> Result<Vec<u32>, AllocError> {
+    let positions = range.positions(alloc)?;
+    match positions {
+        Positions::Listed(rows) => Ok(rows),
+        Positions::Ranked { ranks, from, to } => ranked(alloc, ranks, from, to),
+    }
 }
 
 fn range_line(
@@ -103,14 +99,14 @@ fn range_line(
     ordered: &Ordered,
     low: &Edge,
     high: &Edge,
-    features: u32,
 ) -> Result<String, AllocError>
     requires low { IsEdgeOf ordered.now.kind low.now }
     requires high { IsEdgeOf ordered.now.kind high.now }
 {
     let count = ordered.count(low, high);
     let mut line = String::new(alloc);
-    put_found(alloc, &mut line, &ordered.range(low, high), features)?;
+    let rows = found(alloc, &ordered.range(low, high))?;
+    put_positions(&mut line, "range", &rows)?;
     write!(line, " count {count}")?;
     Ok(line)
 }
@@ -120,10 +116,9 @@ fn between_answer(
     ordered: &Ordered,
     low: &Edge,
     high: &Edge,
-    features: u32,
 ) -> Result<Option<String>, AllocError> {
     if ordered.takes(low) && ordered.takes(high) {
-        Ok(Some(range_line(alloc, ordered, low, high, features)?))
+        Ok(Some(range_line(alloc, ordered, low, high)?))
     } else {
         Ok(None)
     }
@@ -132,12 +127,12 @@ fn between_answer(
 fn from_low_answer(
     alloc: Global,
     ordered: &Ordered,
+    kind: PropertyKind,
     low: &Edge,
     high: &str,
-    features: u32,
 ) -> Result<Option<String>, AllocError> {
-    match edge(alloc, ordered.kind(), high)? {
-        Some(high) => between_answer(alloc, ordered, low, &high, features),
+    match edge(alloc, kind, high)? {
+        Some(high) => between_answer(alloc, ordered, low, &high),
         None => Ok(None),
     }
 }
@@ -145,14 +140,14 @@ fn from_low_answer(
 fn range_answer(
     alloc: Global,
     ordered: &Ordered,
+    kind: PropertyKind,
     asked: &str,
-    features: u32,
 ) -> Result<Option<String>, AllocError> {
     let Some((low, high)) = asked.trim().split_once(' ') else {
         return Ok(None);
     };
-    match edge(alloc, ordered.kind(), low)? {
-        Some(low) => from_low_answer(alloc, ordered, &low, high, features),
+    match edge(alloc, kind, low)? {
+        Some(low) => from_low_answer(alloc, ordered, kind, &low, high),
         None => Ok(None),
     }
 }
@@ -161,6 +156,7 @@ fn index_answer(
     alloc: Global,
     indexes: &Indexes,
     place: usize,
+    kind: PropertyKind,
     asked: &str,
 ) -> Result<Option<String>, AllocError> {
     if let Some(grid) = indexes.grid(place) {
@@ -168,9 +164,7 @@ fn index_answer(
     }
     match indexes.ordered(place) {
         None => Ok(None),
-        Some(ordered) => {
-            range_answer(alloc, ordered, asked, indexes.count().min(1_000_000) as u32)
-        }
+        Some(ordered) => range_answer(alloc, ordered, kind, asked),
     }
 }
 
@@ -179,13 +173,14 @@ fn indexed_answer(
     alloc: Global,
     features: &[Feature],
     place: usize,
+    kind: PropertyKind,
     asked: &str,
 ) -> Result<Option<String>, AllocError>
     requires listed { AreFeaturesOf Parcels features.now }
     requires few { length features.now ≤ 4294967295 }
 {
     let indexes = Indexes::build(alloc, features, Collection::Parcels)?;
-    index_answer(alloc, &indexes, place, asked)
+    index_answer(alloc, &indexes, place, kind, asked)
 }
 
 fn read_answer(alloc: Global, line: &str) -> Result<Option<String>> {
@@ -202,7 +197,7 @@ fn read_answer(alloc: Global, line: &str) -> Result<Option<String>> {
         return Ok(None);
     };
     let features = features(alloc, parcels(alloc, property, words)?)?;
-    let Some(mut answer) = indexed_answer(alloc, &features, place, asked)? else {
+    let Some(mut answer) = indexed_answer(alloc, &features, place, kind, asked)? else {
         return Ok(None);
     };
     put_extents(alloc, &mut answer, &features, place, kind, asked)?;

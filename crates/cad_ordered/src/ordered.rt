@@ -121,13 +121,6 @@ impl Ordered {
         }
     }
 
-    /// The kind of the values.
-    pub fn kind(&self) -> PropertyKind
-        ensures { result ≡ self.now.kind }
-    {
-        self.keys.kind()
-    }
-
     /// Whether ranges with this end may be asked for: it is none, or a value of the kind.
     pub fn takes(&self, edge: &Edge) -> bool
         ensures { IsTrue result ↔ IsEdgeOf self.now.kind edge.now }

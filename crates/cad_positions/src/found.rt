@@ -1,9 +1,8 @@
 //! The positions between two ranks.
 
 ghost use Rattle.std.specs.Prelude.{◌≡◌, ◌≤◌, ◌^◌, IfOk, length, slice_range, nat_le};
-ghost use Rattle.std.specs.List.{find};
 ghost use Rattle.std.specs.List.Sorted.{IsPermutation, IsNonDecreasing};
-ghost use Rattle.cad_positions.specs.Rankings.{is_between, positions_between, IsPart};
+ghost use Rattle.cad_positions.specs.Rankings.{positions_between, IsPart};
 ghost use Rattle.cad_positions.specs.PositionSets.{Keeps};
 
 use crate::positions::Positions;
@@ -30,12 +29,6 @@ impl<'a> Model for Found<'a> {
     ghost invariant = { λ f. IsPart f.places.now f.ranks.now f.low f.high };
 }
 
-fn is_between(low: u32, high: u32, rank: u32) -> bool
-    ensures { result ≡ is_between low high rank }
-{
-    low <= rank && rank < high
-}
-
 // The positions that stand between two places, as they ascend.
 fn sorted(alloc: Global, places: &[u32], low: u32, high: u32) -> Result<Vec<u32>, AllocError>
     requires ordered { low ≤ high }
@@ -48,24 +41,7 @@ fn sorted(alloc: Global, places: &[u32], low: u32, high: u32) -> Result<Vec<u32>
     Ok(found)
 }
 
-// The positions that have these ranks, by looking at each.
-fn passing(alloc: Global, ranks: &[u32], low: u32, high: u32) -> Result<Vec<u32>, AllocError>
-    requires { length ranks.now ≤ 4294967295 }
-    ensures { IfOk result (λ v. v.items ≡ positions_between ranks.now low high) }
-{
-    let mut found = Vec::new(alloc);
-    for (position, rank) in ranks.iter().enumerate() {
-        if is_between(low, high, *rank) {
-            found.push(position as u32)?;
-        }
-    }
-    Ok(found)
-}
-
 impl<'a> Found<'a> {
-    ghost use Rattle.std.specs.Prelude.{◌↔◌, IsTrue};
-    ghost use Rattle.std.specs.List.{Contains};
-
     pub(crate) fn new(places: &'a [u32], ranks: &'a [u32], low: u32, high: u32) -> Found<'a>
         requires { IsPart places.now ranks.now low high }
         ensures { result ≡ positions_between ranks.now low high }
@@ -83,14 +59,6 @@ impl<'a> Found<'a> {
         ensures { result ≡ length self.now }
     {
         self.high - self.low
-    }
-
-    /// Whether the position is one of them, by its rank. No memory is taken.
-    pub fn holds(&self, position: u32) -> bool
-        ensures { IsTrue result ↔ Contains self.now position }
-    {
-        (position as usize) < self.ranks.len()
-            && is_between(self.low, self.high, self.ranks[position as usize])
     }
 
     /// They as they are best walked: few in a list that is sorted, many by their ranks. An error is want of memory.
@@ -112,18 +80,5 @@ impl<'a> Found<'a> {
     // Whether they are few beside all positions, so that sorting them is cheaper than looking at each position.
     fn are_few(&self) -> bool {
         (self.high - self.low) as usize <= self.ranks.len() / 64
-    }
-
-    /// The list of them: few are sorted, many are found by looking at each position's rank. An error is want of memory.
-    pub fn list(&self, alloc: Global) -> Result<Vec<u32>, AllocError>
-        ensures { IfOk result (λ v. v.items ≡ self.now) }
-    {
-        if self.are_few() {
-            let found = sorted(alloc, self.places, self.low, self.high)?;
-            Ok(found)
-        } else {
-            let found = passing(alloc, self.ranks, self.low, self.high)?;
-            Ok(found)
-        }
     }
 }

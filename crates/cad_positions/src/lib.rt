@@ -1,7 +1,7 @@
 //! Positions of features: in the order of their values, and in ascending order from sets that meet and join.
 //!
 //! - [`Ranking`]: positions in the order of their values, and each position's rank
-//! - [`Found`]: the positions between two ranks, as they ascend: counted, listed or tested
+//! - [`Found`]: the positions between two ranks, counted, or as they are best walked
 //! - [`Positions`]: those positions in a list, where they are few, or by their ranks
 //! - [`RowSource`]: positions that are taken one after the other, or sought
 //! - [`Source`]: a tree of sources: all positions, those of a list, those between two ranks, those of two sources or of either

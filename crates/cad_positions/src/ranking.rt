@@ -58,13 +58,6 @@ impl Ranking {
         self.places.len() as u32
     }
 
-    /// How many positions there are.
-    pub fn count(&self) -> u32
-        ensures { result ≡ length (ranks_in self.now) }
-    {
-        self.ranks.len() as u32
-    }
-
     /// The positions whose ranks lie from low on, below high.
     pub fn found(&self, low: u32, high: u32) -> Found<'_>
         requires ordered { low ≤ high }

@@ -5,7 +5,7 @@ ghost use Rattle.cadastred.specs.Hosting.{RunsHost};
 ghost use Rattle.cadastred.specs.Opening.{opening_fault};
 
 use cad_clients::AccessLog;
-use cad_mio::{Doors, Log, MioNetwork, remove_door};
+use cad_mio::{Doors, MioNetwork, remove_door};
 use cad_network::Network;
 use cad_register::{Register, RegisterFault};
 use cadastred_run::{Outcome, Service, host_over, open_doors};

@@ -1,1 +1,2 @@
 pub mod HostingLemmas
+pub mod FirstLineLemmas

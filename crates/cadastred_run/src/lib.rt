@@ -4,19 +4,29 @@
 //! - `open_doors`: the sockets of a service
 //! - `host_over`: clients and the land office taken at a network and served over a ledger
 //! - `Outcome`: how a run ended, its status, and what is told of it
+//! - `Log`: a line of a log of access for each reply, with no byte of a client's that is not printable, or nothing
 //!
 //! No database is known here: the program finds the register of a file and lends it to these calls.
 //!
 //! ```text
 //! Invocation::of_words(&["cadastred", "land.db", "127.0.0.1:0", "office"])
 //!     // Some(Invocation::Serve(Service { file: "land.db", address: "127.0.0.1:0", office: "office", logs: false }))
+//! host_over(alloc, rt, &mut net, &mut ledger, &mut Log::new(&rt, alloc, Some(rt.stderr()))?, ..)
+//!     // tells of a reply 2026-11-25T02:13:00Z 127.0.0.1:40123 "GET / HTTP/1.1" 200 503 -
 //! ```
 #![tactic(auto)]
 
+mod access;
 mod hosting;
 mod invocation;
+mod log;
+mod moment;
 mod outcome;
+mod printable;
+mod reply;
+mod request;
 
 pub use hosting::{host_over, open_doors};
 pub use invocation::{Invocation, Service};
+pub use log::Log;
 pub use outcome::{HELP, Outcome};

@@ -1,7 +1,7 @@
 //! The first line of a request.
 
 ghost use Rattle.std.specs.Prelude.{◌≡◌, ◌≤◌, length};
-ghost use Rattle.cad_access_log.specs.FirstLines.{ends_line as ends_line_of};
+ghost use Rattle.cadastred_run.specs.FirstLines.{ends_line as ends_line_of};
 
 use std::alloc::{AllocError, Global};
 
@@ -16,7 +16,7 @@ fn ends_line(byte: u8) -> bool
 
 /// The first line of the request that a connection is sending, as far as it was read, and no more than 512 bytes of it.
 #[derive(Debug, Drop)]
-pub struct Request {
+pub(crate) struct Request {
     bytes: Vec<u8>,
     has_ended: bool,
     pub ghost few: { length bytes.items ≤ 512 },
@@ -24,10 +24,10 @@ pub struct Request {
 
 impl Request {
     ghost use Rattle.std.specs.Prelude.{◌≡◌, ◌++◌, ℕ, List, [], ◌∷◌, OnOk, IsFalse};
-    ghost use Rattle.cad_access_log.specs.Requests.{HoldsLineOf};
+    ghost use Rattle.cadastred_run.specs.Requests.{HoldsLineOf};
 
     /// Nothing was read.
-    pub fn new(alloc: Global) -> Request
+    pub(crate) fn new(alloc: Global) -> Request
         ensures { HoldsLineOf result [] }
     {
         Request {
@@ -37,14 +37,14 @@ impl Request {
     }
 
     /// The line.
-    pub fn line(&self) -> &[u8]
+    pub(crate) fn line(&self) -> &[u8]
         ensures { result.now ≡ self.now.bytes.items }
     {
         &self.bytes
     }
 
     /// The next request begins.
-    pub fn clear(&mut self)
+    pub(crate) fn clear(&mut self)
         ensures { HoldsLineOf self.new [] }
     {
         self.bytes.clear();
@@ -64,7 +64,7 @@ impl Request {
     }
 
     /// Bytes of the request, of which those of its first line are kept. Empty lines before it are passed over.
-    pub fn add(&mut self, bytes: &[u8]) -> Result<(), AllocError>
+    pub(crate) fn add(&mut self, bytes: &[u8]) -> Result<(), AllocError>
         ensures { OnOk result ((read : List ℕ) → HoldsLineOf self.old read → HoldsLineOf self.new (read ++ bytes.now)) }
     {
         for byte in bytes {

@@ -1,8 +1,8 @@
 use Rattle.std.proofs.Common.{ap, sym, subst, ◌∙◌, ◌++◌, take, drop, append_assoc}
 use Rattle.std.proofs.lemmas.List.{take-append-drop}
-use Rattle.cad_access_log.specs.Requests.{HoldsLineOf}
-use Rattle.cad_access_log.proofs.FirstLineLemmas.{stays_ended}
-use Rattle.cad_access_log.proofs.request.Request.add.Goals as goal
+use Rattle.cadastred_run.specs.Requests.{HoldsLineOf}
+use Rattle.cadastred_run.proofs.FirstLineLemmas.{stays_ended}
+use Rattle.cadastred_run.proofs.request.Request.add.Goals as goal
 
 pub returns-then-self : goal.returns-then-self
 returns-then-self c read holds =

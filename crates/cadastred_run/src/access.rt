@@ -1,7 +1,7 @@
 //! A reply, and the line that tells of it.
 
 ghost use Rattle.std.specs.Prelude.{IfOk};
-ghost use Rattle.cad_access_log.specs.Printable.{ArePrintable, StaysPrintable};
+ghost use Rattle.cadastred_run.specs.Printable.{ArePrintable, StaysPrintable};
 
 use crate::moment::push_moment;
 use crate::printable::push_all;
@@ -11,7 +11,7 @@ use std::net::SocketAddr;
 
 /// A reply, and what is told of it.
 #[derive(Clone, Copy, Debug)]
-pub struct Access<'a> {
+pub(crate) struct Access<'a> {
     /// When it was, in seconds after 1970-01-01T00:00:00Z.
     pub seconds: u64,
     /// Where the client is.
@@ -49,7 +49,7 @@ impl Access<'_> {
     /// The line, without its end: the moment, the client's address, the request's first line, and the reply's status, the
     /// number of its bytes and the revision that its body names. A byte of the request that is not printable stands as `\x`
     /// and two digits.
-    pub fn line(&self, alloc: Global) -> Result<Vec<u8>, AllocError>
+    pub(crate) fn line(&self, alloc: Global) -> Result<Vec<u8>, AllocError>
         ensures { IfOk result (λ line. ArePrintable line.items) }
     {
         let mut text = Vec::new(alloc);

@@ -1,5 +1,5 @@
-use Rattle.cad_access_log.specs.Printable.{StaysPrintable}
-use Rattle.cad_access_log.proofs.printable.push_all.Given as goal
+use Rattle.cadastred_run.specs.Printable.{StaysPrintable}
+use Rattle.cadastred_run.proofs.printable.push_all.Given as goal
 
 abbrev pub invariant-loop-byte : goal.invariant-loop-byte
 invariant-loop-byte l = StaysPrintable l.fn.text.items l.text.items

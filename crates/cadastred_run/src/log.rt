@@ -1,8 +1,9 @@
 //! Where a line is written for each reply.
 
-use crate::socket::Socket;
-use cad_access_log::{Access, Request};
+use crate::access::Access;
+use crate::request::Request;
 use cad_clients::{AccessLog, ROOM};
+use cad_mio::Socket;
 use std::alloc::{AllocError, Global};
 use std::io::Write;
 use std::net::SocketAddr;

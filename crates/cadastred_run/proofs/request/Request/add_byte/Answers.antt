@@ -1,6 +1,6 @@
 use Rattle.std.proofs.Common.{sym, ◌∙◌, ap, not, arith, ◌==◌}
-use Rattle.cad_access_log.proofs.FirstLineLemmas.{end_ends, end_left, byte_kept, byte_left, still_on}
-use Rattle.cad_access_log.proofs.request.Request.add_byte.Goals as goal
+use Rattle.cadastred_run.proofs.FirstLineLemmas.{end_ends, end_left, byte_kept, byte_left, still_on}
+use Rattle.cadastred_run.proofs.request.Request.add_byte.Goals as goal
 
 pub returns-then-ends_line : goal.returns-then-ends_line
 returns-then-ends_line c read holds =

@@ -1,8 +1,8 @@
 -- What is kept of a request.
 use Rattle.std.specs.Prelude.{◌≡◌, ℕ, List, take}
 use Rattle.std.specs.List.{list_any}
-use Rattle.cad_access_log.specs.FirstLines.{ends_line, begun, line_of}
-use Rattle.cad_access_log.specs.declared.request.Request.{Request}
+use Rattle.cadastred_run.specs.FirstLines.{ends_line, begun, line_of}
+use Rattle.cadastred_run.specs.declared.request.Request.{Request}
 
 -- 512 bytes at most of the first line of what was read, and whether it has ended
 pub record HoldsLineOf (request : Request) (read : List ℕ) : Type 0 where

@@ -1,3 +1,0 @@
-pub mod FirstLines
-pub mod Printable
-pub mod Requests
