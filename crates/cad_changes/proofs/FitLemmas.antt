@@ -33,7 +33,7 @@ use Rattle.cad_layer.specs.lemmas.ItemLemmas.{items_total}
 use Rattle.cad_layer.specs.Merging.{put, put_if}
 use Rattle.cad_layer.specs.lemmas.MergeLemmas.{all_put, put_ascends}
 use Rattle.cad_layer.specs.lemmas.SearchLemmas.{suc_plus}
-use Rattle.cad_changes.specs.Fitting.{IsTextIfAny, Fit}
+use Rattle.cad_changes.proofs.Fitting.{IsTextIfAny, Fit}
 use Rattle.cad_changes.specs.Touching.{first_of, Edits, or_old, span_to, edited_datum, edited_data, edited, renames, names_unit, names_party, touches, edits_by, item_left, items_left, has_day, name_of, name_among, names_joined}
 use Rattle.cad_changes.proofs.TouchedLemmas.{images_ascend}
 use Rattle.cad_versions.specs.lemmas.ListLemmas.{all_filtered}

@@ -12,3 +12,4 @@ mod StandingLemmas
 mod TestLemmas
 mod TouchedLemmas
 mod VersionLemmas
+pub mod Fitting

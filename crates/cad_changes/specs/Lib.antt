@@ -1,5 +1,4 @@
 pub mod Changes
-pub mod Fitting
 pub mod Laws
-pub mod EditsOf
 pub mod Touching
+pub mod inner

@@ -7,7 +7,7 @@ ghost use Rattle.cad_feature.specs.Features.{datum_at, IsFeatureOf, AreFeaturesO
 ghost use Rattle.cad_feature.specs.Flatten.{features_in};
 ghost use Rattle.cad_feature.specs.Lifespans.{is_up_to};
 ghost use Rattle.cad_feature.specs.Values.{datum_of};
-ghost use Rattle.cad_changes.specs.EditsOf.{datum_if_any};
+ghost use Rattle.cad_changes.specs.inner.EditsOf.{datum_if_any};
 ghost use Rattle.cad_changes.specs.Touching as spec;
 
 use crate::edits::{NewValues, edited};

@@ -4,7 +4,7 @@ ghost use Rattle.std.specs.Prelude.{◌≡◌, IfOk, map, option_map, get_or};
 ghost use Rattle.std.specs.Option.{option_copied};
 ghost use Rattle.cad_schema.specs.Attributes.{attribute_of};
 ghost use Rattle.cad_feature.specs.Values.{datum_of, null};
-ghost use Rattle.cad_changes.specs.EditsOf.{edits_of};
+ghost use Rattle.cad_changes.specs.inner.EditsOf.{edits_of};
 ghost use Rattle.cad_changes.specs.Touching as spec;
 ghost use Rattle.cad_changes.specs.Touching.{edited_datum, edited_data, span_to};
 

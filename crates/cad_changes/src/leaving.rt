@@ -7,7 +7,7 @@ ghost use Rattle.cad_lookup.specs.Candidates.{candidates};
 ghost use Rattle.cad_layer.specs.Identifiers.{is_item_of, of_object};
 ghost use Rattle.cad_versions.specs.Command.{object_named};
 ghost use Rattle.cad_changes.specs.Changes as changes;
-ghost use Rattle.cad_changes.specs.EditsOf.{datum_if_any};
+ghost use Rattle.cad_changes.specs.inner.EditsOf.{datum_if_any};
 ghost use Rattle.cad_changes.specs.Touching as spec;
 
 use crate::adding::are_listed;

@@ -15,8 +15,8 @@ use Rattle.cad_event_loop.specs.declared.rounds.Rounds.{Rounds}
 use Rattle.cad_event_loop.specs.declared.stopped.Stopped.{Stopped}
 use Rattle.cad_event_loop.specs.declared.stopped.Stopped.TheVariants.{Asked, StoreRefused, RoundsSpent}
 use Rattle.cad_event_loop.specs.Hosting.{end_of_rounds, IsServing, IsClosing, IsLastOf, Hosts, HostsBy, Hosted}
-use Rattle.cad_event_loop.specs.Offices.{office_at}
-use Rattle.cad_event_loop.specs.Rounds.{here, IsNobody}
+use Rattle.cad_event_loop.specs.inner.Offices.{office_at}
+use Rattle.cad_event_loop.specs.inner.Rounds.{here, IsNobody}
 use Rattle.cad_event_loop.specs.Works.{Place, IsEmpty, held_of, Work, wakes, opens, acts, waits, ends, office_comes, enters, office_leaves, aside, is_store, store_end, end_of_cause, end_of_turned, end_by, end_in, all_deeds}
 use Rattle.cad_event_loop.proofs.GoesLemmas.{all_deeds-append, goes-append}
 

@@ -26,7 +26,7 @@ use Rattle.cad_event_loop.specs.declared.office.Office.{Office}
 use Rattle.cad_event_loop.specs.declared.stopped.Stopped.{Stopped}
 use Rattle.cad_event_loop.specs.declared.stopped.Stopped.TheVariants.{Asked, StoreRefused}
 use Rattle.cad_event_loop.specs.Hosting.{Each, IsServing, IsClosing, Hosts}
-use Rattle.cad_event_loop.specs.Offices.{office_at, HasBegun as OfficeHasBegun, HasBegunUnless, end_of_office, is_over, left_deeds, left_at, HasOfficeTurns, HasSent}
+use Rattle.cad_event_loop.specs.inner.Offices.{office_at, HasBegun as OfficeHasBegun, HasBegunUnless, end_of_office, is_over, left_deeds, left_at, HasOfficeTurns, HasSent}
 use Rattle.cad_event_loop.specs.Works.{Said, AtOffice, Place, place_of, Held, Same, Work, enters, office_comes, office_leaves, aside, all_deeds, store_end, end_of_turned, end_in, is_last, SaysSo, IsLineSaid, Tells, Works, Goes}
 use Rattle.cad_event_loop.proofs.LifeLemmas.{none_some, one_some}
 use Rattle.cad_event_loop.proofs.GoesLemmas.{all_deeds-append, or_nothing, goes-append, end_in-append, each-append, hosts-one}

@@ -1,6 +1,5 @@
 pub mod Works
-pub mod Offices
 pub mod Hosting
-pub mod Rounds
 pub mod Lives
 pub mod Laws
+pub mod inner

@@ -16,8 +16,8 @@ const LAST_PATIENCE: u64 = 100;
 impl<S: Drop> Rounds<S> {
     ghost use Rattle.std.specs.Prelude.{◌≡◌, None, IsTrue};
     ghost use Rattle.cad_event_loop.specs.Hosting.{Hosts, IsClosing};
-    ghost use Rattle.cad_event_loop.specs.Offices.{IsOfficeSending};
-    ghost use Rattle.cad_event_loop.specs.Rounds.{here};
+    ghost use Rattle.cad_event_loop.specs.inner.Offices.{IsOfficeSending};
+    ghost use Rattle.cad_event_loop.specs.inner.Rounds.{here};
     ghost use Rattle.cad_event_loop.specs.Works.{IsEmpty};
 
     /// Waits until a socket may take something, or for so long.

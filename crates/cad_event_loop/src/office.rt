@@ -1,7 +1,7 @@
 //! The land office and its socket.
 
 ghost use Rattle.std.specs.Prelude.{◌≡◌};
-ghost use Rattle.cad_event_loop.specs.Offices.{end_of_office, is_over as is_over_of};
+ghost use Rattle.cad_event_loop.specs.inner.Offices.{end_of_office, is_over as is_over_of};
 ghost use Rattle.cad_event_loop.specs.Works.{is_last as is_last_of};
 
 use crate::stopped::Stopped;
@@ -57,7 +57,7 @@ pub(crate) struct Office<S> {
 impl<S: Drop> Office<S> {
     ghost use Rattle.cad_network.specs.Deeds.{AddsSome};
     ghost use Rattle.cad_office_socket.specs.Turns.{IsNewEntry, IsSending};
-    ghost use Rattle.cad_event_loop.specs.Offices.{HasOfficeTurns, HasSent};
+    ghost use Rattle.cad_event_loop.specs.inner.Offices.{HasOfficeTurns, HasSent};
 
     /// An office of which nothing was read.
     pub(crate) fn new(alloc: Global, socket: S) -> Office<S>

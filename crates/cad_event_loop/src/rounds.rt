@@ -29,8 +29,8 @@ impl<S: Drop> Rounds<S> {
     ghost use Rattle.std.specs.Prelude.{◌≡◌, List, [], ◌∷◌, Option, None, IfOk};
     ghost use Rattle.cad_network.specs.Deeds.{Deed, office_came, Adds};
     ghost use Rattle.cad_event_loop.specs.Hosting.{end_of_round, end_of_rounds, Hosts, IsServing};
-    ghost use Rattle.cad_event_loop.specs.Offices.{HasBegun, HasBegunUnless};
-    ghost use Rattle.cad_event_loop.specs.Rounds.{here, IsNobody};
+    ghost use Rattle.cad_event_loop.specs.inner.Offices.{HasBegun, HasBegunUnless};
+    ghost use Rattle.cad_event_loop.specs.inner.Rounds.{here, IsNobody};
 
     /// Nobody.
     pub(crate) fn new(alloc: Global) -> std::result::Result<Rounds<S>, AllocError>

@@ -12,7 +12,7 @@ use Rattle.cad_versions.specs.Objects.{object_number}
 use Rattle.cad_versions.specs.Identifiers.{by_identifier}
 use Rattle.cad_versions.specs.VersionedObject.{VersionedObject}
 use Rattle.cad_versions.specs.Versions.{is_of, history}
-use Rattle.cad_feature.specs.Stretches.{number_in}
+use Rattle.cad_feature.specs.inner.Stretches.{number_in}
 use lib.Dec.{ltb}
 
 -- what stands from a place on, as a slice has it

@@ -11,7 +11,7 @@ use Rattle.cad_versions.specs.declared.object_id.ObjectId.{ObjectId}
 use Rattle.cad_versions.specs.Objects.{object_number}
 use Rattle.cad_versions.specs.VersionedObject.{VersionedObject}
 use Rattle.cad_versions.specs.Versions.{is_of, history}
-use Rattle.cad_feature.specs.Stretches.{number_in, stretch_in, PartAt, AreStarts}
+use Rattle.cad_feature.specs.inner.Stretches.{number_in, stretch_in, PartAt, AreStarts}
 use Rattle.cad_feature.proofs.ListLemmas.{front_cut, back_cut}
 use lib.Dec.{leb, ltb}
 

@@ -4,7 +4,7 @@ ghost use Rattle.std.specs.Prelude.{◌≡◌, IfOk, drop};
 ghost use Rattle.std.specs.List.{All, position_or_len};
 ghost use Rattle.cad_versions.specs.Listing.{IsListing};
 ghost use Rattle.cad_feature.specs.Features.{IsNumbered, IsFeatureOf, AreFeaturesOf};
-ghost use Rattle.cad_feature.specs.Joined.{is_joined as is_joined_of, joins_names as joins_names_of};
+ghost use Rattle.cad_feature.specs.inner.Joined.{is_joined as is_joined_of, joins_names as joins_names_of};
 ghost use Rattle.cad_feature.specs.Flatten.{class_for, is_in as is_of_class, feature_in, features_in};
 
 use crate::Feature;

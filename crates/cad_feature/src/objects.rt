@@ -5,7 +5,7 @@ ghost use Rattle.std.specs.List.{AllWithin};
 ghost use Rattle.std.specs.List.Sorted.{IsNonDecreasingBy};
 ghost use Rattle.cad_versions.specs.Listing.{IsListing};
 ghost use Rattle.cad_versions.specs.Versions.{history};
-ghost use Rattle.cad_feature.specs.Stretches.{number_in, stretch_in, AreStarts};
+ghost use Rattle.cad_feature.specs.inner.Stretches.{number_in, stretch_in, AreStarts};
 
 use cad_versions::{ObjectId, Version};
 use std::alloc::{AllocError, Global};

@@ -7,3 +7,4 @@ pub mod Ascending
 pub mod Looks
 pub mod CellLemmas
 pub mod SharedLemmas
+pub mod CountedTests

@@ -6,7 +6,7 @@ use Rattle.std.proofs.lemmas.Bool.Decides.{nat_tests}
 use Rattle.cad_grid.specs.declared.cells.Cells.{Cells}
 use Rattle.cad_grid.specs.Blocks.{share_a_cell}
 use Rattle.cad_grid.specs.Counted.{block_at}
-use Rattle.cad_grid.specs.Tests.{shared_by_numbers}
+use Rattle.cad_grid.proofs.CountedTests.{shared_by_numbers}
 use Rattle.cad_positions.specs.Hits.{once}
 use Rattle.cad_positions.specs.Between.{below}
 use Rattle.cad_grid.specs.Entries.{tally, in_row, in_all}

@@ -1,8 +1,7 @@
 pub mod Blocks
-pub mod Corners
 pub mod Counted
 pub mod Near
-pub mod Tests
 pub mod Laws
 pub mod Entries
 pub mod Grids
+pub mod lemmas

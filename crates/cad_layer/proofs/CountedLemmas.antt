@@ -6,7 +6,7 @@ use Rattle.cad_feature.specs.Features.{Item, by_identifier}
 use Rattle.cad_lookup.specs.Ways.{how_many}
 use Rattle.cad_layer.specs.lemmas.CountLemmas.{counted_by, merged_counted}
 use Rattle.cad_layer.specs.lemmas.ItemLemmas.{items_total}
-use Rattle.cad_layer.specs.Replaced.{replaced_in}
+use Rattle.cad_layer.specs.inner.Replaced.{replaced_in}
 use Rattle.cad_layer.specs.Walks.{all_in, IsInOrder}
 
 all_pass : (xs : List Item) → how_many (λ x. true) xs ≡ length xs

@@ -5,7 +5,7 @@ use Rattle.cad_schema.specs.declared.collection.Collection.{Collection}
 use Rattle.cad_feature.specs.Features.{AreFeaturesOf, Item, by_identifier}
 use Rattle.cad_layer.specs.lemmas.ItemLemmas.{items_total}
 use Rattle.cad_layer.specs.lemmas.ListedLemmas.{all_listed}
-use Rattle.cad_layer.specs.Replaced.{replaced_in}
+use Rattle.cad_layer.specs.inner.Replaced.{replaced_in}
 use Rattle.cad_layer.specs.Walks.{all_in, IsInOrder}
 use Rattle.cad_layer.proofs.ReplacedLemmas.{replaced_listed, replaced_merged, replaced_rises}
 

@@ -14,7 +14,7 @@ use Rattle.cad_layer.specs.Identifiers.{IsTheOne}
 use Rattle.cad_layer.specs.lemmas.ItemLemmas.{items_total}
 use Rattle.cad_layer.specs.Merging.{put, put_at, merged}
 use Rattle.cad_layer.specs.lemmas.MergeLemmas.{put_front, merged_ascends, put_behind}
-use Rattle.cad_layer.specs.Replaced.{twins, replaced_in}
+use Rattle.cad_layer.specs.inner.Replaced.{twins, replaced_in}
 use Rattle.cad_layer.specs.lemmas.SearchLemmas.{equal_is, is_equal}
 
 -- ---- a search

@@ -57,7 +57,7 @@ impl Model for Indexed {
     ghost use Rattle.std.specs.Prelude.{◌≡◌};
     ghost use Rattle.cad_feature.specs.Features.{AreFeaturesOf, by_identifier};
     ghost use Rattle.cad_index.specs.Layers.{LayerFeatures};
-    ghost use Rattle.cad_layer.specs.Replaced.{replaced_in};
+    ghost use Rattle.cad_layer.specs.inner.Replaced.{replaced_in};
     ghost use Rattle.cad_layer.specs.Walks.{all_in};
 
     ghost Value = { LayerFeatures };

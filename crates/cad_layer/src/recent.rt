@@ -2,7 +2,7 @@
 
 ghost use Rattle.std.specs.Prelude.{◌≡◌, [], IfOk};
 ghost use Rattle.cad_feature.specs.Features.{AreFeaturesOf};
-ghost use Rattle.cad_layer.specs.Recent.{AreRecent};
+ghost use Rattle.cad_layer.specs.inner.Recent.{AreRecent};
 ghost use Rattle.cad_layer.specs.Walks.{all_in};
 
 use crate::adding::with_later;

@@ -2,7 +2,7 @@
 
 ghost use Rattle.std.specs.Prelude.{◌≡◌, ◌++◌, IfOk, OnOk};
 ghost use Rattle.cad_feature.specs.Features.{by_identifier};
-ghost use Rattle.cad_layer.specs.Replaced.{replaced_in, twins};
+ghost use Rattle.cad_layer.specs.inner.Replaced.{replaced_in, twins};
 
 use crate::Change;
 use crate::change::as_changes;

@@ -2,7 +2,7 @@
 
 ghost use Rattle.std.specs.Prelude.{◌≡◌, IfOk};
 ghost use Rattle.cad_feature.specs.Features.{AreFeaturesOf};
-ghost use Rattle.cad_layer.specs.Recent.{AreRecent};
+ghost use Rattle.cad_layer.specs.inner.Recent.{AreRecent};
 ghost use Rattle.cad_layer.specs.Walks.{all_in};
 
 use crate::changed::changed;
@@ -51,7 +51,7 @@ fn recent_of(recent: &Rc<Recent>) -> &Recent
 }
 
 impl Model for Segment {
-    ghost use Rattle.cad_layer.specs.Recent.{AreRecent};
+    ghost use Rattle.cad_layer.specs.inner.Recent.{AreRecent};
     ghost use Rattle.cad_layer.specs.Segments.{SegmentFeatures};
     ghost use Rattle.cad_layer.specs.Walks.{all_in};
 
@@ -70,7 +70,7 @@ impl Segment {
     ghost use Rattle.cad_feature.specs.Features.{AreFeaturesOf};
     ghost use Rattle.cad_lookup.specs.Ways.{how_many};
     ghost use Rattle.cad_layer.specs.Identifiers.{identifier, IsTheOne};
-    ghost use Rattle.cad_layer.specs.Recent.{AreRecent};
+    ghost use Rattle.cad_layer.specs.inner.Recent.{AreRecent};
     ghost use Rattle.cad_layer.specs.Walks.{all_in, IsInOrder};
 
     /// These features with the changes to them.

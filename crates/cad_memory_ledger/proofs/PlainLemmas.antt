@@ -10,7 +10,7 @@ use Rattle.cad_versions.specs.lemmas.HistoryLemmas.{HasHistories, histories_then
 use Rattle.cad_versions.specs.lemmas.EntryLemmas.{after_same}
 use Rattle.cad_versions.specs.lemmas.OrderLemmas.{identifiers_apart}
 use Rattle.cad_versions.specs.lemmas.ClosingLemmas.{few_after}
-use Rattle.cad_memory_ledger.specs.Plain.{AreHistories, AreApart}
+use Rattle.cad_memory_ledger.specs.inner.Plain.{AreHistories, AreApart}
 use Rattle.cad_versions.specs.lemmas.ListLemmas.{all_filtered}
 
 -- ---- what is kept

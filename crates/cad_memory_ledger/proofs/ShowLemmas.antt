@@ -16,7 +16,7 @@ use Rattle.cad_versions.specs.Identifiers.{by_identifier}
 use Rattle.cad_versions.specs.Listing.{IsListing}
 use Rattle.cad_versions.specs.lemmas.OrderLemmas.{versions_total}
 use Rattle.cad_versions.specs.lemmas.SortLemmas.{sorted_is, sort_rises, length-sort_by}
-use Rattle.cad_memory_ledger.specs.Plain.{AreHistories, AreApart}
+use Rattle.cad_memory_ledger.specs.inner.Plain.{AreHistories, AreApart}
 use Rattle.cad_memory_ledger.proofs.PlainLemmas.{seen_apart}
 
 -- ---- the order of identifiers

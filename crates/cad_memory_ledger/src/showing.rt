@@ -7,7 +7,7 @@ ghost use Rattle.cad_versions.specs.VersionedObject.{IsVersion};
 ghost use Rattle.cad_versions.specs.Entries.{entries_at, seen_at as seen};
 ghost use Rattle.cad_versions.specs.Sorting.{sort_by};
 ghost use Rattle.cad_versions.specs.Identifiers.{by_identifier};
-ghost use Rattle.cad_memory_ledger.specs.Plain.{AreApart};
+ghost use Rattle.cad_memory_ledger.specs.inner.Plain.{AreApart};
 
 use crate::stored_version::StoredVersion;
 use cad_versions::Version;

@@ -21,7 +21,7 @@ pub(crate) struct StoredVersions {
 impl Model for StoredVersions {
     ghost use Rattle.std.specs.Prelude.{List};
     ghost use Rattle.cad_versions.specs.Entries.{Entry};
-    ghost use Rattle.cad_memory_ledger.specs.Plain.{AreHistories};
+    ghost use Rattle.cad_memory_ledger.specs.inner.Plain.{AreHistories};
 
     ghost Value = { List Entry };
 

@@ -2,9 +2,9 @@
 use Rattle.std.proofs.Common.{◌≡◌, ◌∙◌, ap, refl, sym, ℕ, suc, ◌+◌, ◌≤◌, min, Bool, true, false, nat_lt, if◌then◌else◌, List, [], ◌∷◌, ◌++◌, append_assoc, map, filter, length, get_or, drop, add-one, drop-cons, arith, append-nil}
 use Rattle.std.proofs.lemmas.List.{drop_all}
 use Rattle.cad_lookup.specs.Ways.{Way, Counts, cost, min_of, most, total}
-use Rattle.cql_rewrite.specs.Choices.{Costs, ways_after, filter_step, min_moved}
+use Rattle.cql_rewrite.specs.inner.Choices.{Costs, ways_after, filter_step, min_moved}
 use Rattle.cql_rewrite.specs.Menus.{is_narrow}
-use Rattle.cad_plan.specs.Gathered.{with_if}
+use Rattle.cad_plan.specs.inner.Gathered.{with_if}
 
 pub map_next : {X Y : Type 0} (f : X → Y) (xs : List X) (i : ℕ) (x : X) → suc i ≤ length xs → x ≡ get_or xs i x → map f (drop i xs) ≡ f x ∷ map f (drop (i + 1) xs)
 map_next f xs i x h e = rw (add-one, drop-cons xs i x h, ← e) refl

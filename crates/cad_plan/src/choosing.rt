@@ -6,7 +6,7 @@ ghost use Rattle.cad_shape.specs.Shapes.{shape_corners};
 ghost use Rattle.cad_feature.specs.Features.{Item};
 ghost use Rattle.cad_lookup.specs.Candidates.{is_candidate};
 ghost use Rattle.cad_lookup.specs.Ways.{all_features, cost, counts_of, join_of, min_of, near_block, no_feature, range_way, way_of, ways_in};
-ghost use Rattle.cql_rewrite.specs.Choices.{met as met_of};
+ghost use Rattle.cql_rewrite.specs.inner.Choices.{met as met_of};
 ghost use Rattle.cql_rewrite.specs.Meets.{meets};
 ghost use Rattle.cql_rewrite.specs.Menus.{IsFirstOfLeast, cheaper, choice, is_narrow, menu};
 
@@ -35,7 +35,7 @@ pub(crate) struct NarrowPlans {
 impl NarrowPlans {
     ghost use Rattle.std.specs.Prelude.{◌≡◌, OnOk, if◌then◌else◌, map, min, nat_lt};
     ghost use Rattle.cad_lookup.specs.Ways.{way_of};
-    ghost use Rattle.cad_plan.specs.Gathered.{with_if};
+    ghost use Rattle.cad_plan.specs.inner.Gathered.{with_if};
 
     // Takes the plan where it costs less than all.
     fn add(&mut self, chosen: Priced, all: u64) -> Result<(), AllocError>

@@ -2,7 +2,7 @@
 
 ghost use Rattle.std.specs.Prelude.{◌≡◌, ◌||◌, ℕ, Bool};
 ghost use Rattle.cad_positions.specs.Has.{has, has_met, has_joined, has_tested};
-ghost use Rattle.cad_positions.specs.Heights.{height, height_met, height_joined, height_tested};
+ghost use Rattle.cad_positions.specs.inner.Heights.{height, height_met, height_joined, height_tested};
 ghost use Rattle.cad_positions.specs.Fronts.{behind, found_of};
 ghost use Rattle.cad_positions.specs.Left.{IsFront, Settles};
 

@@ -10,7 +10,7 @@ use Rattle.cad_versions.specs.declared.fault.RegisterFault.{RegisterFault}
 use Rattle.cad_versions.specs.declared.fault.RegisterFault.TheVariants as fault
 use Rattle.cad_register.specs.declared.found.FoundRow.{FoundRow}
 use Rattle.cad_register.specs.Damage.{identifier_in, place_of, IsNext, AreInOrder, AreSound, AreSeenAt, IsFirstDamaged, IsCauseIn, ListsRows}
-use Rattle.cad_register.specs.Found.{IsReadOf, AreReadOf}
+use Rattle.cad_register.specs.inner.Found.{IsReadOf, AreReadOf}
 use Rattle.cad_register.proofs.KeptLemmas.{entry_same}
 
 drop_row : (rows : List Row) (at : ℕ) (row : Row) → at < length rows → row ≡ get_or rows at row → drop at rows ≡ row ∷ drop (at + 1) rows

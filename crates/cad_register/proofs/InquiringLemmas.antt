@@ -12,7 +12,7 @@ use Rattle.cad_versions.specs.AsOf.{as_of}
 use Rattle.cad_register.specs.Leaving.{AsksOnly}
 use Rattle.cad_register.specs.Refusing.{Asks, IsForLines}
 use Rattle.cad_register.specs.Stands.{Tells, IsStoreFault, IsReadingFault}
-use Rattle.cad_register.specs.Inquiring.{Inquires}
+use Rattle.cad_register.specs.inner.Inquiring.{Inquires}
 use Rattle.cad_tables.specs.lemmas.SettledLemmas.{settled_here, settled_then}
 use Rattle.cad_register.proofs.LeavingLemmas.{asks_nothing, asks_as, asks_then, reading_known}
 use Rattle.cad_register.proofs.StandLemmas.{IsDecided}

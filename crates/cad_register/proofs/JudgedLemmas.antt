@@ -6,7 +6,7 @@ use Rattle.cad_versions.specs.VersionedObject.{VersionedObject}
 use Rattle.cad_versions.specs.Entries.{Entry, seen_at}
 use Rattle.cad_versions.specs.Listing.{IsListing}
 use Rattle.std.proofs.lemmas.Slice.Zip.{AllZip-long}
-use Rattle.cad_register.specs.Found.{IsReadOf, AreReadOf}
+use Rattle.cad_register.specs.inner.Found.{IsReadOf, AreReadOf}
 use Rattle.cad_register.specs.declared.found.FoundRow.{FoundRow}
 use Rattle.cad_register.specs.declared.place.Place.{Place}
 use Rattle.cad_register.specs.Damage.{place_of, IsNext, AreSound, AreSeenAt, IsFirstDamaged}

@@ -14,7 +14,7 @@ use Rattle.cad_versions.specs.lemmas.OrderLemmas.{identifiers_total}
 use Rattle.cad_register.specs.declared.found.FoundRow.{FoundRow}
 use Rattle.cad_register.specs.declared.found.FoundRow.TheVariants.{Version, Damaged}
 use Rattle.cad_register.specs.Damage.{identifier_in, number_in, by_stored_identifier, AreInOrder}
-use Rattle.cad_register.specs.Found.{IsReadOf, AreReadOf, identifier_of, by_identifier}
+use Rattle.cad_register.specs.inner.Found.{IsReadOf, AreReadOf, identifier_of, by_identifier}
 
 -- ---- what is related place by place, one of the lists in another order
 

@@ -10,7 +10,7 @@ use Rattle.cad_versions.specs.ShapeBytes.{IsShapeOf}
 use Rattle.cad_register.specs.declared.columns.ReadFault.{ReadFault}
 use Rattle.cad_register.specs.declared.columns.ReadFault.TheVariants.{Damaged, Memory}
 use Rattle.cad_register.specs.Parts.{HasShape}
-use Rattle.cad_register.specs.Reading.{Reads}
+use Rattle.cad_register.specs.inner.Reading.{Reads}
 use Rattle.cad_register.proofs.PartLemmas.{blob_same}
 
 -- where no part fits, no whole does

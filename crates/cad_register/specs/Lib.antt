@@ -1,9 +1,7 @@
 pub mod Rows
-pub mod Reading
 pub mod Parts
 pub mod StoredVersions
 pub mod Damage
-pub mod Found
 pub mod Stands
 pub mod Outlines
 pub mod Changing
@@ -11,12 +9,11 @@ pub mod Refusing
 pub mod Surviving
 pub mod Leaving
 pub mod Naming
-pub mod Inquiring
 pub mod Registers
 pub mod Keeping
 pub mod Opening
 pub mod Ledgers
 pub mod Images
-pub mod Running
 pub mod Laws
 pub mod lemmas
+pub mod inner

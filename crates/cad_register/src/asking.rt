@@ -17,7 +17,7 @@ ghost use Rattle.cad_register.specs.Damage.{ReadsRows};
 ghost use Rattle.cad_register.specs.Leaving.{AsksOnly};
 ghost use Rattle.cad_register.specs.Refusing.{Asks, IsForObject, IsForLines, IsNotForMemory, history_questions, register_fault_of};
 ghost use Rattle.cad_register.specs.Naming.{TellAll, NamesFirst};
-ghost use Rattle.cad_register.specs.Inquiring.{Inquires};
+ghost use Rattle.cad_register.specs.inner.Inquiring.{Inquires};
 
 use crate::listing::listed;
 use crate::standing::ObjectState;

@@ -12,7 +12,7 @@ ghost use Rattle.cad_versions.specs.Objects.{object_number};
 ghost use Rattle.cad_versions.specs.Texts.{bytes_of};
 ghost use Rattle.cad_versions.specs.Fractions.{num_of, den_of};
 ghost use Rattle.cad_register.specs.Damage.{number_in};
-ghost use Rattle.cad_register.specs.Reading.{Reads};
+ghost use Rattle.cad_register.specs.inner.Reading.{Reads};
 ghost use Rattle.cad_register.specs.Parts.{HasShape};
 ghost use Rattle.cad_register.specs.Rows.{flag_number, x_of, y_of};
 

@@ -9,7 +9,7 @@ ghost use Rattle.cad_register.specs.Stands.{IsStoreFault, IsRefusal};
 ghost use Rattle.cad_register.specs.Refusing.{IsForNamed, IsForBody, IsForRoom, IsForAddition, IsForCommand};
 ghost use Rattle.cad_register.specs.Refusing.{history_questions, body_questions, room_questions, addition_questions, command_questions};
 ghost use Rattle.cad_register.specs.Naming.{TellAll, NamesFirst};
-ghost use Rattle.cad_register.specs.Inquiring.{Inquires};
+ghost use Rattle.cad_register.specs.inner.Inquiring.{Inquires};
 
 use crate::asking::{standing_of, versions_of};
 use cad_versions::{Body, Class, Command, MOST_VERSIONS, ObjectId, RegisterFault};

@@ -1,7 +1,7 @@
 //! What is read of a row.
 
 ghost use Rattle.std.specs.Prelude.{◌≡◌};
-ghost use Rattle.cad_register.specs.Found.{IsReadOf, IsJudged, identifier_of, damaged_row, damage_named};
+ghost use Rattle.cad_register.specs.inner.Found.{IsReadOf, IsJudged, identifier_of, damaged_row, damage_named};
 ghost use Rattle.sqlite_value.specs.Order.{Row as SqlRow};
 
 use crate::columns::{ReadFault, number_or_zero};

@@ -3,7 +3,7 @@
 ghost use Rattle.std.specs.Prelude.{List, None, IfOk, IfErr};
 ghost use Rattle.std.specs.List.Sorted.{IsPermutation, IsSorted};
 ghost use Rattle.sqlite_value.specs.Order.{Row};
-ghost use Rattle.cad_register.specs.Found.{AreReadOf, by_identifier};
+ghost use Rattle.cad_register.specs.inner.Found.{AreReadOf, by_identifier};
 ghost use Rattle.cad_register.specs.Damage.{AreSound, AreSeenAt, IsCauseIn, ListsRows};
 ghost use Rattle.cad_versions.specs.Listing.{IsListing};
 

@@ -1,6 +1,6 @@
 //! The parts of a body, in the columns of a row.
 
-ghost use Rattle.cad_register.specs.Reading.{Reads};
+ghost use Rattle.cad_register.specs.inner.Reading.{Reads};
 ghost use Rattle.cad_register.specs.Parts.{HasParts};
 
 use crate::columns::{

@@ -8,7 +8,7 @@ ghost use Rattle.cad_versions.specs.Entries.{seen_at};
 ghost use Rattle.cad_versions.specs.Identifiers.{identifier_of};
 ghost use Rattle.cad_versions.specs.BodyParts.{parts_of};
 ghost use Rattle.cad_register.specs.Parts.{HasParts};
-ghost use Rattle.cad_register.specs.Reading.{Reads};
+ghost use Rattle.cad_register.specs.inner.Reading.{Reads};
 ghost use Rattle.cad_register.specs.StoredVersions.{IsRowOf, entry_of};
 ghost use Rattle.cad_register.specs.Damage.{place_of, IsClosedBy, HasRevisions, KeepsRules};
 

@@ -8,7 +8,7 @@ use Rattle.cad_lookup.specs.declared.plan.Plan.{Plan}
 use Rattle.cad_lookup.specs.declared.plan.Plan.TheVariants as plan
 use Rattle.cad_lookup.specs.Candidates.{is_candidate, candidate_All, candidate_Meet, candidate_Join}
 use Rattle.cad_run.specs.declared.parts.Part.{Part}
-use Rattle.cad_run.specs.Parts.{has_all_parts, has_any_part, all_hold, any_holds}
+use Rattle.cad_run.specs.inner.Parts.{has_all_parts, has_any_part, all_hold, any_holds}
 use Rattle.cad_run.specs.Positions.{holds_for, holds_at}
 
 none_of : {X : Type 0} (xs : List X) → list_any (λ x. false) xs ≡ false

@@ -1,7 +1,6 @@
 pub mod Slices
 pub mod Pages
 pub mod Positions
-pub mod Parts
 pub mod Bases
 pub mod Peeked
 pub mod Standing
@@ -9,3 +8,4 @@ pub mod IndexedLeft
 pub mod SegmentLeft
 pub mod Left
 pub mod lemmas
+pub mod inner

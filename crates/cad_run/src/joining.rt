@@ -2,7 +2,7 @@
 
 ghost use Rattle.std.specs.Prelude.{◌≡◌, ◌&&◌, ◌||◌, ◌<◌, ℕ, IfOk, nat_lt};
 ghost use Rattle.cad_positions.specs.Has.{has, has_any, has_all};
-ghost use Rattle.cad_run.specs.Parts.{has_all_parts, has_any_part, has_all_wide};
+ghost use Rattle.cad_run.specs.inner.Parts.{has_all_parts, has_any_part, has_all_wide};
 
 use crate::parts::{Part, Wide, tested, walked};
 use cad_positions::{Source, join_all, meet_all};

@@ -7,7 +7,7 @@ ghost use Rattle.cad_grid.specs.Near.{is_near};
 ghost use Rattle.cad_range.specs.Ranges.{lies_in};
 ghost use Rattle.cad_positions.specs.Has.{has};
 ghost use Rattle.cad_positions.specs.Held.{is_among};
-ghost use Rattle.cad_run.specs.Parts.{has_part, has_wide, PartStands};
+ghost use Rattle.cad_run.specs.inner.Parts.{has_part, has_wide, PartStands};
 
 use cad_feature::Range;
 use cad_index::{Base, Found};

@@ -3,7 +3,7 @@
 ghost use Rattle.std.specs.Prelude.{◌≡◌, ℕ, IfOk};
 ghost use Rattle.cad_lookup.specs.Candidates.{is_candidate};
 ghost use Rattle.cad_positions.specs.Has.{has};
-ghost use Rattle.cad_run.specs.Parts.{has_all_parts, has_any_part, PartStands, all_hold, any_holds};
+ghost use Rattle.cad_run.specs.inner.Parts.{has_all_parts, has_any_part, PartStands, all_hold, any_holds};
 ghost use Rattle.cad_run.specs.Positions.{holds_at};
 
 use crate::joining::{joined, met};

@@ -4,4 +4,4 @@ pub mod Servers
 pub mod Refusing
 pub mod Laws
 pub mod Keeping
-pub mod Rooms
+pub mod inner

@@ -22,7 +22,7 @@ impl SnapshotCache {
     ghost use Rattle.std.specs.Option.{option_copied};
     ghost use Rattle.cad_versions.specs.declared.command.Command.{Command as CommandOf};
     ghost use Rattle.cad_server.specs.Keeping.{KeepsOf, StaysCached, StaysWith, LetsOldestGo, LetsEnteredGo, cached_at};
-    ghost use Rattle.cad_server.specs.Rooms.{most_read};
+    ghost use Rattle.cad_server.specs.inner.Rooms.{most_read};
 
     /// Nothing is kept yet. An error is want of memory.
     pub(crate) fn new(alloc: Global) -> Result<SnapshotCache, AllocError>

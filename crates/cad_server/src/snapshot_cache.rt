@@ -1,7 +1,7 @@
 //! The features of revisions that are kept.
 
 ghost use Rattle.std.specs.Prelude.{◌≡◌};
-ghost use Rattle.cad_server.specs.Rooms.{most_entered, most_read};
+ghost use Rattle.cad_server.specs.inner.Rooms.{most_entered, most_read};
 
 use cad_snapshot::Snapshot;
 use lru::LruCache;

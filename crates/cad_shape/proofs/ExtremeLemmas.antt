@@ -9,7 +9,7 @@ use Rattle.cad_shape.specs.declared.extremes.Way.{Way}
 use Rattle.cad_shape.specs.declared.extremes.Way.TheVariants.{West, South, East, North}
 use Rattle.cad_shape.specs.declared.extremes.Extremes.{Extremes}
 use Rattle.cad_shape.specs.Crossings.{origin}
-use Rattle.cad_shape.specs.Extremes.{IsFarther, point_at, AreExtremes}
+use Rattle.cad_shape.specs.inner.Extremes.{IsFarther, point_at, AreExtremes}
 use Rattle.cad_shape.specs.Frames.{IsHeld, IsLeastBounds}
 use Rattle.cad_shape.proofs.Signs.{sums}
 

@@ -7,7 +7,6 @@ pub mod Regions
 pub mod Locations
 pub mod Areas
 pub mod Crossings
-pub mod Extremes
 pub mod Outlines
 pub mod Rings
 pub mod Polygons
@@ -18,3 +17,4 @@ pub mod Tests
 pub mod Insides
 pub mod Laws
 pub mod lemmas
+pub mod inner

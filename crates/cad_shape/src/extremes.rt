@@ -1,7 +1,7 @@
 //! Where a least box touches the points in it.
 
 ghost use Rattle.std.specs.Prelude.{◌↔◌, ◌<◌, ◌≤◌, IsTrue, length};
-ghost use Rattle.cad_shape.specs.Extremes.{IsFarther, IsFarthest, AreExtremes};
+ghost use Rattle.cad_shape.specs.inner.Extremes.{IsFarther, IsFarthest, AreExtremes};
 ghost use Rattle.cad_shape.specs.Frames.{IsLeastBounds};
 
 use crate::{Bounds, Point};

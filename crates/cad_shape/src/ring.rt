@@ -24,7 +24,7 @@ struct Corners {
 impl Model for Corners {
     ghost use Rattle.std.specs.Prelude.{List};
     ghost use Rattle.cad_shape.specs.declared.point.Point.{Point};
-    ghost use Rattle.cad_shape.specs.Extremes.{AreExtremes};
+    ghost use Rattle.cad_shape.specs.inner.Extremes.{AreExtremes};
 
     ghost Value = { List Point };
 

@@ -4,7 +4,7 @@ ghost use Rattle.std.specs.Io.KnownBytes.{IsAtEnd};
 ghost use Rattle.std.specs.Prelude.{◌≡◌};
 ghost use Rattle.cadastre.specs.Entering.{RunsOffice};
 ghost use Rattle.cadastre.specs.Asking.{RunsAsk};
-ghost use Rattle.cadastre.specs.Opening.{opening_fault};
+ghost use Rattle.cadastre.specs.inner.Opening.{opening_fault};
 
 use cad_io::{Counted, CountedRead, CountedWrite, CountedWriter};
 use cad_register::{Register, RegisterFault};

@@ -1,3 +1,2 @@
-pub mod Opening
-pub mod Hosting
 pub mod Words
+pub mod inner

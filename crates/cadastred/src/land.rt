@@ -1,8 +1,8 @@
 //! Clients and the land office, served over a register file.
 
 ghost use Rattle.std.specs.Prelude.{◌≡◌};
-ghost use Rattle.cadastred.specs.Hosting.{RunsHost};
-ghost use Rattle.cadastred.specs.Opening.{opening_fault};
+ghost use Rattle.cadastred.specs.inner.Hosting.{RunsHost};
+ghost use Rattle.cadastred.specs.inner.Opening.{opening_fault};
 
 use cad_clients::AccessLog;
 use cad_mio::{Doors, MioNetwork, remove_door};

@@ -3,7 +3,7 @@ use Rattle.std.proofs.Common.{◌≡◌, ℕ, ◌<◌, ◌≤◌, ◌||◌, Bool
 use Rattle.std.specs.List.{list_any}
 use Rattle.std.proofs.lemmas.List.Folds.{list_any-append}
 use Rattle.std.proofs.lemmas.Bool.Decides.{nat_tests}
-use Rattle.cadastred_run.specs.FirstLines.{ends_line, begun, line_of}
+use Rattle.cadastred_run.specs.inner.FirstLines.{ends_line, begun, line_of}
 
 -- before a line has begun
 pub begun_later : (xs ys : List ℕ) → begun xs ≡ [] → begun (xs ++ ys) ≡ begun ys

@@ -1,6 +1,4 @@
 pub mod Invocations
 pub mod Outcomes
 pub mod Hosting
-pub mod FirstLines
-pub mod Printable
-pub mod Requests
+pub mod inner

@@ -1,7 +1,7 @@
 //! A reply, and the line that tells of it.
 
 ghost use Rattle.std.specs.Prelude.{IfOk};
-ghost use Rattle.cadastred_run.specs.Printable.{ArePrintable, StaysPrintable};
+ghost use Rattle.cadastred_run.specs.inner.Printable.{ArePrintable, StaysPrintable};
 
 use crate::moment::push_moment;
 use crate::printable::push_all;

@@ -1,6 +1,6 @@
 //! Moments as a log tells them.
 
-ghost use Rattle.cadastred_run.specs.Printable.{StaysPrintable};
+ghost use Rattle.cadastred_run.specs.inner.Printable.{StaysPrintable};
 
 use crate::printable::push_all;
 use cad_day::Day;

@@ -1,7 +1,7 @@
 //! Text of printable bytes.
 
 ghost use Rattle.std.specs.Prelude.{◌≡◌, true};
-ghost use Rattle.cadastred_run.specs.Printable.{is_printable as is_printable_byte, StaysPrintable};
+ghost use Rattle.cadastred_run.specs.inner.Printable.{is_printable as is_printable_byte, StaysPrintable};
 
 use std::alloc::AllocError;
 

@@ -1,7 +1,7 @@
 //! The first line of a request.
 
 ghost use Rattle.std.specs.Prelude.{◌≡◌, ◌≤◌, length};
-ghost use Rattle.cadastred_run.specs.FirstLines.{ends_line as ends_line_of};
+ghost use Rattle.cadastred_run.specs.inner.FirstLines.{ends_line as ends_line_of};
 
 use std::alloc::{AllocError, Global};
 
@@ -24,7 +24,7 @@ pub(crate) struct Request {
 
 impl Request {
     ghost use Rattle.std.specs.Prelude.{◌≡◌, ◌++◌, ℕ, List, [], ◌∷◌, OnOk, IsFalse};
-    ghost use Rattle.cadastred_run.specs.Requests.{HoldsLineOf};
+    ghost use Rattle.cadastred_run.specs.inner.Requests.{HoldsLineOf};
 
     /// Nothing was read.
     pub(crate) fn new(alloc: Global) -> Request

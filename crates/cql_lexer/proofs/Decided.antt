@@ -7,7 +7,7 @@ use Rattle.cql_lexer.specs.Names.{is_name_start, is_unquoted}
 use Rattle.cql_lexer.specs.Texts.{IsContent, IsCharacter, closing_quote, character}
 use Rattle.cql_lexer.specs.Spelling.{Leads, here, blank, token_first, is_blank, IsLongest, IsNoToken}
 use Rattle.cql_lexer.specs.Lexed.{IsSpelt, HasFault}
-use Rattle.cql_lexer.specs.Scan.{after_run, begins_number, character_front, symbol_front}
+use Rattle.cql_lexer.specs.inner.Scan.{after_run, begins_number, character_front, symbol_front}
 use Rattle.cql_lexer.specs.Laws.{HasTokensOrFault}
 use Rattle.cql_lexer.specs.declared.fault.SpellingFault.{SpellingFault}
 use Rattle.cql_lexer.specs.declared.fault.SpellingFault.TheVariants.{TooLong}

@@ -5,7 +5,7 @@ use Rattle.std.specs.Str.{byte}
 use Rattle.cql_lexer.specs.Mark.{Sort, Mark, marks, name, text}
 use Rattle.cql_lexer.specs.Spelling.{Leads, here, blank, token_first, is_blank, quoted_token, text_token, IsLongest, IsNoToken}
 use Rattle.cql_lexer.specs.Lexed.{Answers, OrMemory, IsSpelt, Reaches, IsUnclosed, unclosed_text, unclosed_name, is_quote, IsStrange, strange, HasFault}
-use Rattle.cql_lexer.specs.Scan.{IsPast, no_token_fault}
+use Rattle.cql_lexer.specs.inner.Scan.{IsPast, no_token_fault}
 use Rattle.cql_lexer.specs.Laws.{HasFaultOrTokens, HasOneFault}
 use Rattle.cql_lexer.specs.declared.fault.LexFault.{LexFault}
 use Rattle.cql_lexer.specs.declared.fault.LexFault.TheVariants.{At, Memory}

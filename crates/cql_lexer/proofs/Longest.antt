@@ -12,7 +12,7 @@ use Rattle.cql_lexer.specs.Names.{is_name_start, is_name_part, is_unquoted, bare
 use Rattle.cql_lexer.specs.Numbers.{IsNumber, digits_first, point_first, digits}
 use Rattle.cql_lexer.specs.Texts.{IsContent}
 use Rattle.cql_lexer.specs.Spelling.{IsToken, symbol_token, number_token, bare_token, quoted_token, text_token, IsLongest, IsNoToken, is_blank}
-use Rattle.cql_lexer.specs.Scan.{run_of, after_run, after_number, begins_digit, begins_number, begins_name, symbol_front, Finds, seen}
+use Rattle.cql_lexer.specs.inner.Scan.{run_of, after_run, after_number, begins_digit, begins_number, begins_name, symbol_front, Finds, seen}
 use Rattle.cql_lexer.proofs.Roles.{Role, role, named, numbered, quoted, worded, spaced, other, role_of_name, role_of_digit, role_of_blank}
 use Rattle.cql_lexer.proofs.Runs.{run_is, run_longest, run_shorter, run_splits, run_whole, past_run}
 use Rattle.cql_lexer.proofs.Symbols.{symbol_role, symbol_ascii, symbol_shorter, FindsSymbol, finds_symbol}

@@ -6,7 +6,7 @@ use Rattle.std.specs.Char.{is_ascii_digit}
 use Rattle.std.specs.Str.{byte}
 use Rattle.cql_lexer.specs.Runs.{Run, stop, more}
 use Rattle.cql_lexer.specs.Numbers.{is_exponent_mark, is_sign, IsDigits, digits, IsFraction, no_fraction, fraction, IsExponent, no_exponent, exponent, signed_exponent, IsNumber, digits_first, point_first}
-use Rattle.cql_lexer.specs.Scan.{run_of, after_run, after_digits, after_signed, after_exponent, after_fraction, after_number, begins_digit, begins_number}
+use Rattle.cql_lexer.specs.inner.Scan.{run_of, after_run, after_digits, after_signed, after_exponent, after_fraction, after_number, begins_digit, begins_number}
 use Rattle.cql_lexer.proofs.Runs.{run_is, after_shorter, run_longest, run_splits}
 use Rattle.cql_lexer.proofs.Utf8.{AllAscii, no_bytes, one_more, ascii_append, digit_ascii, digits_ascii}
 

@@ -1,7 +1,7 @@
 -- Runs of bytes that pass: where the longest one ends.
 use Rattle.std.proofs.Common.{◌≡◌, ℕ, ◌≤◌, Bool, true, false, List, [], ◌∷◌, ◌++◌, length, if◌then◌else◌, refl, ap, arith}
 use Rattle.cql_lexer.specs.Runs.{Run, stop, more}
-use Rattle.cql_lexer.specs.Scan.{run_of, after_run, IsPast}
+use Rattle.cql_lexer.specs.inner.Scan.{run_of, after_run, IsPast}
 
 run_at : (p : ℕ → Bool) (x : ℕ) (xs : List ℕ) (b : Bool) → p x ≡ b → Run p xs (run_of p xs) (after_run p xs) → Run p (x ∷ xs) (if b then x ∷ run_of p xs else []) (if b then after_run p xs else x ∷ xs)
 run_at p x xs true passes run = more passes run

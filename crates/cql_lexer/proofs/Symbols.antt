@@ -7,7 +7,7 @@ use Rattle.std.specs.Str.{bytes_eq}
 use Rattle.cql_lexer.specs.Mark.{Sort}
 use Rattle.cql_lexer.specs.Symbols.{symbols, symbol_of, IsSymbol}
 use Rattle.cql_lexer.specs.Tables.{entry_of}
-use Rattle.cql_lexer.specs.Scan.{with_rest, or_else, symbol_front}
+use Rattle.cql_lexer.specs.inner.Scan.{with_rest, or_else, symbol_front}
 use Rattle.cql_lexer.proofs.Roles.{Role, role, other, is_other}
 use Rattle.cql_lexer.proofs.Utf8.{AllAscii, no_bytes, one_more}
 

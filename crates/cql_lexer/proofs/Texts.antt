@@ -3,7 +3,7 @@ use Rattle.std.proofs.Common.{◌≡◌, ℕ, ◌<◌, Bool, true, false, ◌==�
 use Rattle.std.proofs.lemmas.Bool.Decides.{nat_tests}
 use Rattle.std.specs.Str.{IsUtf8, byte}
 use Rattle.cql_lexer.specs.Texts.{IsNoQuote, IsCharacter, doubled_quote, escaped_quote, backslash, itself, IsContent, closing_quote, character}
-use Rattle.cql_lexer.specs.Scan.{character_front}
+use Rattle.cql_lexer.specs.inner.Scan.{character_front}
 use Rattle.cql_lexer.proofs.Utf8.{cut, without}
 
 pub opposite : {b : Bool} → b ≡ true → b ≡ false → ⊥

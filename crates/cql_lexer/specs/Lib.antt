@@ -9,6 +9,6 @@ pub mod Texts
 pub mod Spelling
 pub mod Faults
 pub mod Lexed
-pub mod Scan
 pub mod Laws
 pub mod lemmas
+pub mod inner

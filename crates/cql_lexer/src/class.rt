@@ -1,7 +1,7 @@
 //! Runs of bytes of one class.
 
 ghost use Rattle.std.specs.Prelude.{◌≡◌, length, take_while};
-ghost use Rattle.cql_lexer.specs.Scan.{after_run, is_in, run_of};
+ghost use Rattle.cql_lexer.specs.inner.Scan.{after_run, is_in, run_of};
 
 /// The bytes of which runs are read.
 #[derive(Clone, Copy, PartialEq, Eq, Debug)]

@@ -4,7 +4,7 @@ ghost use Rattle.std.specs.Prelude.{◌≡◌, ℕ, ◌≤◌, [], List, Err, If
 ghost use Rattle.std.specs.Str.{IsUtf8};
 ghost use Rattle.cql_lexer.specs.Lexed.{Answers, HasFault, IsSpelt, OrMemory};
 ghost use Rattle.cql_lexer.specs.Mark.{Mark, marks};
-ghost use Rattle.cql_lexer.specs.Scan.{IsPast, no_token_fault};
+ghost use Rattle.cql_lexer.specs.inner.Scan.{IsPast, no_token_fault};
 ghost use Rattle.cql_lexer.specs.Spelling.{Leads, is_blank};
 ghost use Rattle.cql_lexer.specs.declared.fault.LexFault.TheVariants.{At};
 ghost use Rattle.cql_lexer.specs.declared.fault.SpellingFault.{SpellingFault};

@@ -4,7 +4,7 @@ ghost use Rattle.std.specs.Prelude.{◌≡◌, ◌∷◌, true, IfOk, string_byt
 ghost use Rattle.std.specs.Str.{IsUtf8, byte};
 ghost use Rattle.cql_lexer.specs.Mark.{sort_of};
 ghost use Rattle.cql_lexer.specs.Names.{bare};
-ghost use Rattle.cql_lexer.specs.Scan.{Finds, begins_name};
+ghost use Rattle.cql_lexer.specs.inner.Scan.{Finds, begins_name};
 ghost use Rattle.cql_lexer.specs.Spelling.{IsLongest};
 
 use crate::class::ByteClass;

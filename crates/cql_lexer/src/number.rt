@@ -2,7 +2,7 @@
 
 ghost use Rattle.std.specs.Prelude.{◌≡◌, true, IfOk};
 ghost use Rattle.cql_lexer.specs.Mark.{sort_of};
-ghost use Rattle.cql_lexer.specs.Scan.{begins_digit, begins_number, after_digits, after_exponent, after_fraction, after_number, after_run, after_signed};
+ghost use Rattle.cql_lexer.specs.inner.Scan.{begins_digit, begins_number, after_digits, after_exponent, after_fraction, after_number, after_run, after_signed};
 ghost use Rattle.cql_lexer.specs.Spelling.{IsLongest};
 ghost use Rattle.std.specs.Char.{is_ascii_digit};
 

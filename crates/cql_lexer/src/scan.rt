@@ -2,7 +2,7 @@
 
 ghost use Rattle.std.specs.Prelude.{IfOk};
 ghost use Rattle.std.specs.Str.{IsUtf8};
-ghost use Rattle.cql_lexer.specs.Scan.{Finds};
+ghost use Rattle.cql_lexer.specs.inner.Scan.{Finds};
 
 use crate::name::{is_name_first, name_at, quoted_name_at};
 use crate::number::{is_number_first, number_at};

@@ -1,7 +1,7 @@
 //! The symbol at the front of some bytes.
 
 ghost use Rattle.std.specs.Prelude.{◌≡◌};
-ghost use Rattle.cql_lexer.specs.Scan.{seen, symbol_front};
+ghost use Rattle.cql_lexer.specs.inner.Scan.{seen, symbol_front};
 
 use crate::token::{Comparison, Kind};
 

@@ -2,7 +2,7 @@
 
 ghost use Rattle.std.specs.Prelude.{◌≡◌, ◌∷◌, IfOk};
 ghost use Rattle.std.specs.Str.{IsUtf8, byte};
-ghost use Rattle.cql_lexer.specs.Scan.{Finds, character_front, seen_byte};
+ghost use Rattle.cql_lexer.specs.inner.Scan.{Finds, character_front, seen_byte};
 
 use crate::token::Kind;
 use std::alloc::{AllocError, Global};

@@ -3,7 +3,7 @@ use Rattle.std.proofs.Common.{◌≡◌, ℕ, ℤ, zero, suc, ◌+◌, ◌≤◌
 use Rattle.cad_feature.specs.Features.{Item}
 use Rattle.cql_types.specs.declared.filter.Step.{Step}
 use Rattle.cql_meaning.specs.Arithmetic.{made, stepped, whole_value}
-use Rattle.cql_meaning.specs.Terms.{part_of}
+use Rattle.cql_meaning.specs.lemmas.TermLemmas.{part_of}
 
 pub stepped_next : (x : Item) (steps : List Step) (i : ℕ) (s : Step) (v : Option ℤ) → suc i ≤ length steps → s ≡ get_or steps i s →
     stepped v (map (part_of x) (drop i steps)) ≡ stepped (made s.by (whole_value x s.term) v) (map (part_of x) (drop (i + 1) steps))

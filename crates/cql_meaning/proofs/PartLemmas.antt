@@ -6,7 +6,7 @@ use Rattle.std.specs.declared.alloc.Global.{Global}
 use Rattle.cad_feature.specs.Features.{Item}
 use Rattle.cql_types.specs.declared.filter.Filter.{Filter}
 use Rattle.cql_types.specs.declared.filter.Filter.TheVariants as filter
-use Rattle.cql_meaning.specs.Nodes.{sides_Or}
+use Rattle.cql_meaning.specs.lemmas.NodeLemmas.{sides_Or}
 use Rattle.cql_meaning.specs.Laws.{IsUndecidedByNull}
 use Rattle.cql_meaning.specs.Sides.{Sides, sides_of, conjunction, disjunction, sides}
 use Rattle.cql_meaning.specs.Values.{both}

@@ -2,10 +2,8 @@ pub mod Values
 pub mod Arithmetic
 pub mod Sides
 pub mod Said
-pub mod Contents
-pub mod Terms
-pub mod Nodes
 pub mod Laws
 pub mod Folding
 pub mod Constants
 pub mod lemmas
+pub mod inner

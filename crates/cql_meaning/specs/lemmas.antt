@@ -1,2 +1,4 @@
 -- Lemmas about the definitions, for the proofs of crates above. No contract cites them.
 pub mod ListLemmas
+pub mod NodeLemmas
+pub mod TermLemmas

@@ -4,7 +4,7 @@ ghost use Rattle.std.specs.Prelude.{◌≡◌, false, IfOk, IsOk};
 ghost use Rattle.std.specs.List.{list_any};
 ghost use Rattle.cad_feature.specs.Features.{datum_at};
 ghost use Rattle.cad_feature.specs.Values.{datum_of};
-ghost use Rattle.cql_meaning.specs.Contents.{content};
+ghost use Rattle.cql_meaning.specs.inner.Contents.{content};
 ghost use Rattle.cql_meaning.specs.Folding.{folds_text};
 ghost use Rattle.cql_meaning.specs.Said.{said};
 ghost use Rattle.cql_meaning.specs.Sides.{among, compared, is_like, texts};

@@ -7,7 +7,7 @@ use Rattle.std.specs.Vec.{vec_len}
 use Rattle.cql_tree.specs.Syntax.{Syntax, Op, node, part, parts_of, joined, or_op, and_op, computed_op, in_op}
 use Rattle.cql_parser.specs.Machine.{in_node}
 use Rattle.cql_tree.specs.Views.{syntax_of, syntaxes_of, operands_of, operations_in, operations_of}
-use Rattle.cql_tree.specs.Rows.{vec_parts, vec_operands, vec_operations}
+use Rattle.cql_tree.specs.lemmas.RowLemmas.{vec_parts, vec_operands, vec_operations}
 use Rattle.cql_tree.specs.declared.expression.Operand.{Operand}
 use Rattle.cql_tree.specs.declared.expression.Expression.{Expression}
 use Rattle.cql_tree.specs.declared.expression.Expression.TheBlock.{hidden-the_row-Operand-1}

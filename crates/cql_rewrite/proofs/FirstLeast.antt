@@ -11,7 +11,7 @@ use Rattle.cql_rewrite.specs.declared.form.Normal.{Normal}
 use Rattle.cql_rewrite.specs.declared.form.Normal.TheOpen.{Normal-F}
 use Rattle.cql_rewrite.specs.declared.form.Normal.TheFolds.{fold_out-Normal, map-Normal}
 use Rattle.cql_rewrite.specs.declared.form.Normal.TheViews.{out-Normal}
-use Rattle.cql_rewrite.specs.Choices.{cheaper_goes, cheaper_stays, first_cost, min_of_under}
+use Rattle.cql_rewrite.specs.inner.Choices.{cheaper_goes, cheaper_stays, first_cost, min_of_under}
 use Rattle.cql_rewrite.specs.Menus.{IsFirstOfLeast, cheaper, chosen, choice, first_least, menu, menu_step}
 
 -- the same, with lists that are walked

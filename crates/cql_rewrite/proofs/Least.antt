@@ -14,7 +14,7 @@ use Rattle.cql_rewrite.specs.declared.form.Normal.TheFolds.{fold-roll-Normal, fo
 use Rattle.cql_rewrite.specs.declared.form.Normal.TheOpen.{Normal-F}
 use Rattle.cql_rewrite.specs.Meets.{Written, meets}
 use Rattle.cql_rewrite.specs.Costs.{bound_on, every, how_many, least, least_of_all, least_of_some, least_or, least_step, min_of, range_count, total}
-use Rattle.cql_rewrite.specs.Choices.{min_of_under}
+use Rattle.cql_rewrite.specs.inner.Choices.{min_of_under}
 use Rattle.cql_rewrite.proofs.Forms.{meets_Constant}
 
 pub least_Constant : (t : List Written) (b : Bool) → least t (Constant b) ≡ cond b (every t) 0

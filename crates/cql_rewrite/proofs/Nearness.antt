@@ -19,7 +19,7 @@ use Rattle.cad_shape.specs.RegionRings.{region_corners}
 use Rattle.cad_shape.specs.Shapes.{Meets, is_judged, shape_corners}
 use Rattle.cad_shape.specs.Tests.{shape_within, within}
 use Rattle.cad_grid.specs.Blocks.{block_around, block_of, cell_number, is_wide, share_a_cell}
-use Rattle.cad_grid.specs.Corners.{same_block}
+use Rattle.cad_grid.specs.lemmas.CornerLemmas.{same_block}
 use Rattle.cad_grid.specs.Laws.{Reaches, SharedCellsAreTouched}
 use Rattle.cad_grid.specs.Near.{block_in, is_candidate}
 use Rattle.cad_feature.specs.Features.{datum_at}
@@ -27,7 +27,7 @@ use Rattle.cad_feature.specs.Values.{Datum, null, a_text, a_whole, a_flag, a_day
 use Rattle.cql_lexer.specs.declared.token.SpatialRelation.{SpatialRelation}
 use Rattle.cql_lexer.specs.declared.token.SpatialRelation.TheVariants as relation
 use Rattle.cql_types.specs.declared.filter.ShapeTerm.TheVariants as place
-use Rattle.cql_meaning.specs.Nodes.{sides_Spatial}
+use Rattle.cql_meaning.specs.lemmas.NodeLemmas.{sides_Spatial}
 use Rattle.cql_meaning.specs.Sides.{spatial, sides_of}
 use Rattle.cql_meaning.specs.Values.{both, shape_in}
 use Rattle.cql_rewrite.specs.Costs.{is_near_by}

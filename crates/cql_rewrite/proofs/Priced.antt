@@ -11,7 +11,7 @@ use Rattle.cad_lookup.specs.WayLaws.{cost_all, cost_none, cost_range, cost_near,
 use Rattle.cql_rewrite.specs.declared.form.Normal.{Normal}
 use Rattle.cql_rewrite.specs.declared.form.Normal.TheOpen.{Normal-F}
 use Rattle.cql_rewrite.specs.declared.form.Normal.TheFolds.{fold-roll-Normal, ind-Normal, map-Normal}
-use Rattle.cql_rewrite.specs.Choices.{cheaper_cost, first_cost}
+use Rattle.cql_rewrite.specs.inner.Choices.{cheaper_cost, first_cost}
 use Rattle.cql_rewrite.specs.Costs.{every, least, least_step, near_count}
 use Rattle.cql_rewrite.specs.Meets.{Written}
 use Rattle.cql_rewrite.specs.Menus.{chosen, is_narrow, meets_of, and_menu, menu_step, menu}

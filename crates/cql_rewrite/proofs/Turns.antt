@@ -12,7 +12,7 @@ use Rattle.cql_types.specs.declared.filter.Filter.TheVariants.{Not, And, Or}
 use Rattle.cql_types.specs.declared.filter.Filter.TheVariants as filter
 use Rattle.cql_types.specs.declared.filter.Filter.TheOpen.{Filter-F}
 use Rattle.cql_types.specs.declared.filter.Filter.TheFolds.{fold-roll-Filter}
-use Rattle.cql_meaning.specs.Nodes.{sides_Not, sides_And, sides_Or}
+use Rattle.cql_meaning.specs.lemmas.NodeLemmas.{sides_Not, sides_And, sides_Or}
 use Rattle.cql_meaning.specs.Sides.{Sides, sides, stands, sides_of}
 use Rattle.cql_meaning.specs.Values.{both}
 use Rattle.cql_rewrite.proofs.Forms.{and_last, list_all-map}
@@ -23,7 +23,7 @@ use Rattle.cql_types.specs.declared.filter.WholeTerm.{WholeTerm}
 use Rattle.cql_types.specs.declared.filter.TextTerm.{TextTerm}
 use Rattle.cql_types.specs.declared.filter.DayTerm.{DayTerm}
 use Rattle.cql_types.specs.declared.filter.FlagTerm.{FlagTerm}
-use Rattle.cql_meaning.specs.Nodes.{sides_Between, sides_InWhole, sides_InText, sides_InDay, sides_InFlag, sides_CompareWhole, sides_CompareText, sides_CompareDay}
+use Rattle.cql_meaning.specs.lemmas.NodeLemmas.{sides_Between, sides_InWhole, sides_InText, sides_InDay, sides_InFlag, sides_CompareWhole, sides_CompareText, sides_CompareDay}
 use Rattle.cql_meaning.specs.Sides.{between, equal_to, compared, wholes, texts, days, flags}
 use Rattle.cql_meaning.specs.Arithmetic.{whole_in, whole_value}
 use Rattle.cql_meaning.specs.Values.{text_in, text_value, day_value, flag_value}

@@ -4,6 +4,6 @@ pub mod Atoms
 pub mod Terms
 pub mod Costs
 pub mod Menus
-pub mod Choices
-pub mod MenuNodes
 pub mod Laws
+pub mod lemmas
+pub mod inner

@@ -1,7 +1,7 @@
 pub mod Likeness
 pub mod Patterns
-pub mod Parts
 pub mod Order
 pub mod Fronts
 pub mod Laws
 pub mod CodePoints
+pub mod inner

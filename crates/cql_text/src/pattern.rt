@@ -3,7 +3,7 @@
 ghost use Rattle.std.specs.Prelude.{◌≡◌, ◌↔◌, ◌∷◌, [], chars, MatchOption, IsTrue};
 ghost use Rattle.cql_text.specs.Patterns.{Advances, BeginsPlain, Stops, any, is_like, like_test, pieces, piece_takes, some_end};
 ghost use Rattle.cql_text.specs.Likeness.{IsLike};
-ghost use Rattle.cql_text.specs.Parts.{piece_of};
+ghost use Rattle.cql_text.specs.inner.Parts.{piece_of};
 
 // One part of a pattern: any number of characters, one, or exactly that one.
 #[derive(Clone, Copy)]

@@ -16,7 +16,7 @@ use Rattle.cad_day.specs.Intervals.{are_turned as is_turned}
 use Rattle.cql_types.specs.Literals.{day_at, are_turned}
 use Rattle.cql_types.specs.Means.{IsEnd, open_text, day_text, day_name}
 use Rattle.cql_types.specs.Contract.{ForFault, IsFirst, node_first, unsound_first, inside_first, here_first, later_first}
-use Rattle.cql_types.specs.Reading.{IsEndRead, end_day, property_end}
+use Rattle.cql_types.specs.inner.Reading.{IsEndRead, end_day, property_end}
 use Rattle.cql_types.proofs.Fitting.{end_has}
 
 pub end_kind : {s : List Named} {t : Syntax} (o : Option EndTerm) → IsEndRead s t o → (k : Kind) × Has s t k × (is_end k ≡ is_some o)

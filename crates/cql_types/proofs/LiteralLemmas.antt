@@ -37,7 +37,7 @@ use Rattle.cql_types.specs.Kinds.{Mark, Have, leaf_has, node_has, no_more, one_m
 use Rattle.cql_types.specs.Numbers.{written}
 use Rattle.cql_types.specs.Literals.{AreNumbers, no_number, one_number, AreRings, no_ring, one_ring, IsPoint, IsBox, coordinates_of, closed, outline_of}
 use Rattle.cql_types.specs.Contract.{ForFault, IsFirst, IsFirstIn, leaf_first, unsound_first, here_first, later_first, inside_first}
-use Rattle.cql_types.specs.Reading.{IsFirstNumber, positions_of, lines_of, AreLines, no_line, one_line, outlines_of, IsRegionAlong, IsFrame}
+use Rattle.cql_types.specs.inner.Reading.{IsFirstNumber, positions_of, lines_of, AreLines, no_line, one_line, outlines_of, IsRegionAlong, IsFrame}
 
 same_cons : {z w : ℤ} {zs ws : List ℤ} → z ≡ w → zs ≡ ws → z ∷ zs ≡ w ∷ ws
 same_cons e f = cc

@@ -15,7 +15,7 @@ use Rattle.cql_tree.specs.declared.expression.Operation.{Operation}
 use Rattle.cql_tree.specs.declared.expression.Ring.{Ring}
 use Rattle.cql_tree.specs.Syntax.{Syntax, Parts, leaf, node, part, none, parts_of, name_leaf, text_leaf, truth_leaf, day_leaf, or_op, and_op, not_op, compare_op, like_op, between_op, in_op, is_null_op, computed_op, casei_op, date_op, interval_op, point_op, polygon_op, bbox_op, spatial_op, temporal_op}
 use Rattle.cql_tree.specs.Views.{syntax_of, syntaxes_of, operands_of, operations_of, number_of, numbers_of, bound_of, rings_of}
-use Rattle.cql_tree.specs.Rows.{vec_parts, vec_operands, vec_operations}
+use Rattle.cql_tree.specs.lemmas.RowLemmas.{vec_parts, vec_operands, vec_operations}
 use Rattle.cql_tree.specs.declared.expression.Number.{Number}
 use Rattle.cql_tree.specs.declared.expression.Expression.{Expression}
 use Rattle.cql_tree.specs.declared.expression.Expression.TheVariants.{Name, Text, Truth, Or, And, Not, Compare, Like, Between, In, IsNull, Computed, Casei, Date, Interval, Point, Polygon, Bbox, Spatial, Temporal}

@@ -7,4 +7,4 @@ pub mod Laws
 pub mod Literals
 pub mod Means
 pub mod Numbers
-pub mod Reading
+pub mod inner

@@ -15,7 +15,7 @@ ghost use Rattle.cql_tree.specs.Views.{bound_of, numbers_of, rings_of};
 ghost use Rattle.cql_types.specs.Literals.{coordinates_of, closed, outline_of};
 ghost use Rattle.cad_day.specs.Intervals.{are_turned as is_turned};
 ghost use Rattle.cql_types.specs.Contract.{Judges};
-ghost use Rattle.cql_types.specs.Reading.{ReadsEnd, ReadsNumber, ReadsPosition, ReadsLine, ReadsLines, IsRegionAlong, positions_of, lines_of, outlines_of, property_end, end_day, IsFrame};
+ghost use Rattle.cql_types.specs.inner.Reading.{ReadsEnd, ReadsNumber, ReadsPosition, ReadsLine, ReadsLines, IsRegionAlong, positions_of, lines_of, outlines_of, property_end, end_day, IsFrame};
 
 use crate::collect::wrong_kind;
 use crate::fault::{Misuse, TypeFault};

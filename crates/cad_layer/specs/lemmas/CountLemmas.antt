@@ -9,7 +9,7 @@ use Rattle.cad_versions.specs.lemmas.ListLemmas.{all_weaker}
 use Rattle.cad_lookup.specs.Ways.{how_many}
 use Rattle.cad_layer.specs.Merging.{put, put_at, merged}
 use Rattle.cad_layer.specs.lemmas.MergeLemmas.{filter_merged, merged_ascends}
-use Rattle.cad_layer.specs.Replaced.{twins, replaced_in}
+use Rattle.cad_layer.specs.inner.Replaced.{twins, replaced_in}
 
 module _ {X : Type 0} (p : X → Bool) where
   -- each is counted for itself

@@ -7,7 +7,7 @@ use Rattle.cad_tables.specs.Opening.{LacksColumns}
 use Rattle.cad_tables.specs.lemmas.SchemaLemmas.{no_schema_lacks}
 use Rattle.cad_register.specs.Images.{FindsRegister}
 use Rattle.cad_register.specs.Opening.{Outcome, Opened, OpenedOrCreated}
-use Rattle.cad_register.specs.Running.{IsFoundIn, IsFoundOrMadeIn}
+use Rattle.cad_register.specs.inner.Running.{IsFoundIn, IsFoundOrMadeIn}
 
 module _ {S : Type 0} (g : Ghosts S) (image : Image) (lent : Held S) (finds : FindsRegister image (state g lent)) where
   pub found_or_made_in : (found : Outcome S) → OpenedOrCreated g lent found → IsFoundOrMadeIn g image found

@@ -1,6 +1,6 @@
 use Rattle.std.proofs.Common.{map}
 use Rattle.cad_feature.specs.Values.{datum_of}
-use Rattle.cad_changes.specs.EditsOf.{edits_of}
+use Rattle.cad_changes.specs.inner.EditsOf.{edits_of}
 use Rattle.cad_changes.proofs.FitLemmas.{data_more}
 use Rattle.cad_changes.proofs.edits.edited_values.Goals as goal
 

@@ -1,7 +1,7 @@
 use Rattle.std.proofs.Common.{◌≡◌, map, take}
 use Rattle.cad_schema.specs.Attributes.{attribute_of}
 use Rattle.cad_feature.specs.Values.{datum_of}
-use Rattle.cad_changes.specs.EditsOf.{edits_of}
+use Rattle.cad_changes.specs.inner.EditsOf.{edits_of}
 use Rattle.cad_changes.specs.Touching.{edited_data}
 use Rattle.cad_changes.proofs.edits.edited_values.Given as goal
 

@@ -2,7 +2,7 @@ use Rattle.std.specs.declared.io.Error.{Error}
 use Rattle.cad_event_loop.proofs.HostLemmas.{hosted_so, nobody_is}
 use Rattle.std.proofs.Common.{inl}
 use Rattle.cad_event_loop.specs.Hosting.{end_of_rounds}
-use Rattle.cad_event_loop.specs.Rounds.{here}
+use Rattle.cad_event_loop.specs.inner.Rounds.{here}
 use Rattle.cad_event_loop.proofs.HostLemmas.{hosted_by, unhosted}
 use Rattle.std.proofs.lemmas.Result.{err_from_is_err_and}
 use Rattle.cad_event_loop.proofs.hosting.host.Goals as goal

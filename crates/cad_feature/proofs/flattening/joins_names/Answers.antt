@@ -3,7 +3,7 @@ use Rattle.std.specs.List.{list_any}
 use Rattle.std.proofs.lemmas.Iterator.{YieldsList-from_slice}
 use Rattle.std.proofs.lemmas.Iterator.Search.{any_from_yields_List}
 use Rattle.cad_schema.specs.Attributes.{attribute_of}
-use Rattle.cad_feature.specs.Joined.{is_joined}
+use Rattle.cad_feature.specs.inner.Joined.{is_joined}
 use Rattle.cad_feature.proofs.ListLemmas.{list_any_mapped}
 use Rattle.cad_feature.proofs.flattening.joins_names.Goals as goal
 

@@ -1,5 +1,5 @@
 use Rattle.std.proofs.Common.{◌≡◌, refl, ◌+◌, ◌-◌, ◌/◌, ◌++◌, length, replicate, arith, ap, ◌∙◌, subst}
-use Rattle.cad_feature.specs.Stretches.{number_in, AreStarts}
+use Rattle.cad_feature.specs.inner.Stretches.{number_in, AreStarts}
 use Rattle.cad_feature.proofs.RunLemmas.{numbers_rise}
 use Rattle.cad_feature.proofs.StretchLemmas.{starts_more}
 use Rattle.cad_feature.proofs.objects.starts.Goals as goal

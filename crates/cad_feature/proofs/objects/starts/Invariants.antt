@@ -1,5 +1,5 @@
 use Rattle.std.proofs.Common.{length}
-use Rattle.cad_feature.specs.Stretches.{AreStarts}
+use Rattle.cad_feature.specs.inner.Stretches.{AreStarts}
 use Rattle.cad_feature.proofs.StretchLemmas.{Started}
 use Rattle.cad_feature.proofs.objects.starts.Given as goal
 

@@ -1,5 +1,5 @@
 use Rattle.std.proofs.Common.{ap, sym, Some, [], ◌∷◌}
-use Rattle.cad_grid.specs.Corners.{same_block}
+use Rattle.cad_grid.specs.lemmas.CornerLemmas.{same_block}
 use Rattle.cad_grid.proofs.shapes.bounds_of.Goals as goal
 
 pub returns-in-Spot : goal.returns-in-Spot

@@ -1,6 +1,6 @@
 use Rattle.std.proofs.Common.{◌≡◌, ◌++◌, length}
 use Rattle.cad_feature.specs.Features.{by_identifier}
-use Rattle.cad_layer.specs.Replaced.{replaced_in}
+use Rattle.cad_layer.specs.inner.Replaced.{replaced_in}
 use Rattle.cad_layer.proofs.replacing.replaced_by.Given as goal
 
 abbrev pub invariant-loop-change : goal.invariant-loop-change

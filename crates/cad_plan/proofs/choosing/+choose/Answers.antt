@@ -1,10 +1,10 @@
 use Rattle.std.proofs.Common.{length, ◌∙◌, ap, sym, subst, map, ◌∷◌, ◌++◌, [], ◌+◌, drop, nat_lt, arith}
 use Rattle.cad_lookup.specs.WayLaws.{cost_join, way_Join}
 use Rattle.cad_lookup.specs.Ways.{all_features, cost, counts_of, join_of, way_of, ways_in}
-use Rattle.cql_rewrite.specs.Choices.{EachCosts, and_choice, met, met_cost, narrow_costs}
-use Rattle.cql_rewrite.specs.MenuNodes.{choice_costs, choices_cost, menu_And, menu_Or}
+use Rattle.cql_rewrite.specs.inner.Choices.{EachCosts, and_choice, met, met_cost, narrow_costs}
+use Rattle.cql_rewrite.specs.lemmas.MenuNodeLemmas.{choice_costs, choices_cost, menu_And, menu_Or}
 use Rattle.cql_rewrite.specs.Menus.{cheaper, chosen, choice}
-use Rattle.cad_plan.specs.Gathered.{with_if}
+use Rattle.cad_plan.specs.inner.Gathered.{with_if}
 use Rattle.cad_plan.proofs.ListLemmas.{done, map_next, map_over, map_push, moved, narrow_cost, narrow_next, summed}
 use Rattle.cad_plan.proofs.choosing.+choose.Goals as goal
 

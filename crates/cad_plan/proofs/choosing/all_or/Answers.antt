@@ -1,7 +1,7 @@
 use Rattle.std.proofs.Common.{◌∙◌, sym, arith}
 use Rattle.cad_lookup.specs.WayLaws.{cost_all}
 use Rattle.cad_lookup.specs.Ways.{all_features, counts_of, way_of}
-use Rattle.cql_rewrite.specs.Choices.{cheaper_goes, cheaper_stays}
+use Rattle.cql_rewrite.specs.inner.Choices.{cheaper_goes, cheaper_stays}
 use Rattle.cad_plan.proofs.choosing.all_or.Goals as goal
 
 pub returns-then-offered-count-clause-way : goal.returns-then-offered-count-clause-way

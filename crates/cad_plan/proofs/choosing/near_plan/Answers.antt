@@ -1,5 +1,5 @@
 use Rattle.std.proofs.Common.{◌∙◌, ap, sym}
-use Rattle.cad_grid.specs.Corners.{same_block}
+use Rattle.cad_grid.specs.lemmas.CornerLemmas.{same_block}
 use Rattle.cad_lookup.specs.WayLaws.{way_Near}
 use Rattle.cad_lookup.specs.Ways.{near_block}
 use Rattle.cad_shape.specs.Shapes.{shape_corners}

@@ -1,6 +1,6 @@
 use Rattle.std.proofs.Common.{◌∙◌, ap, sym}
 use Rattle.cad_grid.specs.Blocks.{block_of}
-use Rattle.cad_grid.specs.Corners.{same_block}
+use Rattle.cad_grid.specs.lemmas.CornerLemmas.{same_block}
 use Rattle.cad_lookup.specs.WayLaws.{cost_near}
 use Rattle.cad_lookup.specs.Ways.{cost, counts_of, near_block}
 use Rattle.cad_shape.specs.Shapes.{shape_corners}

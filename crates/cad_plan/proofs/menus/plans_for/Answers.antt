@@ -1,6 +1,6 @@
 use Rattle.std.proofs.Common.{◌∙◌, ap, sym, ◌∷◌, []}
 use Rattle.cad_lookup.specs.Ways.{all_features, counts_of}
-use Rattle.cql_rewrite.specs.MenuNodes.{menu_And, menu_Or}
+use Rattle.cql_rewrite.specs.lemmas.MenuNodeLemmas.{menu_And, menu_Or}
 use Rattle.cql_rewrite.specs.Menus.{menu}
 use Rattle.cad_plan.proofs.menus.plans_for.Goals as goal
 

@@ -1,7 +1,7 @@
 use Rattle.std.proofs.Common.{◌≡◌, ℕ, ◌+◌, ◌*◌, ◌-◌, ◌^◌, ◌&&◌}
 use Rattle.std.specs.Prelude.{nat_le}
 use Rattle.cad_positions.specs.Has.{has_met, has_tested}
-use Rattle.cad_positions.specs.Heights.{height, height_met, height_tested, height_joined}
+use Rattle.cad_positions.specs.inner.Heights.{height, height_met, height_tested, height_joined}
 use Rattle.cad_positions.proofs.settling.+settle.Given as goal
 
 abbrev pub decreases-settle : goal.decreases-settle

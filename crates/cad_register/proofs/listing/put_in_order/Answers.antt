@@ -1,6 +1,6 @@
 use Rattle.std.proofs.Common.{◌≡◌, rules}
 use Rattle.std.proofs.lemmas.Fn.{always_returns_same}
-use Rattle.cad_register.specs.Found.{identifier_of}
+use Rattle.cad_register.specs.inner.Found.{identifier_of}
 use Rattle.cad_register.proofs.listing.put_in_order.Goals as goal
 
 pub returns-clause-sorted : goal.returns-clause-sorted

@@ -4,7 +4,7 @@ use Rattle.std.specs.Vec.Iter.{into_iter_items}
 use Rattle.cad_versions.specs.Entries.{Entry}
 use Rattle.cad_register.specs.StoredVersions.{entry_of}
 use Rattle.cad_register.specs.Damage.{IsNext, identifier_in, place_of}
-use Rattle.cad_register.specs.Found.{AreReadOf}
+use Rattle.cad_register.specs.inner.Found.{AreReadOf}
 use Rattle.cad_register.proofs.DamageLemmas.{damaged_here, row_at}
 use Rattle.cad_register.proofs.JudgedLemmas.{AreJudged, none_judged, one_judged, judged_sound, judged_shown, judged_listing}
 use Rattle.cad_register.proofs.listing.versions_at.Goals as goal

@@ -1,7 +1,7 @@
 use Rattle.std.proofs.Common.{◌≡◌, ◌++◌, List, length, vec_len}
 use Rattle.std.specs.Vec.Iter.{into_iter_items, into_iter_len}
 use Rattle.sqlite_value.specs.Order.{Row}
-use Rattle.cad_register.specs.Found.{AreReadOf}
+use Rattle.cad_register.specs.inner.Found.{AreReadOf}
 use Rattle.cad_register.proofs.JudgedLemmas.{AreJudged}
 use Rattle.cad_register.proofs.listing.versions_at.Given as goal
 

@@ -1,6 +1,6 @@
 use Rattle.std.proofs.Common.{◌≡◌, ℕ, ◌&&◌, drop}
 use Rattle.cad_positions.specs.Has.{has}
-use Rattle.cad_run.specs.Parts.{has_all_wide}
+use Rattle.cad_run.specs.inner.Parts.{has_all_wide}
 use Rattle.cad_run.proofs.joining.all_tested.Given as goal
 
 abbrev pub invariant-loop-wide : goal.invariant-loop-wide

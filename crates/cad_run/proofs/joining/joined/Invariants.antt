@@ -1,6 +1,6 @@
 use Rattle.std.proofs.Common.{◌≡◌, ℕ, ◌||◌, length}
 use Rattle.cad_positions.specs.Has.{has_any}
-use Rattle.cad_run.specs.Parts.{has_any_part}
+use Rattle.cad_run.specs.inner.Parts.{has_any_part}
 use Rattle.cad_run.proofs.joining.joined.Given as goal
 
 abbrev pub invariant-loop-part : goal.invariant-loop-part

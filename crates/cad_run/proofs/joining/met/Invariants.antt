@@ -1,6 +1,6 @@
 use Rattle.std.proofs.Common.{◌≡◌, ℕ, ◌<◌, ◌&&◌, nat_lt, length}
 use Rattle.cad_positions.specs.Has.{has_all}
-use Rattle.cad_run.specs.Parts.{has_all_parts, has_all_wide}
+use Rattle.cad_run.specs.inner.Parts.{has_all_parts, has_all_wide}
 use Rattle.cad_run.proofs.joining.met.Given as goal
 
 abbrev pub invariant-loop-part : goal.invariant-loop-part

@@ -1,5 +1,5 @@
 use Rattle.std.proofs.Common.{◌≡◌, ℕ, take}
-use Rattle.cad_run.specs.Parts.{has_all_parts, has_any_part, all_hold, any_holds}
+use Rattle.cad_run.specs.inner.Parts.{has_all_parts, has_any_part, all_hold, any_holds}
 use Rattle.cad_run.proofs.planned.+plan.Given as goal
 
 abbrev pub invariant-parts_of-loop-plan : goal.invariant-parts_of-loop-plan

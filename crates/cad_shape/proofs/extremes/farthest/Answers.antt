@@ -4,7 +4,7 @@ use Rattle.std.proofs.lemmas.Bool.{false≢true}
 use Rattle.std.proofs.lemmas.List.{get_or_default, take_all}
 use Rattle.cad_shape.specs.declared.point.Point.{Point}
 use Rattle.cad_shape.specs.Crossings.{origin}
-use Rattle.cad_shape.specs.Extremes.{IsFarther, point_at}
+use Rattle.cad_shape.specs.inner.Extremes.{IsFarther, point_at}
 use Rattle.cad_shape.proofs.ExtremeLemmas.{farther_here, none_farther}
 use Rattle.cad_shape.proofs.extremes.farthest.Goals as goal
 use Rattle.cad_shape.proofs.extremes.farthest.Goals.{then-is_farther, else-is_farther}

@@ -1,6 +1,6 @@
 use Rattle.std.proofs.Common.{◌<◌, length, take}
 use Rattle.std.specs.List.{All}
-use Rattle.cad_shape.specs.Extremes.{IsFarther, point_at}
+use Rattle.cad_shape.specs.inner.Extremes.{IsFarther, point_at}
 use Rattle.cad_shape.proofs.extremes.farthest.Given as goal
 
 abbrev pub invariant-loop-i : goal.invariant-loop-i

@@ -1,7 +1,7 @@
 use Rattle.std.proofs.Common.{◌≡◌, ◌≤◌, length}
 use Rattle.std.specs.Str.{IsUtf8}
 use Rattle.cql_lexer.specs.Mark.{marks}
-use Rattle.cql_lexer.specs.Scan.{IsPast}
+use Rattle.cql_lexer.specs.inner.Scan.{IsPast}
 use Rattle.cql_lexer.specs.Spelling.{Leads, is_blank}
 use Rattle.cql_lexer.proofs.lex.read_tokens.Given as goal
 

@@ -1,6 +1,6 @@
 use Rattle.std.proofs.Common.{◌≡◌, Some, chars, refl}
 use Rattle.std.specs.Prelude.{string_bytes}
-use Rattle.cql_meaning.specs.Terms.{text_Folded}
+use Rattle.cql_meaning.specs.lemmas.TermLemmas.{text_Folded}
 use Rattle.cql_meaning.specs.Values.{text_value}
 use Rattle.cql_meaning.proofs.constant.+constant_text.Goals as goal
 

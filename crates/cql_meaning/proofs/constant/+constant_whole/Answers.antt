@@ -1,5 +1,5 @@
 use Rattle.std.proofs.Common.{◌∙◌, sym}
-use Rattle.cql_meaning.specs.Terms.{whole_Computed}
+use Rattle.cql_meaning.specs.lemmas.TermLemmas.{whole_Computed}
 use Rattle.cql_meaning.proofs.ConstantLemmas.{stepped_next, stepped_all}
 use Rattle.cql_meaning.proofs.constant.+constant_whole.Goals as goal
 

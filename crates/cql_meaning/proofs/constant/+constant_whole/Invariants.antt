@@ -1,7 +1,7 @@
 use Rattle.std.proofs.Common.{◌≡◌, drop, map}
 use Rattle.cad_feature.specs.Features.{Item}
 use Rattle.cql_meaning.specs.Arithmetic.{stepped, whole_value}
-use Rattle.cql_meaning.specs.Terms.{part_of}
+use Rattle.cql_meaning.specs.lemmas.TermLemmas.{part_of}
 use Rattle.cql_meaning.proofs.constant.+constant_whole.Given as goal
 
 -- on every feature the parts that are left make of the value so far what the whole term is

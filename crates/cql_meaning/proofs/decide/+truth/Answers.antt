@@ -1,5 +1,5 @@
 use Rattle.std.proofs.lemmas.Bool.{false≢true}
-use Rattle.cql_meaning.specs.Nodes.{sides_InDay, sides_InFlag, sides_InText, sides_InWhole}
+use Rattle.cql_meaning.specs.lemmas.NodeLemmas.{sides_InDay, sides_InFlag, sides_InText, sides_InWhole}
 use Rattle.cql_meaning.specs.Said.{said}
 use Rattle.cql_meaning.proofs.FoldingLemmas.{no_part_folds}
 use Rattle.cql_meaning.proofs.PartLemmas.{and_more, or_more}

@@ -1,6 +1,6 @@
 use Rattle.std.proofs.Common.{ap, sym, ◌∙◌, map}
 use Rattle.cql_lexer.specs.declared.token.Comparison.TheVariants.{AtMost, AtLeast}
-use Rattle.cql_meaning.specs.Nodes.{sides_And, sides_Between, sides_CompareWhole}
+use Rattle.cql_meaning.specs.lemmas.NodeLemmas.{sides_And, sides_Between, sides_CompareWhole}
 use Rattle.cql_meaning.specs.Sides.{conjunction, sides}
 use Rattle.cql_meaning.proofs.laws.between_is_two_comparisons.Goals as goal
 

@@ -1,4 +1,4 @@
-use Rattle.cql_meaning.specs.Nodes.{sides_InWhole, sides_InText, sides_InDay, sides_InFlag, sides_CompareWhole, sides_CompareText, sides_CompareDay, sides_CompareFlag}
+use Rattle.cql_meaning.specs.lemmas.NodeLemmas.{sides_InWhole, sides_InText, sides_InDay, sides_InFlag, sides_CompareWhole, sides_CompareText, sides_CompareDay, sides_CompareFlag}
 use Rattle.cql_lexer.specs.declared.token.Comparison.TheVariants.{Equal}
 use Rattle.cql_meaning.proofs.PartLemmas.{some_equal}
 use Rattle.cql_meaning.proofs.laws.in_is_some_equal.Goals as goal

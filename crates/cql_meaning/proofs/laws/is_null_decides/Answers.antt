@@ -1,5 +1,5 @@
 use Rattle.std.proofs.Common.{ap, sym, not, ◌∙◌}
-use Rattle.cql_meaning.specs.Nodes.{sides_IsNull}
+use Rattle.cql_meaning.specs.lemmas.NodeLemmas.{sides_IsNull}
 use Rattle.cql_meaning.proofs.laws.is_null_decides.Goals as goal
 
 pub returns : goal.returns

@@ -1,5 +1,5 @@
 use Rattle.std.proofs.Common.{ap}
-use Rattle.cql_meaning.specs.Nodes.{sides_Not}
+use Rattle.cql_meaning.specs.lemmas.NodeLemmas.{sides_Not}
 use Rattle.cql_meaning.proofs.laws.not_exchanges.Goals as goal
 
 pub returns : goal.returns

@@ -2,7 +2,7 @@ use Rattle.std.proofs.Common.{Some}
 use Rattle.cad_day.specs.Relations.{holds}
 use Rattle.cql_types.specs.declared.filter.Filter.TheVariants as filter
 use Rattle.cql_meaning.specs.Arithmetic.{whole_value}
-use Rattle.cql_meaning.specs.Nodes.{sides_CompareWhole, sides_CompareText, sides_CompareDay, sides_CompareFlag, sides_Like, sides_Spatial, sides_Temporal}
+use Rattle.cql_meaning.specs.lemmas.NodeLemmas.{sides_CompareWhole, sides_CompareText, sides_CompareDay, sides_CompareFlag, sides_Like, sides_Spatial, sides_Temporal}
 use Rattle.cql_meaning.specs.Sides.{wholes, texts, days, flags, is_like, spatial}
 use Rattle.cql_meaning.specs.Values.{day_value, flag_value, shape_value, span_value, text_value}
 use Rattle.cql_meaning.proofs.PartLemmas.{undecided}

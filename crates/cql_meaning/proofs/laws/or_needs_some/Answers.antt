@@ -1,6 +1,6 @@
 use Rattle.std.proofs.Common.{ap, ◌∙◌}
 use Rattle.std.proofs.lemmas.List.Folds.{list_all-map}
-use Rattle.cql_meaning.specs.Nodes.{sides_Or}
+use Rattle.cql_meaning.specs.lemmas.NodeLemmas.{sides_Or}
 use Rattle.cql_meaning.proofs.laws.or_needs_some.Goals as goal
 use Rattle.cql_meaning.specs.lemmas.ListLemmas.{list_any-map}
 

@@ -1,6 +1,6 @@
 use Rattle.std.proofs.Common.{◌≡◌, ◌∷◌, drop, map}
 use Rattle.cql_lexer.specs.declared.token.Comparison.TheVariants.{Equal}
-use Rattle.cql_meaning.specs.Contents.{content}
+use Rattle.cql_meaning.specs.inner.Contents.{content}
 use Rattle.cql_meaning.specs.Said.{said}
 use Rattle.cql_meaning.specs.Sides.{among, disjunction, equal_to, texts}
 use Rattle.cql_meaning.specs.Values.{text_value}

@@ -1,6 +1,6 @@
 use Rattle.std.proofs.Common.{◌≡◌, drop, map}
 use Rattle.cql_meaning.specs.Arithmetic.{stepped, whole_value}
-use Rattle.cql_meaning.specs.Terms.{part_of}
+use Rattle.cql_meaning.specs.lemmas.TermLemmas.{part_of}
 use Rattle.cql_meaning.proofs.whole.+whole.Given as goal
 
 -- the parts that are left make of the value so far what the whole term is

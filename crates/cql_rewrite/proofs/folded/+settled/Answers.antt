@@ -1,5 +1,5 @@
 use Rattle.std.proofs.Common.{◌∙◌, ap}
-use Rattle.cql_meaning.specs.Terms.{text_Folded}
+use Rattle.cql_meaning.specs.lemmas.TermLemmas.{text_Folded}
 use Rattle.cql_meaning.specs.Values.{folded_content}
 use Rattle.cql_rewrite.proofs.folded.+settled.Goals as goal
 

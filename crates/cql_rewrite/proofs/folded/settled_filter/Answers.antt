@@ -1,4 +1,4 @@
-use Rattle.cql_meaning.specs.Nodes.{sides_CompareText, sides_InText, sides_Like}
+use Rattle.cql_meaning.specs.lemmas.NodeLemmas.{sides_CompareText, sides_InText, sides_Like}
 use Rattle.cql_rewrite.proofs.folded.settled_filter.Goals as goal
 
 pub returns-then-folds_constant-clause-stands : goal.returns-then-folds_constant-clause-stands

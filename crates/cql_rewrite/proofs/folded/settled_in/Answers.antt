@@ -1,5 +1,5 @@
 use Rattle.std.proofs.Common.{◌∙◌}
-use Rattle.cql_meaning.specs.Nodes.{sides_InText}
+use Rattle.cql_meaning.specs.lemmas.NodeLemmas.{sides_InText}
 use Rattle.cql_meaning.specs.Values.{text_value}
 use Rattle.cql_rewrite.proofs.FoldedLemmas.{among_alike}
 use Rattle.cql_rewrite.proofs.AtomLemmas.{atom_InText}

@@ -1,5 +1,5 @@
 use Rattle.std.proofs.Common.{refl}
-use Rattle.cql_meaning.specs.Nodes.{sides_Like}
+use Rattle.cql_meaning.specs.lemmas.NodeLemmas.{sides_Like}
 use Rattle.cql_rewrite.proofs.AtomLemmas.{atom_Like}
 use Rattle.cql_rewrite.proofs.folded.settled_like.Goals as goal
 

@@ -1,7 +1,7 @@
 use Rattle.std.proofs.Common.{◌≡◌, Some}
 use Rattle.cad_feature.specs.Features.{datum_at}
 use Rattle.cql_text.specs.Fronts.{text_of}
-use Rattle.cql_meaning.specs.Terms.{text_Property}
+use Rattle.cql_meaning.specs.lemmas.TermLemmas.{text_Property}
 use Rattle.cql_meaning.specs.Values.{text_in, text_value}
 use Rattle.cql_rewrite.proofs.FrontLemmas.{liked_sides}
 use Rattle.cql_rewrite.proofs.Least.{least_or_under}

@@ -1,6 +1,6 @@
 use Rattle.std.proofs.Common.{◌∙◌, ap, refl, arith}
 use Rattle.std.proofs.lemmas.Grind.{common_steps}
-use Rattle.cql_meaning.specs.Nodes.{sides_Between, sides_Like, sides_CompareWhole, sides_CompareText, sides_CompareDay}
+use Rattle.cql_meaning.specs.lemmas.NodeLemmas.{sides_Between, sides_Like, sides_CompareWhole, sides_CompareText, sides_CompareDay}
 use Rattle.cql_rewrite.proofs.Least.{and_next, and_done, or_next}
 use Rattle.cql_rewrite.proofs.Turns.{turns_And, turns_Not, turns_Or, whole_costs, text_costs, day_costs, between_costs, near_costs, not_costs, and_costs, or_costs, like_costs, whole_members, text_members, day_members, whole_members_cost, text_members_cost, day_members_cost, flag_members, flag_members_cost}
 use Rattle.cql_rewrite.specs.Atoms.{is_atom}

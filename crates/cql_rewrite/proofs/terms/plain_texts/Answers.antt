@@ -1,7 +1,7 @@
 use Rattle.std.proofs.Common.{◌∙◌, Some}
 use Rattle.cad_feature.specs.Features.{datum_at}
 use Rattle.cql_text.specs.Fronts.{text_of}
-use Rattle.cql_meaning.specs.Terms.{text_Constant, text_Property}
+use Rattle.cql_meaning.specs.lemmas.TermLemmas.{text_Constant, text_Property}
 use Rattle.cql_meaning.specs.Values.{text_in}
 use Rattle.cql_rewrite.specs.Terms.{turned_of}
 use Rattle.cql_rewrite.proofs.Turns.{flipped_texts, known_text}

@@ -1,5 +1,5 @@
 use Rattle.cad_shape.specs.Shapes.{shape_corners}
-use Rattle.cad_grid.specs.Corners.{same_block}
+use Rattle.cad_grid.specs.lemmas.CornerLemmas.{same_block}
 use Rattle.cql_rewrite.proofs.tested.is_near_value.Goals as goal
 
 pub returns-in-Some : goal.returns-in-Some

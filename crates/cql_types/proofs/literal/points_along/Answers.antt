@@ -1,5 +1,5 @@
 use Rattle.std.proofs.Common.{◌≡◌, ◌+◌, pos, [], drop, drop_of_length-le, append-nil, sym, ◌∙◌}
-use Rattle.cql_types.specs.Reading.{positions_of}
+use Rattle.cql_types.specs.inner.Reading.{positions_of}
 use Rattle.cql_types.proofs.LiteralLemmas.{positions_at, coordinates_more, is_coordinate_behind}
 use Rattle.cql_types.proofs.literal.points_along.Goals as goal
 

@@ -1,6 +1,6 @@
 use Rattle.std.proofs.Common.{◌≡◌, ◌++◌, drop}
 use Rattle.cql_types.specs.Literals.{coordinates_of}
-use Rattle.cql_types.specs.Reading.{positions_of}
+use Rattle.cql_types.specs.inner.Reading.{positions_of}
 use Rattle.cql_types.proofs.literal.points_along.Given as goal
 
 -- The points so far, and the positions that are left, are all.

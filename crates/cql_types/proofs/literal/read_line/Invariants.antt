@@ -3,7 +3,7 @@ use Rattle.cql_tree.specs.Syntax.{parts_of}
 use Rattle.cql_tree.specs.Views.{numbers_of}
 use Rattle.cql_types.specs.declared.fault.Fault.{Fault}
 use Rattle.cql_types.specs.Literals.{AreNumbers}
-use Rattle.cql_types.specs.Reading.{IsFirstNumber, positions_of}
+use Rattle.cql_types.specs.inner.Reading.{IsFirstNumber, positions_of}
 use Rattle.cql_types.proofs.literal.read_line.Given as goal
 
 -- What is read completes what is left, and the first fault of what is left is that of all.

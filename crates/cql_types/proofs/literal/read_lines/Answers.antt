@@ -2,7 +2,7 @@ use Rattle.std.proofs.Common.{◌≡◌, ◌+◌, [], drop, drop_of_length-le, a
 use Rattle.std.proofs.lemmas.Result.{err_from_is_err_and}
 use Rattle.cql_tree.specs.Syntax.{parts_of}
 use Rattle.cql_tree.specs.Views.{numbers_of, rings_of}
-use Rattle.cql_types.specs.Reading.{no_line, one_line}
+use Rattle.cql_types.specs.inner.Reading.{no_line, one_line}
 use Rattle.cql_types.proofs.LiteralLemmas.{rings_from, lines_more, fault_behind_ring, fault_in_ring, fault_along}
 use Rattle.cql_types.proofs.literal.read_lines.Goals as goal
 

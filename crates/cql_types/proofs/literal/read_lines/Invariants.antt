@@ -2,7 +2,7 @@ use Rattle.std.proofs.Common.{◌++◌, ℤ, List, drop}
 use Rattle.cql_tree.specs.Syntax.{parts_of}
 use Rattle.cql_tree.specs.Views.{rings_of}
 use Rattle.cql_types.specs.declared.fault.Fault.{Fault}
-use Rattle.cql_types.specs.Reading.{IsFirstNumber, AreLines, lines_of}
+use Rattle.cql_types.specs.inner.Reading.{IsFirstNumber, AreLines, lines_of}
 use Rattle.cql_types.proofs.literal.read_lines.Given as goal
 
 -- What is read completes what is left, and the first fault of what is left is that of all.

@@ -1,4 +1,4 @@
-use Rattle.cql_types.specs.Reading.{lines_of}
+use Rattle.cql_types.specs.inner.Reading.{lines_of}
 use Rattle.cql_types.proofs.LiteralLemmas.{region_found, rings_denied}
 use Rattle.cql_types.proofs.literal.region_along.Goals as goal
 

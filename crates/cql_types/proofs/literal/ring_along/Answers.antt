@@ -1,4 +1,4 @@
-use Rattle.cql_types.specs.Reading.{positions_of}
+use Rattle.cql_types.specs.inner.Reading.{positions_of}
 use Rattle.cql_types.proofs.LiteralLemmas.{ring_found}
 use Rattle.cql_types.proofs.literal.ring_along.Goals as goal
 

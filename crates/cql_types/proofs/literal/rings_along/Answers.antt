@@ -1,6 +1,6 @@
 use Rattle.std.proofs.Common.{◌≡◌, ◌+◌, [], drop, drop_of_length-le, append-nil, sym, ◌∙◌}
 use Rattle.cad_shape.specs.Rings.{corners_of, ring_is}
-use Rattle.cql_types.specs.Reading.{lines_of}
+use Rattle.cql_types.specs.inner.Reading.{lines_of}
 use Rattle.cql_types.proofs.LiteralLemmas.{lines_from, outlines_more, is_ring_behind}
 use Rattle.cql_types.proofs.literal.rings_along.Goals as goal
 

@@ -1,5 +1,5 @@
 use Rattle.std.proofs.Common.{◌≡◌, ◌++◌, drop}
-use Rattle.cql_types.specs.Reading.{lines_of, outlines_of}
+use Rattle.cql_types.specs.inner.Reading.{lines_of, outlines_of}
 use Rattle.cql_types.proofs.literal.rings_along.Given as goal
 
 -- The lines along the rings so far, and those that are left, are all.

@@ -1,7 +1,7 @@
 use Rattle.std.proofs.Common.{ℕ, [], ◌∷◌, sym, subst}
 use Rattle.cad_network.specs.Deeds.{Adds, left, office_came}
 use Rattle.cad_network.specs.lemmas.DeedLemmas.{Adds-trans}
-use Rattle.cad_event_loop.specs.Rounds.{here}
+use Rattle.cad_event_loop.specs.inner.Rounds.{here}
 use Rattle.cad_event_loop.proofs.OfficeLemmas.{came_hosts, unwatched_hosts}
 use Rattle.cad_event_loop.proofs.rounds.Rounds.admit_office.Goals as goal
 

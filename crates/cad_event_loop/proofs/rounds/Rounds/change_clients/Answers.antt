@@ -1,6 +1,6 @@
 use Rattle.std.proofs.Common.{None}
 use Rattle.cad_event_loop.specs.Hosting.{IsServing}
-use Rattle.cad_event_loop.specs.Offices.{office_at}
+use Rattle.cad_event_loop.specs.inner.Offices.{office_at}
 use Rattle.cad_event_loop.proofs.GoesLemmas.{hosts-then}
 use Rattle.cad_event_loop.proofs.rounds.Rounds.change_clients.Goals as goal
 

@@ -1,6 +1,6 @@
 use Rattle.std.proofs.Common.{None, refl}
 use Rattle.cad_event_loop.specs.Hosting.{IsClosing}
-use Rattle.cad_event_loop.specs.Rounds.{here}
+use Rattle.cad_event_loop.specs.inner.Rounds.{here}
 use Rattle.cad_event_loop.proofs.GoesLemmas.{hosts-then, hosts-same}
 use Rattle.cad_event_loop.proofs.rounds.Rounds.end.Goals as goal
 

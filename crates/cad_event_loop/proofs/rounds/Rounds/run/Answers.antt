@@ -1,7 +1,7 @@
 use Rattle.std.specs.declared.io.Error.{Error}
 use Rattle.std.proofs.Common.{None, Some}
 use Rattle.cad_event_loop.specs.Hosting.{IsServing}
-use Rattle.cad_event_loop.specs.Rounds.{here}
+use Rattle.cad_event_loop.specs.inner.Rounds.{here}
 use Rattle.cad_event_loop.proofs.GoesLemmas.{hosts-nil, hosts-then}
 use Rattle.cad_event_loop.proofs.HostLemmas.{ended_so}
 use Rattle.std.proofs.lemmas.Result.{err_from_is_err_and}

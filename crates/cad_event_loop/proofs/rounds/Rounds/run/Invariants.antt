@@ -1,7 +1,7 @@
 use Rattle.std.proofs.Common.{None}
 use Rattle.cad_event_loop.specs.Hosting.{Hosts, IsServing}
-use Rattle.cad_event_loop.specs.Offices.{HasBegun}
-use Rattle.cad_event_loop.specs.Rounds.{here}
+use Rattle.cad_event_loop.specs.inner.Offices.{HasBegun}
+use Rattle.cad_event_loop.specs.inner.Rounds.{here}
 use Rattle.cad_event_loop.proofs.rounds.Rounds.run.Given as goal
 
 abbrev pub invariant-loop : goal.invariant-loop

@@ -1,6 +1,6 @@
 use Rattle.std.proofs.Common.{None}
 use Rattle.cad_event_loop.specs.Hosting.{Hosts, IsClosing}
-use Rattle.cad_event_loop.specs.Rounds.{here}
+use Rattle.cad_event_loop.specs.inner.Rounds.{here}
 use Rattle.cad_event_loop.proofs.rounds.Rounds.send_last.Given as goal
 
 abbrev pub invariant-loop : goal.invariant-loop

@@ -1,6 +1,6 @@
 use Rattle.std.proofs.Common.{None, Some}
 use Rattle.cad_event_loop.specs.Hosting.{IsServing}
-use Rattle.cad_event_loop.specs.Rounds.{here}
+use Rattle.cad_event_loop.specs.inner.Rounds.{here}
 use Rattle.cad_event_loop.proofs.GoesLemmas.{hosts-nil, hosts-then}
 use Rattle.std.proofs.lemmas.Result.{err_from_is_err_and}
 use Rattle.cad_event_loop.proofs.rounds.Rounds.serve_clients.Goals as goal

@@ -1,8 +1,8 @@
 use Rattle.std.proofs.Common.{refl}
 use Rattle.cad_event_loop.specs.Hosting.{IsClosing}
 use Rattle.cad_event_loop.specs.Works.{place_of}
-use Rattle.cad_event_loop.specs.Offices.{office_at}
-use Rattle.cad_event_loop.specs.Rounds.{here}
+use Rattle.cad_event_loop.specs.inner.Offices.{office_at}
+use Rattle.cad_event_loop.specs.inner.Rounds.{here}
 use Rattle.cad_event_loop.proofs.GoesLemmas.{hosts_woken}
 use Rattle.cad_event_loop.proofs.rounds.Rounds.wait_last.Goals as goal
 

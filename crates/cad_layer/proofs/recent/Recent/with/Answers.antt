@@ -1,7 +1,7 @@
 use Rattle.std.proofs.Common.{◌∙◌, ap, ap₂, subst, sym}
 use Rattle.std.specs.List.Sorted.{IsStrictlySortedBy}
 use Rattle.cad_feature.specs.Features.{AreFeaturesOf, by_identifier}
-use Rattle.cad_layer.specs.Replaced.{replaced_in}
+use Rattle.cad_layer.specs.inner.Replaced.{replaced_in}
 use Rattle.cad_layer.specs.Walks.{all_in}
 use Rattle.cad_layer.proofs.ExtentLemmas.{within_more}
 use Rattle.cad_layer.proofs.IndexedLemmas.{rises, with_listed, with_replaced}

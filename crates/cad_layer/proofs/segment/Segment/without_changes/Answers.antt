@@ -2,7 +2,7 @@ use Rattle.std.proofs.Common.{◌∙◌, ap, subst, sym}
 use Rattle.cad_feature.specs.Features.{AreFeaturesOf, by_identifier}
 use Rattle.cad_index.specs.Layers.{LayerFeatures}
 use Rattle.cad_layer.specs.lemmas.ListedLemmas.{none_listed}
-use Rattle.cad_layer.specs.Replaced.{replaced_in}
+use Rattle.cad_layer.specs.inner.Replaced.{replaced_in}
 use Rattle.cad_layer.proofs.ExtentLemmas.{within_alone}
 use Rattle.cad_layer.proofs.segment.Segment.without_changes.Goals as goal
 

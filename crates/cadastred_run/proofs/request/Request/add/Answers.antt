@@ -1,6 +1,6 @@
 use Rattle.std.proofs.Common.{ap, sym, subst, ◌∙◌, ◌++◌, take, drop, append_assoc}
 use Rattle.std.proofs.lemmas.List.{take-append-drop}
-use Rattle.cadastred_run.specs.Requests.{HoldsLineOf}
+use Rattle.cadastred_run.specs.inner.Requests.{HoldsLineOf}
 use Rattle.cadastred_run.proofs.FirstLineLemmas.{stays_ended}
 use Rattle.cadastred_run.proofs.request.Request.add.Goals as goal
 

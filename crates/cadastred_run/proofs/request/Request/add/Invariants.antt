@@ -1,5 +1,5 @@
 use Rattle.std.proofs.Common.{◌++◌, ℕ, List, take}
-use Rattle.cadastred_run.specs.Requests.{HoldsLineOf}
+use Rattle.cadastred_run.specs.inner.Requests.{HoldsLineOf}
 use Rattle.cadastred_run.proofs.request.Request.add.Given as goal
 
 abbrev pub invariant-loop-byte : goal.invariant-loop-byte

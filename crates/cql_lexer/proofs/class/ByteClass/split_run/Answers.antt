@@ -1,7 +1,7 @@
 use Rattle.std.proofs.Common.{◌≡◌, ℕ, suc, ◌+◌, Bool, true, false, cond, List, [], ◌∷◌, take, drop, if◌then◌else◌, refl, ap, arith}
 use Rattle.std.proofs.lemmas.List.Folds.{length-prefix_len}
 use Rattle.std.specs.List.{prefix_len}
-use Rattle.cql_lexer.specs.Scan.{after_run, is_in, run_of}
+use Rattle.cql_lexer.specs.inner.Scan.{after_run, is_in, run_of}
 use Rattle.cql_lexer.proofs.class.ByteClass.split_run.Goals as goal
 
 taken_at : (n : ℕ) (x : ℕ) (xs ys : List ℕ) (b : Bool) → take n xs ≡ ys → take (cond b (1 + n) 0) (x ∷ xs) ≡ (if b then x ∷ ys else [])

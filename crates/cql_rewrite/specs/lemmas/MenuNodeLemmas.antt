@@ -11,7 +11,7 @@ use Rattle.cql_rewrite.specs.declared.form.Normal.TheOpen.{Normal-F}
 use Rattle.cql_rewrite.specs.declared.form.Normal.TheFolds.{fold-roll-Normal, fold_out-Normal, map-Normal}
 use Rattle.cql_rewrite.specs.declared.form.Normal.TheViews.{out-Normal}
 use Rattle.cql_rewrite.specs.Menus.{chosen, is_narrow, meets_of, and_menu, or_menu, menu_step, menu, choice}
-use Rattle.cql_rewrite.specs.Choices.{Costs, EachCosts, all_costs, first_costs}
+use Rattle.cql_rewrite.specs.inner.Choices.{Costs, EachCosts, all_costs, first_costs}
 
 choices_of : (counts : Counts) (ns : List Normal) → map (chosen counts) (map (menu counts) ns) ≡ map (choice counts) ns
 choices_of counts [] = refl

@@ -5,7 +5,7 @@ use Rattle.cad_extents.specs.Extents.{IsWithin}
 use Rattle.cad_feature.specs.Features.{AreFeaturesOf, by_identifier}
 use Rattle.cad_index.specs.Layers.{LayerFeatures}
 use Rattle.cad_layer.specs.declared.recent.Recent.{Recent}
-use Rattle.cad_layer.specs.Replaced.{replaced_in}
+use Rattle.cad_layer.specs.inner.Replaced.{replaced_in}
 use Rattle.cad_layer.specs.Walks.{all_in}
 
 -- changes to these features of a collection, with the features in whose place they stand; all lie within the extents

@@ -2,7 +2,7 @@
 use Rattle.std.specs.Prelude.{◌≡◌, ℕ, None}
 use Rattle.cad_clients.specs.Slots.{client_at}
 use Rattle.cad_event_loop.specs.declared.rounds.Rounds.{Rounds}
-use Rattle.cad_event_loop.specs.Offices.{office_at}
+use Rattle.cad_event_loop.specs.inner.Offices.{office_at}
 use Rattle.cad_event_loop.specs.Works.{Place, place_of}
 
 -- the clients and the land office, where sockets of this type have these names

@@ -1,7 +1,7 @@
 -- What is kept of a request.
 use Rattle.std.specs.Prelude.{◌≡◌, ℕ, List, take}
 use Rattle.std.specs.List.{list_any}
-use Rattle.cadastred_run.specs.FirstLines.{ends_line, begun, line_of}
+use Rattle.cadastred_run.specs.inner.FirstLines.{ends_line, begun, line_of}
 use Rattle.cadastred_run.specs.declared.request.Request.{Request}
 
 -- 512 bytes at most of the first line of what was read, and whether it has ended

@@ -1,0 +1,4 @@
+-- Definitions that clauses of private functions cite. No contract of a public call cites them.
+pub mod FirstLines
+pub mod Printable
+pub mod Requests
