@@ -108,7 +108,7 @@ def range_case(name, values, low, high):
     text = listed(found)
     return (
         f"{name} {words} ? {edge_word(low)} {edge_word(high)}",
-        f"range{text} held{text} count {len(found)} {told_by_extents(may_lie_in(values, low, high))}",
+        f"range{text} count {len(found)} {told_by_extents(may_lie_in(values, low, high))}",
     )
 
 
