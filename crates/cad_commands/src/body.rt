@@ -14,7 +14,7 @@ use cad_versions::{Body, BodyParts, Class};
 use std::alloc::Global;
 
 /// The body of the one class whose name stands beside the object and the first day.
-pub fn body(alloc: Global, members: Members) -> Result<Body, CommandError>
+pub(crate) fn body(alloc: Global, members: Members) -> Result<Body, CommandError>
     ensures { IsRead (SaysOneBody (members_view members.map.entries)) result }
 {
     let (name, value) = members.one_other(&["do", "object", "first"])?;

@@ -20,7 +20,7 @@ pub struct Members {
 
 impl Members {
     /// The members of the value, which has to be an object.
-    pub fn of(value: Value) -> Result<Members, CommandError>
+    pub(crate) fn of(value: Value) -> Result<Members, CommandError>
         ensures { IsReadAs (λ members. members_view members.map.entries) (λ ms. as_object (view value) ≡ Some ms) result }
     {
         match value {
@@ -38,7 +38,7 @@ impl Members {
     }
 
     /// What the member says, if it is there and not null.
-    pub fn optional<T: FromValue>(
+    pub(crate) fn optional<T: FromValue>(
         &self,
         alloc: Global,
         name: &str,
@@ -52,7 +52,7 @@ impl Members {
     }
 
     /// What the member says, which has to be there and not null.
-    pub fn required<T: FromValue>(&self, alloc: Global, name: &str) -> Result<T, CommandError>
+    pub(crate) fn required<T: FromValue>(&self, alloc: Global, name: &str) -> Result<T, CommandError>
         ensures { IsRead (Has T.said_by name.now (members_view self.now.map.entries)) result }
     {
         match self.get(name) {
@@ -62,7 +62,7 @@ impl Members {
     }
 
     /// That there are members of these names alone.
-    pub fn only(self, names: &[&str]) -> Result<(), CommandError>
+    pub(crate) fn only(self, names: &[&str]) -> Result<(), CommandError>
         ensures { MatchResult result
             (λ _. AreOnly (map (λ name. name.now) names.now) (members_view self.map.entries))
             (λ e. (e ≡ CommandError.NotACommand) × ¬ AreOnly (map (λ name. name.now) names.now) (members_view self.map.entries)) }
@@ -75,7 +75,7 @@ impl Members {
     }
 
     /// The one member beside those of these names.
-    pub fn one_other(self, names: &[&str]) -> Result<(String, Value), CommandError>
+    pub(crate) fn one_other(self, names: &[&str]) -> Result<(String, Value), CommandError>
         ensures { IsReadAs {X = List ℕ × Data} (λ other. (string_bytes other.0, view other.1))
             (λ other. HasOneOther (map (λ name. name.now) names.now) (members_view self.map.entries) other.0 other.1) result }
     {

@@ -12,7 +12,7 @@ use std::io::Write;
 const TOGETHER: usize = 96;
 
 /// Writes the pieces, or a front of them where a write fails or takes nothing.
-pub fn write_pieces<W: Write>(writer: &mut W, pieces: &[&[u8]]) -> Result<(), WriteFailed>
+pub(crate) fn write_pieces<W: Write>(writer: &mut W, pieces: &[&[u8]]) -> Result<(), WriteFailed>
     ensures { IsWritten (W.contents writer.old) (W.contents writer.new) (joined (map (λ p. p.now) pieces.now)) result }
 {
     // One write, where the writer takes it whole.

@@ -19,7 +19,7 @@ pub trait Stored {
 }
 
 /// The parameters that close a version: its object, its last day and the revision.
-pub fn closing_cells(closing: Closing, revision: u32) -> [ValueRef<'static>; 3]
+pub(crate) fn closing_cells(closing: Closing, revision: u32) -> [ValueRef<'static>; 3]
     ensures { bound result ≡ Int (pos closing.object) ∷ Int closing.last ∷ Int (pos revision) ∷ [] }
 {
     [
@@ -30,7 +30,7 @@ pub fn closing_cells(closing: Closing, revision: u32) -> [ValueRef<'static>; 3]
 }
 
 /// A number as the one parameter.
-pub fn one_cell(n: u32) -> [ValueRef<'static>; 1]
+pub(crate) fn one_cell(n: u32) -> [ValueRef<'static>; 1]
     ensures { bound result ≡ Int (pos n) ∷ [] }
 {
     [ValueRef::Int(i64::from(n))]

@@ -7,7 +7,7 @@ use sqlite::Error;
 use sqlite_resolve::CompileError;
 
 /// Whether CREATE TABLE was refused since its name is in use.
-pub fn is_name_taken(error: Error) -> bool
+pub(crate) fn is_name_taken(error: Error) -> bool
     ensures { result ≡ is_taken error }
 {
     matches!(error, Error::SqlInputError(CompileError::Exists))

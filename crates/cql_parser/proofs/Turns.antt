@@ -14,8 +14,8 @@ use Rattle.cql_parser.specs.declared.start.Pairing.{Pairing}
 use Rattle.cql_parser.specs.declared.start.Pairing.TheVariants as pairing
 use Rattle.cql_parser.specs.Grammar.{operation_sort, IsAddition, plus_adds, minus_adds, IsMultiplication, times_multiplies, div_multiplies, modulo_multiplies}
 use Rattle.cql_tree.specs.Syntax.{Syntax, Op, joined, leaf, name_leaf, number_leaf, day_leaf, bound_leaf, truth_leaf, or_op, and_op, computed_op, polygon_op, ring_op}
-use Rattle.cql_parser.specs.Descent.{Begins, BeginsNo, Parses, IsStopped, ForSlot, for_slot, want_here, pass_here, have_here, want_corner, want_pair, have_corner, want_ring, have_corners}
-use Rattle.cql_parser.specs.Starts.{IsNoTail, IsNoNegated, BeginsNegated, IsNoCall, IsNoLiteral, word_of, pair_op}
+use Rattle.cql_parser.specs.inner.Descent.{Begins, BeginsNo, Parses, IsStopped, ForSlot, for_slot, want_here, pass_here, have_here, want_corner, want_pair, have_corner, want_ring, have_corners}
+use Rattle.cql_parser.specs.inner.Starts.{IsNoTail, IsNoNegated, BeginsNegated, IsNoCall, IsNoLiteral, word_of, pair_op}
 use Rattle.cql_tree.specs.Views.{syntax_of, number_of, numbers_of}
 use Rattle.cql_parser.specs.declared.stop.Stop.{Stop}
 use Rattle.cql_parser.specs.declared.stop.Stop.TheVariants.{Memory, At}

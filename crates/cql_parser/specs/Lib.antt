@@ -3,5 +3,4 @@ pub mod Machine
 pub mod Faults
 pub mod Answer
 pub mod Laws
-pub mod Descent
-pub mod Starts
+pub mod inner

@@ -4,9 +4,9 @@ ghost use Rattle.std.specs.Prelude.{◌<◌, ◌≤◌, [], ◌∷◌, length, I
 ghost use Rattle.cql_lexer.specs.Mark.{marks};
 ghost use Rattle.cql_tree.specs.Syntax.{casei_op};
 ghost use Rattle.cql_parser.specs.Machine.{left, right, pattern, low, in_paren, open_slot, sum_slot, close_sign, two_sums, want_or, want_and, want_not, want_predicate, want_sum, want_product, want_primary, want_slot, want_slots, want_null, after_in, after_is, have_or, have_and, have_not, have_predicate, have_sum, have_product, have_primary};
-ghost use Rattle.cql_parser.specs.Starts.{pair_op};
+ghost use Rattle.cql_parser.specs.inner.Starts.{pair_op};
 ghost use Rattle.cql_tree.specs.Views.{syntax_of};
-ghost use Rattle.cql_parser.specs.Descent.{Parses, ParsesAll};
+ghost use Rattle.cql_parser.specs.inner.Descent.{Parses, ParsesAll};
 
 use crate::literal::parse_literal;
 use crate::lookahead::{
@@ -25,7 +25,7 @@ use cql_tree::{Expression, Operand};
 use std::alloc::Global;
 
 /// Reads a whole filter: `or`, and nothing after it.
-pub fn parse_filter<'a>(alloc: Global, tokens: &'a [Token]) -> Result<Box<Expression>, Stop<'a>>
+pub(crate) fn parse_filter<'a>(alloc: Global, tokens: &'a [Token]) -> Result<Box<Expression>, Stop<'a>>
     ensures { ParsesAll (marks tokens.now) result }
 {
     let Parsed { tree, rest } = parse_or(alloc, tokens)?;

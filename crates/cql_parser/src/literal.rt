@@ -5,8 +5,8 @@ ghost use Rattle.cql_lexer.specs.Mark.{marks};
 ghost use Rattle.cql_tree.specs.Syntax.{date_op, interval_op, point_op, bbox_op};
 ghost use Rattle.cql_parser.specs.Machine.{ForPrimary, as_primary, run, want_primary, want_slots, after_sign, have_primary, date_slots, interval_slots, point_slots, bbox_slots};
 ghost use Rattle.cql_tree.specs.Views.{ring_of};
-ghost use Rattle.cql_parser.specs.Starts.{IsNoCall};
-ghost use Rattle.cql_parser.specs.Descent.{Parses, IsStopped, want_ring, want_rings};
+ghost use Rattle.cql_parser.specs.inner.Starts.{IsNoCall};
+ghost use Rattle.cql_parser.specs.inner.Descent.{Parses, IsStopped, want_ring, want_rings};
 
 use crate::lookahead::{after_close, after_comma};
 use crate::node::{
@@ -23,7 +23,7 @@ use cql_tree::Ring;
 use std::alloc::Global;
 
 /// Reads a name, or a literal. Parentheses and functions of expressions are read elsewhere.
-pub fn parse_literal<'a>(alloc: Global, tokens: &'a [Token]) -> Result<Parsed<'a>, Stop<'a>>
+pub(crate) fn parse_literal<'a>(alloc: Global, tokens: &'a [Token]) -> Result<Parsed<'a>, Stop<'a>>
     ensures parses { IsNoCall (marks tokens.now) → Parses want_primary have_primary (marks tokens.now) result }
     ensures shorter { IfOk result (λ r. length r.rest.now < length tokens.now) }
 {

@@ -2,7 +2,7 @@
 
 ghost use Rattle.std.specs.Prelude.{IfSome, IfNone, length, ◌<◌, List, ◌≡◌, ◌∷◌, ℕ, string_bytes, if◌then◌else◌};
 ghost use Rattle.cql_lexer.specs.Mark.{marks, at, opening, closing, comma, plus, minus, times, modulo, word, name, text, number};
-ghost use Rattle.cql_parser.specs.Descent.{Begins, BeginsNo};
+ghost use Rattle.cql_parser.specs.inner.Descent.{Begins, BeginsNo};
 ghost use Rattle.cql_parser.specs.Grammar.{IsAddition, IsMultiplication, operation_sort};
 ghost use Rattle.cql_lexer.specs.declared.token.Keyword.TheVariants.{And, Or, Not, Null, Div};
 
@@ -10,7 +10,7 @@ use cql_lexer::{Keyword, Kind, Token};
 use cql_tree::Operation;
 
 /// What follows an OR.
-pub fn after_or(tokens: &[Token]) -> Option<&[Token]>
+pub(crate) fn after_or(tokens: &[Token]) -> Option<&[Token]>
     ensures found { IfSome result (λ rest. Begins (word Or) (marks tokens.now) (marks rest.now)) }
     ensures none { IfNone result (BeginsNo (word Or) (marks tokens.now)) }
     ensures shorter { IfSome result (λ rest. length rest.now < length tokens.now) }
@@ -23,7 +23,7 @@ pub fn after_or(tokens: &[Token]) -> Option<&[Token]>
 }
 
 /// What follows an AND.
-pub fn after_and(tokens: &[Token]) -> Option<&[Token]>
+pub(crate) fn after_and(tokens: &[Token]) -> Option<&[Token]>
     ensures found { IfSome result (λ rest. Begins (word And) (marks tokens.now) (marks rest.now)) }
     ensures none { IfNone result (BeginsNo (word And) (marks tokens.now)) }
     ensures shorter { IfSome result (λ rest. length rest.now < length tokens.now) }
@@ -36,7 +36,7 @@ pub fn after_and(tokens: &[Token]) -> Option<&[Token]>
 }
 
 /// What follows a NULL.
-pub fn after_null(tokens: &[Token]) -> Option<&[Token]>
+pub(crate) fn after_null(tokens: &[Token]) -> Option<&[Token]>
     ensures found { IfSome result (λ rest. Begins (word Null) (marks tokens.now) (marks rest.now)) }
     ensures none { IfNone result (BeginsNo (word Null) (marks tokens.now)) }
     ensures shorter { IfSome result (λ rest. length rest.now < length tokens.now) }
@@ -49,7 +49,7 @@ pub fn after_null(tokens: &[Token]) -> Option<&[Token]>
 }
 
 /// What follows an opening parenthesis.
-pub fn after_open(tokens: &[Token]) -> Option<&[Token]>
+pub(crate) fn after_open(tokens: &[Token]) -> Option<&[Token]>
     ensures found { IfSome result (λ rest. Begins opening (marks tokens.now) (marks rest.now)) }
     ensures none { IfNone result (BeginsNo opening (marks tokens.now)) }
     ensures shorter { IfSome result (λ rest. length rest.now < length tokens.now) }
@@ -62,7 +62,7 @@ pub fn after_open(tokens: &[Token]) -> Option<&[Token]>
 }
 
 /// What follows a closing parenthesis.
-pub fn after_close(tokens: &[Token]) -> Option<&[Token]>
+pub(crate) fn after_close(tokens: &[Token]) -> Option<&[Token]>
     ensures found { IfSome result (λ rest. Begins closing (marks tokens.now) (marks rest.now)) }
     ensures none { IfNone result (BeginsNo closing (marks tokens.now)) }
     ensures shorter { IfSome result (λ rest. length rest.now < length tokens.now) }
@@ -75,7 +75,7 @@ pub fn after_close(tokens: &[Token]) -> Option<&[Token]>
 }
 
 /// What follows a comma.
-pub fn after_comma(tokens: &[Token]) -> Option<&[Token]>
+pub(crate) fn after_comma(tokens: &[Token]) -> Option<&[Token]>
     ensures found { IfSome result (λ rest. Begins comma (marks tokens.now) (marks rest.now)) }
     ensures none { IfNone result (BeginsNo comma (marks tokens.now)) }
     ensures shorter { IfSome result (λ rest. length rest.now < length tokens.now) }
@@ -88,7 +88,7 @@ pub fn after_comma(tokens: &[Token]) -> Option<&[Token]>
 }
 
 /// The place of a NOT, and what follows it.
-pub fn after_not(tokens: &[Token]) -> Option<(usize, &[Token])>
+pub(crate) fn after_not(tokens: &[Token]) -> Option<(usize, &[Token])>
     ensures found { IfSome result (λ r. marks tokens.now ≡ at r.0 (word Not) ∷ marks r.1.now) }
     ensures none { IfNone result (BeginsNo (word Not) (marks tokens.now)) }
     ensures shorter { IfSome result (λ r. length r.1.now < length tokens.now) }
@@ -101,7 +101,7 @@ pub fn after_not(tokens: &[Token]) -> Option<(usize, &[Token])>
 }
 
 /// Whether a sign is a minus, and what follows it.
-pub fn after_sign(tokens: &[Token]) -> Option<(bool, &[Token])>
+pub(crate) fn after_sign(tokens: &[Token]) -> Option<(bool, &[Token])>
     ensures found { IfSome result (λ r. Begins (if r.0 then minus else plus) (marks tokens.now) (marks r.1.now)) }
     ensures no_plus { IfNone result (BeginsNo plus (marks tokens.now)) }
     ensures no_minus { IfNone result (BeginsNo minus (marks tokens.now)) }
@@ -116,7 +116,7 @@ pub fn after_sign(tokens: &[Token]) -> Option<(bool, &[Token])>
 }
 
 /// A sign between the parts of a sum, and what follows it.
-pub fn after_addition(tokens: &[Token]) -> Option<(Operation, &[Token])>
+pub(crate) fn after_addition(tokens: &[Token]) -> Option<(Operation, &[Token])>
     ensures adds { IfSome result (λ r. IsAddition r.0) }
     ensures found { IfSome result (λ r. Begins (operation_sort r.0) (marks tokens.now) (marks r.1.now)) }
     ensures no_plus { IfNone result (BeginsNo plus (marks tokens.now)) }
@@ -132,7 +132,7 @@ pub fn after_addition(tokens: &[Token]) -> Option<(Operation, &[Token])>
 }
 
 /// A sign between the parts of a product, and what follows it.
-pub fn after_multiplication(tokens: &[Token]) -> Option<(Operation, &[Token])>
+pub(crate) fn after_multiplication(tokens: &[Token]) -> Option<(Operation, &[Token])>
     ensures multiplies { IfSome result (λ r. IsMultiplication r.0) }
     ensures found { IfSome result (λ r. Begins (operation_sort r.0) (marks tokens.now) (marks r.1.now)) }
     ensures no_times { IfNone result (BeginsNo times (marks tokens.now)) }
@@ -150,7 +150,7 @@ pub fn after_multiplication(tokens: &[Token]) -> Option<(Operation, &[Token])>
 }
 
 /// The place of a name, the name, and what follows it.
-pub fn after_name(tokens: &[Token]) -> Option<(usize, &String, &[Token])>
+pub(crate) fn after_name(tokens: &[Token]) -> Option<(usize, &String, &[Token])>
     ensures found { IfSome result
         (λ r. marks tokens.now ≡ at r.0 (name (string_bytes r.1.now)) ∷ marks r.2.now) }
     ensures none { IfNone result ((s : List ℕ) → BeginsNo (name s) (marks tokens.now)) }
@@ -164,7 +164,7 @@ pub fn after_name(tokens: &[Token]) -> Option<(usize, &String, &[Token])>
 }
 
 /// The place of a text, what it stands for, and what follows it.
-pub fn after_text(tokens: &[Token]) -> Option<(usize, &String, &[Token])>
+pub(crate) fn after_text(tokens: &[Token]) -> Option<(usize, &String, &[Token])>
     ensures found { IfSome result
         (λ r. marks tokens.now ≡ at r.0 (text (string_bytes r.1.now)) ∷ marks r.2.now) }
     ensures none { IfNone result ((s : List ℕ) → BeginsNo (text s) (marks tokens.now)) }
@@ -178,7 +178,7 @@ pub fn after_text(tokens: &[Token]) -> Option<(usize, &String, &[Token])>
 }
 
 /// The place of a number, its digits, and what follows it.
-pub fn after_number(tokens: &[Token]) -> Option<(usize, &String, &[Token])>
+pub(crate) fn after_number(tokens: &[Token]) -> Option<(usize, &String, &[Token])>
     ensures found { IfSome result
         (λ r. marks tokens.now ≡ at r.0 (number (string_bytes r.1.now)) ∷ marks r.2.now) }
     ensures none { IfNone result ((s : List ℕ) → BeginsNo (number s) (marks tokens.now)) }

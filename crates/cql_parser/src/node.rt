@@ -2,7 +2,7 @@
 
 ghost use Rattle.std.specs.Prelude.{◌≡◌, [], ◌∷◌, IfOk, string_bytes};
 ghost use Rattle.cql_tree.specs.Syntax.{joined, leaf, name_leaf, text_leaf, truth_leaf, or_op, and_op, computed_op, spatial_op, temporal_op, casei_op, date_op, interval_op, point_op, polygon_op, bbox_op, day_leaf, bound_leaf, number_leaf};
-ghost use Rattle.cql_parser.specs.Starts.{pair_op};
+ghost use Rattle.cql_parser.specs.inner.Starts.{pair_op};
 ghost use Rattle.cql_parser.specs.Machine.{not_node, compare_node, like_node, between_node, in_node, null_node, filled};
 ghost use Rattle.cql_tree.specs.Views.{syntax_of, syntaxes_of, operands_of, operations_of, number_of, bound_of, numbers_of, rings_of};
 
@@ -13,7 +13,7 @@ use cql_tree::{Bound, Corner, Expression, Number, Operand, Ring};
 use std::alloc::{AllocError, Global};
 
 /// The parts joined by OR; one part alone is that part.
-pub fn or_tree(
+pub(crate) fn or_tree(
     alloc: Global,
     first: Box<Expression>,
     others: Vec<Expression>,
@@ -27,7 +27,7 @@ pub fn or_tree(
 }
 
 /// The parts joined by AND; one part alone is that part.
-pub fn and_tree(
+pub(crate) fn and_tree(
     alloc: Global,
     first: Box<Expression>,
     others: Vec<Expression>,
@@ -41,7 +41,7 @@ pub fn and_tree(
 }
 
 /// The parts computed from the left; one part alone is that part.
-pub fn computed_tree(
+pub(crate) fn computed_tree(
     alloc: Global,
     first: Box<Expression>,
     others: Vec<Operand>,
@@ -57,7 +57,7 @@ pub fn computed_tree(
 
 /// A tree with NOT before it.
 #[tactic(auto, unfolding(cql_tree::specs::Views::syntax_of))]
-pub fn not_tree(
+pub(crate) fn not_tree(
     alloc: Global,
     place: usize,
     part: Box<Expression>,
@@ -69,7 +69,7 @@ pub fn not_tree(
 
 /// Two trees compared.
 #[tactic(auto, unfolding(cql_tree::specs::Views::syntax_of))]
-pub fn compare_tree(
+pub(crate) fn compare_tree(
     alloc: Global,
     by: Comparison,
     left: Box<Expression>,
@@ -82,7 +82,7 @@ pub fn compare_tree(
 
 /// A value held against a pattern.
 #[tactic(auto, unfolding(cql_tree::specs::Views::syntax_of))]
-pub fn like_tree(
+pub(crate) fn like_tree(
     alloc: Global,
     is_negated: bool,
     value: Box<Expression>,
@@ -100,7 +100,7 @@ pub fn like_tree(
 
 /// A value between two others.
 #[tactic(auto, unfolding(cql_tree::specs::Views::syntax_of))]
-pub fn between_tree(
+pub(crate) fn between_tree(
     alloc: Global,
     is_negated: bool,
     value: Box<Expression>,
@@ -120,7 +120,7 @@ pub fn between_tree(
 }
 
 /// A value among others.
-pub fn in_tree(
+pub(crate) fn in_tree(
     alloc: Global,
     is_negated: bool,
     value: Box<Expression>,
@@ -141,7 +141,7 @@ pub fn in_tree(
 
 /// A value that is asked for.
 #[tactic(auto, unfolding(cql_tree::specs::Views::syntax_of))]
-pub fn null_tree(
+pub(crate) fn null_tree(
     alloc: Global,
     is_negated: bool,
     value: Box<Expression>,
@@ -153,7 +153,7 @@ pub fn null_tree(
 
 /// A text whose case is folded.
 #[tactic(auto, unfolding(cql_tree::specs::Views::syntax_of))]
-pub fn casei_tree(
+pub(crate) fn casei_tree(
     alloc: Global,
     place: usize,
     part: Box<Expression>,
@@ -165,7 +165,7 @@ pub fn casei_tree(
 
 /// Two shapes compared.
 #[tactic(auto, unfolding(cql_tree::specs::Views::syntax_of))]
-pub fn spatial_tree(
+pub(crate) fn spatial_tree(
     alloc: Global,
     place: usize,
     by: SpatialRelation,
@@ -186,7 +186,7 @@ pub fn spatial_tree(
 
 /// Two spans of days compared.
 #[tactic(auto, unfolding(cql_tree::specs::Views::syntax_of))]
-pub fn temporal_tree(
+pub(crate) fn temporal_tree(
     alloc: Global,
     place: usize,
     by: Relation,
@@ -207,7 +207,7 @@ pub fn temporal_tree(
 
 /// A name.
 #[tactic(auto, unfolding(cql_tree::specs::Views::syntax_of))]
-pub fn name_tree(alloc: Global, place: usize, name: &String) -> Result<Box<Expression>, AllocError>
+pub(crate) fn name_tree(alloc: Global, place: usize, name: &String) -> Result<Box<Expression>, AllocError>
     ensures { IfOk result (λ t. syntax_of t.value ≡ leaf place (name_leaf (string_bytes name.now))) }
 {
     let name = name.clone()?;
@@ -216,7 +216,7 @@ pub fn name_tree(alloc: Global, place: usize, name: &String) -> Result<Box<Expre
 
 /// A text.
 #[tactic(auto, unfolding(cql_tree::specs::Views::syntax_of))]
-pub fn text_tree(
+pub(crate) fn text_tree(
     alloc: Global,
     place: usize,
     content: &String,
@@ -229,7 +229,7 @@ pub fn text_tree(
 
 /// TRUE or FALSE.
 #[tactic(auto, unfolding(cql_tree::specs::Views::syntax_of))]
-pub fn truth_tree(alloc: Global, place: usize, value: bool) -> Result<Box<Expression>, AllocError>
+pub(crate) fn truth_tree(alloc: Global, place: usize, value: bool) -> Result<Box<Expression>, AllocError>
     ensures { IfOk result (λ t. syntax_of t.value ≡ leaf place (truth_leaf value)) }
 {
     Ok(Box::new(alloc, Expression::Truth { place, value })?)
@@ -237,7 +237,7 @@ pub fn truth_tree(alloc: Global, place: usize, value: bool) -> Result<Box<Expres
 
 /// A number.
 #[tactic(auto, unfolding(cql_tree::specs::Views::syntax_of))]
-pub fn number_tree(alloc: Global, number: Number) -> Result<Box<Expression>, AllocError>
+pub(crate) fn number_tree(alloc: Global, number: Number) -> Result<Box<Expression>, AllocError>
     ensures { IfOk result (λ t. syntax_of t.value ≡ number_of number) }
 {
     Ok(Box::new(alloc, Expression::Number(number))?)
@@ -245,7 +245,7 @@ pub fn number_tree(alloc: Global, number: Number) -> Result<Box<Expression>, All
 
 /// A day.
 #[tactic(auto, unfolding(cql_tree::specs::Views::syntax_of))]
-pub fn date_tree(
+pub(crate) fn date_tree(
     alloc: Global,
     place: usize,
     text_place: usize,
@@ -265,7 +265,7 @@ pub fn date_tree(
 
 /// A span of days.
 #[tactic(auto, unfolding(cql_tree::specs::Views::syntax_of))]
-pub fn interval_tree(
+pub(crate) fn interval_tree(
     alloc: Global,
     place: usize,
     from: Bound,
@@ -278,7 +278,7 @@ pub fn interval_tree(
 
 /// A point.
 #[tactic(auto, unfolding(cql_tree::specs::Views::syntax_of))]
-pub fn point_tree(
+pub(crate) fn point_tree(
     alloc: Global,
     place: usize,
     corner: Corner,
@@ -290,7 +290,7 @@ pub fn point_tree(
 
 /// A frame.
 #[tactic(auto, unfolding(cql_tree::specs::Views::syntax_of))]
-pub fn bbox_tree(
+pub(crate) fn bbox_tree(
     alloc: Global,
     place: usize,
     low: Corner,
@@ -303,7 +303,7 @@ pub fn bbox_tree(
 
 /// An area: its outer ring, then those of its holes.
 #[tactic(auto, unfolding(cql_tree::specs::Views::syntax_of))]
-pub fn polygon_tree(
+pub(crate) fn polygon_tree(
     alloc: Global,
     place: usize,
     rings: Vec<Ring>,
@@ -314,7 +314,7 @@ pub fn polygon_tree(
 }
 
 /// A function of two values.
-pub fn pair_tree(
+pub(crate) fn pair_tree(
     alloc: Global,
     place: usize,
     by: Pairing,
@@ -331,7 +331,7 @@ pub fn pair_tree(
 }
 
 /// An end of an interval that is a text.
-pub fn text_bound(place: usize, content: &String) -> Result<Bound, AllocError>
+pub(crate) fn text_bound(place: usize, content: &String) -> Result<Bound, AllocError>
     ensures { IfOk result (λ b. bound_of b ≡ leaf place (bound_leaf (string_bytes content.now))) }
 {
     let content = content.clone()?;
@@ -339,7 +339,7 @@ pub fn text_bound(place: usize, content: &String) -> Result<Bound, AllocError>
 }
 
 /// An end of an interval that is a name.
-pub fn name_bound(place: usize, name: &String) -> Result<Bound, AllocError>
+pub(crate) fn name_bound(place: usize, name: &String) -> Result<Bound, AllocError>
     ensures { IfOk result (λ b. bound_of b ≡ leaf place (name_leaf (string_bytes name.now))) }
 {
     let name = name.clone()?;
@@ -347,7 +347,7 @@ pub fn name_bound(place: usize, name: &String) -> Result<Bound, AllocError>
 }
 
 /// A number of these digits.
-pub fn number(place: usize, is_negative: bool, digits: &String) -> Result<Number, AllocError>
+pub(crate) fn number(place: usize, is_negative: bool, digits: &String) -> Result<Number, AllocError>
     ensures { IfOk result (λ n. number_of n ≡ leaf place (number_leaf is_negative (string_bytes digits.now))) }
 {
     let digits = digits.clone()?;

@@ -5,7 +5,7 @@ ghost use Rattle.cql_lexer.specs.Mark.{marks};
 ghost use Rattle.cql_tree.specs.Syntax.{leaf, day_leaf};
 ghost use Rattle.cql_parser.specs.Machine.{ForWhole, run, after_sign, have_whole, open_slot, sign_slot, comma_sign, close_sign, text_slot, bound_slot, whole_slot};
 ghost use Rattle.cql_tree.specs.Views.{number_of, bound_of};
-ghost use Rattle.cql_parser.specs.Descent.{IsStopped, ForSlot, want_here, pass_here, have_here, want_corner, want_pair, have_corner};
+ghost use Rattle.cql_parser.specs.inner.Descent.{IsStopped, ForSlot, want_here, pass_here, have_here, want_corner, want_pair, have_corner};
 
 use crate::lookahead::{
     after_close, after_comma, after_name, after_number, after_open, after_sign, after_text,
@@ -16,7 +16,7 @@ use cql_lexer::Token;
 use cql_tree::{Bound, Corner, Number};
 
 /// What follows an opening parenthesis.
-pub fn pass_open(tokens: &[Token]) -> Result<&[Token], Stop<'_>>
+pub(crate) fn pass_open(tokens: &[Token]) -> Result<&[Token], Stop<'_>>
     ensures passes { MatchResult result
         (λ rest. (a : ForSlot) → run (want_here open_slot a) (marks tokens.now) ≡ run (pass_here a) (marks rest.now))
         (IsStopped (want_here open_slot) (marks tokens.now)) }
@@ -29,7 +29,7 @@ pub fn pass_open(tokens: &[Token]) -> Result<&[Token], Stop<'_>>
 }
 
 /// What follows a closing parenthesis.
-pub fn pass_close(tokens: &[Token]) -> Result<&[Token], Stop<'_>>
+pub(crate) fn pass_close(tokens: &[Token]) -> Result<&[Token], Stop<'_>>
     ensures passes { MatchResult result
         (λ rest. (a : ForSlot) →
         run (want_here (sign_slot close_sign) a) (marks tokens.now) ≡ run (pass_here a) (marks rest.now))
@@ -43,7 +43,7 @@ pub fn pass_close(tokens: &[Token]) -> Result<&[Token], Stop<'_>>
 }
 
 /// What follows a comma.
-pub fn pass_comma(tokens: &[Token]) -> Result<&[Token], Stop<'_>>
+pub(crate) fn pass_comma(tokens: &[Token]) -> Result<&[Token], Stop<'_>>
     ensures passes { MatchResult result
         (λ rest. (a : ForSlot) →
         run (want_here (sign_slot comma_sign) a) (marks tokens.now) ≡ run (pass_here a) (marks rest.now))
@@ -57,7 +57,7 @@ pub fn pass_comma(tokens: &[Token]) -> Result<&[Token], Stop<'_>>
 }
 
 /// The place of a day's text, the text, and what follows it.
-pub fn take_text(tokens: &[Token]) -> Result<(usize, &String, &[Token]), Stop<'_>>
+pub(crate) fn take_text(tokens: &[Token]) -> Result<(usize, &String, &[Token]), Stop<'_>>
     ensures takes { MatchResult result
         (λ r. (a : ForSlot) → run (want_here text_slot a) (marks tokens.now) ≡
         run (have_here a (leaf r.0 (day_leaf (string_bytes r.1.now)))) (marks r.2.now))
@@ -71,7 +71,7 @@ pub fn take_text(tokens: &[Token]) -> Result<(usize, &String, &[Token]), Stop<'_
 }
 
 /// An end of an interval, and what follows it.
-pub fn take_bound(tokens: &[Token]) -> Result<(Bound, &[Token]), Stop<'_>>
+pub(crate) fn take_bound(tokens: &[Token]) -> Result<(Bound, &[Token]), Stop<'_>>
     ensures takes { MatchResult result
         (λ r. (a : ForSlot) → run (want_here bound_slot a) (marks tokens.now) ≡
         run (have_here a (bound_of r.0)) (marks r.1.now))
@@ -92,7 +92,7 @@ pub fn take_bound(tokens: &[Token]) -> Result<(Bound, &[Token]), Stop<'_>>
 }
 
 /// The number behind a sign, and what follows it.
-pub fn take_digits(is_negative: bool, tokens: &[Token]) -> Result<(Number, &[Token]), Stop<'_>>
+pub(crate) fn take_digits(is_negative: bool, tokens: &[Token]) -> Result<(Number, &[Token]), Stop<'_>>
     ensures takes { MatchResult result
         (λ r. (k : ForWhole) → run (after_sign is_negative k) (marks tokens.now) ≡
         run (have_whole k (number_of r.0)) (marks r.1.now))
@@ -109,7 +109,7 @@ pub fn take_digits(is_negative: bool, tokens: &[Token]) -> Result<(Number, &[Tok
 }
 
 /// A number with its sign, and what follows it.
-pub fn take_whole(tokens: &[Token]) -> Result<(Number, &[Token]), Stop<'_>>
+pub(crate) fn take_whole(tokens: &[Token]) -> Result<(Number, &[Token]), Stop<'_>>
     ensures takes { MatchResult result
         (λ r. (a : ForSlot) → run (want_here whole_slot a) (marks tokens.now) ≡
         run (have_here a (number_of r.0)) (marks r.1.now))
@@ -123,7 +123,7 @@ pub fn take_whole(tokens: &[Token]) -> Result<(Number, &[Token]), Stop<'_>>
 }
 
 /// Two numbers, and what follows them.
-pub fn take_corner(tokens: &[Token]) -> Result<(Corner, &[Token]), Stop<'_>>
+pub(crate) fn take_corner(tokens: &[Token]) -> Result<(Corner, &[Token]), Stop<'_>>
     ensures takes { MatchResult result
         (λ r. (a : ForSlot) → run (want_corner a) (marks tokens.now) ≡ run (have_corner a r.0) (marks r.1.now))
         (IsStopped want_corner (marks tokens.now)) }
@@ -135,7 +135,7 @@ pub fn take_corner(tokens: &[Token]) -> Result<(Corner, &[Token]), Stop<'_>>
 }
 
 /// Two numbers with a comma between them, and what follows them.
-pub fn take_pair(tokens: &[Token]) -> Result<(Corner, &[Token]), Stop<'_>>
+pub(crate) fn take_pair(tokens: &[Token]) -> Result<(Corner, &[Token]), Stop<'_>>
     ensures takes { MatchResult result
         (λ r. (a : ForSlot) → run (want_pair a) (marks tokens.now) ≡ run (have_corner a r.0) (marks r.1.now))
         (IsStopped want_pair (marks tokens.now)) }

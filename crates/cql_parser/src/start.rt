@@ -2,7 +2,7 @@
 
 ghost use Rattle.std.specs.Prelude.{length, ◌<◌};
 ghost use Rattle.cql_lexer.specs.Mark.{marks};
-ghost use Rattle.cql_parser.specs.Starts.{StartsTail, StartsNegated, IsShorterTail, StartsCall, IsShorterCall, StartsLiteral, IsShorterLiteral};
+ghost use Rattle.cql_parser.specs.inner.Starts.{StartsTail, StartsNegated, IsShorterTail, StartsCall, IsShorterCall, StartsLiteral, IsShorterLiteral};
 
 use cad_day::Relation;
 use cql_lexer::{Comparison, Keyword, Kind, SpatialRelation, Token};
@@ -76,7 +76,7 @@ pub enum LiteralStart<'a> {
 }
 
 /// What may follow a value.
-pub fn tail_start(tokens: &[Token]) -> TailStart<'_>
+pub(crate) fn tail_start(tokens: &[Token]) -> TailStart<'_>
     ensures starts { StartsTail result (marks tokens.now) }
     ensures shorter { IsShorterTail (length tokens.now) result }
 {
@@ -111,7 +111,7 @@ fn negated_start(tokens: &[Token]) -> TailStart<'_>
 }
 
 /// What opens a parenthesis round other expressions.
-pub fn call_start(tokens: &[Token]) -> CallStart<'_>
+pub(crate) fn call_start(tokens: &[Token]) -> CallStart<'_>
     ensures starts { StartsCall result (marks tokens.now) }
     ensures shorter { IsShorterCall (length tokens.now) result }
 {
@@ -132,7 +132,7 @@ pub fn call_start(tokens: &[Token]) -> CallStart<'_>
 }
 
 /// What begins a name or a literal.
-pub fn literal_start(tokens: &[Token]) -> LiteralStart<'_>
+pub(crate) fn literal_start(tokens: &[Token]) -> LiteralStart<'_>
     ensures starts { StartsLiteral result (marks tokens.now) }
     ensures shorter { IsShorterLiteral (length tokens.now) result }
 {

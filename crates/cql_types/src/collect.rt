@@ -183,7 +183,7 @@ impl Term for Filter {
 }
 
 /// The part at the place is of another kind than its node needs.
-pub fn wrong_kind(place: usize) -> TypeFault
+pub(crate) fn wrong_kind(place: usize) -> TypeFault
     ensures { result ≡ At (wrong_kind place) }
 {
     TypeFault::At(Fault {
@@ -193,7 +193,7 @@ pub fn wrong_kind(place: usize) -> TypeFault
 }
 
 /// The part as a term.
-pub fn one<T: Term>(part: Judged) -> Result<T, TypeFault>
+pub(crate) fn one<T: Term>(part: Judged) -> Result<T, TypeFault>
     ensures ok { IfOk result (λ x. T.as_term part.node ≡ Some x) }
     ensures err { IfErr result (λ e. (e ≡ At (wrong_kind part.place)) × (T.has_kind (kind_of part.node) ≡ false)) }
 {
@@ -202,7 +202,7 @@ pub fn one<T: Term>(part: Judged) -> Result<T, TypeFault>
 }
 
 /// The terms, and after them those of the parts.
-pub fn extend<T: Term>(mut terms: Vec<T>, parts: Vec<Judged>) -> Result<Vec<T>, TypeFault>
+pub(crate) fn extend<T: Term>(mut terms: Vec<T>, parts: Vec<Judged>) -> Result<Vec<T>, TypeFault>
     ensures ok { IfOk result (λ xs. (js : List Judged) → Are T.as_term js terms.items → Are T.as_term (js ++ parts.items) xs.items) }
     ensures err { IfErr result (ForFault (λ f. first_not T.has_kind (marks_of parts.items) ≡ Some f)) }
 {
@@ -213,7 +213,7 @@ pub fn extend<T: Term>(mut terms: Vec<T>, parts: Vec<Judged>) -> Result<Vec<T>, 
 }
 
 /// The first part and the others as terms.
-pub fn gather<T: Term>(
+pub(crate) fn gather<T: Term>(
     alloc: Global,
     first: Judged,
     others: Vec<Judged>,
@@ -227,7 +227,7 @@ pub fn gather<T: Term>(
 }
 
 /// The parts of a sum or a product behind the first as terms.
-pub fn collect_steps(alloc: Global, steps: Vec<JudgedStep>) -> Result<Vec<Step>, TypeFault>
+pub(crate) fn collect_steps(alloc: Global, steps: Vec<JudgedStep>) -> Result<Vec<Step>, TypeFault>
     ensures ok { IfOk result (λ xs. AreSteps (operations_judged steps.items) (parts_judged steps.items) xs.items) }
     ensures err { IfErr result (ForFault (λ f. first_not is_whole (marks_of (parts_judged steps.items)) ≡ Some f)) }
 {

@@ -41,7 +41,7 @@ fn negated_if(alloc: Global, is_negated: bool, filter: Filter) -> Result<Filter,
 }
 
 /// Conditions joined by OR.
-pub fn or(alloc: Global, first: Judged, others: Vec<Judged>) -> Result<Judged, TypeFault>
+pub(crate) fn or(alloc: Global, first: Judged, others: Vec<Judged>) -> Result<Judged, TypeFault>
     ensures { Combines or_op (first ∷ others.items) result }
 {
     let place = first.place;
@@ -49,7 +49,7 @@ pub fn or(alloc: Global, first: Judged, others: Vec<Judged>) -> Result<Judged, T
 }
 
 /// Conditions joined by AND.
-pub fn and(alloc: Global, first: Judged, others: Vec<Judged>) -> Result<Judged, TypeFault>
+pub(crate) fn and(alloc: Global, first: Judged, others: Vec<Judged>) -> Result<Judged, TypeFault>
     ensures { Combines and_op (first ∷ others.items) result }
 {
     let place = first.place;
@@ -57,7 +57,7 @@ pub fn and(alloc: Global, first: Judged, others: Vec<Judged>) -> Result<Judged, 
 }
 
 /// The condition behind a NOT.
-pub fn not(alloc: Global, place: usize, part: Judged) -> Result<Judged, TypeFault>
+pub(crate) fn not(alloc: Global, place: usize, part: Judged) -> Result<Judged, TypeFault>
     ensures { Combines (not_op place) (part ∷ []) result }
 {
     let filter: Filter = one(part)?;
@@ -71,7 +71,7 @@ fn tests_equality(by: Comparison) -> bool
 }
 
 /// Two values compared.
-pub fn compare(by: Comparison, left: Judged, right: Judged) -> Result<Judged, TypeFault>
+pub(crate) fn compare(by: Comparison, left: Judged, right: Judged) -> Result<Judged, TypeFault>
     ensures { Combines (compare_op by) (left ∷ right ∷ []) result }
 {
     let Judged { place, node } = left;
@@ -125,7 +125,7 @@ fn compare_flag(
 }
 
 /// `[NOT] LIKE`
-pub fn like(
+pub(crate) fn like(
     alloc: Global,
     is_negated: bool,
     left: Judged,
@@ -157,7 +157,7 @@ fn one_pattern(part: Judged) -> Result<TextTerm, TypeFault>
 }
 
 /// `[NOT] BETWEEN`
-pub fn between(
+pub(crate) fn between(
     alloc: Global,
     is_negated: bool,
     value: Judged,
@@ -176,7 +176,7 @@ pub fn between(
 }
 
 /// `[NOT] IN`
-pub fn is_in(
+pub(crate) fn is_in(
     alloc: Global,
     is_negated: bool,
     value: Judged,
@@ -234,7 +234,7 @@ fn one_of(
 }
 
 /// `IS [NOT] NULL`
-pub fn is_null(alloc: Global, is_negated: bool, value: Judged) -> Result<Judged, TypeFault>
+pub(crate) fn is_null(alloc: Global, is_negated: bool, value: Judged) -> Result<Judged, TypeFault>
     ensures { Combines (is_null_op is_negated) (value ∷ []) result }
 {
     let place = value.place;
@@ -244,7 +244,7 @@ pub fn is_null(alloc: Global, is_negated: bool, value: Judged) -> Result<Judged,
 }
 
 /// A sum or a product, by what is done with each part behind the first.
-pub fn computed(alloc: Global, first: Judged, steps: Vec<JudgedStep>) -> Result<Judged, TypeFault>
+pub(crate) fn computed(alloc: Global, first: Judged, steps: Vec<JudgedStep>) -> Result<Judged, TypeFault>
     ensures { Combines (computed_op (operations_judged steps.items)) (first ∷ parts_judged steps.items) result }
 {
     let place = first.place;
@@ -256,7 +256,7 @@ pub fn computed(alloc: Global, first: Judged, steps: Vec<JudgedStep>) -> Result<
 }
 
 /// `CASEI`
-pub fn casei(alloc: Global, place: usize, part: Judged) -> Result<Judged, TypeFault>
+pub(crate) fn casei(alloc: Global, place: usize, part: Judged) -> Result<Judged, TypeFault>
     ensures { Combines (casei_op place) (part ∷ []) result }
 {
     let Judged { place: first, node } = part;
@@ -277,7 +277,7 @@ pub fn casei(alloc: Global, place: usize, part: Judged) -> Result<Judged, TypeFa
 }
 
 /// `DATE`
-pub fn date(place: usize, part: Judged) -> Result<Judged, TypeFault>
+pub(crate) fn date(place: usize, part: Judged) -> Result<Judged, TypeFault>
     ensures { Combines (date_op place) (part ∷ []) result }
 {
     let node = Node::Day(one(part)?);
@@ -326,7 +326,7 @@ fn is_frame(node: &Node) -> bool
 }
 
 /// One of the functions whose names begin with `S_`.
-pub fn spatial(
+pub(crate) fn spatial(
     place: usize,
     by: SpatialRelation,
     left: Judged,
@@ -346,7 +346,7 @@ pub fn spatial(
 }
 
 /// One of the functions whose names begin with `T_`.
-pub fn temporal(
+pub(crate) fn temporal(
     place: usize,
     by: Relation,
     left: Judged,

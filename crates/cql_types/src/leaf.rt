@@ -17,7 +17,7 @@ use cad_schema::{Collection, PropertyKind, find_property};
 use cql_tree::Number;
 
 /// The part at the place is misused.
-pub fn at(place: usize, cause: Misuse) -> TypeFault
+pub(crate) fn at(place: usize, cause: Misuse) -> TypeFault
     ensures { result ≡ At (record { place = place; cause = cause }) }
 {
     TypeFault::At(Fault { place, cause })
@@ -30,7 +30,7 @@ fn judged(place: usize, node: Node) -> Judged
 }
 
 /// A property's name.
-pub fn name(place: usize, name: &str, collection: Collection) -> Result<Judged, TypeFault>
+pub(crate) fn name(place: usize, name: &str, collection: Collection) -> Result<Judged, TypeFault>
     ensures { Judges (schema_of collection) (leaf place (name_leaf name.now)) result }
 {
     match find_property(collection, name) {
@@ -54,7 +54,7 @@ fn property_node(property: usize, kind: PropertyKind) -> Node
 }
 
 /// A number with its sign.
-pub fn number(number: &Number, collection: Collection) -> Result<Judged, TypeFault>
+pub(crate) fn number(number: &Number, collection: Collection) -> Result<Judged, TypeFault>
     ensures { Judges (schema_of collection) (number_of number.now) result }
 {
     let place = number.place;
@@ -65,7 +65,7 @@ pub fn number(number: &Number, collection: Collection) -> Result<Judged, TypeFau
 }
 
 /// A text.
-pub fn text(place: usize, content: &String, collection: Collection) -> Result<Judged, TypeFault>
+pub(crate) fn text(place: usize, content: &String, collection: Collection) -> Result<Judged, TypeFault>
     ensures { Judges (schema_of collection) (leaf place (text_leaf (string_bytes content.now))) result }
 {
     let node = Node::Pattern(TextTerm::Constant(content.clone()?));
@@ -73,14 +73,14 @@ pub fn text(place: usize, content: &String, collection: Collection) -> Result<Ju
 }
 
 /// TRUE or FALSE.
-pub fn truth(place: usize, value: bool, collection: Collection) -> Judged
+pub(crate) fn truth(place: usize, value: bool, collection: Collection) -> Judged
     ensures { IsJudged (schema_of collection) (leaf place (truth_leaf value)) result }
 {
     judged(place, Node::Truth(value))
 }
 
 /// The text of a DATE.
-pub fn day(place: usize, text: &str, collection: Collection) -> Result<Judged, TypeFault>
+pub(crate) fn day(place: usize, text: &str, collection: Collection) -> Result<Judged, TypeFault>
     ensures { Judges (schema_of collection) (leaf place (day_leaf text.now)) result }
 {
     match Day::read(text) {

@@ -40,7 +40,7 @@ pub struct Position {
 }
 
 /// `INTERVAL`
-pub fn interval(
+pub(crate) fn interval(
     place: usize,
     from: &Bound,
     to: &Bound,
@@ -160,7 +160,7 @@ fn read_position(corner: &Corner) -> Result<Position, TypeFault>
 }
 
 /// `POINT`
-pub fn point(place: usize, corner: &Corner, collection: Collection) -> Result<Judged, TypeFault>
+pub(crate) fn point(place: usize, corner: &Corner, collection: Collection) -> Result<Judged, TypeFault>
     ensures { Judges (schema_of collection) (node (point_op place) (parts_of (numbers_of (corner.now ∷ [])))) result }
 {
     let position = read_position(corner)?;
@@ -172,7 +172,7 @@ pub fn point(place: usize, corner: &Corner, collection: Collection) -> Result<Ju
 }
 
 /// `BBOX`
-pub fn bbox(
+pub(crate) fn bbox(
     place: usize,
     low: &Corner,
     high: &Corner,
@@ -202,7 +202,7 @@ fn frame_between(low: Position, high: Position) -> Option<Bounds>
 }
 
 /// `POLYGON`
-pub fn polygon(
+pub(crate) fn polygon(
     alloc: Global,
     place: usize,
     rings: &[cql_tree::Ring],

@@ -11,7 +11,7 @@ use crate::fault::Misuse;
 use cql_tree::Number;
 
 /// The value of a number with its sign.
-pub fn whole_number(number: &Number) -> Result<i64, Misuse>
+pub(crate) fn whole_number(number: &Number) -> Result<i64, Misuse>
     ensures { result ≡ written number.now.is_negative (string_bytes number.now.digits) }
 {
     read_whole(number.is_negative, &number.digits)

@@ -6,9 +6,9 @@ use Rattle.cql_lexer.specs.declared.token.Keyword.TheVariants.{And, Or, Not, Lik
 use Rattle.cql_lexer.specs.Mark.{compare}
 use Rattle.cql_tree.specs.Syntax.{casei_op}
 use Rattle.cql_parser.specs.Machine.{open_slot, sign_slot, sum_slot, comma_sign, close_sign, two_sums, left, right, pattern, low, high, item, argument, in_paren, plain, under_not, or_part, and_part, sum_part, product_part, want_or, want_and, want_not, want_predicate, want_sum, want_product, want_primary, want_slot, want_slots, after_in, after_is, have_or, have_not, have_predicate, have_sum, have_primary, have_ors, have_ands, have_items}
-use Rattle.cql_parser.specs.Starts.{pair_op}
+use Rattle.cql_parser.specs.inner.Starts.{pair_op}
 use Rattle.cql_tree.specs.Views.{syntax_of, syntaxes_of, operands_of, operations_of}
-use Rattle.cql_parser.specs.Descent.{for_slot, want_here}
+use Rattle.cql_parser.specs.inner.Descent.{for_slot, want_here}
 use Rattle.cql_parser.proofs.Turns.{goes, goes_at, or_stays, and_stays, not_stays, right_done, pattern_done, high_done, left_stays, tail_goes, negated_stops, low_stops, in_stops, item_had, items_stop, sum_stays, term_goes, product_stays, factor_goes, paren_stops, pair_goes, argument_had, stops_from, parses_from}
 use Rattle.cql_parser.proofs.descent.+rules.Goals as goal
 

@@ -3,7 +3,7 @@ use Rattle.std.proofs.lemmas.Result.{err_from_is_err_and}
 use Rattle.cql_lexer.specs.Mark.{marks}
 use Rattle.cql_parser.specs.Machine.{open_slot, sign_slot, comma_sign, close_sign, bound_slot, want_slots, interval_slots}
 use Rattle.cql_tree.specs.Syntax.{interval_op}
-use Rattle.cql_parser.specs.Descent.{for_slot, want_here}
+use Rattle.cql_parser.specs.inner.Descent.{for_slot, want_here}
 use Rattle.cql_parser.proofs.Turns.{stops_from}
 use Rattle.cql_parser.proofs.literal.parse_interval.Goals as goal
 

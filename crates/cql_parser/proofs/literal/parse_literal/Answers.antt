@@ -3,7 +3,7 @@ use Rattle.cql_lexer.specs.Mark.{marks, word, name, text}
 use Rattle.cql_lexer.specs.declared.token.Keyword.TheVariants.{Date, Interval, Point, Polygon, Bbox}
 use Rattle.cql_tree.specs.Syntax.{date_op, interval_op, point_op, bbox_op}
 use Rattle.cql_parser.specs.Machine.{as_primary, after_sign, want_primary, want_slots, have_primary, date_slots, interval_slots, point_slots, bbox_slots}
-use Rattle.cql_parser.specs.Descent.{want_rings}
+use Rattle.cql_parser.specs.inner.Descent.{want_rings}
 use Rattle.cql_parser.proofs.Turns.{goes_at, truth_goes, number_stays, primary_sign_goes, primary_stops, parses_from}
 use Rattle.cql_parser.proofs.literal.parse_literal.Goals as goal
 

@@ -4,7 +4,7 @@ use Rattle.std.proofs.lemmas.List.{map_push}
 use Rattle.cql_lexer.specs.Mark.{marks}
 use Rattle.cql_parser.specs.Machine.{open_slot, ring_part}
 use Rattle.cql_tree.specs.Views.{ring_of, rings_of}
-use Rattle.cql_parser.specs.Descent.{want_here, want_ring, want_rings}
+use Rattle.cql_parser.specs.inner.Descent.{want_here, want_ring, want_rings}
 use Rattle.cql_parser.proofs.Turns.{rings_open, ring_goes, rings_close, rings_stop, stops_from}
 use Rattle.cql_parser.proofs.literal.parse_polygon.Goals as goal
 

@@ -2,7 +2,7 @@ use Rattle.std.proofs.Common.{[], refl, ◌∙◌, arith}
 use Rattle.std.proofs.lemmas.Result.{err_from_is_err_and}
 use Rattle.cql_lexer.specs.Mark.{marks}
 use Rattle.cql_parser.specs.Machine.{open_slot}
-use Rattle.cql_parser.specs.Descent.{want_here, want_corner, want_ring}
+use Rattle.cql_parser.specs.inner.Descent.{want_here, want_corner, want_ring}
 use Rattle.cql_parser.proofs.Turns.{corner_goes, ring_closes, ring_stops, ring_open, corner_of, numbers_push, stops_from}
 use Rattle.cql_parser.proofs.literal.parse_ring.Goals as goal
 

@@ -2,7 +2,7 @@ use Rattle.std.proofs.Common.{◌≡◌, ◌<◌, length}
 use Rattle.cql_lexer.specs.Mark.{marks}
 use Rattle.cql_parser.specs.Machine.{ForPrimary, run}
 use Rattle.cql_tree.specs.Views.{numbers_of}
-use Rattle.cql_parser.specs.Descent.{want_ring, have_corners}
+use Rattle.cql_parser.specs.inner.Descent.{want_ring, have_corners}
 use Rattle.cql_parser.proofs.literal.parse_ring.Given as goal
 
 abbrev pub invariant-loop-after : goal.invariant-loop-after

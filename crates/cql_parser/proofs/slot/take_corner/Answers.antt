@@ -3,7 +3,7 @@ use Rattle.std.proofs.lemmas.Result.{err_from_is_err_and}
 use Rattle.cql_lexer.specs.Mark.{marks}
 use Rattle.cql_parser.specs.Machine.{whole_slot}
 use Rattle.cql_tree.specs.Views.{number_of}
-use Rattle.cql_parser.specs.Descent.{want_here, want_corner}
+use Rattle.cql_parser.specs.inner.Descent.{want_here, want_corner}
 use Rattle.cql_parser.proofs.Turns.{corner_begins, corner_halves, corner_ends, first_of, second_of, stops_from}
 use Rattle.cql_parser.proofs.slot.take_corner.Goals as goal
 

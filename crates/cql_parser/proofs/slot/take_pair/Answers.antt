@@ -3,7 +3,7 @@ use Rattle.std.proofs.lemmas.Result.{err_from_is_err_and}
 use Rattle.cql_lexer.specs.Mark.{marks}
 use Rattle.cql_parser.specs.Machine.{whole_slot, sign_slot, comma_sign}
 use Rattle.cql_tree.specs.Views.{number_of}
-use Rattle.cql_parser.specs.Descent.{want_here, want_pair}
+use Rattle.cql_parser.specs.inner.Descent.{want_here, want_pair}
 use Rattle.cql_parser.proofs.Turns.{pair_begins, pair_halves, comma_passes, corner_ends, first_of_pair, second_of, comma_of, stops_from}
 use Rattle.cql_parser.proofs.slot.take_pair.Goals as goal
 

@@ -1,7 +1,7 @@
 use Rattle.cql_lexer.specs.Mark.{marks}
 use Rattle.cql_parser.specs.Machine.{run, after_sign, have_whole, whole_slot}
 use Rattle.cql_tree.specs.Views.{number_of}
-use Rattle.cql_parser.specs.Descent.{want_here, have_here}
+use Rattle.cql_parser.specs.inner.Descent.{want_here, have_here}
 use Rattle.cql_parser.proofs.Turns.{sign_goes, whole_stays, whole_of, whole_had, matches_from}
 use Rattle.cql_parser.proofs.slot.take_whole.Goals as goal
 

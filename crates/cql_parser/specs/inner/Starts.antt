@@ -4,7 +4,7 @@ use Rattle.cql_lexer.specs.Mark.{Mark, marks, at, opening, plus, minus, compare,
 use Rattle.cql_lexer.specs.declared.token.Keyword.{Keyword}
 use Rattle.cql_lexer.specs.declared.token.Keyword.TheVariants as keyword
 use Rattle.cql_tree.specs.Syntax.{Op, spatial_op, temporal_op}
-use Rattle.cql_parser.specs.Descent.{Begins}
+use Rattle.cql_parser.specs.inner.Descent.{Begins}
 use Rattle.cql_parser.specs.declared.start.TailStart.{TailStart}
 use Rattle.cql_parser.specs.declared.start.TailStart.TheVariants.{Compared, Liked, Ranged, Listed, Tested, Broken, NoTail}
 use Rattle.cql_parser.specs.declared.start.CallStart.{CallStart}
