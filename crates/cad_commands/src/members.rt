@@ -52,7 +52,11 @@ impl Members {
     }
 
     /// What the member says, which has to be there and not null.
-    pub(crate) fn required<T: FromValue>(&self, alloc: Global, name: &str) -> Result<T, CommandError>
+    pub(crate) fn required<T: FromValue>(
+        &self,
+        alloc: Global,
+        name: &str,
+    ) -> Result<T, CommandError>
         ensures { IsRead (Has T.said_by name.now (members_view self.now.map.entries)) result }
     {
         match self.get(name) {

@@ -25,7 +25,10 @@ use cql_tree::{Expression, Operand};
 use std::alloc::Global;
 
 /// Reads a whole filter: `or`, and nothing after it.
-pub(crate) fn parse_filter<'a>(alloc: Global, tokens: &'a [Token]) -> Result<Box<Expression>, Stop<'a>>
+pub(crate) fn parse_filter<'a>(
+    alloc: Global,
+    tokens: &'a [Token],
+) -> Result<Box<Expression>, Stop<'a>>
     ensures { ParsesAll (marks tokens.now) result }
 {
     let Parsed { tree, rest } = parse_or(alloc, tokens)?;

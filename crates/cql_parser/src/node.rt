@@ -207,7 +207,11 @@ pub(crate) fn temporal_tree(
 
 /// A name.
 #[tactic(auto, unfolding(cql_tree::specs::Views::syntax_of))]
-pub(crate) fn name_tree(alloc: Global, place: usize, name: &String) -> Result<Box<Expression>, AllocError>
+pub(crate) fn name_tree(
+    alloc: Global,
+    place: usize,
+    name: &String,
+) -> Result<Box<Expression>, AllocError>
     ensures { IfOk result (λ t. syntax_of t.value ≡ leaf place (name_leaf (string_bytes name.now))) }
 {
     let name = name.clone()?;
@@ -229,7 +233,11 @@ pub(crate) fn text_tree(
 
 /// TRUE or FALSE.
 #[tactic(auto, unfolding(cql_tree::specs::Views::syntax_of))]
-pub(crate) fn truth_tree(alloc: Global, place: usize, value: bool) -> Result<Box<Expression>, AllocError>
+pub(crate) fn truth_tree(
+    alloc: Global,
+    place: usize,
+    value: bool,
+) -> Result<Box<Expression>, AllocError>
     ensures { IfOk result (λ t. syntax_of t.value ≡ leaf place (truth_leaf value)) }
 {
     Ok(Box::new(alloc, Expression::Truth { place, value })?)

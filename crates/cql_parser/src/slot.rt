@@ -92,7 +92,10 @@ pub(crate) fn take_bound(tokens: &[Token]) -> Result<(Bound, &[Token]), Stop<'_>
 }
 
 /// The number behind a sign, and what follows it.
-pub(crate) fn take_digits(is_negative: bool, tokens: &[Token]) -> Result<(Number, &[Token]), Stop<'_>>
+pub(crate) fn take_digits(
+    is_negative: bool,
+    tokens: &[Token],
+) -> Result<(Number, &[Token]), Stop<'_>>
     ensures takes { MatchResult result
         (λ r. (k : ForWhole) → run (after_sign is_negative k) (marks tokens.now) ≡
         run (have_whole k (number_of r.0)) (marks r.1.now))

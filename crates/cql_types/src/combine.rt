@@ -244,7 +244,11 @@ pub(crate) fn is_null(alloc: Global, is_negated: bool, value: Judged) -> Result<
 }
 
 /// A sum or a product, by what is done with each part behind the first.
-pub(crate) fn computed(alloc: Global, first: Judged, steps: Vec<JudgedStep>) -> Result<Judged, TypeFault>
+pub(crate) fn computed(
+    alloc: Global,
+    first: Judged,
+    steps: Vec<JudgedStep>,
+) -> Result<Judged, TypeFault>
     ensures { Combines (computed_op (operations_judged steps.items)) (first ∷ parts_judged steps.items) result }
 {
     let place = first.place;

@@ -65,7 +65,11 @@ pub(crate) fn number(number: &Number, collection: Collection) -> Result<Judged, 
 }
 
 /// A text.
-pub(crate) fn text(place: usize, content: &String, collection: Collection) -> Result<Judged, TypeFault>
+pub(crate) fn text(
+    place: usize,
+    content: &String,
+    collection: Collection,
+) -> Result<Judged, TypeFault>
     ensures { Judges (schema_of collection) (leaf place (text_leaf (string_bytes content.now))) result }
 {
     let node = Node::Pattern(TextTerm::Constant(content.clone()?));

@@ -160,7 +160,11 @@ fn read_position(corner: &Corner) -> Result<Position, TypeFault>
 }
 
 /// `POINT`
-pub(crate) fn point(place: usize, corner: &Corner, collection: Collection) -> Result<Judged, TypeFault>
+pub(crate) fn point(
+    place: usize,
+    corner: &Corner,
+    collection: Collection,
+) -> Result<Judged, TypeFault>
     ensures { Judges (schema_of collection) (node (point_op place) (parts_of (numbers_of (corner.now ∷ [])))) result }
 {
     let position = read_position(corner)?;
