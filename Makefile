@@ -10,7 +10,7 @@ COLLECTION ?= parcels
 REQUEST ?=
 export QUERY COLLECTION REQUEST
 
-.PHONY: look sample cadastred explain cases test random check wrong-bodies tests-refuse refused damage bench register-file office-file serve-file stops host clients proxy import viewer deb clean
+.PHONY: look sample cadastred explain cases test random check wrong-bodies tests-refuse refused damage bench compare register-file office-file serve-file stops host clients proxy import viewer deb clean
 
 # Answers a request over the sample register without a proof, in a few minutes: that of crates/cadastre/stdin, or
 # `make look REQUEST='/collections/parcels/items?filter=area+>+400'`.
@@ -103,6 +103,11 @@ bench: sample cadastred
 	scripts/bench_serve
 	scripts/bench_host
 	scripts/bench_changes
+
+# Asks the same questions of `cadastred`, PostGIS and SpatiaLite over counties of 10,000 and 100,000 parcels, and prints the times.
+# Needs postgresql-15-postgis-3, libsqlite3-mod-spatialite and python3-psycopg2.
+compare: sample cadastred
+	scripts/compare
 
 # Has the real sqlite3 look at a file that the program wrote.
 register-file: sample
