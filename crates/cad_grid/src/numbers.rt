@@ -49,7 +49,7 @@ impl Cells {
     }
 
     /// Whether they are more than 64.
-    #[tactic(auto, using(crate::specs::Tests::wide_by_numbers))]
+    #[tactic(auto, using(crate::proofs::CountedTests::wide_by_numbers))]
     pub fn is_wide(self) -> bool
         ensures { result ≡ is_wide (block_at self) }
     {
@@ -57,7 +57,7 @@ impl Cells {
     }
 
     /// Whether some cell is among both.
-    #[tactic(auto, using(crate::specs::Tests::shared_by_numbers))]
+    #[tactic(auto, using(crate::proofs::CountedTests::shared_by_numbers))]
     pub fn share_a_cell(self, other: Cells) -> bool
         ensures { result ≡ share_a_cell (block_at self) (block_at other) }
     {
