@@ -77,9 +77,9 @@ fn near_answer(alloc: Global, grid: &Grid, asked: &str) -> Result<Option<String>
 // The positions whose ranks lie from one on, below another.
 fn ranked(alloc: Global, ranks: &[u32], from: u32, to: u32) -> Result<Vec<u32>, AllocError> {
     let mut rows = Vec::new(alloc);
-    for (row, rank) in ranks.iter().enumerate() {
+    for (row, rank) in (0..u32::MAX).zip(ranks) {
         if from <= *rank && *rank < to {
-            rows.push(row as u32)?;
+            rows.push(row)?;
         }
     }
     Ok(rows)
