@@ -1,7 +1,4 @@
-pub mod DepthLemmas
-pub mod FloatLemmas
 pub mod IdentifierLemmas
-pub mod NamedLemmas
-pub mod OrderLemmas
+pub mod ListedLemmas
 pub mod PropertyLemmas
-pub mod TextLemmas
+pub mod SendLemmas

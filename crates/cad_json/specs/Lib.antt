@@ -7,4 +7,7 @@ pub mod Shapes
 pub mod Values
 pub mod Tree
 pub mod Order
+pub mod Sent
 pub mod Laws
+pub mod inner
+pub mod lemmas

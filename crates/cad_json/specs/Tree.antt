@@ -16,6 +16,15 @@ feature_data collection x =
     (member (codes "properties") (properties_data (schema_of collection) x.values)
     (member (codes "type") (string (codes "Feature")) no_members))))
 
+-- the same with links among its members
+abbrev pub feature_with_links : Collection → Item → Data → Data
+feature_with_links collection x links =
+    object (member (codes "geometry") (geometry_data (schema_of collection) x.values)
+    (member (codes "id") (string (identifier_text (numbers_of x)))
+    (member (codes "links") links
+    (member (codes "properties") (properties_data (schema_of collection) x.values)
+    (member (codes "type") (string (codes "Feature")) no_members)))))
+
 -- the features of a list, in its order (RFC 7946, section 3.3)
 abbrev pub features_data : Collection → List Item → Data
 features_data collection xs = array (items_of (map (feature_data collection) xs))

@@ -1,15 +1,16 @@
 //! JSON bodies: features, what the server offers, and why a request is refused.
 //!
 //! What a body holds is said as a tree of JSON, with the members of each object in byte order of their names; its text is the compact
-//! one that `serde_json` writes for it.
+//! one that `serde_json` writes for it. Features are sent to its writer part by part, and no tree is made of them.
 //!
-//! - [`feature_json`], [`features_json`]: one feature of a collection, and those of a list
+//! - [`send_features`], [`send_linked_feature`]: the features of a list, and one with its links
+//! - [`feature_text`]: the text of one feature
 //! - [`landing_body`]: where the collections are
 //! - [`collections_body`], [`collection_body`]: the collections, and one of them
 //! - [`queryables_body`]: the properties of a collection that filters may name, as a JSON Schema
 //! - [`word_body`], [`filter_fault_body`]: a fault by its word, and that of a filter by its cause and place
 //! - [`collection_path`], [`items_path`]: the paths of a collection's resources
-//! - [`link_json`]: a link, as each body carries them
+//! - [`send_link`]: a link, as each body carries them
 //! - `laws`: what the trees of features hold, in terms of the features
 //!
 //! Version 1 of unit 10, which is named Mill and open since 2000-01-01, is
@@ -24,15 +25,17 @@ mod features;
 mod landing;
 pub mod laws;
 mod links;
+mod order;
 mod paths;
+mod properties;
 mod queryables;
 mod shapes;
 mod values;
 
 pub use collections::{collection_body, collections_body};
 pub use faults::{filter_fault_body, word_body};
-pub use features::{feature_json, features_json};
+pub use features::{feature_text, send_features, send_linked_feature};
 pub use landing::landing_body;
-pub use links::link_json;
+pub use links::send_link;
 pub use paths::{collection_path, items_path};
 pub use queryables::queryables_body;

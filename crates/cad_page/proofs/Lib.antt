@@ -3,3 +3,4 @@ pub mod PlanLemmas
 pub mod MenuLemmas
 pub mod WholeLemmas
 pub mod NextLemmas
+pub mod SentLemmas

@@ -1,17 +1,15 @@
 //! One feature.
 
-ghost use Rattle.std.specs.Prelude.{◌≡◌, ◌≤◌, IfOk, Some, string_bytes, false};
-ghost use Rattle.serde_json.specs.Data.{depth};
+ghost use Rattle.std.specs.Prelude.{◌≡◌, IfOk, Some, string_bytes};
 ghost use Rattle.serde_json.specs.Read.{read};
-ghost use Rattle.serde_json.specs.View.{view};
-ghost use Rattle.serde_json.specs.Written.{compact_text, has_float};
+ghost use Rattle.serde_json.specs.Written.{compact_text};
 ghost use Rattle.cad_page.specs.Features as spec;
-ghost use Rattle.cad_page.specs.Features.{feature_links_data, linked, linked_feature_data};
+ghost use Rattle.cad_page.specs.Features.{linked_feature_data};
 
+use crate::sending::SentFeature;
 use cad_feature::Feature;
-use cad_json::{collection_path, feature_json, items_path, link_json};
+use cad_json::{collection_path, items_path};
 use cad_schema::Collection;
-use serde_json::{Value as Json, json};
 use std::alloc::{AllocError, Global};
 
 /// The path of the feature.
@@ -29,42 +27,6 @@ fn feature_path(
     Ok(path)
 }
 
-fn links_json(alloc: Global, collection: Collection, feature: &Feature) -> Result<Json, AllocError>
-    ensures { IfOk result (λ json. view json ≡ feature_links_data collection feature.now) }
-{
-    let own = feature_path(alloc, collection, feature)?;
-    let own = link_json(alloc, own.as_str(), "self")?;
-    let collection = collection_path(alloc, collection)?;
-    let collection = link_json(alloc, collection.as_str(), "collection")?;
-    json!(in alloc; [own, collection])
-}
-
-/// The object, with links among its members.
-fn with_links(alloc: Global, json: Json, links: Json) -> Result<Json, AllocError>
-    ensures { IfOk result (λ linked_json. view linked_json ≡ linked (view links) (view json)) }
-{
-    match json {
-        Json::Object(mut members) => {
-            serde_json::put(&mut members, alloc, "links", links)?;
-            Ok(Json::Object(members))
-        }
-        other => Ok(other),
-    }
-}
-
-fn linked_feature_json(
-    alloc: Global,
-    collection: Collection,
-    feature: &Feature,
-) -> Result<Json, AllocError>
-    ensures tree { IfOk result (λ json. view json ≡ linked_feature_data collection feature.now) }
-    ensures printable { IfOk result (λ json. (has_float (view json) ≡ false) × (depth (view json) ≤ 7)) }
-{
-    let links = links_json(alloc, collection, feature)?;
-    let json = feature_json(alloc, collection, feature)?;
-    with_links(alloc, json, links)
-}
-
 /// The body of one feature: as in a page, with its own links. An error is want of memory.
 pub fn feature_body(
     alloc: Global,
@@ -74,5 +36,16 @@ pub fn feature_body(
     ensures text { IfOk result (λ text. string_bytes text ≡ compact_text (linked_feature_data collection feature.now)) }
     ensures reads_back { IfOk result (λ text. read (string_bytes text) ≡ Some (linked_feature_data collection feature.now)) }
 {
-    linked_feature_json(alloc, collection, feature)?.to_string(alloc)
+    let own = feature_path(alloc, collection, feature)?;
+    let home = collection_path(alloc, collection)?;
+    let sent = SentFeature {
+        collection,
+        feature,
+        own: own.as_str(),
+        home: home.as_str(),
+    };
+    match serde_json::to_string(alloc, &sent) {
+        Ok(text) => Ok(text),
+        Err(_) => Err(AllocError),
+    }
 }

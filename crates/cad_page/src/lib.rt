@@ -22,6 +22,7 @@ pub mod laws;
 mod links;
 mod pages;
 mod planning;
+mod sending;
 
 pub use cad_ask::{Ask, AskFault, fault_body};
 pub use cad_json::{

@@ -1,21 +1,18 @@
 //! The links of a page.
 
-ghost use Rattle.std.specs.Prelude.{◌≡◌, ◌≤◌, IfOk, codes, option_map, string_bytes, false};
+ghost use Rattle.std.specs.Prelude.{◌≡◌, IfOk, option_map, string_bytes};
 ghost use Rattle.std.specs.List.{All};
-ghost use Rattle.serde_json.specs.Data.{array, item, no_items, depth};
-ghost use Rattle.serde_json.specs.View.{view};
-ghost use Rattle.serde_json.specs.Written.{has_float};
 ghost use Rattle.cad_feature.specs.Features.{IsFeatureOf};
 ghost use Rattle.cad_run.specs.Slices.{rows_of};
-ghost use Rattle.cad_json.specs.Links.{link_data};
-ghost use Rattle.cad_page.specs.Bodies.{target_after, next_after, links_data};
+ghost use Rattle.cad_json.specs.Paths as paths;
+ghost use Rattle.cad_parameters.specs.Links as targets;
+ghost use Rattle.cad_page.specs.Bodies.{pairs_of, target_after, next_after};
 
 use cad_answer::Page;
 use cad_ask::Ask;
 use cad_feature::Feature;
-use cad_json::{items_path, link_json};
+use cad_json::items_path;
 use cad_parameters::{next_target, self_target};
-use serde_json::{Value as Json, json};
 use std::alloc::{AllocError, Global};
 
 /// The target of the page that begins after this feature.
@@ -55,27 +52,10 @@ pub(crate) fn next_of(
     }
 }
 
-/// The link, and the one to the next page.
-fn with_next(alloc: Global, own: Json, next: &str) -> Result<Json, AllocError>
-    ensures { IfOk result (λ json. view json ≡ array (item (view own) (item (link_data next.now (codes "next")) no_items))) }
-{
-    let next = link_json(alloc, next, "next")?;
-    json!(in alloc; [own, next])
-}
-
-/// The links of a page: to itself, and to the page after it.
-pub(crate) fn links_json(alloc: Global, ask: &Ask, next: Option<String>) -> Result<Json, AllocError>
-    ensures tree { IfOk result (λ json. view json ≡ links_data ask.now (option_map string_bytes next)) }
-    ensures printable { IfOk result (λ json. (has_float (view json) ≡ false) × (depth (view json) ≤ 2)) }
+/// The target of the page itself.
+pub(crate) fn own_target(alloc: Global, ask: &Ask) -> Result<String, AllocError>
+    ensures { IfOk result (λ text. string_bytes text ≡ targets.self_target (paths.items_path ask.now.collection) (pairs_of ask.now)) }
 {
     let path = items_path(alloc, ask.collection)?;
-    let own = self_target(alloc, path.as_str(), &ask.pairs)?;
-    let own = link_json(alloc, own.as_str(), "self")?;
-    match next {
-        None => json!(in alloc; [own]),
-        Some(next) => {
-            let links = with_next(alloc, own, next.as_str())?;
-            Ok(links)
-        }
-    }
+    self_target(alloc, path.as_str(), &ask.pairs)
 }

@@ -18,7 +18,7 @@ ghost use Rattle.cad_versions.specs.Listing.{IsListing};
 
 use cad_feature::flatten;
 use cad_io::Counted;
-use cad_json::feature_json;
+use cad_json::feature_text;
 use cad_memory_ledger::MemoryLedger;
 use cad_office::office;
 use cad_schema::Collection;
@@ -61,8 +61,7 @@ fn print_features(rt: &HostRuntime, versions: &[Version], collection: Collection
 {
     let features = flatten(rt.alloc(), versions, collection)?;
     for feature in &features {
-        let json = feature_json(rt.alloc(), collection, feature)?;
-        let text = json.to_string(rt.alloc())?;
+        let text = feature_text(rt.alloc(), collection, feature)?;
         let name = collection.name();
         println!(rt; "{name} {text}")?;
     }

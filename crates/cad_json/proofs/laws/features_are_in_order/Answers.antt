@@ -1,4 +1,4 @@
-use Rattle.cad_json.proofs.OrderLemmas.{features_in_order}
+use Rattle.cad_json.specs.lemmas.OrderLemmas.{features_in_order}
 use Rattle.cad_json.proofs.laws.features_are_in_order.Goals as goal
 
 pub returns : goal.returns

@@ -1,0 +1,5 @@
+-- Lemmas about the definitions, for the proofs of crates above. No contract cites them.
+pub mod DepthLemmas
+pub mod OrderLemmas
+pub mod ReadLemmas
+pub mod SentLemmas
