@@ -17,7 +17,7 @@ use Rattle.cad_commands.specs.Bodies.{class_name, SaysBody}
 use Rattle.cad_commands.specs.Commands.{names_beside}
 use Rattle.cad_commands.specs.Members.{HasOneOther}
 use Rattle.cad_commands.specs.Values.{IsFlagOf, IsPointOf}
-use Rattle.cad_commands.specs.Writing.{right_members, outline_json, holes_json, object_json, words_json, share_json, point_json, ring_json, body_members}
+use Rattle.cad_commands.specs.Writing.{right_members, outline_json, holes_json, object_json, words_json, share_json, point_json, body_members}
 use Rattle.cad_commands.proofs.PlainLemmas.{words_plain, object_plain, point_plain, outline_plain, holes_plain, share_plain, any_plain, area_plain, area_depth, party_depth, share_depth, outline_depth, holes_depth, spot_depth, words_depth, flag_depth}
 use Rattle.cad_commands.proofs.SaidLemmas.{any_said, any_words, any_object, any_share, any_area, point_said, shape_said}
 use Rattle.cad_commands.proofs.TextLemmas.{HasPlain, puts}

@@ -9,5 +9,9 @@ pub mod ClassLemmas
 pub mod PlainLemmas
 pub mod SaidLemmas
 pub mod ShapeLemmas
+pub mod LinedLemmas
+pub mod LengthLemmas
+pub mod WeightLemmas
 pub mod TextLemmas
 pub mod WrittenLemmas
+pub mod WritingLemmas

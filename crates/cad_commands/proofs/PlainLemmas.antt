@@ -18,6 +18,8 @@ use Rattle.cad_versions.specs.declared.object_id.ObjectId.{ObjectId}
 use Rattle.cad_versions.specs.declared.share.Share.{Share}
 use Rattle.cad_versions.specs.declared.words.Words.{Words}
 use Rattle.cad_commands.specs.Writing.{whole_json, integer_json, object_json, words_json, share_json, point_json, points_json, ring_json, rings_json, outline_in, holes_in, outline_json, holes_json, day_json, or_null}
+use Rattle.cad_commands.proofs.LinedLemmas.{decimal_lined, negative_lined}
+use Rattle.cad_commands.proofs.LengthLemmas.{decimal_length, negative_length}
 use Rattle.cad_commands.proofs.TextLemmas.{IsPlain, ArePlain}
 use Rattle.cad_day.specs.lemmas.DayTextLemmas.{date_text_utf8}
 
@@ -30,7 +32,7 @@ pub words_plain : (words : Words) → IsPlain (words_json words)
 words_plain words = IsUtf8-had words.spelling words.utf8
 
 pub whole_plain : (n : ℕ) → n < 2 ^ 64 → IsPlain (whole_json n)
-whole_plain n h = record { whole = refl; reads = number_of-decimal n h; shape = IsNumber-decimal n h; utf8 = IsUtf8-from_ascii _ (IsAscii-decimal n h) }
+whole_plain n h = record { whole = refl; reads = number_of-decimal n h; shape = IsNumber-decimal n h; utf8 = IsUtf8-from_ascii _ (IsAscii-decimal n h); lined = decimal_lined n h; short = decimal_length n h }
 
 pub object_plain : (object : ObjectId) → IsPlain (object_json object)
 object_plain object = whole_plain object.number (omega (arith, object.small))
@@ -42,7 +44,7 @@ integer_plain (pos n) h = whole_plain n (small n h)
     small n h = grind (arith, h.0, h.1)
 integer_plain (negsuc n) h =
     let fits : n < 2 ^ 63 = small n h in
-    record { whole = refl; reads = number_of-negative n fits; shape = IsNumber-signed_decimal (negsuc n) fits; utf8 = IsUtf8-from_ascii _ (IsAscii-signed (negsuc n) fits) }
+    record { whole = refl; reads = number_of-negative n fits; shape = IsNumber-signed_decimal (negsuc n) fits; utf8 = IsUtf8-from_ascii _ (IsAscii-signed (negsuc n) fits); lined = negative_lined n fits; short = negative_length n fits }
   where
     small : (n : ℕ) → IsCoordinate (negsuc n) → n < 2 ^ 63
     small n h = grind (arith, h.0, h.1)

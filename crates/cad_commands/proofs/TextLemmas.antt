@@ -1,12 +1,12 @@
 -- The compact text of a value that has no float is read back as that value.
-use Rattle.std.proofs.Common.{◌≡◌, suc, max, ◌≤◌, List, [], ◌∷◌, ◌++◌, Bool, true, false, cond, Option, Some, IsUtf8, refl, sym, ap, ap₂, ◌∙◌, arith, append-nil}
+use Rattle.std.proofs.Common.{◌≡◌, suc, ◌+◌, ◌*◌, max, ◌≤◌, List, [], ◌∷◌, ◌++◌, length, Bool, true, false, cond, Option, Some, IsUtf8, refl, sym, ap, ap₂, ◌∙◌, arith, append-nil}
 use Rattle.std.specs.Option.{option_and_then}
 use Rattle.std.specs.Prelude.{option_map}
 use Rattle.std.proofs.lemmas.Str.{IsUtf8-append}
 use Rattle.json.specs.Token.{Token}
 use Rattle.json.specs.Lex.{tokens}
 use Rattle.json.specs.Json as json
-use Rattle.json.specs.Print.{IsNumber}
+use Rattle.json.specs.Print.{IsNumber, quoted}
 use Rattle.json.specs.Tree as tree
 use Rattle.json.specs.Tree.{HasNumbers, ItemsHaveNumbers, MembersHaveNumbers, json_tokens}
 use Rattle.json.proofs.Printed.Tokens.{tokens-print}
@@ -17,6 +17,9 @@ use Rattle.serde_json.specs.Find.{is_float}
 use Rattle.serde_json.specs.Read.{read, max_depth, number_of, of_json, of_items, of_members}
 use Rattle.serde_json.specs.Written.{number_text, outline, items_outline, members_outline, blank, blank_items, blank_members, comma_if, compact_text, items_text, members_text}
 use Rattle.serde_json.proofs.Texts.{print-outline, unless_float-number_of}
+use Rattle.cad_commands.specs.Writing.{is_one_line}
+use Rattle.cad_commands.proofs.LinedLemmas.{lined_append, quoted_lined}
+use Rattle.cad_commands.proofs.LengthLemmas.{weight, items_weight, members_weight, quoted_length, comma_length, joined_length}
 
 -- the number's text is one, and is read as the number, which is no float
 pub record IsWritten (n : Num) : Type 0 where
@@ -24,6 +27,8 @@ pub record IsWritten (n : Num) : Type 0 where
   pub reads : number_of (number_text n) ≡ Some n
   pub shape : IsNumber (number_text n)
   pub utf8 : IsUtf8 (number_text n)
+  pub lined : is_one_line (number_text n) ≡ true
+  pub short : length (number_text n) ≤ 20
 
 -- the members, put one after the other among those that were found
 abbrev pub puts : Members → Members → Members
@@ -139,6 +144,59 @@ mutual
   members_utf8 later no_members h = IsUtf8-are_ascii _ refl
   members_utf8 later (member k d ms) h =
       IsUtf8-append _ _ (comma_utf8 later) (IsUtf8-append _ _ (IsUtf8-quoted k h.0) (IsUtf8-append (58 ∷ []) _ (IsUtf8-are_ascii _ refl) (IsUtf8-append _ _ (text_utf8 d h.1) (members_utf8 true ms h.2))))
+
+comma_lined : (later : Bool) → is_one_line (comma_if later) ≡ true
+comma_lined true = refl
+comma_lined false = refl
+
+boolean_lined : (b : Bool) → is_one_line (compact_text (boolean b)) ≡ true
+boolean_lined true = refl
+boolean_lined false = refl
+
+mutual
+  pub text_lined : (d : Data) → IsPlain d → is_one_line (compact_text d) ≡ true
+  text_lined null h = refl
+  text_lined (boolean b) h = boolean_lined b
+  text_lined (number n) h = h.lined
+  text_lined (string s) h = quoted_lined s
+  text_lined (array ds) h = items_lined false ds h
+  text_lined (object ms) h = members_lined false ms h.0
+
+  items_lined : (later : Bool) (ds : Items) → ArePlain ds → is_one_line (items_text later ds) ≡ true
+  items_lined later no_items h = refl
+  items_lined later (item d ds) h = lined_append (comma_if later) _ (comma_lined later) (lined_append (compact_text d) _ (text_lined d h.0) (items_lined true ds h.1))
+
+  members_lined : (later : Bool) (ms : Members) → HasPlain ms → is_one_line (members_text later ms) ≡ true
+  members_lined later no_members h = refl
+  members_lined later (member k d ms) h =
+      lined_append (comma_if later) _ (comma_lined later) (lined_append (quoted k) _ (quoted_lined k) (lined_append (compact_text d) _ (text_lined d h.1) (members_lined true ms h.2)))
+
+-- ---- how long the text is
+
+boolean_length : (b : Bool) → length (compact_text (boolean b)) ≤ 5
+boolean_length true = omega arith
+boolean_length false = omega arith
+
+mutual
+  pub text_length : (d : Data) → IsPlain d → length (compact_text d) ≤ weight d
+  text_length null h = omega arith
+  text_length (boolean b) h = boolean_length b
+  text_length (number n) h = h.short
+  text_length (string s) h = quoted_length s
+  text_length (array ds) h = omega (arith, items_length false ds h)
+  text_length (object ms) h = omega (arith, members_length false ms h.0)
+
+  items_length : (later : Bool) (ds : Items) → ArePlain ds → length (items_text later ds) ≤ items_weight ds
+  items_length later no_items h = omega arith
+  items_length later (item d ds) h =
+      joined_length (comma_if later) _ 1 (weight d + items_weight ds) (comma_length later) (joined_length (compact_text d) (items_text true ds) (weight d) (items_weight ds) (text_length d h.0) (items_length true ds h.1))
+
+  members_length : (later : Bool) (ms : Members) → HasPlain ms → length (members_text later ms) ≤ members_weight ms
+  members_length later no_members h = omega arith
+  members_length later (member k d ms) h =
+      joined_length (comma_if later) _ 1 (2 + 6 * length k + (1 + (weight d + members_weight ms))) (comma_length later)
+      (joined_length (quoted k) (58 ∷ (compact_text d ++ members_text true ms)) (2 + 6 * length k) (1 + (weight d + members_weight ms)) (quoted_length k)
+      (omega (arith, joined_length (compact_text d) (members_text true ms) (weight d) (members_weight ms) (text_length d h.1) (members_length true ms h.2))))
 
 -- what a list of tokens is, where it is one value alone
 abbrev whole : Option (json.Json × List Token) → Option Data

@@ -18,10 +18,12 @@ use Rattle.cad_versions.specs.Class.{class_of}
 use Rattle.cad_versions.specs.BodyParts.{area_in}
 use Rattle.cad_commands.specs.Commands.{Says, SaysBeginning, SaysCommand}
 use Rattle.cad_commands.specs.Laws.{IsSaid}
-use Rattle.cad_commands.specs.Writing.{object_json, day_json, body_members, beginning_members, command_members}
+use Rattle.cad_commands.specs.Writing.{object_json, day_json, body_members, beginning_members, command_members, IsOneLine}
 use Rattle.cad_commands.proofs.ClassLemmas.{body_said, body_alone, body_plain, body_ascends, class_name_utf8, beginning_ascends, body_depth}
 use Rattle.cad_commands.proofs.PlainLemmas.{day_plain, object_plain}
-use Rattle.cad_commands.proofs.TextLemmas.{IsPlain, text_utf8, text_is_read}
+use Rattle.cad_commands.proofs.LengthLemmas.{weight}
+use Rattle.cad_commands.proofs.TextLemmas.{IsPlain, text_utf8, text_is_read, text_lined, text_length}
+use Rattle.cad_commands.proofs.WeightLemmas.{beginning_weight}
 
 -- the day is read back from its text
 abbrev IsReadBack : Day → Type 0
@@ -75,13 +77,27 @@ retire_depth object last = omega arith
 text_says : (ms : Members) (command : Command) → IsPlain (json.object ms) → depth (json.object ms) ≤ max_depth → SaysCommand ms command → Says (compact_text (json.object ms)) command
 text_says ms command plain shallow said = (text_utf8 (json.object ms) plain, (ms, ap (option_and_then as_object) (text_is_read (json.object ms) plain shallow), said))
 
+-- and it is one line
+is_one_line_of : (command : Command) → IsPlain (json.object (command_members command)) → weight (json.object (command_members command)) ≤ 65536 → IsOneLine command
+is_one_line_of command plain light = record {
+  unbroken = text_lined (json.object (command_members command)) plain;
+  short = omega (arith, text_length (json.object (command_members command)) plain, light);
+}
+
 pub enter_written : (object : ObjectId) (first : Day) (b : Body) → ForSome (area_in b) (λ n. n < 2 ^ 32) → SaysCommand (command_members (Enter object first b)) (Enter object first b) → IsSaid (Enter object first b)
 enter_written object first b small said =
-    (said, text_says (command_members (Enter object first b)) (Enter object first b) (beginning_plain (codes "enter") object first b (IsUtf8-are_ascii _ refl) small) (beginning_depth (codes "enter") object first b) said)
+    let command = Enter object first b in
+    let plain = beginning_plain (codes "enter") object first b (IsUtf8-are_ascii _ refl) small in
+    (said, text_says (command_members command) command plain (beginning_depth (codes "enter") object first b) said, is_one_line_of command plain (beginning_weight (codes "enter") object first b (omega arith)))
 
 pub amend_written : (object : ObjectId) (first : Day) (b : Body) → ForSome (area_in b) (λ n. n < 2 ^ 32) → SaysCommand (command_members (Amend object first b)) (Amend object first b) → IsSaid (Amend object first b)
 amend_written object first b small said =
-    (said, text_says (command_members (Amend object first b)) (Amend object first b) (beginning_plain (codes "amend") object first b (IsUtf8-are_ascii _ refl) small) (beginning_depth (codes "amend") object first b) said)
+    let command = Amend object first b in
+    let plain = beginning_plain (codes "amend") object first b (IsUtf8-are_ascii _ refl) small in
+    (said, text_says (command_members command) command plain (beginning_depth (codes "amend") object first b) said, is_one_line_of command plain (beginning_weight (codes "amend") object first b (omega arith)))
 
 pub retire_written : (object : ObjectId) (last : Day) → SaysCommand (command_members (Retire object last)) (Retire object last) → IsSaid (Retire object last)
-retire_written object last said = (said, text_says (command_members (Retire object last)) (Retire object last) (retire_plain object last) (retire_depth object last) said)
+retire_written object last said =
+    let command = Retire object last in
+    let plain = retire_plain object last in
+    (said, text_says (command_members command) command plain (retire_depth object last) said, is_one_line_of command plain (omega arith))

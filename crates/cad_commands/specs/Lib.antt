@@ -6,3 +6,4 @@ pub mod Commands
 pub mod MemberOrder
 pub mod Writing
 pub mod Laws
+pub mod inner

@@ -1,5 +1,5 @@
 -- Commands as the JSON objects that say them, members in byte order of their names (own profile).
-use Rattle.std.specs.Prelude.{ℕ, ℤ, List, [], ◌∷◌, codes, Option, Some, None}
+use Rattle.std.specs.Prelude.{◌≡◌, ℕ, ℤ, ◌≤◌, ◌==◌, Bool, true, not, ◌&&◌, List, [], ◌∷◌, length, codes, Option, Some, None}
 use Rattle.serde_json.specs.Data.{Data, Items, no_items, item, Members, no_members, member, unsigned}
 use Rattle.serde_json.specs.Data as json
 use Rattle.serde_json.specs.Find.{of_integer}
@@ -118,3 +118,13 @@ command_members (Retire object last) =
 -- the object's text with no space (RFC 8259)
 abbrev pub command_text : Command → List ℕ
 command_text command = compact_text (json.object (command_members command))
+
+-- none of the bytes is LF
+abbrev pub is_one_line : List ℕ → Bool
+is_one_line [] = true
+is_one_line (byte ∷ bytes) = not (byte == 10) && is_one_line bytes
+
+-- no line ends in the command's text, which has at most 65,536 bytes
+pub record IsOneLine (command : Command) : Type 0 where
+  pub unbroken : is_one_line (command_text command) ≡ true
+  pub short : length (command_text command) ≤ 65536

@@ -1,7 +1,8 @@
-//! What the land office asks for, as JSON: which object says which command, and how it is read.
+//! What the land office asks for, as JSON: which object says which command, and how it is read and written.
 //!
 //! - `read_command`: the command that a text says.
 //! - `CommandError`: why a text gives none.
+//! - `write_command`: a text that says a command, in one line.
 //! - `laws`: what holds of every text, whoever reads it.
 //!
 //! A command is a JSON object of the members `do`, `object` and a day, with one member named by the
@@ -13,6 +14,7 @@
 //! its members stand. specs/Commands and specs/Bodies say which object says what.
 #![tactic(auto)]
 
+mod bodies_json;
 mod body;
 mod command;
 mod command_error;
@@ -21,6 +23,9 @@ mod members;
 mod operation;
 mod outline;
 mod values;
+mod values_json;
+mod writing;
 
 pub use command::read_command;
 pub use command_error::CommandError;
+pub use writing::write_command;

@@ -4,3 +4,4 @@ pub mod LineLemmas
 pub mod AnswerLemmas
 pub mod PieceLemmas
 pub mod KeepingLemmas
+pub mod JournalLemmas

@@ -27,7 +27,7 @@ damaged_step newest id rows at row before e h is next rest = subst (IsFirstDamag
 pub damaged_here : (newest : ℕ) (rows : List Row) (at : ℕ) (row : Row) (before : Option Place) → at < length rows → row ≡ get_or rows at row → ((e : Entry) → IsNext newest before at row e → ⊥) → IsFirstDamaged newest (identifier_in row) before at (drop at rows)
 damaged_here newest rows at row before h is bad = subst (IsFirstDamaged newest (identifier_in row) before at) (sym (drop_row rows at row h is)) (inl (refl, bad))
 
-take_all : {X : Type 0} (rows : List X) (n : ℕ) → length rows ≤ n → take n rows ≡ rows
+pub take_all : {X : Type 0} (rows : List X) (n : ℕ) → length rows ≤ n → take n rows ≡ rows
 take_all [] zero h = refl
 take_all [] (suc n) h = refl
 take_all (r ∷ rows) zero h = absurd (omega arith)
@@ -49,7 +49,7 @@ seen_push revision [] (w ∷ vs) row v so_far here = absurd so_far
 seen_push revision (r ∷ rows) [] row v so_far here = absurd so_far
 seen_push revision (r ∷ rows) (w ∷ vs) row v so_far here = (so_far.0, seen_push revision rows vs row v so_far.1 here)
 
-take_row : (rows : List Row) (at : ℕ) (row : Row) → at < length rows → row ≡ get_or rows at row → take (at + 1) rows ≡ take at rows ++ row ∷ []
+pub take_row : (rows : List Row) (at : ℕ) (row : Row) → at < length rows → row ≡ get_or rows at row → take (at + 1) rows ≡ take at rows ++ row ∷ []
 take_row [] at row h is = absurd (omega arith)
 take_row (r ∷ rows) zero row h is = ap (λ x. x ∷ []) (sym is)
 take_row (r ∷ rows) (suc at) row h is = ap (λ n. take n (r ∷ rows)) (add-one (suc at)) ∙ ap (λ l. r ∷ l) (ap (λ n. take n rows) (sym (add-one at)) ∙ take_row rows at row (omega arith) is)

@@ -4,6 +4,11 @@ pub mod KeptLemmas
 pub mod DamageLemmas
 pub mod ListedLemmas
 pub mod JudgedLemmas
+pub mod JournalLemmas
+pub mod JournalOrderLemmas
+pub mod GatheringLemmas
+pub mod ReplayLemmas
+pub mod JournalRowLemmas
 pub mod RowLemmas
 pub mod OrderLemmas
 pub mod OrderedLemmas

@@ -2,6 +2,8 @@ pub mod Rows
 pub mod Parts
 pub mod StoredVersions
 pub mod Damage
+pub mod Journal
+pub mod JournalRows
 pub mod Stands
 pub mod Outlines
 pub mod Changing

@@ -1,7 +1,8 @@
 //! What holds of every register, and of the rows that it is kept in. Each contract is a law; the functions do nothing.
 
-ghost use Rattle.cad_register.specs.Laws.{RowsAreOfOneEntry, RegisterRowsAreSound};
+ghost use Rattle.cad_register.specs.Laws.{RowsAreOfOneEntry, RegisterRowsAreSound, EntriesGiveTheirCommands, ListingsGiveTheirCommands, EnteredStandsForAll, JournalsAreAccepted};
 
+use cad_versions::Ledger;
 pub use cad_versions::laws::{
     bytes_are_of_one_shape, objects_end_when_retired, revisions_are_seen, revisions_stay,
     versions_are_histories,
@@ -16,4 +17,24 @@ pub fn rows_are_of_one_entry()
 /// The rows that a revision of a register lists break no rule of their type.
 pub fn register_rows_are_sound<S: Alter>()
     ensures { RegisterRowsAreSound S.Store }
+{}
+
+/// Of the entries that accepted commands make, the revisions behind any one show the commands behind it, and no others.
+pub fn entries_give_their_commands()
+    ensures { EntriesGiveTheirCommands }
+{}
+
+/// The same of the entries as a register lists them, by object and number.
+pub fn listings_give_their_commands()
+    ensures { ListingsGiveTheirCommands }
+{}
+
+/// A ledger into which the commands of a journal were entered stands for them.
+pub fn entered_stands_for_all<L: Ledger>()
+    ensures { EnteredStandsForAll L.Ledger }
+{}
+
+/// A command of a journal, in its place, is refused by what keeps the ledger alone.
+pub fn journals_are_accepted<L: Ledger>()
+    ensures { JournalsAreAccepted L.Ledger }
 {}

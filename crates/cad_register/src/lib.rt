@@ -1,6 +1,6 @@
 //! The land register: versions in SQLite, and the register at any revision.
 //!
-//! - `Register`: made by `create`, `open` or `open_or_create` over a connection, changed by `apply`, read by `as_of`.
+//! - `Register`: made by `create`, `open` or `open_or_create` over a connection, changed by `apply`, read by `as_of`; `journal` gives its commands back.
 //! - `open_file`, `open_standing_file`: open the database of a file over what it held.
 //! - `laws`: what holds of every register, and of the rows that it is kept in.
 //! - The types of versions, commands and faults are those of `cad_versions`.
@@ -20,6 +20,8 @@ mod columns;
 mod decision;
 mod file;
 mod found;
+mod gathering;
+mod journal;
 pub mod laws;
 mod ledger;
 mod listing;

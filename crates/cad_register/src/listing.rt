@@ -12,7 +12,7 @@ use cad_versions::{RegisterFault, Version};
 use std::alloc::Global;
 
 /// Puts what was read of rows in the order of their identifiers, as these are stored, in place.
-fn put_in_order(found: &mut Vec<FoundRow>)
+pub(crate) fn put_in_order(found: &mut Vec<FoundRow>)
     ensures same { IsPermutation found.old.items found.new.items }
     ensures sorted { IsSorted by_identifier found.new.items }
 {

@@ -1,6 +1,6 @@
 //! The register of a list of commands.
 
-use crate::asking::{store_fault, versions_of};
+use crate::asking::{commands_behind, store_fault, versions_of};
 use crate::changing::{enact, next_number};
 use crate::decision::decide;
 use cad_tables::{Creation, MOST_REVISION};
@@ -29,7 +29,7 @@ impl<S: Alter + Drop> Drop for Register<S> {
 }
 
 impl<S: Alter> Register<S> {
-    ghost use Rattle.std.specs.Prelude.{◌≡◌, ◌≢◌, ◌≤◌, ◌<◌, ◌+◌, ◌++◌, Err, None, ◌∷◌, [], List, length, pos, IfOk, IfErr, OnOk};
+    ghost use Rattle.std.specs.Prelude.{◌≡◌, ◌≢◌, ◌≤◌, ◌<◌, ◌+◌, ◌++◌, Err, None, ◌∷◌, [], List, length, drop, pos, IfOk, IfErr, OnOk};
     ghost use Rattle.sqlite.specs.State.{HasCleanDisk, FailsToQuery};
     ghost use Rattle.sqlite.specs.declared.error.Error.{Error};
     ghost use Rattle.sqlite_value.specs.declared.value.Value.TheVariants.{Int};
@@ -40,6 +40,7 @@ impl<S: Alter> Register<S> {
     ghost use Rattle.cad_versions.specs.AsOf.{as_of as register_as_of};
     ghost use Rattle.cad_versions.specs.Listing.{IsListing};
     ghost use Rattle.cad_register.specs.Damage.{ReadsRows};
+    ghost use Rattle.cad_register.specs.JournalRows.{GivesJournal, IsJournalFault};
     ghost use Rattle.cad_register.specs.Keeping.{Keeps};
     ghost use Rattle.cad_register.specs.Leaving.{IsLater};
     ghost use Rattle.cad_register.specs.Opening.{Created, Opened, OpenedOrCreated};
@@ -159,6 +160,46 @@ impl<S: Alter> Register<S> {
         }
         let newest = self.revision;
         versions_of(self.alloc, &mut self.connection, revision as u32, newest)
+    }
+
+    /// The commands behind a revision, in their order: those that were accepted since, and no others.
+    ///
+    /// Sound rows that show no command of some revision, as only a file that another program wrote has them, are answered by `NotARegister`.
+    pub fn journal(&mut self, behind: Revision) -> Result<Vec<Command>, RegisterFault>
+        ensures given { HasCleanDisk (state_of S.Store self.new) → IfOk result (λ journal.
+            (commands : List CommandOf) → IsRegisterOf S.Store self.old commands →
+            journal.items ≡ drop behind commands) }
+        ensures beyond { revision_of self.old < behind →
+            result ≡ Err RegisterFault.UnknownRevision }
+        ensures within { behind ≤ revision_of self.old →
+            result ≢ Err RegisterFault.UnknownRevision }
+        ensures cause { HasCleanDisk (state_of S.Store self.new) → IfErr result (λ fault.
+            (commands : List CommandOf) → IsRegisterOf S.Store self.old commands →
+            behind ≤ length commands → IsStoreFault fault) }
+        // Whatever the disk returns.
+        ensures named { IfErr result (λ fault. fault ≢ RegisterFault.UnknownRevision →
+            IsJournalFault fault) }
+        // Whatever the disk returns, the rows that were read show these commands, or one of them is named.
+        ensures read { behind ≤ revision_of self.old →
+            GivesJournal (state_of S.Store self.old) (state_of S.Store self.new) behind (revision_of self.old) result }
+        // It shows what it showed, with the same limit of steps, and no fault of the disk forgotten.
+        ensures still { HasCleanDisk (state_of S.Store self.new) →
+            OnOk result (Remains S.Store self.old self.new) }
+        ensures store { HasCleanDisk (state_of S.Store self.new) →
+            result ≡ Err RegisterFault.Store → (e : Error) × IsNotForMemory e ×
+            FailsToQuery listing_text (Int (pos (revision_of self.old)) ∷ []) (state_of S.Store self.old) (state_of S.Store self.new) e }
+        ensures kept { HasCleanDisk (state_of S.Store self.new) →
+            OnOk result ((commands : List CommandOf) → IsRegisterOf S.Store self.old commands →
+            IsRegisterOf S.Store self.new commands) }
+        ensures keeps { Keeps S.Store Leaves self.old self.new result }
+        // Whatever is answered, the limit of steps is the same, and no fault of the disk is forgotten.
+        ensures later { IsLater (state_of S.Store self.old) (state_of S.Store self.new) }
+    {
+        if u64::from(self.revision) < behind {
+            return Err(RegisterFault::UnknownRevision);
+        }
+        let last = self.revision;
+        commands_behind(self.alloc, &mut self.connection, behind as u32, last)
     }
 
     /// Makes the next revision of the register, or changes nothing. After `Store` from a file it is to be opened again.

@@ -1,20 +1,22 @@
 //! Versions as they are kept.
 
-ghost use Rattle.std.specs.Prelude.{◌≡◌, ◌<ℤ◌, ◌↔◌, IsTrue, MatchOption};
+ghost use Rattle.std.specs.Prelude.{◌≡◌, ◌<ℤ◌, ◌↔◌, ◌++◌, ◌∷◌, [], ℕ, List, IsTrue, MatchOption};
 ghost use Rattle.cad_day.specs.Days.{number_of};
 ghost use Rattle.cad_versions.specs.Class.{class_of};
 ghost use Rattle.cad_versions.specs.VersionedObject.{IsVersion};
-ghost use Rattle.cad_versions.specs.Entries.{seen_at};
+ghost use Rattle.cad_versions.specs.Entries.{Entry, seen_at};
 ghost use Rattle.cad_versions.specs.Identifiers.{identifier_of};
 ghost use Rattle.cad_versions.specs.BodyParts.{parts_of};
 ghost use Rattle.cad_register.specs.Parts.{HasParts};
 ghost use Rattle.cad_register.specs.inner.Reading.{Reads};
+ghost use Rattle.cad_register.specs.inner.Gathering.{Gathers};
 ghost use Rattle.cad_register.specs.StoredVersions.{IsRowOf, entry_of};
 ghost use Rattle.cad_register.specs.Damage.{place_of, IsClosedBy, HasRevisions, KeepsRules};
 
 use crate::columns::{
     ReadFault, class_at, count_at, day_at, last_day_at, object_at, optional_count_at,
 };
+use crate::gathering::Gathering;
 use crate::parts::parts_at;
 use crate::place::{Place, follows};
 use cad_day::Day;
@@ -137,6 +139,19 @@ impl StoredVersion {
         count < MOST_VERSIONS as usize
             && follows(before, &self.version)
             && self.has_revisions(newest)
+    }
+
+    /// Notes the version, with the revisions that entered and closed it.
+    pub(crate) fn note_in(self, gathering: &mut Gathering)
+        ensures { (behind count : ℕ) (entries : List Entry) → Gathers behind count entries gathering.old →
+            Gathers behind count (entries ++ entry_of self ∷ []) gathering.new }
+    {
+        let StoredVersion {
+            version,
+            entered,
+            closed,
+        } = self;
+        gathering.note(version, entered, closed);
     }
 
     /// The version as it stood at a revision, at which a later closing is not seen.

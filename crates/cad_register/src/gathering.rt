@@ -1,0 +1,186 @@
+//! The commands of a register, gathered from the versions that it stores.
+
+ghost use Rattle.std.specs.Prelude.{◌≡◌, ◌≢◌, ◌<◌, ◌+◌, ℕ, List, [], ◌∷◌, ◌++◌, length, get_or, set, map, Some, None, is_none, IfOk, MatchOption};
+ghost use Rattle.cad_versions.specs.declared.command.Command.{Command as CommandOf};
+ghost use Rattle.cad_versions.specs.declared.command.Command.TheVariants.{Retire};
+ghost use Rattle.cad_versions.specs.Entries.{Entry};
+ghost use Rattle.cad_versions.specs.VersionedObject.{VersionedObject};
+ghost use Rattle.cad_register.specs.Journal.{beginning as begins, commands_behind};
+ghost use Rattle.cad_register.specs.inner.Gathering.{changed, retired, begun_over, takes_beginning, ended_in, Gathers};
+
+use cad_day::Day;
+use cad_versions::{Body, Command, ObjectId, Version};
+use std::alloc::{AllocError, Global};
+
+/// The commands of some revisions, as far as the versions that were noted show them: a slot for each revision.
+#[derive(Drop)]
+pub(crate) struct Gathering {
+    behind: u32,
+    slots: Vec<Option<Command>>,
+}
+
+/// The command with which a version began.
+fn beginning(object: ObjectId, number: u32, first: Day, body: Body) -> Command
+    ensures { result ≡ begins (record { object = object; number = number; first = first; last = None; body = body }) }
+{
+    if number == 1 {
+        Command::Enter {
+            object,
+            first,
+            body,
+        }
+    } else {
+        Command::Amend {
+            object,
+            first,
+            body,
+        }
+    }
+}
+
+/// So many slots without a command.
+fn empty_slots(alloc: Global, behind: u32, count: u32) -> Result<Vec<Option<Command>>, AllocError>
+    ensures { IfOk result (λ slots. slots.items ≡ commands_behind behind count []) }
+{
+    let mut slots = Vec::with_capacity(alloc, count as usize)?;
+    for at in 0..count {
+        slots.push(None)?;
+    }
+    Ok(slots)
+}
+
+/// Puts a command into a slot.
+fn put(slots: &mut Vec<Option<Command>>, at: usize, command: Command)
+    requires { at < length slots.old.items }
+    ensures { slots.new.items ≡ set slots.old.items at (Some command) }
+{
+    let old = std::mem::replace(&mut slots[at], Some(command));
+    drop(old);
+}
+
+/// Whether the slot has no command.
+fn is_empty_slot(slots: &Vec<Option<Command>>, at: usize) -> bool
+    requires { at < length slots.now.items }
+    ensures { result ≡ is_none (get_or slots.now.items at None) }
+{
+    slots[at].is_none()
+}
+
+/// Whether the slot has no command that began a version.
+fn is_open_slot(slots: &Vec<Option<Command>>, at: usize) -> bool
+    requires { at < length slots.now.items }
+    ensures { result ≡ takes_beginning (get_or slots.now.items at None) }
+{
+    matches!(slots[at], None | Some(Command::Retire { .. }))
+}
+
+/// The commands, where each slot has one.
+fn all_given(alloc: Global, slots: Vec<Option<Command>>) -> Result<Option<Vec<Command>>, AllocError>
+    ensures { IfOk result (λ found. MatchOption found ((commands : List CommandOf) → map Some commands ≢ slots.items)
+        (λ commands. map Some commands.items ≡ slots.items)) }
+{
+    let mut commands = Vec::with_capacity(alloc, slots.len())?;
+    for one in slots {
+        let Some(command) = one else {
+            return Ok(None);
+        };
+        commands.push(command)?;
+    }
+    Ok(Some(commands))
+}
+
+impl Gathering {
+    /// Of so many revisions behind this one no version was noted.
+    pub(crate) fn new(alloc: Global, behind: u32, count: u32) -> Result<Gathering, AllocError>
+        ensures { IfOk result (Gathers behind count []) }
+    {
+        let slots = empty_slots(alloc, behind, count)?;
+        Ok(Gathering { behind, slots })
+    }
+
+    /// The slot of a revision.
+    fn place_of(&self, revision: u32) -> Option<usize>
+        ensures { MatchOption result ((i : ℕ) → i < length self.now.slots.items → self.now.behind + 1 + i ≢ revision)
+            (λ at. (at < length self.now.slots.items) × (self.now.behind + 1 + at ≡ revision)) }
+    {
+        if revision <= self.behind {
+            return None;
+        }
+        let at = (revision - self.behind - 1) as usize;
+        if at < self.slots.len() {
+            Some(at)
+        } else {
+            None
+        }
+    }
+
+    /// The object was retired at the revision, or its version closed for the next one.
+    fn end(&mut self, revision: u32, object: ObjectId, last: Day)
+        ensures behind { self.new.behind ≡ self.old.behind }
+        ensures slots { self.new.slots.items ≡ changed self.old.behind revision (retired (Retire object last)) self.old.slots.items }
+    {
+        let Some(at) = self.place_of(revision) else {
+            return;
+        };
+        if is_empty_slot(&self.slots, at) {
+            put(&mut self.slots, at, Command::Retire { object, last });
+        }
+    }
+
+    /// The same, where the version was closed and has a last day.
+    fn end_if_closed(&mut self, closed: Option<u32>, object: ObjectId, last: Option<Day>)
+        ensures behind { self.new.behind ≡ self.old.behind }
+        ensures slots { (v : VersionedObject) (entered : ℕ) → v.object ≡ object → v.last ≡ last →
+            self.new.slots.items ≡ ended_in self.old.behind (record { version = v; entered = entered; closed = closed }) self.old.slots.items }
+    {
+        let Some(closed) = closed else {
+            return;
+        };
+        let Some(last) = last else {
+            return;
+        };
+        self.end(closed, object, last);
+    }
+
+    /// A version began at the revision with this command.
+    fn begin(&mut self, revision: u32, command: Command)
+        ensures behind { self.new.behind ≡ self.old.behind }
+        ensures slots { self.new.slots.items ≡ changed self.old.behind revision (begun_over command) self.old.slots.items }
+    {
+        let Some(at) = self.place_of(revision) else {
+            drop(command);
+            return;
+        };
+        if is_open_slot(&self.slots, at) {
+            put(&mut self.slots, at, command);
+        } else {
+            drop(command);
+        }
+    }
+
+    /// One version more, with the revision that entered it and the one that closed it. They may come in any order.
+    pub(crate) fn note(&mut self, version: Version, entered: u32, closed: Option<u32>)
+        ensures { (behind count : ℕ) (entries : List Entry) → Gathers behind count entries self.old →
+            Gathers behind count (entries ++ record { version = version; entered = entered; closed = closed } ∷ []) self.new }
+    {
+        let Version {
+            object,
+            number,
+            first,
+            last,
+            body,
+        } = version;
+        self.end_if_closed(closed, object, last);
+        self.begin(entered, beginning(object, number, first, body));
+    }
+
+    /// The commands, where there is one of each revision.
+    pub(crate) fn commands(self, alloc: Global) -> Result<Option<Vec<Command>>, AllocError>
+        ensures { IfOk result (λ found. (behind count : ℕ) (entries : List Entry) → Gathers behind count entries self →
+            MatchOption found ((commands : List CommandOf) → map Some commands ≢ commands_behind behind count entries)
+            (λ commands. map Some commands.items ≡ commands_behind behind count entries)) }
+    {
+        let Gathering { behind: _, slots } = self;
+        all_given(alloc, slots)
+    }
+}
