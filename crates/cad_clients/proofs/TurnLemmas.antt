@@ -1,5 +1,5 @@
 -- Turns of a connection, and one more.
-use Rattle.std.proofs.Common.{◌≡◌, ◌⊎◌, inl, inr, ℕ, ◌+◌, ◌≤◌, Bool, true, false, if◌then◌else◌, List, [], ◌∷◌, ◌++◌, length, Option, None, Some, IsSome, IsSomeAnd, refl, ap, subst, ◌∙◌, arith}
+use Rattle.std.proofs.Common.{◌≡◌, ◌⊎◌, inl, inr, ℕ, ◌+◌, ◌<◌, ◌≤◌, Bool, true, false, if◌then◌else◌, List, [], ◌∷◌, ◌++◌, length, Option, None, Some, IsSome, IsSomeAnd, refl, ap, subst, ◌∙◌, arith}
 use Rattle.cad_network.specs.Deeds.{Deed, AddsSome, left}
 use Rattle.cad_network.specs.lemmas.DeedLemmas.{Adds-trans}
 use Rattle.std.proofs.lemmas.Bool.{eq-eqb}
@@ -13,7 +13,7 @@ use Rattle.cad_clients.specs.declared.clients.Clients.{Clients}
 use Rattle.cad_clients.specs.declared.served.Served.TheVariants.{Stays, Over as Served-Over, Unknown}
 use Rattle.cad_clients.specs.Notes.{IsSending}
 use Rattle.cad_clients.specs.Slots.{client_at}
-use Rattle.cad_clients.specs.Steps.{is_over, any_over, last_deed, fed_by, fed_in, IsEnough, HasTurn, HasTurns, IsServed}
+use Rattle.cad_clients.specs.Steps.{is_over, any_over, last_deed, fed_by, fed_in, IsEnough, most_turns, HasTurn, HasTurns, IsServed}
 
 -- how many pieces the desk took
 abbrev pub pieces : Bool → ℕ
@@ -79,11 +79,12 @@ module _ {R S : Type 0} (g : Ghosts R) (name : S → ℕ) (c now : ℕ) (old : D
 
   -- and the connection has no more for now
   pub stays : (made : ℕ) (has_fed : Bool) (from to : Option (List Deed)) (new : Desk R) (next : Clients S) (had : HadTurns made has_fed from to new next)
-      → IsEnough c had.2.0 next → AddsSome from to (IsServed g name c now old clients Stays new next)
-  stays made has_fed from to new next had enough =
+      → IsEnough c had.2.0 next → made ≤ most_turns → AddsSome from to (IsServed g name c now old clients Stays new next)
+  stays made has_fed from to new next had enough most =
       let few = pieces_few has_fed in
       let fed = had.2.2.fed in
-      (had.0, had.1, (had.2.0, had.2.1, omega (arith, few, fed), enough, had.2.2.none_over))
+      let count = had.2.2.count in
+      (had.0, had.1, (had.2.0, had.2.1, omega (arith, few, fed), enough, had.2.2.none_over, omega (arith, count, most)))
 
   module _ (made : ℕ) (has_fed : Bool) (from to last : Option (List Deed)) (mid new : Desk R) (between next : Clients S) (had : HadTurns made has_fed from to mid between) where
     -- and then there was no connection
@@ -102,14 +103,15 @@ module _ {R S : Type 0} (g : Ghosts R) (name : S → ℕ) (c now : ℕ) (old : D
         )
 
     -- and then it was over
-    pub ended : (ending : Ending) → AddsSome to last (HasTurn g name c now mid between (Some (Over ending)) new next)
+    pub ended : (ending : Ending) → made < most_turns → AddsSome to last (HasTurn g name c now mid between (Some (Over ending)) new next)
         → AddsSome from last (IsServed g name c now old clients (Served-Over ending) new next)
-    ended ending turn =
+    ended ending most turn =
         let few = pieces_few has_fed in
-        let fed = had.2.2.fed in (
+        let fed = had.2.2.fed in
+        let count = had.2.2.count in (
           had.0 ++ turn.0,
           Adds-trans from to last had.0 turn.0 had.1 turn.1,
-          (had.2.0, (mid, between, had.0, turn.0, had.2.1, turn.2, refl), omega (arith, few, fed), had.2.2.none_over),
+          (had.2.0, (mid, between, had.0, turn.0, had.2.1, turn.2, refl), omega (arith, few, fed), had.2.2.none_over, omega (arith, count, most)),
         )
 
     -- and the connection goes on
@@ -132,7 +134,7 @@ module _ {R S : Type 0} (g : Ghosts R) (name : S → ℕ) (c now : ℕ) (old : D
         )
 
     -- and its socket gives or takes nothing for now
-    pub waits : AddsSome to last (HasTurn g name c now mid between (Some Waits) new next)
+    pub waits : made < most_turns → AddsSome to last (HasTurn g name c now mid between (Some Waits) new next)
         → AddsSome from last (IsServed g name c now old clients Stays new next)
     unfolding went_on
-    waits turn = stays (made + 1) has_fed from last new next (went_on Waits has_fed refl (none_fed Waits has_fed has_fed refl refl) turn) (inl (had.2.0, refl))
+    waits most turn = stays (made + 1) has_fed from last new next (went_on Waits has_fed refl (none_fed Waits has_fed has_fed refl refl) turn) (inl (had.2.0, refl)) (omega (arith, most))

@@ -21,13 +21,13 @@ notes_of client = record { is_ready = client.is_ready; moved = client.moved; beg
 abbrev pub first_notes : ℕ → Notes
 first_notes now = record { is_ready = true; moved = now; begun = None }
 
--- what is kept after a turn at this moment that left these bytes to be sent
+-- what is kept after a turn at this moment that left these bytes to be sent: it may go on, unless the turn waited
 abbrev pub noted : ℕ → Turned → List ℕ → Notes → Notes
 -- bytes went out: no request is under way once all did
-noted now Wrote left notes = record notes { moved = now; begun = if length left == 0 then None else notes.begun }
+noted now Wrote left notes = record notes { is_ready = true; moved = now; begun = if length left == 0 then None else notes.begun }
 -- bytes came: a request is under way since before, or since now
-noted now Took left notes = record notes { moved = now; begun = option_or notes.begun (Some now) }
-noted now Fed left notes = record notes { begun = option_or notes.begun (Some now) }
+noted now Took left notes = record notes { is_ready = true; moved = now; begun = option_or notes.begun (Some now) }
+noted now Fed left notes = record notes { is_ready = true; begun = option_or notes.begun (Some now) }
 noted now Waits left notes = record notes { is_ready = false }
 noted now (Over ending) left notes = notes
 

@@ -1,5 +1,5 @@
 -- What is done for the open connections at a desk (own profile).
-use Rattle.std.specs.Prelude.{◌≡◌, ◌⊎◌, ◌+◌, ◌≤◌, ℕ, IsSomeAnd, length, Bool, true, false, ◌||◌, if◌then◌else◌, List, [], ◌∷◌, ◌++◌, Option, None, Some, Result, Ok, Err}
+use Rattle.std.specs.Prelude.{◌≡◌, ◌⊎◌, ◌+◌, ◌≤◌, ◌<◌, ℕ, IsSomeAnd, length, Bool, true, false, ◌||◌, if◌then◌else◌, List, [], ◌∷◌, ◌++◌, Option, None, Some, Result, Ok, Err}
 use Rattle.cad_stream.specs.declared.responder.Responder.{Ghosts}
 use Rattle.cad_desk.specs.declared.desk.Desk.{Desk}
 use Rattle.cad_desk.specs.declared.event.Event.TheVariants.{Open}
@@ -51,6 +51,10 @@ abbrev pub IsEnough : {S : Type 0} → ℕ → List Turned → Clients S → Typ
 IsEnough c turns next =
     ((before : List Turned) × (turns ≡ Waits ∷ before)) ⊎ (((fed_in turns ≡ 1) × ¬ IsSomeAnd (client_at next c) IsSending) ⊎ (length turns ≡ 4))
 
+-- the most turns of a connection before the others have theirs
+abbrev pub most_turns : ℕ
+most_turns = 4
+
 -- what is done for connection c, where sockets of this type have these names
 module _ {R S : Type 0} (g : Ghosts R) (name : S → ℕ) (c now : ℕ) where
   -- the desk opens connection c, which has this socket and a new channel then; or it refuses it, which is told, and the socket is let go
@@ -84,12 +88,12 @@ module _ {R S : Type 0} (g : Ghosts R) (name : S → ℕ) (c now : ℕ) where
   -- connection c has turns at which it is not over, and then this comes of a turn of it
   abbrev pub EndsWith : Desk R → Clients S → Turned → Desk R → Clients S → List Deed → Type 0
   EndsWith old clients last new next deeds =
-      (before : List Turned) × HasTurns old clients (last ∷ before) new next deeds × (fed_in before ≤ 1) × (any_over before ≡ false)
+      (before : List Turned) × HasTurns old clients (last ∷ before) new next deeds × (fed_in before ≤ 1) × (any_over before ≡ false) × (length before < most_turns)
 
-  -- connection c is served by turns of its own, in which the desk takes one piece at most: as many as it has for now, at none of which it is over, or up to the one at which it is; none, where there is no such connection
+  -- connection c is served by turns of its own, four at most, in which the desk takes one piece at most: as many as it has for now, at none of which it is over, or up to the one at which it is; none, where there is no such connection
   abbrev pub IsServed : Desk R → Clients S → Served → Desk R → Clients S → List Deed → Type 0
   IsServed old clients Stays new next deeds =
-      (turns : List Turned) × HasTurns old clients turns new next deeds × (fed_in turns ≤ 1) × IsEnough c turns next × (any_over turns ≡ false)
+      (turns : List Turned) × HasTurns old clients turns new next deeds × (fed_in turns ≤ 1) × IsEnough c turns next × (any_over turns ≡ false) × (length turns ≤ most_turns)
   IsServed old clients (Served-Over ending) new next deeds = EndsWith old clients (Over ending) new next deeds
   IsServed old clients Unknown new next deeds = HasTurn old clients None new next deeds
 

@@ -13,7 +13,7 @@ use std::alloc::Global;
 pub(crate) struct Client<S> {
     pub(crate) socket: S,
     pub(crate) channel: Channel,
-    /// Its socket may give or take something.
+    /// Its socket may give or take something: it was told so since, or the last turn did not wait.
     pub(crate) is_ready: bool,
     /// When a byte was read or written last.
     moved: u64,
@@ -66,16 +66,21 @@ impl<S> Client<S> {
     {
         match turned {
             Turned::Wrote => {
+                self.is_ready = true;
                 self.moved = now;
                 if self.channel.sending().is_empty() {
                     self.begun = None;
                 }
             }
             Turned::Took => {
+                self.is_ready = true;
                 self.moved = now;
                 self.begun = self.begun.or(Some(now));
             }
-            Turned::Fed => self.begun = self.begun.or(Some(now)),
+            Turned::Fed => {
+                self.is_ready = true;
+                self.begun = self.begun.or(Some(now));
+            }
             Turned::Waits => self.is_ready = false,
             Turned::Over(_) => {}
         }

@@ -1,31 +1,24 @@
 -- Bytes pass at a socket in the acts of its own connection alone.
-use Rattle.std.proofs.Common.{◌≡◌, ◌≢◌, ℕ, nat_eq, Bool, true, false, List, [], ◌∷◌, ◌++◌, Option, None, Some, refl, sym, ap, subst, ◌∙◌, append-nil, inl, inr, if◌then◌else◌, map}
-use Rattle.std.proofs.lemmas.Bool.{eqb-true, eq-eqb}
-use Rattle.cad_versions.specs.declared.command.Command.{Command}
+use Rattle.std.proofs.Common.{◌≡◌, ℕ, nat_eq, Bool, true, false, List, [], ◌∷◌, ◌++◌, Option, None, Some, refl, sym, ap, subst, ◌∙◌, append-nil, inl, inr, if◌then◌else◌, map}
+use Rattle.std.proofs.lemmas.Bool.{eqb-true}
 use Rattle.cad_stream.specs.declared.responder.Responder.{Ghosts}
 use Rattle.cad_desk.specs.declared.desk.Desk.{Desk}
-use Rattle.cad_desk.specs.declared.fault.DeskFault.{DeskFault}
-use Rattle.cad_desk.specs.Desks.{responder_of, Steps}
 use Rattle.cad_network.specs.Deeds.{Deed, woke, gave, left, given_by, taken_by, comes, IsQuiet}
-use Rattle.cad_network.specs.Deeds as deed
 use Rattle.cad_network.specs.lemmas.DeedLemmas.{given_by-append, taken_by-append, quiet-append, comes-append, or_none, gave_apart, took_apart}
 use Rattle.cad_clients.specs.declared.channel.Channel.{Channel}
 use Rattle.cad_clients.specs.declared.turned.Ending.{Ending}
 use Rattle.cad_clients.specs.declared.turned.Ending.TheVariants.{PeerEnded, WeEnded, Refused, ReadFailed, WriteFailed}
 use Rattle.cad_clients.specs.Channels.{Act, wrote, took, fed, EndsSo}
-use Rattle.cad_clients.specs.Laws.{ChannelsAreTheirOwn}
 use Rattle.cad_event_loop.specs.Works.{Held, AtOffice, Place, Puts, Same, Said, Work, wakes, opens, acts, waits, ends, office_comes, enters, office_leaves, aside, is_last, deeds_in, all_deeds, Leaves, Works, Goes}
-use Rattle.cad_event_loop.specs.Lives.{own_deeds, end_of, IsLife, EachHasItsLife}
+use Rattle.cad_event_loop.specs.Lives.{own_deeds}
 use Rattle.cad_office_socket.specs.declared.entry.Entry.{Entry}
 use Rattle.cad_office_socket.specs.declared.turned.EntryTurned.{EntryTurned}
 use Rattle.cad_office_socket.specs.declared.turned.EntryTurned.TheVariants.{Wrote, Took, Added, Answered, Lost, Stops, Waits, Over}
 use Rattle.cad_office_socket.specs.Turns.{IsTaken, IsEntryTurn}
-use Rattle.cad_event_loop.specs.Laws.{commands_in, LedgerStands, IsServedSocket, SocketsAreTheirOwn}
 use Rattle.cad_event_loop.proofs.GoesLemmas.{told_quiet, aside_passes, woken_quiet}
 use Rattle.cad_event_loop.proofs.LifeLemmas.{apart, none_some, one_some}
-use Rattle.cad_event_loop.proofs.StandLemmas.{goes_clean}
 
-act_quiet : (s t : ℕ) (act : Act) → nat_eq t s ≡ false → IsQuiet s (deeds_in t act)
+pub act_quiet : (s t : ℕ) (act : Act) → nat_eq t s ≡ false → IsQuiet s (deeds_in t act)
 act_quiet s t (wrote bytes) e = took_apart s t bytes e
 act_quiet s t (took bytes) e = gave_apart s t bytes e
 act_quiet s t (fed piece out over) e = (refl, refl)
@@ -50,7 +43,7 @@ same_name : (t s : ℕ) (channel other : Channel) → ◌≡◌ {A = Option (ℕ
 same_name t s channel other e = ap (λ (p : ℕ × Channel). p.0) (one_some {X = ℕ × Channel} (t, channel) (s, other) e)
 
 -- a name that differs
-differs : (t s : ℕ) → (t ≡ s → ⊥) → nat_eq t s ≡ false
+pub differs : (t s : ℕ) → (t ≡ s → ⊥) → nat_eq t s ≡ false
 differs t s unlike = go (nat_eq t s) refl
   where
     go : (same : Bool) → nat_eq t s ≡ same → nat_eq t s ≡ false
@@ -58,14 +51,14 @@ differs t s unlike = go (nat_eq t s) refl
     go false e = e
 
 -- where slot d has another name, or none, that name is not held since
-puts_other : (s d t : ℕ) (channel : Channel) (slots next : Held) → nat_eq t s ≡ false → Puts slots next d (Some (t, channel)) → NotIn s slots → NotIn s next
+pub puts_other : (s d t : ℕ) (channel : Channel) (slots next : Held) → nat_eq t s ≡ false → Puts slots next d (Some (t, channel)) → NotIn s slots → NotIn s next
 puts_other s d t channel slots next e puts not f other at = go (nat_eq d f) refl
   where
     go : (same : Bool) → nat_eq d f ≡ same → ⊥
     go true h = apart t s e (same_name t s channel other (sym (puts f ∙ rw h refl) ∙ at))
     go false h = not f other (sym (puts f ∙ rw h refl) ∙ at)
 
-puts_none : (s d : ℕ) (slots next : Held) → Puts slots next d None → NotIn s slots → NotIn s next
+pub puts_none : (s d : ℕ) (slots next : Held) → Puts slots next d None → NotIn s slots → NotIn s next
 puts_none s d slots next puts not f other at = go (nat_eq d f) refl
   where
     go : (same : Bool) → nat_eq d f ≡ same → ⊥
@@ -93,7 +86,7 @@ module _ {R : Type 0} (g : Ghosts R) where
     | inr none ↦ rw none (took_apart s t [] e)
   ]
 
-  leaves_quiet : (s c t : ℕ) (old new : Desk R) (channel : Channel) (cause : Option Ending) (deeds : List Deed) → nat_eq t s ≡ false → Leaves g c t old channel cause deeds new → IsQuiet s deeds
+  pub leaves_quiet : (s c t : ℕ) (old new : Desk R) (channel : Channel) (cause : Option Ending) (deeds : List Deed) → nat_eq t s ≡ false → Leaves g c t old channel cause deeds new → IsQuiet s deeds
   leaves_quiet s c t old new channel (Some ending) deeds e x = rw x.1 (quiet-append s x.0 (left t ∷ []) (end_quiet s c t old new channel ending x.0 e x.2) (refl, refl))
   leaves_quiet s c t old new channel None deeds e x = rw x.0 (refl, refl)
 
@@ -155,7 +148,7 @@ module _ {R : Type 0} (g : Ghosts R) where
   pub kept_office : (s : ℕ) (old new : AtOffice) → new ≡ old → NotOffice s old → NotOffice s new
   kept_office s old new same not entry at = not entry (sym same ∙ at)
 
-  kept_slots : (s : ℕ) (old new : Held) → Same old new → NotIn s old → NotIn s new
+  pub kept_slots : (s : ℕ) (old new : Held) → Same old new → NotIn s old → NotIn s new
   kept_slots s old new same not d channel at = not d channel (sym (same d) ∙ at)
 
   -- bytes pass at no socket that nobody has and that does not come

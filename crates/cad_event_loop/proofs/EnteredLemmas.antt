@@ -1,16 +1,11 @@
 -- What keeps the commands stands for those that were entered.
-use Rattle.std.proofs.Common.{◌≡◌, ℕ, ◌+◌, List, [], ◌∷◌, ◌++◌, length, Option, None, Some, Result, Ok, Err, refl, sym, ap, subst, ◌∙◌, append_assoc, append-nil, length-append, inl, inr}
+use Rattle.std.proofs.Common.{◌≡◌, ℕ, ◌+◌, List, [], ◌∷◌, ◌++◌, length, None, refl, sym, ap, subst, ◌∙◌, append_assoc, append-nil, length-append, inl, inr}
 use Rattle.cad_versions.specs.declared.command.Command.{Command}
 use Rattle.cad_stream.specs.declared.responder.Responder.{Ghosts}
 use Rattle.cad_desk.specs.declared.desk.Desk.{Desk}
-use Rattle.cad_desk.specs.declared.event.Event.TheVariants.{Office}
-use Rattle.cad_desk.specs.declared.event.Reply.TheVariants as reply
 use Rattle.cad_desk.specs.Desks.{responder_of}
-use Rattle.cad_desk.specs.Faults.{fault_of}
-use Rattle.cad_network.specs.Deeds.{Deed}
 use Rattle.cad_office.specs.declared.print.Answer.{Answer}
 use Rattle.cad_office.specs.declared.print.Answer.TheVariants.{Entered, Refused, NotACommand}
-use Rattle.cad_office.specs.Keeping.{Asks}
 use Rattle.cad_office_socket.specs.declared.turned.EntryTurned.{EntryTurned}
 use Rattle.cad_office_socket.specs.declared.turned.EntryTurned.TheVariants.{Wrote, Took, Added, Answered, Lost, Stops, Waits, Over}
 use Rattle.cad_event_loop.specs.Works.{Place, Said, Work, wakes, opens, acts, waits, ends, office_comes, enters, office_leaves, aside, SaysSo, IsLineSaid, Tells, Goes, MayGoOn}

@@ -1,7 +1,6 @@
 -- All that hosting does, by how it ended.
-use Rattle.std.specs.Prelude.{⊤}
 use Rattle.std.specs.Option.{option_or}
-use Rattle.std.proofs.Common.{◌≡◌, ℕ, Bool, true, false, List, [], ◌∷◌, ◌++◌, Option, None, Some, Result, Ok, Err, IsErr, refl, sym, ap, subst, ◌∙◌, inl, inr}
+use Rattle.std.proofs.Common.{◌≡◌, ℕ, Bool, true, false, List, [], ◌∷◌, Option, None, Some, Result, Ok, Err, IsErr, refl, sym, ap, subst, inl, inr, arith}
 use Rattle.cad_stream.specs.declared.responder.Responder.{Ghosts}
 use Rattle.cad_desk.specs.declared.desk.Desk.{Desk}
 use Rattle.cad_network.specs.Deeds.{Deed, Adds}
@@ -14,7 +13,8 @@ use Rattle.cad_office_socket.specs.Serving as serving
 use Rattle.cad_event_loop.specs.declared.rounds.Rounds.{Rounds}
 use Rattle.cad_event_loop.specs.declared.stopped.Stopped.{Stopped}
 use Rattle.cad_event_loop.specs.declared.stopped.Stopped.TheVariants.{Asked, StoreRefused, RoundsSpent}
-use Rattle.cad_event_loop.specs.Hosting.{end_of_rounds, IsServing, IsClosing, IsLastOf, Hosts, HostsBy, Hosted}
+use Rattle.cad_event_loop.specs.Hosting.{end_of_rounds, IsClosing, IsLastOf, Hosts, Serves, HostsBy, Hosted}
+use Rattle.cad_event_loop.specs.Turns.{nobody, AreServed}
 use Rattle.cad_event_loop.specs.inner.Offices.{office_at}
 use Rattle.cad_event_loop.specs.inner.Rounds.{here, IsNobody}
 use Rattle.cad_event_loop.specs.Works.{Place, IsEmpty, held_of, Work, wakes, opens, acts, waits, ends, office_comes, enters, office_leaves, aside, is_store, store_end, end_of_cause, end_of_turned, end_by, end_in, all_deeds}
@@ -72,11 +72,11 @@ nobody_is name rounds nobody = ((λ c. ap (held_of name) (nobody.0 c)), ap (offi
 
 module _ {R : Type 0} (g : Ghosts R) where
   -- a round ended hosting
-  pub ended_so : (E : Type 0) (stopped : Stopped) (from to : Option (List Deed)) (old new : Desk R) (first last : Place) → Hosts g IsServing (Some stopped) from old first to new last
-      → Hosts g IsServing (end_of_rounds {E = E} (Ok stopped)) from old first to new last
-  ended_so E Asked from to old new first last h = h
-  ended_so E StoreRefused from to old new first last h = h
-  ended_so E RoundsSpent from to old new first last h = absurd (never_spent h.0 h.2)
+  pub ended_so : (E : Type 0) (Holds : List Work → Type 0) (stopped : Stopped) (from to : Option (List Deed)) (old new : Desk R) (first last : Place) → Serves g Holds (Some stopped) from old first to new last
+      → Serves g Holds (end_of_rounds {E = E} (Ok stopped)) from old first to new last
+  ended_so E Holds Asked from to old new first last h = h
+  ended_so E Holds StoreRefused from to old new first last h = h
+  ended_so E Holds RoundsSpent from to old new first last h = absurd (never_spent h.0 h.2)
 
   -- nothing was hosted
   pub unhosted : (from : Option (List Deed)) (desk : Desk R) → HostsBy g None from desk from desk
@@ -87,7 +87,8 @@ module _ {R : Type 0} (g : Ghosts R) where
     last = empty;
     deeds = Adds-nil from;
     ends = refl;
-    served = tt;
+    serving = tt;
+    served = record { rounds = []; last = []; all = refl; served = tt; few = omega arith };
     closed = tt;
     nobody_first = ((λ c. refl), refl);
     nobody_last = ((λ c. refl), refl);
@@ -96,7 +97,7 @@ module _ {R : Type 0} (g : Ghosts R) where
 
   -- rounds, and then the end
   pub hosted_by : (end : Option Stopped) (from mid to : Option (List Deed)) (old between new : Desk R) (first then last : Place) → IsEmpty first → IsEmpty last
-      → Hosts g IsServing end from old first mid between then → Hosts g IsClosing None mid between then to new last → HostsBy g end from old to new
+      → Serves g (AreServed nobody) end from old first mid between then → Hosts g IsClosing None mid between then to new last → HostsBy g end from old to new
   hosted_by end from mid to old between new first then last nobody_first nobody_last x y = record {
     works = x.0;
     closing = y.0;
@@ -104,7 +105,8 @@ module _ {R : Type 0} (g : Ghosts R) where
     last = last;
     deeds = subst (λ (l : List Deed). Adds from to l) (sym (all_deeds-append x.0 y.0)) (Adds-trans from mid to (all_deeds x.0) (all_deeds y.0) x.1 y.1);
     ends = x.2;
-    served = x.4;
+    serving = x.4;
+    served = x.5;
     closed = y.4;
     nobody_first = nobody_first;
     nobody_last = nobody_last;

@@ -1,8 +1,10 @@
+pub mod StandingLemmas
 pub mod GoesLemmas
 pub mod StandLemmas
 pub mod EnteredLemmas
 pub mod LifeLemmas
 pub mod ApartLemmas
 pub mod SocketLemmas
+pub mod StreamLemmas
 pub mod OfficeLemmas
 pub mod HostLemmas

@@ -1,5 +1,5 @@
 -- Each connection has its life.
-use Rattle.std.proofs.Common.{◌≡◌, ◌≢◌, ℕ, nat_eq, Bool, true, false, List, [], ◌∷◌, ◌++◌, Option, None, Some, IsSome, Result, Ok, Err, IfErr, refl, sym, ap, subst, ◌∙◌, append_assoc, append-nil, inl, inr}
+use Rattle.std.proofs.Common.{◌≡◌, ◌≢◌, ℕ, nat_eq, Bool, true, false, List, [], ◌∷◌, ◌++◌, Option, None, Some, Result, Ok, Err, refl, sym, ap, subst, ◌∙◌, append_assoc, inl, inr}
 use Rattle.std.proofs.lemmas.Bool.{eqb-true, eq-eqb}
 use Rattle.cad_stream.specs.declared.responder.Responder.{Ghosts}
 use Rattle.cad_desk.specs.declared.desk.Desk.{Desk}
@@ -8,14 +8,14 @@ use Rattle.cad_desk.specs.declared.event.Event.TheVariants.{Open, Bytes, Close, 
 use Rattle.cad_desk.specs.declared.event.Reply.{Reply}
 use Rattle.cad_desk.specs.declared.event.Reply.TheVariants.{Opened, Sent}
 use Rattle.cad_desk.specs.declared.fault.DeskFault.{DeskFault}
-use Rattle.cad_desk.specs.Desks.{responder_of, Steps}
+use Rattle.cad_desk.specs.Desks.{responder_of}
 use Rattle.cad_network.specs.Deeds.{Deed, given_by, taken_by}
 use Rattle.cad_event_loop.proofs.StandLemmas.{goes_clean}
 use Rattle.cad_network.specs.lemmas.DeedLemmas.{given_by-append, taken_by-append, given_by-one, taken_by-one}
 use Rattle.cad_clients.specs.declared.channel.Channel.{Channel}
 use Rattle.cad_clients.specs.declared.turned.Ending.{Ending}
 use Rattle.cad_clients.specs.Channels.{Act, wrote, took, fed, read_in, written_in, Does}
-use Rattle.cad_clients.specs.Acts.{Happening, own, other, IsOther, read_of, written_of, Lives}
+use Rattle.cad_clients.specs.Acts.{Happening, own, IsOther, read_of, written_of}
 use Rattle.cad_versions.specs.declared.command.Command.{Command}
 use Rattle.cad_desk.specs.declared.event.Reply.TheVariants as reply
 use Rattle.cad_desk.specs.Faults.{fault_of}
@@ -24,7 +24,7 @@ use Rattle.cad_office.specs.declared.print.Answer.TheVariants.{Entered, Refused,
 use Rattle.cad_office_socket.specs.declared.turned.EntryTurned.{EntryTurned}
 use Rattle.cad_office_socket.specs.declared.turned.EntryTurned.TheVariants.{Wrote, Took, Added, Answered, Lost, Stops, Waits, Over}
 use Rattle.cad_event_loop.specs.Works.{Held, Place, Said, Work, wakes, opens, acts, waits, ends, office_comes, enters, office_leaves, aside, deeds_in, SaysSo, IsLineSaid, IsEventOf, IsOf, IsOfNone, Tells, Leaves, Works, Goes, MayAsk, MayGoOn}
-use Rattle.cad_event_loop.specs.Lives.{by_another, by_desk, life_of, own_deeds, end_of, last_deeds, IsLeft, IsLifeBy, IsLife, EachHasItsLife}
+use Rattle.cad_event_loop.specs.Lives.{by_another, by_desk, life_of, own_deeds, end_of, last_deeds, IsLifeBy, IsLife, EachHasItsLife}
 
 -- connections of two numbers
 pub apart : (d c : ℕ) → nat_eq d c ≡ false → d ≢ c

@@ -1,7 +1,6 @@
 -- What turns of the land office are among all that is done.
 use Rattle.std.specs.Prelude.{⊤}
-use Rattle.std.specs.Option.{option_or}
-use Rattle.std.proofs.Common.{◌≡◌, ℕ, Bool, true, false, not, ◌&&◌, List, [], ◌∷◌, ◌++◌, Option, None, Some, is_none, Result, Ok, Err, refl, sym, ap, subst, ◌∙◌, append-nil, append_assoc, inl, inr, if◌then◌else◌}
+use Rattle.std.proofs.Common.{◌≡◌, ℕ, ◌≤◌, Bool, true, false, not, ◌&&◌, List, length, length-append, [], ◌∷◌, ◌++◌, Option, None, Some, is_none, Ok, Err, refl, sym, ap, subst, ◌∙◌, append-nil, append_assoc, inl, inr, if◌then◌else◌, arith}
 use Rattle.cad_stream.specs.declared.responder.Responder.{Ghosts}
 use Rattle.cad_desk.specs.declared.desk.Desk.{Desk}
 use Rattle.cad_desk.specs.declared.event.Event.TheVariants.{Office as Entering}
@@ -19,17 +18,19 @@ use Rattle.cad_office_socket.specs.declared.turned.EntryTurned.{EntryTurned}
 use Rattle.cad_office_socket.specs.declared.turned.EntryTurned.TheVariants.{Wrote, Took, Added, Answered, Lost, Stops, Waits, Over}
 use Rattle.cad_office_socket.specs.Entries.{EntersAtDesk}
 use Rattle.cad_office_socket.specs.Turns.{HasBegun, IsBegun, EndsLine, IsTaken, IsEntryTurn, IsNewEntry, IsSending, SendsSome}
-use Rattle.cad_office_socket.specs.Serving.{is_store, end_at, all_go_on, IsEnough, HasTurns, IsEntryServed}
+use Rattle.cad_office_socket.specs.Serving.{is_store, end_at, all_go_on, most_turns, IsEnough, HasTurns, IsEntryServed}
 use Rattle.cad_office_socket.specs.lemmas.BegunLemmas.{Later, begun_later}
 use Rattle.cad_clients.specs.declared.clients.Clients.{Clients}
 use Rattle.cad_event_loop.specs.declared.office.Office.{Office}
 use Rattle.cad_event_loop.specs.declared.stopped.Stopped.{Stopped}
-use Rattle.cad_event_loop.specs.declared.stopped.Stopped.TheVariants.{Asked, StoreRefused}
-use Rattle.cad_event_loop.specs.Hosting.{Each, IsServing, IsClosing, Hosts}
+use Rattle.cad_event_loop.specs.Hosting.{Each, IsServing, IsClosing, Hosts, Serves}
 use Rattle.cad_event_loop.specs.inner.Offices.{office_at, HasBegun as OfficeHasBegun, HasBegunUnless, end_of_office, is_over, left_deeds, left_at, HasOfficeTurns, HasSent}
-use Rattle.cad_event_loop.specs.Works.{Said, AtOffice, Place, place_of, Held, Same, Work, enters, office_comes, office_leaves, aside, all_deeds, store_end, end_of_turned, end_in, is_last, SaysSo, IsLineSaid, Tells, Works, Goes}
+use Rattle.cad_event_loop.specs.Works.{Said, AtOffice, Place, place_of, Held, Work, enters, office_comes, office_leaves, aside, all_deeds, store_end, end_of_turned, end_in, is_last, SaysSo, IsLineSaid, Tells, Works, Goes}
 use Rattle.cad_event_loop.proofs.LifeLemmas.{none_some, one_some}
-use Rattle.cad_event_loop.proofs.GoesLemmas.{all_deeds-append, or_nothing, goes-append, end_in-append, each-append, hosts-one}
+use Rattle.cad_event_loop.specs.inner.Standing.{standing_at, IsPaced, LosesNobody}
+use Rattle.cad_event_loop.specs.Turns.{Standing, stands_in}
+use Rattle.cad_event_loop.proofs.StandingLemmas.{stands_in-append, passes-same}
+use Rattle.cad_event_loop.proofs.GoesLemmas.{all_deeds-append, or_nothing, goes-append, end_in-append, each-append, hosts-one, serves-one}
 
 -- what is left after a turn, as serving tells it
 abbrev end_of_some : Option EntryServed → Option Stopped
@@ -168,10 +169,24 @@ module _ {R : Type 0} (g : Ghosts R) where
         let said = turn_said o turned old new entry next own begun t in
         (said.0, said.1, (entry, next, own, refl, t, refl, said.2, said.3, refl, λ c. refl))
 
+    -- the works of these turns change no connection
+    record AreTurns (turns : List EntryTurned) (works : List Work) : Type 0 where
+      count : length works ≡ length turns
+      stays : (c : ℕ) (old : Standing) → stands_in c old works ≡ old
+
+    turns_more : (turned : EntryTurned) (turns : List EntryTurned) (works : List Work) (text : List ℕ) (deeds : List Deed) (said : Said) → AreTurns turns works → AreTurns (turned ∷ turns) (works ++ enters o text turned deeds said ∷ [])
+    turns_more turned turns works text deeds said are =
+        let all = length-append works (enters o text turned deeds said ∷ []) in
+        let count = are.count in
+        record {
+          count = omega (arith, all, count);
+          stays = λ c old. stands_in-append c old works (enters o text turned deeds said ∷ []) ∙ are.stays c old;
+        }
+
     -- turns that go on
     turns_go : (turns : List EntryTurned) (old new : Desk R) (entry next : Entry) (deeds : List Deed) → IsBegun entry → all_go_on turns ≡ true → HasTurns g o old entry turns new next deeds
-        → (works : List Work) × (deeds ≡ all_deeds works) × (end_in works ≡ None) × Goes g old (at_entry entry) works new (at_entry next) × Each IsServing works × IsBegun next
-    turns_go [] old new entry next deeds begun go t = ([], t.0, refl, (t.1, ap at_entry t.2), tt, subst IsBegun (sym t.2) begun)
+        → (works : List Work) × (deeds ≡ all_deeds works) × (end_in works ≡ None) × Goes g old (at_entry entry) works new (at_entry next) × Each IsServing works × IsBegun next × AreTurns turns works
+    turns_go [] old new entry next deeds begun go t = ([], t.0, refl, (t.1, ap at_entry t.2), tt, subst IsBegun (sym t.2) begun, record { count = refl; stays = λ c old. refl })
     turns_go (turned ∷ before) old new entry next deeds begun go t =
         let both = both_go (end_at turned) (all_go_on before) go in
         let first = turns_go before old t.0 entry t.1 t.2 begun both.1 t.4 in
@@ -188,12 +203,13 @@ module _ {R : Type 0} (g : Ghosts R) where
           goes-append g first.0 (work ∷ []) old t.0 new (at_entry entry) (at_entry t.1) (at_entry next) first.3 (new, at_entry next, works, (refl, refl)),
           each-append IsServing first.0 (work ∷ []) first.4 (tt, tt),
           subst (λ (end : Option EntryServed). BegunIf end next) both.0 later,
+          turns_more turned before first.0 one.0 (t.3 ++ left_deeds (is_last turned) o) one.1 first.6,
         )
 
     -- and the last one
     turns_end : (end : EntryServed) (turned : EntryTurned) (before : List EntryTurned) (old new : Desk R) (entry next : Entry) (deeds : List Deed) → IsBegun entry → all_go_on before ≡ true
         → HasTurns g o old entry (turned ∷ before) new next deeds → end_of_turned turned ≡ end_of_office end → is_last turned ≡ is_over end
-        → (works : List Work) × (deeds ++ left_deeds (is_over end) o ≡ all_deeds works) × (end_in works ≡ end_of_office end) × Goes g old (at_entry entry) works new (left_with (is_over end) next) × Each IsServing works
+        → (works : List Work) × (deeds ++ left_deeds (is_over end) o ≡ all_deeds works) × (end_in works ≡ end_of_office end) × Goes g old (at_entry entry) works new (left_with (is_over end) next) × Each IsServing works × AreTurns (turned ∷ before) works
     turns_end end turned before old new entry next deeds begun go t ends over =
         let first = turns_go before old t.0 entry t.1 t.2 begun go t.4 in
         let one = turn_works turned t.0 new t.1 next t.3 first.5 t.5 in
@@ -207,19 +223,28 @@ module _ {R : Type 0} (g : Ghosts R) where
           end_in-append first.0 (work ∷ []) ∙ rw (or_nothing (end_of_turned turned), first.2, ends) refl,
           goes-append g first.0 (work ∷ []) old t.0 new (at_entry entry) (at_entry t.1) (left_with (is_over end) next) first.3 (new, left_with (is_over end) next, works, (refl, refl)),
           each-append IsServing first.0 (work ∷ []) first.4 (tt, tt),
+          turns_more turned before first.0 one.0 (t.3 ++ left_deeds (is_last turned) o) one.1 first.6,
         )
+
+    -- eight turns at most
+    abbrev AreFew : List Work → Type 0
+    AreFew works = (turns : List EntryTurned) × (length turns ≤ most_turns) × AreTurns turns works
 
     -- the office was served
     served_go : (end : EntryServed) (old new : Desk R) (entry next : Entry) (deeds : List Deed) → IsBegun entry → IsEntryServed g o old entry end new next deeds
-        → (works : List Work) × (deeds ++ left_deeds (is_over end) o ≡ all_deeds works) × (end_in works ≡ end_of_office end) × Goes g old (at_entry entry) works new (left_with (is_over end) next) × Each IsServing works
+        → (works : List Work) × (deeds ++ left_deeds (is_over end) o ≡ all_deeds works) × (end_in works ≡ end_of_office end) × Goes g old (at_entry entry) works new (left_with (is_over end) next) × Each IsServing works × AreFew works
     served_go end old new entry next deeds begun s = go s.0 s.1 s.2
       where
         go : (turns : List EntryTurned) → HasTurns g o old entry turns new next deeds → IsEnough turns end next
-            → (works : List Work) × (deeds ++ left_deeds (is_over end) o ≡ all_deeds works) × (end_in works ≡ end_of_office end) × Goes g old (at_entry entry) works new (left_with (is_over end) next) × Each IsServing works
+            → (works : List Work) × (deeds ++ left_deeds (is_over end) o ≡ all_deeds works) × (end_in works ≡ end_of_office end) × Goes g old (at_entry entry) works new (left_with (is_over end) next) × Each IsServing works × AreFew works
         go [] t enough = absurd enough
         go (turned ∷ before) t enough = elim enough.1 [
-          | inl ends ↦ turns_end end turned before old new entry next deeds begun enough.0 t (same_end turned ∙ ap end_of_some ends) (same_last turned ∙ ap over_of_some ends)
-          | inr goes ↦ turns_end end turned before old new entry next deeds begun enough.0 t (same_end turned ∙ (ap end_of_some goes.0 ∙ ap end_of_office (sym goes.1))) (same_last turned ∙ (ap over_of_some goes.0 ∙ ap is_over (sym goes.1)))
+          | inl ends ↦
+              let all = turns_end end turned before old new entry next deeds begun enough.0 t (same_end turned ∙ ap end_of_some ends) (same_last turned ∙ ap over_of_some ends) in
+              (all.0, all.1, all.2, all.3, all.4, (turned ∷ before, enough.2, all.5))
+          | inr goes ↦
+              let all = turns_end end turned before old new entry next deeds begun enough.0 t (same_end turned ∙ (ap end_of_some goes.0 ∙ ap end_of_office (sym goes.1))) (same_last turned ∙ (ap over_of_some goes.0 ∙ ap is_over (sym goes.1))) in
+              (all.0, all.1, all.2, all.3, all.4, (turned ∷ before, enough.2, all.5))
         ]
 
   -- where it goes on a line has begun
@@ -239,13 +264,15 @@ module _ {R : Type 0} (g : Ghosts R) where
   module _ {S : Type 0} (name : S → ℕ) where
     -- the land office was served
     pub office_hosts : (office : Office S) (result : EntryServed × Option (Office S)) (from to : Option (List Deed)) (old new : Desk R) (clients : Clients S) → IsBegun office.entry
-        → AddsSome from to (HasOfficeTurns g name old office result new) → Hosts g IsServing (end_of_office result.0) from old (place_of name clients (office_at name (Some office))) to new (place_of name clients (office_at name result.1))
+        → AddsSome from to (HasOfficeTurns g name old office result new) → Serves g (LosesNobody 8 clients clients) (end_of_office result.0) from old (place_of name clients (office_at name (Some office))) to new (place_of name clients (office_at name result.1))
     office_hosts office result from to old new clients begun s =
         let t = s.2 in
         let slots : Held = (place_of name clients None).slots in
         let go = served_go slots (name office.socket) result.0 old new office.entry t.0 t.1 begun t.2 in
         let goes = subst (λ (it : AtOffice). Goes g old (at_entry slots (name office.socket) office.entry) go.0 new (record { slots = slots; office = it })) (sym t.4) go.3 in
-        (go.0, subst (λ (l : List Deed). Adds from to l) (t.3 ∙ go.1) s.1, go.2, goes, go.4)
+        let count = go.5.2.count in
+        let few = go.5.1 in
+        (go.0, subst (λ (l : List Deed). Adds from to l) (t.3 ∙ go.1) s.1, go.2, goes, go.4, passes-same 8 clients clients go.0 (omega (arith, count, few)) (λ c. refl) (λ c. go.5.2.stays c (standing_at clients c)))
 
     entry_begun : (o : ℕ) (after : Entry) (office : Office S) → IsBegun after → ◌≡◌ {A = AtOffice} (Some (name office.socket, office.entry)) (Some (o, after)) → IsBegun office.entry
     entry_begun o after office begun at = subst IsBegun (sym (ap (λ (p : ℕ × Entry). p.1) (one_some {X = ℕ × Entry} (name office.socket, office.entry) (o, after) at))) begun
@@ -290,16 +317,16 @@ module _ {R : Type 0} (g : Ghosts R) where
     -- the office comes
     pub came_hosts : (office : Office S) (socket : S) (from to : Option (List Deed)) (old : Desk R) (clients : Clients S)
         → office.socket ≡ socket → IsNewEntry office.entry → Adds from to (office_came (name socket) ∷ [])
-        → Hosts g IsServing None from old (place_of name clients None) to old (place_of name clients (office_at name (Some office)))
+        → Serves g (IsPaced 1 clients clients) None from old (place_of name clients None) to old (place_of name clients (office_at name (Some office)))
     came_hosts office socket from to old clients same is_new adds =
-        hosts-one g IsServing None from to old old (place_of name clients None) (place_of name clients (office_at name (Some office))) (office_comes (name socket)) adds refl
-        (office.entry, refl, is_new, ap (λ (it : S). Some (name it, office.entry)) same, (λ c. refl), refl) tt
+        serves-one g (IsPaced 1 clients clients) None from to old old (place_of name clients None) (place_of name clients (office_at name (Some office))) (office_comes (name socket)) adds refl
+        (office.entry, refl, is_new, ap (λ (it : S). Some (name it, office.entry)) same, (λ c. refl), refl) tt (record { few = omega arith; stand = λ c. refl })
 
     -- the office comes, and the network can't tell of it
-    pub unwatched_hosts : (t : ℕ) (from mid to : Option (List Deed)) (old : Desk R) (here : Place) → Adds from mid (office_came t ∷ []) → Adds mid to (left t ∷ []) → Hosts g IsServing None from old here to old here
-    unwatched_hosts t from mid to old here comes goes =
-        hosts-one g IsServing None from to old old here here (aside (office_came t ∷ left t ∷ []) None) (Adds-trans from mid to (office_came t ∷ []) (left t ∷ []) comes goes) refl
-        (tt, refl, (λ c. refl), inr (inr (t, refl)), refl) tt
+    pub unwatched_hosts : (t : ℕ) (from mid to : Option (List Deed)) (old : Desk R) (here : Place) (clients : Clients S) → Adds from mid (office_came t ∷ []) → Adds mid to (left t ∷ []) → Serves g (IsPaced 1 clients clients) None from old here to old here
+    unwatched_hosts t from mid to old here clients comes goes =
+        serves-one g (IsPaced 1 clients clients) None from to old old here here (aside (office_came t ∷ left t ∷ []) None) (Adds-trans from mid to (office_came t ∷ []) (left t ∷ []) comes goes) refl
+        (tt, refl, (λ c. refl), inr (inr (t, refl)), refl) tt (record { few = omega arith; stand = λ c. refl })
 
     -- the office is let go
     pub left_hosts : (office : Office S) (from to : Option (List Deed)) (old : Desk R) (clients : Clients S) → Adds from to (left (name office.socket) ∷ [])

@@ -1,16 +1,14 @@
 -- Each socket is its own.
-use Rattle.std.proofs.Common.{◌≡◌, ℕ, nat_eq, Bool, true, false, List, [], ◌∷◌, ◌++◌, Option, None, Some, refl, sym, ap, subst, ◌∙◌}
+use Rattle.std.proofs.Common.{◌≡◌, ℕ, nat_eq, Bool, true, false, List, [], ◌∷◌, ◌++◌, Some, refl, sym, ap, ◌∙◌}
 use Rattle.std.proofs.lemmas.Bool.{eqb-true, eq-eqb}
-use Rattle.cad_versions.specs.declared.command.Command.{Command}
 use Rattle.cad_stream.specs.declared.responder.Responder.{Ghosts}
 use Rattle.cad_desk.specs.declared.desk.Desk.{Desk}
-use Rattle.cad_desk.specs.Desks.{responder_of}
-use Rattle.cad_network.specs.Deeds.{Deed, came, given_by, taken_by, comes}
+use Rattle.cad_network.specs.Deeds.{came, given_by, taken_by}
 use Rattle.cad_clients.specs.declared.channel.Channel.{Channel}
 use Rattle.cad_clients.specs.Laws.{ChannelsAreTheirOwn}
 use Rattle.cad_event_loop.specs.Works.{Held, Place, IsEmpty, Puts, Work, opens, all_deeds, Goes, MayGoOn}
 use Rattle.cad_event_loop.specs.Lives.{life_of, own_deeds, end_of}
-use Rattle.cad_event_loop.specs.Laws.{commands_in, IsServedSocket, SocketsAreTheirOwn}
+use Rattle.cad_event_loop.specs.Laws.{commands_in, SocketsAreTheirOwn}
 use Rattle.cad_event_loop.proofs.GoesLemmas.{all_deeds-append}
 use Rattle.cad_event_loop.proofs.LifeLemmas.{each_has_its_life, none_some}
 use Rattle.cad_event_loop.proofs.StandLemmas.{goes_clean, goes_stands}

@@ -1,19 +1,17 @@
 -- What keeps the commands, over all that is done.
-use Rattle.std.proofs.Common.{◌≡◌, ℕ, List, [], ◌∷◌, ◌++◌, Option, None, Some, Result, Ok, Err, refl, sym, ap, subst, ◌∙◌, inl, inr}
+use Rattle.std.proofs.Common.{◌≡◌, ℕ, List, [], ◌∷◌, None, Some, Result, Ok, Err, refl, sym, ap, subst, inl, inr}
 use Rattle.cad_versions.specs.declared.command.Command.{Command}
 use Rattle.cad_stream.specs.declared.responder.Responder.{Ghosts}
 use Rattle.cad_desk.specs.declared.desk.Desk.{Desk}
 use Rattle.cad_desk.specs.declared.event.Event.{Event}
 use Rattle.cad_desk.specs.declared.event.Event.TheVariants.{Open, Bytes, Close, Office}
 use Rattle.cad_desk.specs.declared.event.Reply.{Reply}
-use Rattle.cad_desk.specs.declared.event.Reply.TheVariants.{Opened, Sent}
 use Rattle.cad_desk.specs.declared.fault.DeskFault.{DeskFault}
 use Rattle.cad_desk.specs.Desks.{responder_of, Steps}
 use Rattle.cad_desk.specs.Events.{commands_after}
 use Rattle.cad_clients.specs.declared.channel.Channel.{Channel}
 use Rattle.cad_clients.specs.Channels.{Act, wrote, took, fed, Does}
-use Rattle.cad_network.specs.Deeds.{Deed}
-use Rattle.cad_event_loop.specs.Works.{Held, Place, Said, Work, wakes, opens, acts, waits, ends, office_comes, enters, office_leaves, aside, said_by, SaysSo, IsEventOf, IsOf, IsOfNone, Tells, Works, Goes, MayAsk, MayGoOn}
+use Rattle.cad_event_loop.specs.Works.{Held, Place, Said, Work, wakes, opens, acts, waits, ends, office_comes, enters, office_leaves, aside, IsEventOf, IsOf, IsOfNone, Tells, Works, Goes, MayAsk, MayGoOn}
 use Rattle.cad_event_loop.specs.Laws.{commands_by, commands_in}
 
 -- a refusal adds no command

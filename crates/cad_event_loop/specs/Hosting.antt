@@ -1,9 +1,9 @@
 -- What hosting does, by how it ended (own profile).
-use Rattle.std.specs.Prelude.{◌≡◌, ◌⊎◌, ⊤, ℕ, List, [], ◌++◌, ◌∷◌, map, Option, None, Some, Result, Ok, Err, IsErr}
+use Rattle.std.specs.Prelude.{◌≡◌, ◌⊎◌, ⊤, ℕ, List, [], ◌++◌, ◌∷◌, Option, None, Some, Result, Ok, Err, IsErr}
 use Rattle.cad_stream.specs.declared.responder.Responder.{Ghosts}
 use Rattle.cad_desk.specs.declared.desk.Desk.{Desk}
 use Rattle.cad_desk.specs.declared.fault.DeskFault.TheVariants.{Memory}
-use Rattle.cad_network.specs.Deeds.{Deed, woke, left, Adds}
+use Rattle.cad_network.specs.Deeds.{Deed, left, Adds}
 use Rattle.cad_clients.specs.declared.served.Served.{Served}
 use Rattle.cad_clients.specs.declared.served.Served.TheVariants as client
 use Rattle.cad_clients.specs.declared.turned.Ending.{Ending}
@@ -13,7 +13,8 @@ use Rattle.cad_office_socket.specs.declared.turned.EntryTurned.{EntryTurned}
 use Rattle.cad_office_socket.specs.declared.turned.EntryTurned.TheVariants as turn
 use Rattle.cad_event_loop.specs.declared.stopped.Stopped.{Stopped}
 use Rattle.cad_event_loop.specs.declared.stopped.Stopped.TheVariants.{Asked, StoreRefused, RoundsSpent}
-use Rattle.cad_event_loop.specs.Works.{Place, IsEmpty, Said, Work, wakes, opens, acts, waits, ends, office_comes, enters, office_leaves, aside, all_deeds, end_with, end_in, Goes}
+use Rattle.cad_event_loop.specs.Turns.{nobody, AreServed}
+use Rattle.cad_event_loop.specs.Works.{Place, IsEmpty, Work, wakes, opens, acts, waits, ends, office_comes, enters, office_leaves, aside, all_deeds, end_with, end_in, Goes}
 
 -- why hosting ends by what came of serving a client
 abbrev pub end_of_client : Served → Option Stopped
@@ -35,10 +36,6 @@ end_of_rounds (Err error) = None
 -- what is told of it: a stop that the office asked for may be told as a failure of the system that came then
 abbrev pub IsLastOf : {E : Type 0} → Result Stopped E → Result Stopped E → Type 0
 IsLastOf hosted result = (result ≡ hosted) ⊎ ((hosted ≡ Ok Asked) × IsErr result)
-
--- the network told of some sockets
-abbrev pub IsWoken : List Deed → Type 0
-IsWoken deeds = (places : List ℕ) × (deeds ≡ map woke places)
 
 -- socket s is told that there is no room, and let go
 abbrev pub IsTurnedAway : ℕ → List Deed → Type 0
@@ -88,7 +85,12 @@ module _ {R : Type 0} (g : Ghosts R) where
   Hosts May end from old here to new next =
       (works : List Work) × Adds from to (all_deeds works) × (end_in works ≡ end) × Goes g old here works new next × Each May works
 
-  -- from nobody on these works are done, whose deeds are all that is done at the network, until hosting ends by one of them; and then others, until nobody is here
+  -- the same while clients and the land office are served, where this holds of the works
+  abbrev pub Serves : (List Work → Type 0) → Option Stopped → Option (List Deed) → Desk R → Place → Option (List Deed) → Desk R → Place → Type 0
+  Serves Holds end from old here to new next =
+      (works : List Work) × Adds from to (all_deeds works) × (end_in works ≡ end) × Goes g old here works new next × Each IsServing works × Holds works
+
+  -- from nobody on these works are done, whose deeds are all that is done at the network, until hosting ends by one of them, and everybody is served by them; and then others, until nobody is here
   pub record HostsBy (end : Option Stopped) (from : Option (List Deed)) (old : Desk R) (to : Option (List Deed)) (new : Desk R) : Type 0 where
     pub works : List Work
     pub closing : List Work
@@ -96,7 +98,8 @@ module _ {R : Type 0} (g : Ghosts R) where
     pub last : Place
     pub deeds : Adds from to (all_deeds (works ++ closing))
     pub ends : end_in works ≡ end
-    pub served : Each IsServing works
+    pub serving : Each IsServing works
+    pub served : AreServed nobody works
     pub closed : Each IsClosing closing
     pub nobody_first : IsEmpty first
     pub nobody_last : IsEmpty last

@@ -2,6 +2,7 @@
 
 ghost use Rattle.cad_event_loop.specs.Lives.{EachHasItsLife};
 ghost use Rattle.cad_event_loop.specs.Laws.{LedgerStands, SocketsAreTheirOwn};
+ghost use Rattle.cad_event_loop.specs.Streams.{OfficeIsAnswered};
 
 use cad_clients::laws::channels_are_their_own;
 use cad_stream::Responder;
@@ -25,3 +26,10 @@ pub fn sockets_are_their_own<R: Responder>()
 {
     channels_are_their_own::<R>();
 }
+
+/// Of a socket of the land office that came once, the lines that were read ended in their order, each once, and its command was
+/// entered before it was answered; what was written are their answers in that order, up to what is left of the last, and all of
+/// them where the office sent no more and no read and no write failed; whatever other sockets come.
+pub fn office_is_answered<R: Responder>()
+    ensures { OfficeIsAnswered R.Responder }
+{}

@@ -44,10 +44,12 @@ fn end_of(served: Served) -> Option<Stopped>
 }
 
 impl<S: Drop> Peers<S> {
-    ghost use Rattle.std.specs.Prelude.{ℕ, List, [], ◌∷◌, Option, None, IfOk};
+    ghost use Rattle.std.specs.Prelude.{ℕ, nat_eq, List, [], ◌∷◌, Option, None, IfOk, if◌then◌else◌};
     ghost use Rattle.cad_network.specs.Deeds.{Deed, came, Adds, AddsSome};
     ghost use Rattle.cad_clients.specs.Slots.{client_at};
-    ghost use Rattle.cad_event_loop.specs.Hosting.{Hosts, IsClosing, IsServing, IsTurnedAway, IsWoken};
+    ghost use Rattle.cad_event_loop.specs.Hosting.{Hosts, IsClosing, IsTurnedAway, Serves};
+    ghost use Rattle.cad_event_loop.specs.inner.Standing.{standing_at, GivesTurn, IsPaced, IsWoken};
+    ghost use Rattle.cad_event_loop.specs.Turns.{woken};
     ghost use Rattle.cad_event_loop.specs.Works.{held_at, place_of, AtOffice, Same};
 
     /// No client.
@@ -74,7 +76,8 @@ impl<S: Drop> Peers<S> {
 
     /// The socket at this place may give or take something.
     fn mark<N: Network<Socket = S>>(&mut self, place: usize)
-        ensures { Same (held_at N.name self.old.clients) (held_at N.name self.new.clients) }
+        ensures woken { (c : ℕ) → standing_at self.new.clients c ≡ (if nat_eq place c then woken (standing_at self.old.clients c) else standing_at self.old.clients c) }
+        ensures held { Same (held_at N.name self.old.clients) (held_at N.name self.new.clients) }
     {
         if place == CLIENTS_DOOR {
             self.ready.clients_door = true;
@@ -89,7 +92,7 @@ impl<S: Drop> Peers<S> {
 
     /// Marks what the network tells.
     fn note<N: Network<Socket = S>>(&mut self, net: &mut N)
-        ensures told { AddsSome (N.history net.old) (N.history net.new) IsWoken }
+        ensures told { AddsSome (N.history net.old) (N.history net.new) (IsWoken self.old.clients self.new.clients) }
         ensures held { Same (held_at N.name self.old.clients) (held_at N.name self.new.clients) }
     {
         for _ in 0..PLACES {
@@ -106,7 +109,7 @@ impl<S: Drop> Peers<S> {
         net: &mut N,
         milliseconds: u64,
     ) -> Result<()>
-        ensures told { AddsSome (N.history net.old) (N.history net.new) IsWoken }
+        ensures told { AddsSome (N.history net.old) (N.history net.new) (IsWoken self.old.clients self.new.clients) }
         ensures held { Same (held_at N.name self.old.clients) (held_at N.name self.new.clients) }
     {
         let seconds = net.wait(milliseconds)?;
@@ -123,7 +126,7 @@ impl<S: Drop> Peers<S> {
         desk: &mut Desk<R>,
         log: &mut L,
     ) -> Option<Stopped>
-        ensures { (office : AtOffice) → Hosts R.Responder IsServing result (N.history net.old) desk.old (place_of N.name self.old.clients office)
+        ensures { (office : AtOffice) → Serves R.Responder (GivesTurn c 4 self.old.clients self.new.clients) result (N.history net.old) desk.old (place_of N.name self.old.clients office)
             (N.history net.new) desk.new (place_of N.name self.new.clients office) }
     {
         end_of(self.clients.serve(self.alloc, c, self.now, net, desk, log))
@@ -165,7 +168,7 @@ impl<S: Drop> Peers<S> {
         net: &mut N,
         desk: &mut Desk<R>,
     )
-        ensures { (office : AtOffice) → Hosts R.Responder IsServing None (N.history net.old) desk.old (place_of N.name self.old.clients office)
+        ensures { (office : AtOffice) → Serves R.Responder (IsPaced 1 self.old.clients self.new.clients) None (N.history net.old) desk.old (place_of N.name self.old.clients office)
             (N.history net.new) desk.new (place_of N.name self.new.clients office) }
     {
         if self.clients.is_overdue(c, self.now, &LIMITS) {
@@ -179,7 +182,7 @@ impl<S: Drop> Peers<S> {
         net: &mut N,
         desk: &mut Desk<R>,
     )
-        ensures { (office : AtOffice) → Hosts R.Responder IsServing None (N.history net.old) desk.old (place_of N.name self.old.clients office)
+        ensures { (office : AtOffice) → Serves R.Responder (IsPaced 64 self.old.clients self.new.clients) None (N.history net.old) desk.old (place_of N.name self.old.clients office)
             (N.history net.new) desk.new (place_of N.name self.new.clients office) }
     {
         for c in 0..ROOM {
@@ -219,7 +222,7 @@ impl<S: Drop> Peers<S> {
         log: &mut L,
     )
         ensures { (office : AtOffice) (before : Option (List Deed)) → Adds before (N.history net.old) (came (N.name socket) ∷ [])
-            → Hosts R.Responder IsServing None before desk.old (place_of N.name self.old.clients office)
+            → Serves R.Responder (IsPaced 1 self.old.clients self.new.clients) None before desk.old (place_of N.name self.old.clients office)
             (N.history net.new) desk.new (place_of N.name self.new.clients office) }
     {
         let Some(c) = self.clients.free_number() else {
@@ -244,7 +247,7 @@ impl<S: Drop> Peers<S> {
         desk: &mut Desk<R>,
         log: &mut L,
     ) -> bool
-        ensures { (office : AtOffice) → Hosts R.Responder IsServing None (N.history net.old) desk.old (place_of N.name self.old.clients office)
+        ensures { (office : AtOffice) → Serves R.Responder (IsPaced 1 self.old.clients self.new.clients) None (N.history net.old) desk.old (place_of N.name self.old.clients office)
             (N.history net.new) desk.new (place_of N.name self.new.clients office) }
     {
         match net.accept() {
@@ -263,7 +266,7 @@ impl<S: Drop> Peers<S> {
         desk: &mut Desk<R>,
         log: &mut L,
     )
-        ensures { (office : AtOffice) → Hosts R.Responder IsServing None (N.history net.old) desk.old (place_of N.name self.old.clients office)
+        ensures { (office : AtOffice) → Serves R.Responder (IsPaced 64 self.old.clients self.new.clients) None (N.history net.old) desk.old (place_of N.name self.old.clients office)
             (N.history net.new) desk.new (place_of N.name self.new.clients office) }
     {
         if !self.ready.clients_door {

@@ -28,9 +28,11 @@ pub(crate) struct Rounds<S> {
 impl<S: Drop> Rounds<S> {
     ghost use Rattle.std.specs.Prelude.{◌≡◌, List, [], ◌∷◌, Option, None, IfOk};
     ghost use Rattle.cad_network.specs.Deeds.{Deed, office_came, Adds};
-    ghost use Rattle.cad_event_loop.specs.Hosting.{end_of_round, end_of_rounds, Hosts, IsServing};
+    ghost use Rattle.cad_event_loop.specs.Hosting.{end_of_round, end_of_rounds, Serves};
     ghost use Rattle.cad_event_loop.specs.inner.Offices.{HasBegun, HasBegunUnless};
     ghost use Rattle.cad_event_loop.specs.inner.Rounds.{here, IsNobody};
+    ghost use Rattle.cad_event_loop.specs.inner.Standing.{standing_at, GivesTurn, IsAsked, IsPaced, MakesRound, LosesNobody, ServesAll};
+    ghost use Rattle.cad_event_loop.specs.Turns.{most_in_round, AreServed};
 
     /// Nobody.
     pub(crate) fn new(alloc: Global) -> std::result::Result<Rounds<S>, AllocError>
@@ -50,7 +52,7 @@ impl<S: Drop> Rounds<S> {
         milliseconds: u64,
     ) -> Result<()>
         ensures office { self.new.office ≡ self.old.office }
-        ensures hosts { Hosts R.Responder IsServing None (N.history net.old) desk.old (here N.name self.old) (N.history net.new) desk.new (here N.name self.new) }
+        ensures hosts { Serves R.Responder (IsAsked self.old.peers.clients self.new.peers.clients) None (N.history net.old) desk.old (here N.name self.old) (N.history net.new) desk.new (here N.name self.new) }
     {
         self.peers.wait(net, milliseconds)
     }
@@ -63,7 +65,7 @@ impl<S: Drop> Rounds<S> {
     ) -> Option<Stopped>
         requires { HasBegun self.old.office }
         ensures begun { HasBegunUnless result self.new.office }
-        ensures hosts { Hosts R.Responder IsServing result (N.history net.old) desk.old (here N.name self.old) (N.history net.new) desk.new (here N.name self.new) }
+        ensures hosts { Serves R.Responder (LosesNobody 8 self.old.peers.clients self.new.peers.clients) result (N.history net.old) desk.old (here N.name self.old) (N.history net.new) desk.new (here N.name self.new) }
     {
         let Some(office) = self.office.take() else {
             self.peers.ready.office = false;
@@ -83,7 +85,7 @@ impl<S: Drop> Rounds<S> {
     ) -> Option<Stopped>
         requires { HasBegun self.old.office }
         ensures begun { HasBegunUnless result self.new.office }
-        ensures hosts { Hosts R.Responder IsServing result (N.history net.old) desk.old (here N.name self.old) (N.history net.new) desk.new (here N.name self.new) }
+        ensures hosts { Serves R.Responder (LosesNobody 8 self.old.peers.clients self.new.peers.clients) result (N.history net.old) desk.old (here N.name self.old) (N.history net.new) desk.new (here N.name self.new) }
     {
         if !self.peers.ready.office {
             return None;
@@ -99,7 +101,7 @@ impl<S: Drop> Rounds<S> {
     ) -> Result<Option<Stopped>>
         requires { HasBegun self.old.office }
         ensures begun { HasBegunUnless (end_of_round result) self.new.office }
-        ensures hosts { Hosts R.Responder IsServing (end_of_round result) (N.history net.old) desk.old (here N.name self.old) (N.history net.new) desk.new (here N.name self.new) }
+        ensures hosts { Serves R.Responder (LosesNobody 9 self.old.peers.clients self.new.peers.clients) (end_of_round result) (N.history net.old) desk.old (here N.name self.old) (N.history net.new) desk.new (here N.name self.new) }
     {
         if self.office.is_none() {
             return Ok(None);
@@ -117,7 +119,7 @@ impl<S: Drop> Rounds<S> {
         log: &mut L,
     ) -> Option<Stopped>
         ensures office { self.new.office ≡ self.old.office }
-        ensures hosts { Hosts R.Responder IsServing result (N.history net.old) desk.old (here N.name self.old) (N.history net.new) desk.new (here N.name self.new) }
+        ensures hosts { Serves R.Responder (GivesTurn c 4 self.old.peers.clients self.new.peers.clients) result (N.history net.old) desk.old (here N.name self.old) (N.history net.new) desk.new (here N.name self.new) }
     {
         self.peers.serve_one(c, net, desk, log)
     }
@@ -132,7 +134,7 @@ impl<S: Drop> Rounds<S> {
     ) -> Result<Option<Stopped>>
         requires { HasBegun self.old.office }
         ensures begun { HasBegunUnless (end_of_round result) self.new.office }
-        ensures hosts { Hosts R.Responder IsServing (end_of_round result) (N.history net.old) desk.old (here N.name self.old) (N.history net.new) desk.new (here N.name self.new) }
+        ensures hosts { Serves R.Responder (GivesTurn c 13 self.old.peers.clients self.new.peers.clients) (end_of_round result) (N.history net.old) desk.old (here N.name self.old) (N.history net.new) desk.new (here N.name self.new) }
     {
         if !self.peers.clients.is_ready(c) {
             return Ok(None);
@@ -152,7 +154,7 @@ impl<S: Drop> Rounds<S> {
     ) -> Result<Option<Stopped>>
         requires { HasBegun self.old.office }
         ensures begun { HasBegunUnless (end_of_round result) self.new.office }
-        ensures hosts { Hosts R.Responder IsServing (end_of_round result) (N.history net.old) desk.old (here N.name self.old) (N.history net.new) desk.new (here N.name self.new) }
+        ensures hosts { Serves R.Responder (ServesAll result self.old.peers.clients self.new.peers.clients) (end_of_round result) (N.history net.old) desk.old (here N.name self.old) (N.history net.new) desk.new (here N.name self.new) }
     {
         for c in 0..ROOM {
             if let Some(stopped) = self.serve_client(c, net, desk, log)? {
@@ -172,7 +174,7 @@ impl<S: Drop> Rounds<S> {
         requires { self.old.office ≡ None }
         ensures begun { HasBegun self.new.office }
         ensures hosts { (before : Option (List Deed)) → Adds before (N.history net.old) (office_came (N.name socket) ∷ [])
-            → Hosts R.Responder IsServing None before desk.old (here N.name self.old) (N.history net.new) desk.new (here N.name self.new) }
+            → Serves R.Responder (IsPaced 1 self.old.peers.clients self.new.peers.clients) None before desk.old (here N.name self.old) (N.history net.new) desk.new (here N.name self.new) }
     {
         if net.watch(&mut socket, OFFICE).is_err() {
             net.let_go(socket);
@@ -186,7 +188,7 @@ impl<S: Drop> Rounds<S> {
     fn take_office<N: Network<Socket = S>, R: Responder>(&mut self, net: &mut N, desk: &mut Desk<R>)
         requires { HasBegun self.old.office }
         ensures begun { HasBegun self.new.office }
-        ensures hosts { Hosts R.Responder IsServing None (N.history net.old) desk.old (here N.name self.old) (N.history net.new) desk.new (here N.name self.new) }
+        ensures hosts { Serves R.Responder (IsPaced 1 self.old.peers.clients self.new.peers.clients) None (N.history net.old) desk.old (here N.name self.old) (N.history net.new) desk.new (here N.name self.new) }
     {
         if !self.peers.ready.office_door || self.office.is_some() {
             return;
@@ -205,7 +207,7 @@ impl<S: Drop> Rounds<S> {
         log: &mut L,
     )
         ensures office { self.new.office ≡ self.old.office }
-        ensures hosts { Hosts R.Responder IsServing None (N.history net.old) desk.old (here N.name self.old) (N.history net.new) desk.new (here N.name self.new) }
+        ensures hosts { Serves R.Responder (IsPaced 128 self.old.peers.clients self.new.peers.clients) None (N.history net.old) desk.old (here N.name self.old) (N.history net.new) desk.new (here N.name self.new) }
     {
         self.peers.drop_overdue(net, desk);
         self.peers.take_clients(net, desk, log);
@@ -233,7 +235,7 @@ impl<S: Drop> Rounds<S> {
     ) -> Result<Option<Stopped>>
         requires { HasBegun self.old.office }
         ensures begun { HasBegunUnless (end_of_round result) self.new.office }
-        ensures hosts { Hosts R.Responder IsServing (end_of_round result) (N.history net.old) desk.old (here N.name self.old) (N.history net.new) desk.new (here N.name self.new) }
+        ensures hosts { Serves R.Responder (MakesRound 841 result self.old.peers.clients self.new.peers.clients) (end_of_round result) (N.history net.old) desk.old (here N.name self.old) (N.history net.new) desk.new (here N.name self.new) }
     {
         let patience = self.patience();
         self.wait(net, desk, patience)?;
@@ -252,7 +254,7 @@ impl<S: Drop> Rounds<S> {
     ) -> Result<Option<Stopped>>
         requires { HasBegun self.old.office }
         ensures begun { HasBegunUnless (end_of_round result) self.new.office }
-        ensures hosts { Hosts R.Responder IsServing (end_of_round result) (N.history net.old) desk.old (here N.name self.old) (N.history net.new) desk.new (here N.name self.new) }
+        ensures hosts { Serves R.Responder (MakesRound most_in_round result self.old.peers.clients self.new.peers.clients) (end_of_round result) (N.history net.old) desk.old (here N.name self.old) (N.history net.new) desk.new (here N.name self.new) }
     {
         if let Some(stopped) = self.serve_all(net, desk, log)? {
             return Ok(Some(stopped));
@@ -270,7 +272,7 @@ impl<S: Drop> Rounds<S> {
         log: &mut L,
     ) -> Result<Stopped>
         requires { HasBegun self.old.office }
-        ensures { Hosts R.Responder IsServing (end_of_rounds result) (N.history net.old) desk.old (here N.name self.old) (N.history net.new) desk.new (here N.name self.new) }
+        ensures { Serves R.Responder (AreServed (standing_at self.old.peers.clients)) (end_of_rounds result) (N.history net.old) desk.old (here N.name self.old) (N.history net.new) desk.new (here N.name self.new) }
     {
         for _ in 0..u64::MAX {
             if let Some(stopped) = self.round(net, desk, log)? {

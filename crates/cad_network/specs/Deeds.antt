@@ -16,10 +16,10 @@ pub data Deed : Type 0 where
   failed : ℕ → Deed
   left : ℕ → Deed
 
--- what was done before, where that is known, and then these
+-- what was done before, and then these, where that is known; once it is not known any more, as where there is no memory to keep it, it stays so
 abbrev pub Adds : Option (List Deed) → Option (List Deed) → List Deed → Type 0
-Adds None after deeds = ⊤
-Adds (Some before) None deeds = ⊥
+Adds before None deeds = ⊤
+Adds None (Some after) deeds = ⊥
 Adds (Some before) (Some after) deeds = after ≡ before ++ deeds
 
 -- and then such deeds

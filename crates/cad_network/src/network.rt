@@ -11,7 +11,7 @@ pub trait Network {
     /// A socket that was taken at a door.
     type Socket: Drop;
 
-    // What was done at its sockets so far, where that is known.
+    // What was done at its sockets so far, as long as that is known.
     ghost history: { Self → Option (List Deed) };
 
     // By what number the history tells a socket from all others.

@@ -24,7 +24,7 @@ both_go (Some it) rest both = absurd (let clash : false ≡ true = both in cc)
 -- as many turns as may be, none of which ends serving
 pub spent : (turns : List EntryTurned) (next : Entry) → all_go_on turns ≡ true → length turns ≡ most_turns → IsEnough turns entry_served.Goes next
 spent [] next go count = absurd (omega (arith, count))
-spent (turned ∷ before) next go count = let both = both_go (end_at turned) (all_go_on before) go in (both.1, inr (both.0, refl, inl count))
+spent (turned ∷ before) next go count = let both = both_go (end_at turned) (all_go_on before) go in (both.1, inr (both.0, refl, inl count), omega (arith, count))
 
 module _ {R : Type 0} (g : Ghosts R) (s : ℕ) (old : Desk R) (entry : Entry) where
   -- so many turns were made, none of which ends serving
@@ -46,12 +46,16 @@ module _ {R : Type 0} (g : Ghosts R) (s : ℕ) (old : Desk R) (entry : Entry) wh
     joined = (had.0 ++ turn.0, Adds-trans from to left had.0 turn.0 had.1 turn.1, (mid, between, had.0, turn.0, had.2.1, turn.2, refl))
 
     -- and the last of them ends it
-    pub ended : (it : EntryServed) → end_at turned ≡ Some it → AddsSome from left (IsEntryServed g s old entry it new next)
-    ended it ends = (joined.0, joined.1, (turned ∷ had.2.0, joined.2, (had.2.2, inl ends)))
+    pub ended : (it : EntryServed) → made < most_turns → end_at turned ≡ Some it → AddsSome from left (IsEntryServed g s old entry it new next)
+    ended it most ends =
+        let count = had.2.3 in
+        (joined.0, joined.1, (turned ∷ had.2.0, joined.2, (had.2.2, inl ends, omega (arith, count, most))))
 
     -- and at the last of them an answer went out
-    pub went_out : end_at turned ≡ None → turned ≡ Wrote → unwritten next ≡ [] → AddsSome from left (IsEntryServed g s old entry entry_served.Goes new next)
-    went_out goes wrote all = (joined.0, joined.1, (turned ∷ had.2.0, joined.2, (had.2.2, inr (goes, refl, inr (wrote, all)))))
+    pub went_out : made < most_turns → end_at turned ≡ None → turned ≡ Wrote → unwritten next ≡ [] → AddsSome from left (IsEntryServed g s old entry entry_served.Goes new next)
+    went_out most goes wrote all =
+        let count = had.2.3 in
+        (joined.0, joined.1, (turned ∷ had.2.0, joined.2, (had.2.2, inr (goes, refl, inr (wrote, all)), omega (arith, count, most))))
 
     -- and it goes on
     pub went_on : end_at turned ≡ None → HadTurns (made + 1) from left new next

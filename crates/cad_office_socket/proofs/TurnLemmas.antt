@@ -25,15 +25,15 @@ asking (byte ∷ text) state answer filled stop told = ((λ e. cc), (λ e. told 
 
 module _ {R : Type 0} (g : Ghosts R) (s : ℕ) (old new : Desk R) (entry next : Entry) where
   -- the last line ended with the input
-  pub last_turn : (turned : EntryTurned) → MayEnd turned → unread entry ≡ [] → unwritten entry ≡ [] → IsLineEnd g old entry turned new next → has_ended next ≡ true → IsEntryTurn g s old entry turned new next (gave s [] ∷ [])
-  last_turn Added ends read written line over = (written, inr (refl, read, line, over))
-  last_turn (Answered answer) ends read written line over = (written, inr (refl, read, line, over))
-  last_turn Stops ends read written line over = (written, inr (refl, read, line, over))
-  last_turn (Lost answer) ends read written line over = (written, inr (refl, read, line, over))
-  last_turn Over ends read written line over = absurd ends
-  last_turn Wrote ends read written line over = absurd ends
-  last_turn Took ends read written line over = absurd ends
-  last_turn Waits ends read written line over = absurd ends
+  pub last_turn : (turned : EntryTurned) → MayEnd turned → unread entry ≡ [] → unwritten entry ≡ [] → has_ended entry ≡ false → IsLineEnd g old entry turned new next → has_ended next ≡ true → IsEntryTurn g s old entry turned new next (gave s [] ∷ [])
+  last_turn Added ends read written goes line over = (written, inr (refl, read, line, over, goes))
+  last_turn (Answered answer) ends read written goes line over = (written, inr (refl, read, line, over, goes))
+  last_turn Stops ends read written goes line over = (written, inr (refl, read, line, over, goes))
+  last_turn (Lost answer) ends read written goes line over = (written, inr (refl, read, line, over, goes))
+  last_turn Over ends read written goes line over = absurd ends
+  last_turn Wrote ends read written goes line over = absurd ends
+  last_turn Took ends read written goes line over = absurd ends
+  last_turn Waits ends read written goes line over = absurd ends
 
   -- bytes of a line were taken
   pub fed_turn : (turned : EntryTurned) → MayEnd turned → unwritten entry ≡ [] → 0 < length (unread entry) → IsFed g old entry turned new next → has_ended next ≡ has_ended entry → IsEntryTurn g s old entry turned new next []

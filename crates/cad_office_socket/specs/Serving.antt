@@ -1,5 +1,5 @@
 -- Turns of the land office's connection before the others have theirs (own profile).
-use Rattle.std.specs.Prelude.{◌≡◌, ◌⊎◌, ℕ, Bool, true, false, ◌&&◌, List, [], ◌∷◌, ◌++◌, length, Option, None, Some, is_none, if◌then◌else◌}
+use Rattle.std.specs.Prelude.{◌≡◌, ◌⊎◌, ℕ, ◌≤◌, Bool, true, false, ◌&&◌, List, [], ◌∷◌, ◌++◌, length, Option, None, Some, is_none, if◌then◌else◌}
 use Rattle.cad_network.specs.Deeds.{Deed}
 use Rattle.cad_versions.specs.declared.fault.RegisterFault.TheVariants.{Store}
 use Rattle.cad_stream.specs.declared.responder.Responder.{Ghosts}
@@ -40,12 +40,13 @@ all_go_on (turned ∷ turns) = is_none (end_at turned) && all_go_on turns
 abbrev pub most_turns : ℕ
 most_turns = 8
 
--- the last turn, which comes first, ends serving, and none before does; or none does, and there were as many as may be, or an answer went out
+-- the last turn, which comes first, ends serving, and none before does; or none does, and there were as many as may be, or an answer went out; and there were no more
 abbrev pub IsEnough : List EntryTurned → EntryServed → Entry → Type 0
 IsEnough [] served next = ⊥
 IsEnough (turned ∷ before) served next =
     (all_go_on before ≡ true) × ((end_at turned ≡ Some served) ⊎ ((end_at turned ≡ None) × (served ≡ entry_served.Goes)
     × ((length (turned ∷ before) ≡ most_turns) ⊎ ((turned ≡ Wrote) × (unwritten next ≡ [])))))
+    × (length (turned ∷ before) ≤ most_turns)
 
 module _ {R : Type 0} (g : Ghosts R) (s : ℕ) where
   -- the office has these turns at its socket s, the last of them first

@@ -1,5 +1,5 @@
 -- What the connection of the land office holds between its socket and the desk, and what a turn does (own profile).
-use Rattle.std.specs.Prelude.{◌≡◌, ◌≢◌, ◌⊎◌, ◌<◌, ℕ, ⊤, Bool, true, List, [], ◌∷◌, ◌++◌, length, drop, codes}
+use Rattle.std.specs.Prelude.{◌≡◌, ◌≢◌, ◌⊎◌, ◌<◌, ℕ, ⊤, Bool, true, false, List, [], ◌∷◌, ◌++◌, length, drop, codes}
 use Rattle.cad_network.specs.Deeds.{Deed, blocked, failed}
 use Rattle.cad_network.specs.Deeds as deed
 use Rattle.cad_stream.specs.declared.responder.Responder.{Ghosts}
@@ -34,9 +34,9 @@ has_ended entry = entry.ends
 abbrev pub IsSending : Entry → Type 0
 IsSending entry = 0 < length (unwritten entry)
 
--- all answers were written, and all that was read is taken
+-- all answers were written, all that was read is taken, and the office may send more
 abbrev pub IsIdle : Entry → Type 0
-IsIdle entry = (unwritten entry ≡ []) × (unread entry ≡ [])
+IsIdle entry = (unwritten entry ≡ []) × (unread entry ≡ []) × (has_ended entry ≡ false)
 
 -- what is next is a write or a read, which the socket may leave undone for now
 abbrev pub MayWait : Entry → Type 0
@@ -91,9 +91,9 @@ module _ {R : Type 0} (g : Ghosts R) where
   abbrev pub EndsLine : List ℕ → Desk R → EntryTurned → Desk R → Entry → Type 0
   EndsLine text old Added new next = (text ≡ []) × (new ≡ old) × (unwritten next ≡ []) × HasBegun [] next
   EndsLine text old (Answered answer) new next = IsAsking text answer × AnswersLine (EntersAtDesk g) text old answer new × (unwritten next ≡ printed answer) × HasBegun [] next
-  EndsLine text old Stops new next = (text ≡ codes "stop") × (new ≡ old)
+  EndsLine text old Stops new next = (text ≡ codes "stop") × (new ≡ old) × (unwritten next ≡ []) × HasBegun [] next
   -- no memory for the text of the answer
-  EndsLine text old (Lost answer) new next = IsAsking text answer × AnswersLine (EntersAtDesk g) text old answer new
+  EndsLine text old (Lost answer) new next = IsAsking text answer × AnswersLine (EntersAtDesk g) text old answer new × (unwritten next ≡ []) × HasBegun [] next
   EndsLine text old Over new next = ⊥
   EndsLine text old Wrote new next = ⊥
   EndsLine text old Took new next = ⊥
@@ -113,7 +113,7 @@ module _ {R : Type 0} (g : Ghosts R) where
 module _ {R : Type 0} (g : Ghosts R) (s : ℕ) where
   -- the office sends no more, and the line that has begun ends with that
   abbrev pub IsAtLastLine : Desk R → Entry → EntryTurned → Desk R → Entry → List Deed → Type 0
-  IsAtLastLine old entry turned new next deeds = (deeds ≡ deed.gave s [] ∷ []) × (unread entry ≡ []) × IsLineEnd g old entry turned new next × (has_ended next ≡ true)
+  IsAtLastLine old entry turned new next deeds = (deeds ≡ deed.gave s [] ∷ []) × (unread entry ≡ []) × IsLineEnd g old entry turned new next × (has_ended next ≡ true) × (has_ended entry ≡ false)
 
   -- bytes that were read are taken, those of a line and no less; or the input is at its end
   abbrev pub IsTaken : Desk R → Entry → EntryTurned → Desk R → Entry → List Deed → Type 0

@@ -37,7 +37,7 @@ fn has_written(turned: EntryTurned) -> bool
 }
 
 impl Entry {
-    ghost use Rattle.std.specs.Prelude.{◌↔◌, true, []};
+    ghost use Rattle.std.specs.Prelude.{◌↔◌, true, false, []};
     ghost use Rattle.cad_network.specs.Deeds.{AddsSome};
     ghost use Rattle.cad_office_socket.specs.Turns.{has_ended, IsNewEntry, IsFed, IsEntryTurn, IsLineEnd, IsSending, MayEnd, SendsSome, unread, unwritten};
     ghost use Rattle.cad_office_socket.specs.Serving.{IsEntryServed};
@@ -93,14 +93,15 @@ impl Entry {
             return EntryTurned::Added;
         }
         if asks_to_stop(&self.line) {
+            self.line.clear();
             return EntryTurned::Stops;
         }
         let answer = answer_line(alloc, &self.line, desk);
+        self.line.clear();
         let mut output = Vec::new(alloc);
         if print_answer(&mut output, answer).is_err() {
             return EntryTurned::Lost(answer);
         }
-        self.line.clear();
         self.output = output;
         self.output_at = 0;
         EntryTurned::Answered(answer)
@@ -145,6 +146,7 @@ impl Entry {
     ) -> EntryTurned
         requires nothing_unread { unread self.old ≡ [] }
         requires nothing_unwritten { unwritten self.old ≡ [] }
+        requires goes_on { has_ended self.old ≡ false }
         ensures { AddsSome (N.history net.old) (N.history net.new)
             (IsEntryTurn R.Responder (N.name socket.now) desk.old self.old result desk.new self.new) }
     {

@@ -8,9 +8,9 @@ Adds-nil None = tt
 Adds-nil (Some xs) = sym (append-nil xs)
 
 pub Adds-trans : (a b c : Option (List Deed)) (xs ys : List Deed) → Adds a b xs → Adds b c ys → Adds a c (xs ++ ys)
-Adds-trans None b c xs ys e f = tt
-Adds-trans (Some p) None c xs ys e f = absurd e
-Adds-trans (Some p) (Some q) None xs ys e f = absurd f
+Adds-trans a b None xs ys e f = tt
+Adds-trans a None (Some r) xs ys e f = absurd f
+Adds-trans None (Some q) (Some r) xs ys e f = absurd e
 Adds-trans (Some p) (Some q) (Some r) xs ys e f = f ∙ (ap (λ (l : List Deed). l ++ ys) e ∙ append_assoc p xs ys)
 
 given-append : (s : ℕ) (d : Deed) (bytes : List ℕ) (same : Bool) (xs ys rest : List ℕ) → rest ≡ xs ++ ys → (if same then bytes ++ rest else rest) ≡ (if same then bytes ++ xs else xs) ++ ys

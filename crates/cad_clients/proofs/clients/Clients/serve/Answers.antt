@@ -11,7 +11,7 @@ loop-init g c = ([], Adds-nil _, ([], (refl, refl, refl), record { count = refl;
 pub returns-then-not-is_sending : goal.returns-then-not-is_sending
 returns-then-not-is_sending g c =
     let fed = c.loop.invariant.2.2.fed ∙ ap pieces c.if-has_fed.true in
-    stays g.R.Responder g.N.Network.name c.args.c c.args.now c.args.desk.now c.args.self.now c.loop.counter c.loop.has_fed _ _ c.loop.desk c.loop.self c.loop.invariant (inr (inl (fed, λ sending. (let told = c.is_sending.ensures.1 sending in let not = c.if-not-is_sending.true in cc))))
+    stays g.R.Responder g.N.Network.name c.args.c c.args.now c.args.desk.now c.args.self.now c.loop.counter c.loop.has_fed _ _ c.loop.desk c.loop.self c.loop.invariant (inr (inl (fed, λ sending. (let told = c.is_sending.ensures.1 sending in let not = c.if-not-is_sending.true in cc)))) (let test = c.loop-test.true in omega (arith, test))
 
 pub returns-in_default : goal.returns-in_default
 returns-in_default g c = unknown g.R.Responder g.N.Network.name c.args.c c.args.now c.args.desk.now c.args.self.now c.loop.counter c.loop.has_fed _ _ _ c.loop.desk c.turn.new.desk c.loop.self c.turn.new.self c.loop.invariant c.in_default.ensures
@@ -19,12 +19,12 @@ returns-in_default g c = unknown g.R.Responder g.N.Network.name c.args.c c.args.
 pub returns-in-Waits : goal.returns-in-Waits
 returns-in-Waits g c =
     let turn = rw c.in-Waits.is at c.in-Some.ensures in
-    waits g.R.Responder g.N.Network.name c.args.c c.args.now c.args.desk.now c.args.self.now c.loop.counter c.loop.has_fed _ _ _ c.loop.desk c.turn.new.desk c.loop.self c.turn.new.self c.loop.invariant turn
+    waits g.R.Responder g.N.Network.name c.args.c c.args.now c.args.desk.now c.args.self.now c.loop.counter c.loop.has_fed _ _ _ c.loop.desk c.turn.new.desk c.loop.self c.turn.new.self c.loop.invariant (let test = c.loop-test.true in omega (arith, test)) turn
 
 pub returns-in-Over : goal.returns-in-Over
 returns-in-Over g c =
     let turn = rw c.in-Over.is at c.in-Some.ensures in
-    ended g.R.Responder g.N.Network.name c.args.c c.args.now c.args.desk.now c.args.self.now c.loop.counter c.loop.has_fed _ _ _ c.loop.desk c.turn.new.desk c.loop.self c.turn.new.self c.loop.invariant c.in-Over.ending turn
+    ended g.R.Responder g.N.Network.name c.args.c c.args.now c.args.desk.now c.args.self.now c.loop.counter c.loop.has_fed _ _ _ c.loop.desk c.turn.new.desk c.loop.self c.turn.new.self c.loop.invariant c.in-Over.ending (let test = c.loop-test.true in omega (arith, test)) turn
 
 pub loop-preserved : goal.loop-preserved
 loop-preserved g c =
@@ -48,4 +48,5 @@ loop-preserved g c =
 pub returns : goal.returns
 returns g c =
     let count = c.loop.invariant.2.2.count in
-    stays g.R.Responder g.N.Network.name c.args.c c.args.now c.args.desk.now c.args.self.now c.loop.counter c.loop.has_fed _ _ c.loop.desk c.loop.self c.loop.invariant (inr (inr (omega (arith, count))))
+    let end = c.loop.auto.counter-end in
+    stays g.R.Responder g.N.Network.name c.args.c c.args.now c.args.desk.now c.args.self.now c.loop.counter c.loop.has_fed _ _ c.loop.desk c.loop.self c.loop.invariant (inr (inr (omega (arith, count)))) (omega (arith, end))

@@ -1,6 +1,5 @@
-use Rattle.cad_event_loop.specs.Hosting.{IsServing}
-use Rattle.cad_event_loop.proofs.GoesLemmas.{closed_hosts}
+use Rattle.cad_event_loop.proofs.GoesLemmas.{dropped_hosts}
 use Rattle.cad_event_loop.proofs.peers.Peers.drop_one.Goals as goal
 
 pub returns-then-is_overdue : goal.returns-then-is_overdue
-returns-then-is_overdue g c = λ office. closed_hosts g.R.Responder g.N.Network.name c.args.c office IsServing _ _ c.args.desk.now c.close.new.desk c.args.self.now.clients c.close.new.self tt (λ s deeds said. tt) c.close.ensures
+returns-then-is_overdue g c = λ office. dropped_hosts g.R.Responder g.N.Network.name c.args.c office _ _ c.args.desk.now c.close.new.desk c.args.self.now.clients c.close.new.self c.close.ensures

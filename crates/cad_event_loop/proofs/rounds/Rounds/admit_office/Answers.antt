@@ -9,7 +9,7 @@ pub returns-then-is_err-clause-hosts : goal.returns-then-is_err-clause-hosts
 returns-then-is_err-clause-hosts g c = λ before comes.
     let watched = Adds-trans _ _ _ (office_came (g.N.Network.name c.args.socket) ∷ []) [] comes c.watch.ensures.done in
     let gone = subst (λ (n : ℕ). Adds (g.N.Network.history c.watch.new.self) (g.N.Network.history c.let_go.new.self) (left n ∷ [])) c.watch.ensures.same c.let_go.ensures in
-    unwatched_hosts g.R.Responder g.N.Network.name (g.N.Network.name c.args.socket) before _ _ c.args.desk.now (here g.N.Network.name c.args.self.now) watched gone
+    unwatched_hosts g.R.Responder g.N.Network.name (g.N.Network.name c.args.socket) before _ _ c.args.desk.now (here g.N.Network.name c.args.self.now) c.args.self.now.peers.clients watched gone
 
 pub returns-clause-hosts : goal.returns-clause-hosts
 returns-clause-hosts g c = λ before comes.

@@ -10,13 +10,13 @@ loop-init g c = begins g.R.Responder (g.N.Network.name c.args.socket.now) c.args
 pub returns-in-Some : goal.returns-in-Some
 returns-in-Some g c =
     ended g.R.Responder _ c.args.desk.now c.args.self.now c.loop.counter _ _ _ c.loop.desk c.turn-turned.new.desk c.loop.self c.turn-turned.new.self c.loop.invariant c.turn-turned.result c.turn-turned.ensures
-    c.in-Some.served (sym c.end_at.ensures ∙ c.in-Some.is)
+    c.in-Some.served (let test = c.loop-test.true in omega (arith, test)) (sym c.end_at.ensures ∙ c.in-Some.is)
 
 pub returns-then-not-is_sending : goal.returns-then-not-is_sending
 returns-then-not-is_sending g c =
     let all = none_left (unwritten c.turn-turned.new.self) (λ sending. (let told = c.is_sending.ensures.1 sending in let not = c.if-not-is_sending.true in cc)) in
     went_out g.R.Responder _ c.args.desk.now c.args.self.now c.loop.counter _ _ _ c.loop.desk c.turn-turned.new.desk c.loop.self c.turn-turned.new.self c.loop.invariant c.turn-turned.result c.turn-turned.ensures
-    (sym c.end_at.ensures ∙ c.in_default.is) (c.has_written.ensures c.if-has_written.true) all
+    (let test = c.loop-test.true in omega (arith, test)) (sym c.end_at.ensures ∙ c.in_default.is) (c.has_written.ensures c.if-has_written.true) all
 
 pub loop-preserved : goal.loop-preserved
 loop-preserved g c =

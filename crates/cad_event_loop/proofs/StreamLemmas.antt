@@ -1,0 +1,587 @@
+-- What is written to the land office is the answers to the lines that were read of it.
+use Rattle.std.proofs.Common.{◌≡◌, ◌⊎◌, ℕ, nat_eq, Bool, true, false, cond, not, ◌&&◌, List, [], ◌∷◌, ◌++◌, codes, length, map, filter, None, Some, refl, sym, ap, subst, ◌∙◌, append-nil, append_assoc, inl, inr, if◌then◌else◌, arith}
+use Rattle.std.proofs.lemmas.Bool.{eq-eqb}
+use Rattle.std.proofs.lemmas.Bool.Decides.{nat_tests}
+use Rattle.std.specs.List.{list_all, slice_split}
+use Rattle.cad_stream.specs.declared.responder.Responder.{Ghosts}
+use Rattle.cad_desk.specs.declared.desk.Desk.{Desk}
+use Rattle.cad_network.specs.Deeds.{Deed, woke, office_came, left, given_by, taken_by, comes, IsQuiet}
+use Rattle.cad_network.specs.lemmas.DeedLemmas.{given_by-append, taken_by-append, given_by-one, taken_by-one, comes-append, or_none}
+use Rattle.cad_clients.specs.declared.channel.Channel.{Channel}
+use Rattle.cad_office.specs.Lines.{is_lf, is_filled, lines_in}
+use Rattle.cad_office_socket.specs.declared.entry.Entry.{Entry}
+use Rattle.cad_office_socket.specs.declared.turned.EntryTurned.{EntryTurned}
+use Rattle.cad_office_socket.specs.declared.turned.EntryTurned.TheVariants.{Wrote, Took, Added, Answered, Lost, Stops, Waits, Over}
+use Rattle.cad_office_socket.specs.Buffering.{IsOfOneLine}
+use Rattle.cad_office_socket.specs.Turns.{unread, unwritten, has_ended, HasBegun, EndsLine, IsTaken, IsCutOff, IsEntryTurn}
+use Rattle.cad_event_loop.specs.Works.{AtOffice, Place, Work, wakes, opens, acts, waits, ends, office_comes, enters, office_leaves, aside, is_last, deeds_in, deeds_of, all_deeds, Works, Goes}
+use Rattle.cad_event_loop.specs.Streams.{ends_line, answer_text, answer_texts, IsLeftWell, EndsWell, TakesLine, LinesCome, OfficeIsAnswered}
+use Rattle.cad_event_loop.proofs.GoesLemmas.{all_deeds-append, aside_passes, woken_quiet}
+use Rattle.cad_event_loop.proofs.LifeLemmas.{apart, none_some, one_some}
+use Rattle.cad_event_loop.proofs.ApartLemmas.{NotIn, NotHeld, puts_other, puts_none, act_quiet, differs, leaves_quiet, kept_slots, unheld}
+
+-- ---- lines
+
+false_true : false ≡ true → ⊥
+false_true e = cc
+
+and_first : (a b : Bool) → (a && b) ≡ true → (a ≡ true) × (b ≡ true)
+and_first true b e = (refl, e)
+and_first false b e = absurd (false_true e)
+
+not_true : (a : Bool) → not a ≡ true → a ≡ false
+not_true true e = absurd (false_true e)
+not_true false e = refl
+
+-- what stands before an LF is one part
+split_first : (part rest : List ℕ) → IsOfOneLine part → slice_split is_lf (part ++ 10 ∷ rest) ≡ part ∷ slice_split is_lf rest
+split_first [] rest one = refl
+split_first (byte ∷ part) rest one =
+    let both = and_first (not (is_lf byte)) (list_all (λ it. not (is_lf it)) part) one in
+    rw (not_true (is_lf byte) both.0, split_first part rest both.1) refl
+
+split_last : (part : List ℕ) → IsOfOneLine part → slice_split is_lf part ≡ part ∷ []
+split_last [] one = refl
+split_last (byte ∷ part) one =
+    let both = and_first (not (is_lf byte)) (list_all (λ it. not (is_lf it)) part) one in
+    rw (not_true (is_lf byte) both.0, split_last part both.1) refl
+
+filled : (byte : ℕ) (text : List ℕ) → is_filled (byte ∷ text) ≡ true
+filled byte text = grind (arith, nat_tests)
+
+kept_first : (part : List ℕ) (parts : List (List ℕ)) → is_filled part ≡ true → filter is_filled (part ∷ parts) ≡ part ∷ filter is_filled parts
+kept_first part parts e = ap (λ (b : Bool). cond b (part ∷ filter is_filled parts) (filter is_filled parts)) e
+
+pub line_first : (text rest : List ℕ) → IsOfOneLine text → (text ≡ [] → ⊥) → lines_in (text ++ 10 ∷ rest) ≡ text ∷ lines_in rest
+unfolding lines_in
+line_first [] rest one some = absurd (some refl)
+line_first (byte ∷ text) rest one some = ap (filter is_filled) (split_first (byte ∷ text) rest one) ∙ kept_first (byte ∷ text) (slice_split is_lf rest) (filled byte text)
+
+pub line_empty : (rest : List ℕ) → lines_in (10 ∷ rest) ≡ lines_in rest
+unfolding lines_in
+line_empty rest = refl
+
+pub line_last : (text : List ℕ) → IsOfOneLine text → (text ≡ [] → ⊥) → lines_in text ≡ text ∷ []
+unfolding lines_in
+line_last [] one some = absurd (some refl)
+line_last (byte ∷ text) one some = ap (filter is_filled) (split_last (byte ∷ text) one) ∙ kept_first (byte ∷ text) [] (filled byte text)
+
+pub line_none : lines_in [] ≡ []
+unfolding lines_in
+line_none = refl
+
+one_line-append : (xs ys : List ℕ) → IsOfOneLine xs → IsOfOneLine ys → IsOfOneLine (xs ++ ys)
+one_line-append [] ys x y = y
+one_line-append (byte ∷ xs) ys x y =
+    let both = and_first (not (is_lf byte)) (list_all (λ it. not (is_lf it)) xs) x in
+    rw (both.0, one_line-append xs ys both.1 y) refl
+
+-- ---- what is left to say from a moment on
+
+-- the line that has begun has this text, and none has where the office sends no more
+record IsReady (begun : List ℕ) (entry : Entry) : Type 0 where
+  has : HasBegun begun entry
+  one : IsOfOneLine begun
+  ended : has_ended entry ≡ true → (unread entry ≡ []) × (begun ≡ [])
+
+record IsStream (begun : List ℕ) (entry : Entry) (Come : List (List ℕ) → Type 0) (texts : List ℕ) (Well : Type 0) (read written : List ℕ) : Type 0 where
+  lines : List (List ℕ)
+  more : List (List ℕ)
+  rest : List ℕ
+  ended : lines_in (begun ++ (unread entry ++ read)) ≡ lines ++ more
+  come : Come lines
+  answered : unwritten entry ++ texts ≡ written ++ rest
+  all : Well → (more ≡ []) × (rest ≡ [])
+  none : has_ended entry ≡ true → read ≡ []
+
+same_bytes : (begun : List ℕ) (entry : Entry) (Come : List (List ℕ) → Type 0) (texts : List ℕ) (Well : Type 0) (read written more_read more_written : List ℕ) → more_read ≡ read → more_written ≡ written
+    → IsStream begun entry Come texts Well read written → IsStream begun entry Come texts Well more_read more_written
+same_bytes begun entry Come texts Well read written more_read more_written e f s =
+    subst (λ (r : List ℕ). IsStream begun entry Come texts Well r more_written) (sym e) (subst (λ (w : List ℕ). IsStream begun entry Come texts Well read w) (sym f) s)
+
+-- the office is not here any more
+gone_stream : (begun : List ℕ) (entry : Entry) (Come : List (List ℕ) → Type 0) (texts : List ℕ) (Well : Type 0) (read written : List ℕ) → Come [] → texts ≡ [] → (Well → ⊥) → read ≡ [] → written ≡ []
+    → IsStream begun entry Come texts Well read written
+gone_stream begun entry Come texts Well read written come none never unread_more unwritten_more = record {
+  lines = [];
+  more = lines_in (begun ++ (unread entry ++ read));
+  rest = unwritten entry;
+  ended = refl;
+  come = come;
+  answered = rw (none, unwritten_more) (append-nil (unwritten entry));
+  all = λ well. absurd (never well);
+  none = λ ended. unread_more;
+}
+
+module _ {R : Type 0} (g : Ghosts R) (o : ℕ) where
+  -- a turn at which the connection goes on or a line ends, and what is left to say after it
+  record IsStep (turned : EntryTurned) (old mid : Desk R) (begun : List ℕ) (entry after : Entry) (own : List Deed) : Type 1 where
+    ls : List (List ℕ)
+    next : List ℕ
+    ready : IsReady next after
+    read : (later : List ℕ) → (has_ended after ≡ true → later ≡ []) → lines_in (begun ++ (unread entry ++ (given_by o own ++ later))) ≡ ls ++ lines_in (next ++ (unread after ++ later))
+    comes_to : (Come : List (List ℕ) → Type 0) (lines : List (List ℕ)) → Come lines → TakesLine g (ends_line turned) old turned mid Come (ls ++ lines)
+    written : unwritten entry ++ answer_text turned ≡ taken_by o own ++ unwritten after
+    none : has_ended entry ≡ true → (given_by o own ≡ []) × (has_ended after ≡ true)
+
+  step_then : (turned : EntryTurned) (old mid : Desk R) (begun : List ℕ) (entry after : Entry) (own deeds : List Deed) (Come : List (List ℕ) → Type 0) (texts : List ℕ) (Well : Type 0) (read written : List ℕ)
+      → (IsLeftWell o turned deeds → ⊥) → (s : IsStep turned old mid begun entry after own) → IsStream s.next after Come texts Well read written
+      → IsStream begun entry (TakesLine g (ends_line turned) old turned mid Come) (answer_text turned ++ texts) (IsLeftWell o turned deeds ⊎ Well) (given_by o own ++ read) (taken_by o own ++ written)
+  step_then turned old mid begun entry after own deeds Come texts Well read written never s later = record {
+    lines = s.ls ++ later.lines;
+    more = later.more;
+    rest = later.rest;
+    ended = s.read read later.none ∙ (ap (λ (l : List (List ℕ)). s.ls ++ l) later.ended ∙ sym (append_assoc s.ls later.lines later.more));
+    come = s.comes_to Come later.lines later.come;
+    answered = sym (append_assoc (unwritten entry) (answer_text turned) texts)
+        ∙ (ap (λ (l : List ℕ). l ++ texts) s.written
+        ∙ (append_assoc (taken_by o own) (unwritten after) texts
+        ∙ (ap (λ (l : List ℕ). taken_by o own ++ l) later.answered ∙ sym (append_assoc (taken_by o own) written later.rest))));
+    all = λ well. elim well [
+      | inl now ↦ absurd (never now)
+      | inr later_on ↦ later.all later_on
+    ];
+    none = λ ended. let both = s.none ended in rw (both.0, later.none both.1) refl;
+  }
+
+  -- a line with this text ends
+  record IsEnded (turned : EntryTurned) (old mid : Desk R) (text : List ℕ) (after : Entry) : Type 1 where
+    ls : List (List ℕ)
+    has : HasBegun [] after
+    whole : (rest : List ℕ) → lines_in (text ++ 10 ∷ rest) ≡ ls ++ lines_in rest
+    last : lines_in text ≡ ls
+    comes_to : (Come : List (List ℕ) → Type 0) (lines : List (List ℕ)) → Come lines → TakesLine g (ends_line turned) old turned mid Come (ls ++ lines)
+    written : answer_text turned ≡ unwritten after
+
+  ended_text : (turned : EntryTurned) (old mid : Desk R) (text : List ℕ) (after : Entry) → IsOfOneLine text → EndsLine g text old turned mid after → IsEnded turned old mid text after
+  ended_text Added old mid text after one e = record {
+    ls = [];
+    has = e.3;
+    whole = λ rest. rw e.0 (line_empty rest);
+    last = rw e.0 line_none;
+    comes_to = λ Come lines come. come;
+    written = sym e.2;
+  }
+  ended_text (Answered answer) old mid text after one e = record {
+    ls = text ∷ [];
+    has = e.3;
+    whole = λ rest. line_first text rest one e.0.0;
+    last = line_last text one e.0.0;
+    comes_to = λ Come lines come. (e.1, come);
+    written = sym e.2;
+  }
+  ended_text (Lost answer) old mid text after one e = record {
+    ls = text ∷ [];
+    has = e.3;
+    whole = λ rest. line_first text rest one e.0.0;
+    last = line_last text one e.0.0;
+    comes_to = λ Come lines come. (e.1, come);
+    written = sym e.2;
+  }
+  ended_text Stops old mid text after one e =
+      let some : (text ≡ [] → ⊥) = (λ none. (let clash : ◌≡◌ {A = List ℕ} [] (codes "stop") = sym none ∙ e.0 in cc)) in
+      record {
+        ls = text ∷ [];
+        has = e.3;
+        whole = λ rest. line_first text rest one some;
+        last = line_last text one some;
+        comes_to = λ Come lines come. ((e.0, e.1), come);
+        written = sym e.2;
+      }
+  ended_text Over old mid text after one e = absurd e
+  ended_text Wrote old mid text after one e = absurd e
+  ended_text Took old mid text after one e = absurd e
+  ended_text Waits old mid text after one e = absurd e
+
+  no_more : (entry : Entry) (what : Type 0) → has_ended entry ≡ false → has_ended entry ≡ true → what
+  no_more entry what goes ended = absurd (false_true (sym goes ∙ ended))
+
+  -- bytes of a line are taken, or it ends
+  taken_step : (turned : EntryTurned) (old mid : Desk R) (begun : List ℕ) (entry after : Entry) (own : List Deed) → IsReady begun entry → IsTaken g o old entry turned mid after own → IsStep turned old mid begun entry after own
+  taken_step turned old mid begun entry after own ready t = elim t.1 [
+    | inl some ↦
+        let goes : has_ended entry ≡ true → ⊥ = (λ ended. let none = ap (λ (l : List ℕ). length l) (ready.ended ended).0 in let there = some.1 in omega (arith, none, there)) in
+        let fed = some.2 begun ready.has in
+        elim fed.2 [
+          | inl on ↦ subst (λ (it : EntryTurned). IsStep it old mid begun entry after own) (sym on.0) record {
+            ls = [];
+            next = begun ++ fed.0;
+            ready = record { has = on.5; one = one_line-append begun fed.0 ready.one fed.1; ended = λ ended. absurd (goes (sym some.3 ∙ ended)) };
+            read = λ later still. rw (some.0, on.3, on.4) (ap (λ (l : List ℕ). lines_in l) (sym (append_assoc begun fed.0 later)));
+            comes_to = λ Come lines come. come;
+            written = rw (some.0, t.0, on.2) refl;
+            none = λ ended. absurd (goes ended);
+          }
+          | inr end ↦
+              let text = begun ++ fed.0 in
+              let e = ended_text turned old mid text after (one_line-append begun fed.0 ready.one fed.1) end.1 in
+              record {
+                ls = e.ls;
+                next = [];
+                ready = record { has = e.has; one = refl; ended = λ ended. absurd (goes (sym some.3 ∙ ended)) };
+                read = λ later still.
+                    rw (some.0, end.0)
+                    (ap (λ (l : List ℕ). lines_in (begun ++ l)) (append_assoc fed.0 (10 ∷ unread after) later) ∙ (ap (λ (l : List ℕ). lines_in l) (sym (append_assoc begun fed.0 (10 ∷ (unread after ++ later)))) ∙ e.whole (unread after ++ later)));
+                comes_to = e.comes_to;
+                written = rw (some.0, t.0) e.written;
+                none = λ ended. absurd (goes ended);
+              }
+        ]
+    | inr last ↦
+        let line = last.2 begun ready.has in
+        let e = ended_text turned old mid begun after ready.one line.0 in
+        let after_none : unread after ≡ [] = line.1 ∙ last.1 in
+        record {
+          ls = e.ls;
+          next = [];
+          ready = record { has = e.has; one = refl; ended = λ ended. (after_none, refl) };
+          read = λ later still.
+              rw (last.0, given_by-one o [], last.1, after_none, still last.3, line_none) (ap (λ (l : List ℕ). lines_in l) (append-nil begun) ∙ (e.last ∙ sym (append-nil e.ls)));
+          comes_to = e.comes_to;
+          written = rw (last.0, t.0) e.written;
+          none = no_more entry ((given_by o own ≡ []) × (has_ended after ≡ true)) last.4;
+        }
+  ]
+
+  -- a turn after which the office is here, or a line was answered
+  turn_step : (turned : EntryTurned) (old mid : Desk R) (begun : List ℕ) (entry after : Entry) (own : List Deed) → IsReady begun entry → (turned ≡ Over → ⊥) → IsEntryTurn g o old entry turned mid after own
+      → IsStep turned old mid begun entry after own
+  turn_step Wrote old mid begun entry after own ready not t = record {
+    ls = [];
+    next = begun;
+    ready = record { has = rw t.5 ready.has; one = ready.one; ended = λ ended. let both = ready.ended (sym t.7 ∙ ended) in (t.4 ∙ both.0, both.1) };
+    read = λ later still. rw (t.1, t.4) refl;
+    comes_to = λ Come lines come. come;
+    written = rw (t.1, taken_by-one o t.0) (append-nil (unwritten entry) ∙ t.3);
+    none = λ ended. (rw t.1 refl, t.7 ∙ ended);
+  }
+  turn_step Took old mid begun entry after own ready not t = record {
+    ls = [];
+    next = begun;
+    ready = record { has = rw t.6 ready.has; one = ready.one; ended = λ ended. no_more entry ((unread after ≡ []) × (begun ≡ [])) t.3.2 (sym t.8 ∙ ended) };
+    read = λ later still. rw (t.1, given_by-one o t.0, t.3.1, t.5) refl;
+    comes_to = λ Come lines come. come;
+    written = rw (t.1, t.3.0, t.4) refl;
+    none = no_more entry ((given_by o own ≡ []) × (has_ended after ≡ true)) t.3.2;
+  }
+  turn_step Waits old mid begun entry after own ready not t = subst (λ (it : Entry). IsStep Waits old mid begun entry it own) (sym t.3) record {
+    ls = [];
+    next = begun;
+    ready = ready;
+    read = λ later still. rw t.0 refl;
+    comes_to = λ Come lines come. come;
+    written = rw t.0 (append-nil (unwritten entry));
+    none = λ ended. (rw t.0 refl, ended);
+  }
+  turn_step Added old mid begun entry after own ready not t = taken_step Added old mid begun entry after own ready t
+  turn_step (Answered answer) old mid begun entry after own ready not t = taken_step (Answered answer) old mid begun entry after own ready t
+  turn_step (Lost answer) old mid begun entry after own ready not t = taken_step (Lost answer) old mid begun entry after own ready t
+  turn_step Stops old mid begun entry after own ready not t = taken_step Stops old mid begun entry after own ready t
+  turn_step Over old mid begun entry after own ready not t = absurd (not refl)
+
+  -- the connection is over, and nothing is done at its socket then
+  over_read : (entry : Entry) (own : List Deed) → IsCutOff g o entry own → (taken_by o own ≡ []) × (has_ended entry ≡ true → given_by o own ≡ [])
+  over_read entry own cut = elim cut [
+    | inl well ↦ (rw well.0 refl, λ ended. rw well.0 refl)
+    | inr more ↦
+        elim more [
+          | inl unwritten ↦
+              elim unwritten.0 [
+                | inl undone ↦ (rw undone refl, λ ended. rw undone refl)
+                | inr none ↦ (rw none (taken_by-one o []), λ ended. rw none refl)
+              ]
+          | inr rest ↦
+              elim rest [
+                | inl undone ↦ (rw undone.0 refl, λ ended. rw undone.0 refl)
+                | inr unkept ↦ (rw unkept.1 refl, no_more entry (given_by o own ≡ []) unkept.3.2)
+              ]
+        ]
+  ]
+
+  -- it ended well where nothing was done at its socket
+  over_well : (entry : Entry) (own : List Deed) → IsCutOff g o entry own → own ++ left o ∷ [] ≡ left o ∷ [] → (own ≡ []) × (unwritten entry ≡ []) × (has_ended entry ≡ true)
+  over_well entry own cut same = elim cut [
+    | inl well ↦ well
+    | inr more ↦
+        elim more [
+          | inl unwritten ↦
+              elim unwritten.0 [
+                | inl undone ↦ (let clash = rw undone at same in cc)
+                | inr none ↦ (let clash = rw none at same in cc)
+              ]
+          | inr rest ↦
+              elim rest [
+                | inl undone ↦ (let clash = rw undone.0 at same in cc)
+                | inr unkept ↦ (let clash = rw unkept.1 at same in cc)
+              ]
+        ]
+  ]
+
+  over_stream : (begun : List ℕ) (entry : Entry) (own deeds : List Deed) (Come : List (List ℕ) → Type 0) (texts : List ℕ) (Well : Type 0) (read written : List ℕ)
+      → IsReady begun entry → IsCutOff g o entry own → deeds ≡ own ++ left o ∷ [] → Come [] → texts ≡ [] → (Well → ⊥) → read ≡ [] → written ≡ []
+      → IsStream begun entry Come texts (IsLeftWell o Over deeds ⊎ Well) (given_by o own ++ read) (taken_by o own ++ written)
+  over_stream begun entry own deeds Come texts Well read written ready cut are come none never unread_more unwritten_more =
+      let bytes = over_read entry own cut in
+      record {
+        lines = [];
+        more = lines_in (begun ++ (unread entry ++ (given_by o own ++ read)));
+        rest = unwritten entry;
+        ended = refl;
+        come = come;
+        answered = rw (none, unwritten_more, bytes.0) (append-nil (unwritten entry));
+        all = λ well. elim well [
+          | inl now ↦
+              let end = over_well entry own cut (sym are ∙ now) in
+              let nothing = ready.ended end.2 in
+              (rw (end.0, unread_more, nothing.0, nothing.1) line_none, end.1)
+          | inr later_on ↦ absurd (never later_on)
+        ];
+        none = λ ended. rw (bytes.1 ended, unread_more) refl;
+      }
+
+  -- ---- the office's turns among all that is done
+
+  -- nothing is said of it where it is not here
+  record IsGone (works : List Work) (old new : Desk R) (here next : Place) (goes : Goes g old here works new next) : Type 0 where
+    come : LinesCome g o works old new here next goes []
+    texts : answer_texts o works ≡ []
+    never : EndsWell o works → ⊥
+
+  -- one thing is done while it is not here
+  apart_step : (work : Work) (later : List Deed) (old mid : Desk R) (here between : Place) → NotHeld o here → Works g old here work mid between → comes o (deeds_of work ++ later) ≡ false → NotHeld o between × (comes o later ≡ false)
+  apart_step work later old mid here between not works none =
+      let parts = or_none (comes o (deeds_of work)) (comes o later) (sym (comes-append o (deeds_of work) later) ∙ none) in
+      let first : comes o (all_deeds (work ∷ [])) ≡ false = ap (λ (l : List Deed). comes o l) (append-nil (deeds_of work)) ∙ parts.0 in
+      ((unheld g o (work ∷ []) old mid here between (mid, between, works, (refl, refl)) not first).1, parts.1)
+
+  gone : (works : List Work) (old new : Desk R) (here next : Place) (goes : Goes g old here works new next) → NotHeld o here → comes o (all_deeds works) ≡ false → IsGone works old new here next goes
+  gone [] old new here next goes not none = record { come = refl; texts = refl; never = λ well. well }
+  gone (wakes places ∷ later) old new here next goes not none =
+      let step = apart_step (wakes places) (all_deeds later) old goes.0 here goes.1 not goes.2 none in
+      let rest = gone later goes.0 new goes.1 next goes.3 step.0 step.1 in
+      record { come = rest.come; texts = rest.texts; never = rest.never }
+  gone (opens s c ∷ later) old new here next goes not none =
+      let step = apart_step (opens s c) (all_deeds later) old goes.0 here goes.1 not goes.2 none in
+      let rest = gone later goes.0 new goes.1 next goes.3 step.0 step.1 in
+      record { come = rest.come; texts = rest.texts; never = rest.never }
+  gone (acts s c act ∷ later) old new here next goes not none =
+      let step = apart_step (acts s c act) (all_deeds later) old goes.0 here goes.1 not goes.2 none in
+      let rest = gone later goes.0 new goes.1 next goes.3 step.0 step.1 in
+      record { come = rest.come; texts = rest.texts; never = rest.never }
+  gone (waits s c ∷ later) old new here next goes not none =
+      let step = apart_step (waits s c) (all_deeds later) old goes.0 here goes.1 not goes.2 none in
+      let rest = gone later goes.0 new goes.1 next goes.3 step.0 step.1 in
+      record { come = rest.come; texts = rest.texts; never = rest.never }
+  gone (ends s c cause deeds said ∷ later) old new here next goes not none =
+      let step = apart_step (ends s c cause deeds said) (all_deeds later) old goes.0 here goes.1 not goes.2 none in
+      let rest = gone later goes.0 new goes.1 next goes.3 step.0 step.1 in
+      record { come = rest.come; texts = rest.texts; never = rest.never }
+  gone (office_comes p ∷ later) old new here next goes not none =
+      let step = apart_step (office_comes p) (all_deeds later) old goes.0 here goes.1 not goes.2 none in
+      let rest = gone later goes.0 new goes.1 next goes.3 step.0 step.1 in
+      record { come = rest.come; texts = rest.texts; never = rest.never }
+  gone (office_leaves p ∷ later) old new here next goes not none =
+      let step = apart_step (office_leaves p) (all_deeds later) old goes.0 here goes.1 not goes.2 none in
+      let rest = gone later goes.0 new goes.1 next goes.3 step.0 step.1 in
+      record { come = rest.come; texts = rest.texts; never = rest.never }
+  gone (aside deeds said ∷ later) old new here next goes not none =
+      let step = apart_step (aside deeds said) (all_deeds later) old goes.0 here goes.1 not goes.2 none in
+      let rest = gone later goes.0 new goes.1 next goes.3 step.0 step.1 in
+      record { come = rest.come; texts = rest.texts; never = rest.never }
+  gone (enters p text turned deeds said ∷ later) old new here next goes not none =
+      let step = apart_step (enters p text turned deeds said) (all_deeds later) old goes.0 here goes.1 not goes.2 none in
+      let rest = gone later goes.0 new goes.1 next goes.3 step.0 step.1 in
+      let other = differs p o (λ same. not.1 goes.2.0 (goes.2.3 ∙ ap (λ (n : ℕ). Some (n, goes.2.0)) same)) in
+      record {
+        come = rw other rest.come;
+        texts = rw other rest.texts;
+        never = λ well. elim well [
+          | inl here_now ↦ apart p o other here_now.0
+          | inr later_on ↦ rest.never later_on
+        ];
+      }
+
+  abbrev Streams : (begun : List ℕ) (entry : Entry) (works : List Work) (old new : Desk R) (here next : Place) → Goes g old here works new next → Type 0
+  Streams begun entry works old new here next goes =
+      IsStream begun entry (LinesCome g o works old new here next goes) (answer_texts o works) (EndsWell o works) (given_by o (all_deeds works)) (taken_by o (all_deeds works))
+
+  -- the office left, and its socket comes no more
+  gone_streams : (begun : List ℕ) (entry : Entry) (works : List Work) (old new : Desk R) (here next : Place) (goes : Goes g old here works new next) → NotHeld o here → comes o (all_deeds works) ≡ false → Streams begun entry works old new here next goes
+  gone_streams begun entry works old new here next goes not none =
+      let is = gone works old new here next goes not none in
+      let quiet = (unheld g o works old new here next goes not none).0 in
+      gone_stream begun entry (LinesCome g o works old new here next goes) (answer_texts o works) (EndsWell o works) (given_by o (all_deeds works)) (taken_by o (all_deeds works)) is.come is.texts is.never quiet.0 quiet.1
+
+  given_more : (deeds rest : List Deed) → IsQuiet o deeds → given_by o (deeds ++ rest) ≡ given_by o rest
+  given_more deeds rest quiet = given_by-append o deeds rest ∙ rw quiet.0 refl
+
+  taken_more : (deeds rest : List Deed) → IsQuiet o deeds → taken_by o (deeds ++ rest) ≡ taken_by o rest
+  taken_more deeds rest quiet = taken_by-append o deeds rest ∙ rw quiet.1 refl
+
+  -- what is done at other sockets says nothing of it
+  beside : (begun : List ℕ) (entry : Entry) (deeds : List Deed) (later : List Work) (old new : Desk R) (here next : Place) (goes : Goes g old here later new next) → IsQuiet o deeds → Streams begun entry later old new here next goes
+      → IsStream begun entry (LinesCome g o later old new here next goes) (answer_texts o later) (EndsWell o later) (given_by o (deeds ++ all_deeds later)) (taken_by o (deeds ++ all_deeds later))
+  beside begun entry deeds later old new here next goes quiet s =
+      same_bytes begun entry (LinesCome g o later old new here next goes) (answer_texts o later) (EndsWell o later) (given_by o (all_deeds later)) (taken_by o (all_deeds later)) (given_by o (deeds ++ all_deeds later)) (taken_by o (deeds ++ all_deeds later))
+      (given_more deeds (all_deeds later) quiet) (taken_more deeds (all_deeds later) quiet) s
+
+  last_passes : (own : List Deed) (last : Bool) → (given_by o (own ++ (if last then left o ∷ [] else [])) ≡ given_by o own) × (taken_by o (own ++ (if last then left o ∷ [] else [])) ≡ taken_by o own)
+  last_passes own true = (given_by-append o own (left o ∷ []) ∙ append-nil (given_by o own), taken_by-append o own (left o ∷ []) ∙ append-nil (taken_by o own))
+  last_passes own false = (rw (append-nil own) refl, rw (append-nil own) refl)
+
+  not_left : (turned : EntryTurned) (deeds : List Deed) → (turned ≡ Over → ⊥) → IsLeftWell o turned deeds → ⊥
+  not_left Over deeds not well = not refl
+  not_left Wrote deeds not well = well
+  not_left Took deeds not well = well
+  not_left Added deeds not well = well
+  not_left (Answered answer) deeds not well = well
+  not_left (Lost answer) deeds not well = well
+  not_left Stops deeds not well = well
+  not_left Waits deeds not well = well
+
+  is_over : (turned : EntryTurned) → (turned ≡ Over) ⊎ (turned ≡ Over → ⊥)
+  is_over Over = inl refl
+  is_over Wrote = inr (λ e. cc)
+  is_over Took = inr (λ e. cc)
+  is_over Added = inr (λ e. cc)
+  is_over (Answered answer) = inr (λ e. cc)
+  is_over (Lost answer) = inr (λ e. cc)
+  is_over Stops = inr (λ e. cc)
+  is_over Waits = inr (λ e. cc)
+
+  -- a turn of the office, and what is said after it
+  module _ (begun : List ℕ) (entry after : Entry) (turned : EntryTurned) (old mid : Desk R) (own : List Deed) (Come : List (List ℕ) → Type 0) (texts : List ℕ) (Well : Type 0) (read written : List ℕ)
+      (ready : IsReady begun entry) (turn : IsEntryTurn g o old entry turned mid after own) where
+    abbrev After : List Deed → Type 0
+    After deeds = IsStream begun entry (TakesLine g (ends_line turned) old turned mid Come) (answer_text turned ++ texts) (IsLeftWell o turned deeds ⊎ Well) (given_by o own ++ read) (taken_by o own ++ written)
+
+    -- it is here after it
+    turn_goes : (deeds : List Deed) → (turned ≡ Over → ⊥) → ((next : List ℕ) → IsReady next after → IsStream next after Come texts Well read written) → After deeds
+    turn_goes deeds not later =
+        let step = turn_step turned old mid begun entry after own ready not turn in
+        step_then turned old mid begun entry after own deeds Come texts Well read written (not_left turned deeds not) step (later step.next step.ready)
+
+    -- or it left
+    turn_ends : (deeds : List Deed) → deeds ≡ own ++ left o ∷ [] → Come [] → texts ≡ [] → (Well → ⊥) → read ≡ [] → written ≡ [] → After deeds
+    turn_ends deeds are come none never unread_more unwritten_more = elim (is_over turned) [
+      | inl over ↦
+          let cut = (subst (λ (it : EntryTurned). IsEntryTurn g o old entry it mid after own) over turn).0 in
+          subst (λ (it : EntryTurned). IsStream begun entry (TakesLine g (ends_line it) old it mid Come) (answer_text it ++ texts) (IsLeftWell o it deeds ⊎ Well) (given_by o own ++ read) (taken_by o own ++ written)) (sym over)
+          (over_stream begun entry own deeds Come texts Well read written ready cut are come none never unread_more unwritten_more)
+      | inr not ↦ turn_goes deeds not (λ next is. gone_stream next after Come texts Well read written come none never unread_more unwritten_more)
+    ]
+
+  -- the same as one of the works
+  entered : (p : ℕ) (begun : List ℕ) (entry : Entry) (turned : EntryTurned) (old mid : Desk R) (deeds own : List Deed) (Come : List (List ℕ) → Type 0) (texts : List ℕ) (Well : Type 0) (later : List Deed) (written : List ℕ)
+      → nat_eq p o ≡ true → (given_by o deeds ≡ given_by o own) × (taken_by o deeds ≡ taken_by o own)
+      → IsStream begun entry (TakesLine g (ends_line turned) old turned mid Come) (answer_text turned ++ texts) (IsLeftWell o turned deeds ⊎ Well) (given_by o own ++ given_by o later) (taken_by o own ++ taken_by o later)
+      → IsStream begun entry (TakesLine g (nat_eq p o && ends_line turned) old turned mid Come) (if nat_eq p o then answer_text turned ++ texts else texts) (((p ≡ o) × IsLeftWell o turned deeds) ⊎ Well) (given_by o (deeds ++ later)) (taken_by o (deeds ++ later))
+  entered p begun entry turned old mid deeds own Come texts Well later written same bytes s =
+      let t =
+      same_bytes begun entry (TakesLine g (ends_line turned) old turned mid Come) (answer_text turned ++ texts) (IsLeftWell o turned deeds ⊎ Well) (given_by o own ++ given_by o later) (taken_by o own ++ taken_by o later) (given_by o (deeds ++ later)) (taken_by o (deeds ++ later))
+      (given_by-append o deeds later ∙ ap (λ (l : List ℕ). l ++ given_by o later) bytes.0) (taken_by-append o deeds later ∙ ap (λ (l : List ℕ). l ++ taken_by o later) bytes.1) s in
+      rw same record {
+        lines = t.lines;
+        more = t.more;
+        rest = t.rest;
+        ended = t.ended;
+        come = t.come;
+        answered = t.answered;
+        all = λ well. elim well [
+          | inl now ↦ t.all (inl now.1)
+          | inr later_on ↦ t.all (inr later_on)
+        ];
+        none = t.none;
+      }
+
+  same_office : (p : ℕ) (entry other : Entry) (office : AtOffice) → office ≡ Some (p, other) → office ≡ Some (o, entry) → (p ≡ o) × (other ≡ entry)
+  same_office p entry other office x y =
+      let both = one_some {X = ℕ × Entry} (p, other) (o, entry) (sym x ∙ y) in
+      (ap (λ (it : ℕ × Entry). it.0) both, ap (λ (it : ℕ × Entry). it.1) both)
+
+  streams : (works : List Work) (old new : Desk R) (here next : Place) (goes : Goes g old here works new next) (begun : List ℕ) (entry : Entry) → here.office ≡ Some (o, entry) → NotIn o here.slots → comes o (all_deeds works) ≡ false → IsReady begun entry
+      → Streams begun entry works old new here next goes
+  streams [] old new here next goes begun entry at not none ready = record {
+    lines = [];
+    more = lines_in (begun ++ (unread entry ++ []));
+    rest = unwritten entry;
+    ended = refl;
+    come = refl;
+    answered = append-nil (unwritten entry);
+    all = λ well. absurd well;
+    none = λ ended. refl;
+  }
+  streams (wakes places ∷ later) old new here next goes begun entry at not none ready =
+      let parts = or_none (comes o (map woke places)) (comes o (all_deeds later)) (sym (comes-append o (map woke places) (all_deeds later)) ∙ none) in
+      beside begun entry (map woke places) later goes.0 new goes.1 next goes.3 (woken_quiet o places)
+      (streams later goes.0 new goes.1 next goes.3 begun entry (goes.2.2 ∙ at) (kept_slots g o here.slots goes.1.slots goes.2.1 not) parts.1 ready)
+  streams (opens s c ∷ later) old new here next goes begun entry at not none ready =
+      let parts = or_none (nat_eq s o) (comes o (all_deeds later)) none in
+      streams later goes.0 new goes.1 next goes.3 begun entry (goes.2.5 ∙ at) (puts_other o c s goes.2.0 here.slots goes.1.slots parts.0 goes.2.4 not) parts.1 ready
+  streams (acts s c act ∷ later) old new here next goes begun entry at not none ready =
+      let other = differs s o (λ same. not c goes.2.0 (goes.2.2 ∙ ap (λ (n : ℕ). Some (n, goes.2.0)) same)) in
+      let parts = or_none (comes o (deeds_in s act)) (comes o (all_deeds later)) (sym (comes-append o (deeds_in s act) (all_deeds later)) ∙ none) in
+      beside begun entry (deeds_in s act) later goes.0 new goes.1 next goes.3 (act_quiet o s act other)
+      (streams later goes.0 new goes.1 next goes.3 begun entry (goes.2.5 ∙ at) (puts_other o c s goes.2.1 here.slots goes.1.slots other goes.2.4 not) parts.1 ready)
+  streams (waits s c ∷ later) old new here next goes begun entry at not none ready =
+      streams later goes.0 new goes.1 next goes.3 begun entry (goes.2.5 ∙ at) (kept_slots g o here.slots goes.1.slots goes.2.4 not) none ready
+  streams (ends s c cause deeds said ∷ later) old new here next goes begun entry at not none ready =
+      let other = differs s o (λ same. not c goes.2.0 (goes.2.1 ∙ ap (λ (n : ℕ). Some (n, goes.2.0)) same)) in
+      let parts = or_none (comes o deeds) (comes o (all_deeds later)) (sym (comes-append o deeds (all_deeds later)) ∙ none) in
+      beside begun entry deeds later goes.0 new goes.1 next goes.3 (leaves_quiet g o c s old goes.0 goes.2.0 cause deeds other goes.2.2)
+      (streams later goes.0 new goes.1 next goes.3 begun entry (goes.2.6 ∙ at) (puts_none o c here.slots goes.1.slots goes.2.5 not) parts.1 ready)
+  streams (office_comes p ∷ later) old new here next goes begun entry at not none ready = absurd (none_some {X = ℕ × Entry} (o, entry) (sym goes.2.1 ∙ at))
+  streams (office_leaves p ∷ later) old new here next goes begun entry at not none ready =
+      gone_streams begun entry later goes.0 new goes.1 next goes.3 (kept_slots g o here.slots goes.1.slots goes.2.3 not, λ it is. none_some {X = ℕ × Entry} (o, it) (sym goes.2.2 ∙ is)) none
+  streams (aside deeds said ∷ later) old new here next goes begun entry at not none ready =
+      let parts = or_none (comes o deeds) (comes o (all_deeds later)) (sym (comes-append o deeds (all_deeds later)) ∙ none) in
+      beside begun entry deeds later goes.0 new goes.1 next goes.3 (aside_passes deeds goes.2.3 o parts.0)
+      (streams later goes.0 new goes.1 next goes.3 begun entry (goes.2.4 ∙ at) (kept_slots g o here.slots goes.1.slots goes.2.2 not) parts.1 ready)
+  streams (enters p text turned deeds said ∷ later) old new here next goes begun entry at not none ready =
+      let w = goes.2 in
+      let same = same_office p entry w.0 here.office w.3 at in
+      let turn : IsEntryTurn g o old entry turned goes.0 w.1 w.2 = subst (λ (n : ℕ). IsEntryTurn g n old entry turned goes.0 w.1 w.2) same.0 (subst (λ (it : Entry). IsEntryTurn g p old it turned goes.0 w.1 w.2) same.1 w.4) in
+      let are : deeds ≡ w.2 ++ (if is_last turned then left o ∷ [] else []) = w.5 ∙ ap (λ (n : ℕ). w.2 ++ (if is_last turned then left n ∷ [] else [])) same.0 in
+      let parts = or_none (comes o deeds) (comes o (all_deeds later)) (sym (comes-append o deeds (all_deeds later)) ∙ none) in
+      let slots = kept_slots g o here.slots goes.1.slots w.9 not in
+      let there : goes.1.office ≡ (if is_last turned then None else Some (o, w.1)) = w.8 ∙ ap (λ (n : ℕ). if◌then◌else◌ {A = AtOffice} (is_last turned) None (Some (n, w.1))) same.0 in
+      let bytes = last_passes w.2 (is_last turned) in
+      entered p begun entry turned old goes.0 deeds w.2 (LinesCome g o later goes.0 new goes.1 next goes.3) (answer_texts o later) (EndsWell o later) (all_deeds later) []
+      (eq-eqb p o same.0) (ap (λ (l : List Deed). given_by o l) are ∙ bytes.0, ap (λ (l : List Deed). taken_by o l) are ∙ bytes.1)
+      (by_last (is_last turned) refl are there (λ it is. streams later goes.0 new goes.1 next goes.3 it w.1 is slots parts.1) slots parts.1 turn)
+    where
+      by_last : (last : Bool) → is_last turned ≡ last → deeds ≡ goes.2.2 ++ (if last then left o ∷ [] else []) → goes.1.office ≡ if◌then◌else◌ {A = AtOffice} last None (Some (o, goes.2.1))
+          → ((it : List ℕ) → goes.1.office ≡ Some (o, goes.2.1) → IsReady it goes.2.1 → Streams it goes.2.1 later goes.0 new goes.1 next goes.3)
+          → NotIn o goes.1.slots → comes o (all_deeds later) ≡ false → IsEntryTurn g o old entry turned goes.0 goes.2.1 goes.2.2
+          → IsStream begun entry (TakesLine g (ends_line turned) old turned goes.0 (LinesCome g o later goes.0 new goes.1 next goes.3)) (answer_text turned ++ answer_texts o later) (IsLeftWell o turned deeds ⊎ EndsWell o later)
+          (given_by o goes.2.2 ++ given_by o (all_deeds later)) (taken_by o goes.2.2 ++ taken_by o (all_deeds later))
+      by_last true is are there more slots none_later turn =
+          let gone_now : NotHeld o goes.1 = (slots, λ it held. none_some {X = ℕ × Entry} (o, it) (sym there ∙ held)) in
+          let rest = gone later goes.0 new goes.1 next goes.3 gone_now none_later in
+          let quiet = (unheld g o later goes.0 new goes.1 next goes.3 gone_now none_later).0 in
+          turn_ends begun entry goes.2.1 turned old goes.0 goes.2.2 (LinesCome g o later goes.0 new goes.1 next goes.3) (answer_texts o later) (EndsWell o later) (given_by o (all_deeds later)) (taken_by o (all_deeds later)) ready turn deeds are
+          rest.come rest.texts rest.never quiet.0 quiet.1
+      by_last false is are there more slots none_later turn =
+          turn_goes begun entry goes.2.1 turned old goes.0 goes.2.2 (LinesCome g o later goes.0 new goes.1 next goes.3) (answer_texts o later) (EndsWell o later) (given_by o (all_deeds later)) (taken_by o (all_deeds later)) ready turn deeds
+          (λ over. (let clash : true ≡ false = sym (ap is_last over) ∙ is in cc)) (λ it stands. more it there stands)
+
+pub office_is_answered : {R : Type 0} (g : Ghosts R) → OfficeIsAnswered g
+office_is_answered g o before later old mid new first here next empty goes_before goes none_before none_later =
+    let nobody : NotHeld o first = ((λ d channel at. none_some {X = ℕ × Channel} (o, channel) (sym (empty.0 d) ∙ at)), (λ entry at. none_some {X = ℕ × Entry} (o, entry) (sym empty.1 ∙ at))) in
+    let quiet = unheld g o before old mid first here goes_before nobody none_before in
+    let w = goes.2 in
+    let new_entry = w.2 in
+    let ready : IsReady [] w.0 = record { has = new_entry.none_begun; one = refl; ended = λ ended. (new_entry.none_read, refl) } in
+    let s = streams g o later goes.0 new goes.1 next goes.3 [] w.0 w.3 (kept_slots g o here.slots goes.1.slots w.4 quiet.1.0) none_later ready in
+    let all = all_deeds-append before (office_comes o ∷ later) in
+    let read = ap (λ (l : List Deed). given_by o l) all ∙ given_more g o (all_deeds before) (office_came o ∷ all_deeds later) quiet.0 in
+    let written = ap (λ (l : List Deed). taken_by o l) all ∙ taken_more g o (all_deeds before) (office_came o ∷ all_deeds later) quiet.0 in
+    record {
+      lines = s.lines;
+      more = s.more;
+      unwritten = s.rest;
+      ended = ap (λ (l : List ℕ). lines_in l) (read ∙ sym (ap (λ (l : List ℕ). l ++ given_by o (all_deeds later)) new_entry.none_read)) ∙ s.ended;
+      come = s.come;
+      answered = (sym (ap (λ (l : List ℕ). l ++ answer_texts o later) new_entry.none_written) ∙ s.answered) ∙ ap (λ (l : List ℕ). l ++ s.rest) (sym written);
+      all = s.all;
+    }

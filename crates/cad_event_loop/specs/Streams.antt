@@ -1,0 +1,81 @@
+-- What is read of the land office's socket, and what is written to it (own profile).
+use Rattle.std.specs.Prelude.{◌≡◌, ◌⊎◌, ℕ, nat_eq, Bool, true, false, ◌&&◌, List, [], ◌∷◌, ◌++◌, codes, if◌then◌else◌}
+use Rattle.cad_stream.specs.declared.responder.Responder.{Ghosts}
+use Rattle.cad_desk.specs.declared.desk.Desk.{Desk}
+use Rattle.cad_network.specs.Deeds.{Deed, left, given_by, taken_by, comes}
+use Rattle.cad_office.specs.Answers.{printed}
+use Rattle.cad_office.specs.Keeping.{AnswersLine}
+use Rattle.cad_office.specs.Lines.{lines_in}
+use Rattle.cad_office_socket.specs.declared.turned.EntryTurned.{EntryTurned}
+use Rattle.cad_office_socket.specs.declared.turned.EntryTurned.TheVariants.{Answered, Lost, Stops, Over}
+use Rattle.cad_office_socket.specs.Entries.{EntersAtDesk}
+use Rattle.cad_event_loop.specs.Works.{Place, Work, office_comes, enters, IsEmpty, all_deeds, Goes}
+
+-- a line ended in the turn that is not empty: it was answered, or it is `stop`
+abbrev pub ends_line : EntryTurned → Bool
+ends_line (Answered answer) = true
+ends_line (Lost answer) = true
+ends_line Stops = true
+ends_line other = false
+
+-- what is to be written for it: its answer, if there was memory for the text
+abbrev pub answer_text : EntryTurned → List ℕ
+answer_text (Answered answer) = printed answer
+answer_text other = []
+
+-- in all turns at socket o
+abbrev pub answer_texts : ℕ → List Work → List ℕ
+answer_texts o [] = []
+answer_texts o (enters p text turned deeds said ∷ later) = if nat_eq p o then answer_text turned ++ answer_texts o later else answer_texts o later
+answer_texts o (other ∷ later) = answer_texts o later
+
+-- its connection ended at a turn at which no read and no write failed: the office sent no more, and was answered
+abbrev pub IsLeftWell : ℕ → EntryTurned → List Deed → Type 0
+IsLeftWell o Over deeds = deeds ≡ left o ∷ []
+IsLeftWell o other deeds = ⊥
+
+abbrev pub EndsWell : ℕ → List Work → Type 0
+EndsWell o [] = ⊥
+EndsWell o (enters p text turned deeds said ∷ later) = ((p ≡ o) × IsLeftWell o turned deeds) ⊎ EndsWell o later
+EndsWell o (other ∷ later) = EndsWell o later
+
+module _ {R : Type 0} (g : Ghosts R) where
+  -- what came of a line at the desk: its command is entered, and then it is answered so
+  abbrev pub ComesTo : List ℕ → Desk R → EntryTurned → Desk R → Type 0
+  ComesTo line old (Answered answer) new = AnswersLine (EntersAtDesk g) line old answer new
+  ComesTo line old (Lost answer) new = AnswersLine (EntersAtDesk g) line old answer new
+  ComesTo line old Stops new = (line ≡ codes "stop") × (new ≡ old)
+  ComesTo line old other new = ⊥
+
+  -- the next of the lines did, where one ended
+  abbrev pub TakesLine : Bool → Desk R → EntryTurned → Desk R → (List (List ℕ) → Type 0) → List (List ℕ) → Type 0
+  TakesLine false old turned mid AreLater lines = AreLater lines
+  TakesLine true old turned mid AreLater [] = ⊥
+  TakesLine true old turned mid AreLater (line ∷ lines) = ComesTo line old turned mid × AreLater lines
+
+  -- these lines ended in the turns at socket o, one in each, and nothing else
+  abbrev pub LinesCome : (o : ℕ) (works : List Work) (old new : Desk R) (here next : Place) → Goes g old here works new next → List (List ℕ) → Type 0
+  LinesCome o [] old new here next goes lines = lines ≡ []
+  LinesCome o (enters p text turned deeds said ∷ later) old new here next goes lines =
+      TakesLine (nat_eq p o && ends_line turned) old turned goes.0 (LinesCome o later goes.0 new goes.1 next goes.3) lines
+  LinesCome o (other ∷ later) old new here next goes lines = LinesCome o later goes.0 new goes.1 next goes.3 lines
+
+  -- these bytes were read of socket o, and those were written to it
+  pub record IsOfficeStream (o : ℕ) (works : List Work) (old new : Desk R) (here next : Place) (goes : Goes g old here works new next) (read written : List ℕ) : Type 0 where
+    pub lines : List (List ℕ)
+    pub more : List (List ℕ)
+    pub unwritten : List ℕ
+    -- the first lines of what was read ended, each once and in their order
+    pub ended : lines_in read ≡ lines ++ more
+    pub come : LinesCome o works old new here next goes lines
+    -- what was written is their answers, up to what is left
+    pub answered : answer_texts o works ≡ written ++ unwritten
+    -- where the connection ended well, nothing is left
+    pub all : EndsWell o works → (more ≡ []) × (unwritten ≡ [])
+
+  -- of a socket that came once, and is the land office's, whatever else is done
+  abbrev pub OfficeIsAnswered : Type 0
+  OfficeIsAnswered = (o : ℕ) (before later : List Work) (old mid new : Desk R) (first here next : Place)
+      → IsEmpty first → Goes g old first before mid here → (goes : Goes g mid here (office_comes o ∷ later) new next)
+      → comes o (all_deeds before) ≡ false → comes o (all_deeds later) ≡ false
+      → IsOfficeStream o (office_comes o ∷ later) mid new here next goes (given_by o (all_deeds (before ++ office_comes o ∷ later))) (taken_by o (all_deeds (before ++ office_comes o ∷ later)))
