@@ -1,5 +1,5 @@
-use Rattle.cad_day.proofs.DayTextLemmas.{ok_of_text}
 use Rattle.cad_day.specs.lemmas.DayTextLemmas.{date_text_utf8}
+use Rattle.cad_json.proofs.SendLemmas.{ok_of_text}
 use Rattle.cad_json.proofs.values.send_day.Goals as goal
 
 pub unwrap-requires : goal.unwrap-requires
