@@ -2,4 +2,3 @@
 pub mod Found
 pub mod Inquiring
 pub mod Reading
-pub mod Running
