@@ -16,6 +16,7 @@ pub mod Keeping
 pub mod Opening
 pub mod Ledgers
 pub mod Images
+pub mod Running
 pub mod Laws
 pub mod lemmas
 pub mod inner

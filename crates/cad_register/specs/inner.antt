@@ -3,4 +3,3 @@ pub mod Found
 pub mod Gathering
 pub mod Inquiring
 pub mod Reading
-pub mod Running

@@ -6,7 +6,7 @@
 //! - The types of versions, commands and faults are those of `cad_versions`.
 //!
 //! ```text
-//! let mut register = Register::open_or_create(alloc, Connection::open(rt, "land.db")?)?;
+//! let mut register = Register::open_or_create(alloc, open_file(rt, "land.db", Unknown)?)?;
 //! register.apply(Command::Enter { object, first, body })    // Ok(1), once it is on the disk
 //! register.as_of(1)                                         // Ok, with that version, which is open
 //! register.apply(Command::Enter { object, first, body })    // Err(KnownObject), and nothing changed

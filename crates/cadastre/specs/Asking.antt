@@ -1,12 +1,16 @@
--- Serving a connection over a database, and how that ends a run (own profile).
+-- Serving a connection over a register's file, and how that ends a run (own profile).
 use Rattle.std.specs.Prelude.{◌≡◌, ℕ, List, Option, Result, Ok, Err}
+use Rattle.sqlite_disk.specs.declared.Disk as disk
+use Rattle.sqlite_store.specs.declared.store.FileStore.{FileStore}
 use Rattle.sqlite_trees.specs.declared.store.Store.{Ghosts}
+use Rattle.sqlite.specs.Files.{over_files}
 use Rattle.sqlite.specs.Held.{Held}
+use Rattle.sqlite.specs.Recovery.{Image}
 use Rattle.cad_versions.specs.declared.fault.RegisterFault.{RegisterFault}
 use Rattle.cad_register.specs.declared.register.Register.{Register}
 use Rattle.cad_register.specs.Registers.{connection_of}
 use Rattle.cad_register.specs.Ledgers.{register_as_ledger}
-use Rattle.cad_register.specs.Opening.{Opened}
+use Rattle.cad_register.specs.Running.{RunsInFile}
 use Rattle.cad_serve.specs.Statuses.{EndsWithout}
 use Rattle.cadastre_run.specs.declared.outcome.Outcome.{Outcome}
 use Rattle.cadastre_run.specs.declared.outcome.Outcome.TheVariants as outcome
@@ -27,8 +31,6 @@ module _ {S : Type 0} (g : Ghosts S) (from to before after : Option (List ℕ)) 
   AsksOver (Err refused) ended = EndsUnfound refused ended
   AsksOver (Ok register) ended = AnswersRegister register ended
 
-  -- a connection over a database: its register is found before anything is read, and none is made
-  pub record RunsAsk (lent : Held S) (ended : Outcome × Held S) : Type 0 where
-    pub found : Result (Register S) (RegisterFault × Held S)
-    pub opened : Opened g lent found
-    pub asks : AsksOver found ended
+-- a connection over a file that held this at first: its register is found before anything is read, and none is made
+abbrev pub AsksInFile : {D : Type 0} {d : disk.Ghosts D} → Image → (from to before after : Option (List ℕ)) → Type 0 → Outcome × Held (FileStore D d) → Type 0
+AsksInFile image from to before after AtEnd ended = RunsInFile image (AsksOver over_files from to before after AtEnd) ended

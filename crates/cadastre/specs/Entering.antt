@@ -1,17 +1,20 @@
--- Entering commands into the register of a database (own profile).
+-- Entering commands into the register of a file (own profile).
 use Rattle.std.specs.Prelude.{◌≡◌, ℕ, List, Option, Result, Ok, Err}
+use Rattle.sqlite_disk.specs.declared.Disk as disk
+use Rattle.sqlite_store.specs.declared.store.FileStore.{FileStore}
 use Rattle.sqlite_trees.specs.declared.store.Store.{Ghosts}
+use Rattle.sqlite.specs.Files.{over_files}
 use Rattle.sqlite.specs.Held.{Held}
+use Rattle.sqlite.specs.Recovery.{Image}
 use Rattle.cad_versions.specs.declared.command.Command.{Command}
 use Rattle.cad_versions.specs.declared.fault.RegisterFault.{RegisterFault}
 use Rattle.cad_versions.specs.LedgerCalls.{Applies}
 use Rattle.cad_register.specs.declared.register.Register.{Register}
 use Rattle.cad_register.specs.Registers.{connection_of}
-use Rattle.cad_register.specs.Opening.{OpenedOrCreated}
-use Rattle.cadastre_run.specs.declared.outcome.Outcome.{Outcome}
-use Rattle.cadastre_run.specs.declared.outcome.Outcome.TheVariants as outcome
-use Rattle.cadastre_run.specs.Entering.{EndsOffice}
 use Rattle.cad_register.specs.Ledgers.{register_as_ledger}
+use Rattle.cad_register.specs.Running.{RunsInFileOrNew}
+use Rattle.cadastre_run.specs.declared.outcome.Outcome.{Outcome}
+use Rattle.cadastre_run.specs.Entering.{EndsOffice}
 use Rattle.cadastre.specs.Asking.{EndsUnfound}
 
 module _ {S : Type 0} (g : Ghosts S) (from to before after : Option (List ℕ)) (AtEnd : Type 0) where
@@ -25,12 +28,10 @@ module _ {S : Type 0} (g : Ghosts S) (from to before after : Option (List ℕ)) 
     pub office : EndsOffice AppliesTo from to before after AtEnd register ended.0 left
     pub back : ended.1 ≡ connection_of left
 
-  abbrev pub EndsOver : Result (Register S) (RegisterFault × Held S) → Outcome × Held S → Type 0
-  EndsOver (Err refused) ended = EndsUnfound g from to before after AtEnd refused ended
-  EndsOver (Ok register) ended = EntersInto register ended
+  abbrev pub EntersOver : Result (Register S) (RegisterFault × Held S) → Outcome × Held S → Type 0
+  EntersOver (Err refused) ended = EndsUnfound g from to before after AtEnd refused ended
+  EntersOver (Ok register) ended = EntersInto register ended
 
-  -- the office over a database: its register is found, or made where none stands, before anything is read
-  pub record RunsOffice (lent : Held S) (ended : Outcome × Held S) : Type 0 where
-    pub found : Result (Register S) (RegisterFault × Held S)
-    pub opened : OpenedOrCreated g lent found
-    pub enters : EndsOver found ended
+-- the office over a file that held this at first: its register is found, or made where none stands, before anything is read
+abbrev pub EntersInFile : {D : Type 0} {d : disk.Ghosts D} → Image → (from to before after : Option (List ℕ)) → Type 0 → Outcome × Held (FileStore D d) → Type 0
+EntersInFile image from to before after AtEnd ended = RunsInFileOrNew image (EntersOver over_files from to before after AtEnd) ended

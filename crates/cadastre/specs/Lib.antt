@@ -1,5 +1,5 @@
 pub mod Asking
 pub mod Entering
 pub mod Listening
+pub mod Runs
 pub mod Sampling
-pub mod inner

@@ -1,38 +1,34 @@
-//! The land office, and the server, over a register file.
+//! The land office, and one connection served, over a register file.
 
 ghost use Rattle.std.specs.Io.KnownBytes.{IsAtEnd};
-ghost use Rattle.std.specs.Prelude.{◌≡◌};
-ghost use Rattle.cadastre.specs.Entering.{RunsOffice};
-ghost use Rattle.cadastre.specs.Asking.{RunsAsk};
-ghost use Rattle.cadastre.specs.inner.Opening.{opening_fault};
+ghost use Rattle.std.specs.Prelude.{◌≡◌, IfOk, IfErr};
+ghost use Rattle.sqlite.specs.WalFiles.{image_at};
+ghost use Rattle.cad_register.specs.Images.{IsOpeningFault, IsFindingFault};
+ghost use Rattle.cad_register.specs.Opening.{Opened, OpenedOrCreated};
+ghost use Rattle.cad_register.specs.Running.{RunsOver};
+ghost use Rattle.cadastre.specs.Asking.{AsksOver, AsksInFile};
+ghost use Rattle.cadastre.specs.Entering.{EntersOver, EntersInFile};
+ghost use Rattle.cadastre.specs.Runs.{outcome_of_run};
 
-use cad_io::{Counted, CountedRead, CountedWrite, CountedWriter};
-use cad_register::{Register, RegisterFault};
+use cad_io::{CountedRead, CountedWrite};
+use cad_register::{Register, RegisterFault, open_file, open_standing_file};
 use cadastre_run::{Outcome, answer_over, enter_commands};
-use sqlite::{Alter, Connection, Error, ErrorCode, File, FileStore};
+use sqlite::{Alter, Connection, FileFrom, FileStore, Start};
 use std::alloc::Global;
-use std::fs;
-use std::io::{ErrorKind, Write};
+use std::io::Write;
 
-/// Why a file is not opened.
-fn open_fault(error: Error) -> RegisterFault
-    ensures { result ≡ opening_fault error }
-{
-    match error {
-        Error::SqliteFailure(ErrorCode::OutOfMemory) => RegisterFault::Memory,
-        _ => RegisterFault::Store,
-    }
-}
+/// A run over a file: how it ended and the file's database, to be closed, or why the file was not opened.
+pub type Ran<S> = Result<(Outcome, Connection<FileStore<FileFrom<S>>>), RegisterFault>;
 
 /// Enters the commands of the lines into the register of a database, which is made where none stands, and gives the connection back.
-pub fn run_office_over<S: Alter, R: CountedRead, W: Write>(
+fn enter_over<S: Alter, R: CountedRead, W: Write>(
     alloc: Global,
     connection: Connection<S>,
     reader: &mut R,
     writer: &mut W,
 ) -> (Outcome, Connection<S>)
-    ensures { RunsOffice S.Store (R.remaining reader.old) (R.remaining reader.new)
-        (W.contents writer.old) (W.contents writer.new) (IsAtEnd (R.remaining reader.new)) connection result }
+    ensures { RunsOver (OpenedOrCreated S.Store) (EntersOver S.Store (R.remaining reader.old) (R.remaining reader.new)
+        (W.contents writer.old) (W.contents writer.new) (IsAtEnd (R.remaining reader.new))) connection result }
 {
     match Register::open_or_create(alloc, connection) {
         Ok(mut register) => {
@@ -43,32 +39,31 @@ pub fn run_office_over<S: Alter, R: CountedRead, W: Write>(
     }
 }
 
-/// Enters the commands of standard input into the register of a file, and prints the answers.
-pub fn run_office(rt: &HostRuntime, file: &str) -> Outcome {
-    let connection = match Connection::open(rt, file) {
-        Ok(connection) => connection,
-        Err(error) => return Outcome::Register(open_fault(error)),
-    };
-    let (outcome, connection) = run_office_over(
-        rt.alloc(),
-        connection,
-        &mut Counted::new(rt.stdin()),
-        &mut rt.stdout(),
-    );
-    // The log holds what was accepted where closing fails to copy it into the file.
-    let _ = connection.close();
-    outcome
+/// Enters the commands of the lines into the register of a file, which held this at first, and prints the answers.
+pub fn run_office<S: Start, R: CountedRead, W: Write>(
+    rt: &HostRuntime,
+    file: &str,
+    start: S,
+    reader: &mut R,
+    writer: &mut W,
+) -> Ran<S>
+    ensures ran { IfOk result (EntersInFile (image_at S.Start) (R.remaining reader.old) (R.remaining reader.new)
+        (W.contents writer.old) (W.contents writer.new) (IsAtEnd (R.remaining reader.new))) }
+    ensures unopened { IfErr result (λ fault. IsOpeningFault fault × (reader.new ≡ reader.old) × (writer.new ≡ writer.old)) }
+{
+    let connection = open_file(rt, file, start)?;
+    Ok(enter_over(rt.alloc(), connection, reader, writer))
 }
 
 /// Serves a connection over the register of a database, and gives the database's connection back.
-pub fn run_ask_over<S: Alter, R: CountedRead, W: CountedWrite>(
+fn ask_over<S: Alter, R: CountedRead, W: CountedWrite>(
     alloc: Global,
     connection: Connection<S>,
     reader: &mut R,
     writer: &mut W,
 ) -> (Outcome, Connection<S>)
-    ensures { RunsAsk S.Store (R.remaining reader.old) (R.remaining reader.new)
-        (W.contents writer.old) (W.contents writer.new) (IsAtEnd (R.remaining reader.new)) connection result }
+    ensures { RunsOver (Opened S.Store) (AsksOver S.Store (R.remaining reader.old) (R.remaining reader.new)
+        (W.contents writer.old) (W.contents writer.new) (IsAtEnd (R.remaining reader.new))) connection result }
 {
     match Register::open(alloc, connection) {
         Ok(register) => {
@@ -79,37 +74,32 @@ pub fn run_ask_over<S: Alter, R: CountedRead, W: CountedWrite>(
     }
 }
 
-/// Whether there is no file, or one without a byte. A database's first page is written whole before its log counts, so such a file holds none.
-fn is_nothing(rt: &HostRuntime, file: &str) -> bool {
-    match fs::metadata(rt, file) {
-        Ok(found) => found.is_file() && found.len() == 0,
-        Err(error) => error.kind() == ErrorKind::NotFound,
-    }
-}
-
-/// The database of a file. Where there is no file none is made, and an empty one stays empty.
-pub fn open_standing(
+/// Serves a connection over the register of a file, which held this at first.
+pub fn run_ask<S: Start, R: CountedRead, W: CountedWrite>(
     rt: &HostRuntime,
     file: &str,
-) -> Result<Connection<FileStore<File>>, RegisterFault> {
-    if is_nothing(rt, file) {
-        return Err(RegisterFault::NotARegister);
-    }
-    Connection::open(rt, file).map_err(open_fault)
+    start: S,
+    reader: &mut R,
+    writer: &mut W,
+) -> Ran<S>
+    ensures ran { IfOk result (AsksInFile (image_at S.Start) (R.remaining reader.old) (R.remaining reader.new)
+        (W.contents writer.old) (W.contents writer.new) (IsAtEnd (R.remaining reader.new))) }
+    ensures unopened { IfErr result (λ fault. IsFindingFault fault × (reader.new ≡ reader.old) × (writer.new ≡ writer.old)) }
+{
+    let connection = open_standing_file(rt, file, start)?;
+    Ok(ask_over(rt.alloc(), connection, reader, writer))
 }
 
-/// Serves standard input over the register of a file.
-pub fn run_ask(rt: &HostRuntime, file: &str) -> Outcome {
-    let connection = match open_standing(rt, file) {
-        Ok(connection) => connection,
-        Err(fault) => return Outcome::Register(fault),
-    };
-    let (outcome, connection) = run_ask_over(
-        rt.alloc(),
-        connection,
-        &mut Counted::new(rt.stdin()),
-        &mut CountedWriter::new(rt.stdout()),
-    );
-    let _ = connection.close();
-    outcome
+/// How a run over a file ended. Its database is closed.
+pub fn close<S: Start>(ran: Ran<S>) -> Outcome
+    ensures { result ≡ outcome_of_run ran }
+{
+    match ran {
+        Ok((outcome, connection)) => {
+            // The log holds what was accepted where closing fails to copy it into the file.
+            let _ = connection.close();
+            outcome
+        }
+        Err(fault) => Outcome::Register(fault),
+    }
 }

@@ -1,22 +1,22 @@
 //! Listening for connections over a register file.
 
-ghost use Rattle.cadastre.specs.Listening.{RunsServe};
+ghost use Rattle.std.specs.Prelude.{◌≡◌, IfOk, IfErr};
+ghost use Rattle.sqlite.specs.WalFiles.{image_at};
+ghost use Rattle.cad_register.specs.Images.{IsFindingFault};
+ghost use Rattle.cad_register.specs.Opening.{Opened};
+ghost use Rattle.cad_register.specs.Running.{RunsOver};
+ghost use Rattle.cadastre.specs.Listening.{ServesFound, ServesInFile};
 
-use crate::land::open_standing;
-use cad_register::Register;
+use crate::land::Ran;
+use cad_register::{Register, open_standing_file};
 use cadastre_run::{Outcome, Service, listen_over};
-use sqlite::{Alter, Connection};
+use sqlite::{Alter, Connection, Start};
 use std::alloc::Global;
 use std::io::Write;
 use std::net::{Net, TcpListener, TcpStream};
 
 /// Listens for connections over the register of a database, and gives the database's connection back.
-pub fn run_serve_over<
-    N: Net<Listener = TcpListener, Stream = TcpStream>,
-    S: Alter,
-    W: Write,
-    E: Write,
->(
+fn serve_over<N: Net<Listener = TcpListener, Stream = TcpStream>, S: Alter, W: Write, E: Write>(
     net: &N,
     alloc: Global,
     connection: Connection<S>,
@@ -24,8 +24,8 @@ pub fn run_serve_over<
     writer: &mut W,
     errors: &mut E,
 ) -> (Outcome, Connection<S>)
-    ensures { RunsServe service.entry (W.contents writer.old) (W.contents writer.new)
-        (E.contents errors.old) (E.contents errors.new) S.Store connection result }
+    ensures { RunsOver (Opened S.Store) (ServesFound service.entry (W.contents writer.old) (W.contents writer.new)
+        (E.contents errors.old) (E.contents errors.new) S.Store) connection result }
 {
     match Register::open(alloc, connection) {
         Ok(register) => {
@@ -36,21 +36,20 @@ pub fn run_serve_over<
     }
 }
 
-/// Listens for connections over the register of a file. The address is told on standard output, and what goes wrong with
-/// a connection on standard error.
-pub fn run_serve(rt: &HostRuntime, file: &str, service: Service<'_>) -> Outcome {
-    let connection = match open_standing(rt, file) {
-        Ok(connection) => connection,
-        Err(fault) => return Outcome::Register(fault),
-    };
-    let (outcome, connection) = run_serve_over(
-        rt,
-        rt.alloc(),
-        connection,
-        service,
-        &mut rt.stdout(),
-        &mut rt.stderr(),
-    );
-    let _ = connection.close();
-    outcome
+/// Listens for connections over the register of a file, which held this at first. The address is told by the writer, and what
+/// goes wrong with a connection by the one of errors.
+pub fn run_serve<S: Start, W: Write, E: Write>(
+    rt: &HostRuntime,
+    file: &str,
+    start: S,
+    service: Service<'_>,
+    writer: &mut W,
+    errors: &mut E,
+) -> Ran<S>
+    ensures ran { IfOk result (ServesInFile service.entry (W.contents writer.old) (W.contents writer.new)
+        (E.contents errors.old) (E.contents errors.new) (image_at S.Start)) }
+    ensures unopened { IfErr result (λ fault. IsFindingFault fault × (writer.new ≡ writer.old) × (errors.new ≡ errors.old)) }
+{
+    let connection = open_standing_file(rt, file, start)?;
+    Ok(serve_over(rt, rt.alloc(), connection, service, writer, errors))
 }

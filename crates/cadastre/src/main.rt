@@ -17,12 +17,58 @@ mod land;
 mod listening;
 mod sampling;
 
+use cad_io::{Counted, CountedWriter};
 use cad_serve::{read_words, tell};
-use cadastre_run::{Command, Outcome};
-use land::{run_ask, run_office};
+use cadastre_run::{Command, Outcome, Service};
+use land::{close, run_ask, run_office};
 use listening::run_serve;
 use sampling::run_sample;
+use sqlite::Unknown;
 use std::process::ExitCode;
+
+/// Serves standard input over the sample register.
+fn sample(rt: &HostRuntime) -> Outcome {
+    run_sample(
+        rt.alloc(),
+        &mut Counted::new(rt.stdin()),
+        &mut CountedWriter::new(rt.stdout()),
+    )
+}
+
+/// Serves standard input over the register of a file.
+fn ask(rt: &HostRuntime, file: &str) -> Outcome {
+    close(run_ask(
+        rt,
+        file,
+        Unknown,
+        &mut Counted::new(rt.stdin()),
+        &mut CountedWriter::new(rt.stdout()),
+    ))
+}
+
+/// Enters the commands of standard input into the register of a file, and prints the answers.
+fn office(rt: &HostRuntime, file: &str) -> Outcome {
+    close(run_office(
+        rt,
+        file,
+        Unknown,
+        &mut Counted::new(rt.stdin()),
+        &mut rt.stdout(),
+    ))
+}
+
+/// Listens for connections over the register of a file. The address is told on standard output, and what goes wrong with a
+/// connection on standard error.
+fn serve(rt: &HostRuntime, file: &str, service: Service<'_>) -> Outcome {
+    close(run_serve(
+        rt,
+        file,
+        Unknown,
+        service,
+        &mut rt.stdout(),
+        &mut rt.stderr(),
+    ))
+}
 
 fn run(rt: &HostRuntime) -> Outcome {
     let words = match read_words(rt) {
@@ -30,10 +76,10 @@ fn run(rt: &HostRuntime) -> Outcome {
         Err(cause) => return Outcome::without_arguments(cause),
     };
     match Command::of_words(&words) {
-        Some(Command::Sample) => run_sample(rt),
-        Some(Command::Ask(file)) => run_ask(rt, file),
-        Some(Command::Serve { file, service }) => run_serve(rt, file, service),
-        Some(Command::Office(file)) => run_office(rt, file),
+        Some(Command::Sample) => sample(rt),
+        Some(Command::Ask(file)) => ask(rt, file),
+        Some(Command::Serve { file, service }) => serve(rt, file, service),
+        Some(Command::Office(file)) => office(rt, file),
         None => Outcome::Usage,
     }
 }

@@ -2,23 +2,25 @@
 
 ghost use Rattle.std.specs.Io.KnownBytes.{IsAtEnd};
 ghost use Rattle.std.specs.Prelude.{◌≡◌};
-ghost use Rattle.cadastre.specs.Sampling.{RunsSample};
+ghost use Rattle.cad_register.specs.Opening.{Created};
+ghost use Rattle.cad_register.specs.Running.{RunsOver};
+ghost use Rattle.cadastre.specs.Sampling.{SamplesOver, RunsSample};
 
-use cad_io::{Counted, CountedRead, CountedWrite, CountedWriter};
+use cad_io::{CountedRead, CountedWrite};
 use cad_register::{Register, RegisterFault};
 use cadastre_run::{Outcome, answer_sample};
 use sqlite::{Alter, Connection};
 use std::alloc::Global;
 
 /// Serves a connection over the sample register, which is made in the database and entered first, and gives the database's connection back.
-pub fn run_sample_over<S: Alter, R: CountedRead, W: CountedWrite>(
+fn sample_over<S: Alter, R: CountedRead, W: CountedWrite>(
     alloc: Global,
     connection: Connection<S>,
     reader: &mut R,
     writer: &mut W,
 ) -> (Outcome, Connection<S>)
-    ensures { RunsSample S.Store (R.remaining reader.old) (R.remaining reader.new)
-        (W.contents writer.old) (W.contents writer.new) (IsAtEnd (R.remaining reader.new)) connection result }
+    ensures { RunsOver (Created S.Store) (SamplesOver S.Store (R.remaining reader.old) (R.remaining reader.new)
+        (W.contents writer.old) (W.contents writer.new) (IsAtEnd (R.remaining reader.new))) connection result }
 {
     match Register::create(alloc, connection) {
         Ok(register) => {
@@ -29,16 +31,18 @@ pub fn run_sample_over<S: Alter, R: CountedRead, W: CountedWrite>(
     }
 }
 
-/// Serves standard input over the sample register.
-pub fn run_sample(rt: &HostRuntime) -> Outcome {
-    let Ok(connection) = Connection::open_in_memory(rt.alloc()) else {
+/// Serves a connection over the sample register.
+pub fn run_sample<R: CountedRead, W: CountedWrite>(
+    alloc: Global,
+    reader: &mut R,
+    writer: &mut W,
+) -> Outcome
+    ensures { RunsSample (R.remaining reader.old) (R.remaining reader.new)
+        (W.contents writer.old) (W.contents writer.new) (IsAtEnd (R.remaining reader.new)) result }
+{
+    let Ok(connection) = Connection::open_in_memory(alloc) else {
         return Outcome::Register(RegisterFault::Memory);
     };
-    let (outcome, _) = run_sample_over(
-        rt.alloc(),
-        connection,
-        &mut Counted::new(rt.stdin()),
-        &mut CountedWriter::new(rt.stdout()),
-    );
+    let (outcome, _) = sample_over(alloc, connection, reader, writer);
     outcome
 }

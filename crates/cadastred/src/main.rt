@@ -17,7 +17,8 @@ mod words;
 
 use cad_serve::{read_words, tell};
 use cadastred_run::{Invocation, Outcome};
-use land::run_service;
+use land::{close, run_service};
+use sqlite::Unknown;
 use std::process::ExitCode;
 use words::begin;
 
@@ -27,7 +28,7 @@ fn run(rt: &HostRuntime) -> Outcome {
         Err(cause) => return Outcome::without_arguments(cause),
     };
     match begin(Invocation::of_words(&words), &mut rt.stdout()) {
-        Ok(service) => run_service(rt, service),
+        Ok(service) => close(run_service(rt, service, Unknown, &mut rt.stdout())),
         Err(outcome) => outcome,
     }
 }

@@ -3,14 +3,14 @@ use Rattle.std.specs.Prelude.{◌≤◌, List, [], length, IfOk}
 use Rattle.sqlite_disk.specs.declared.Disk as disk
 use Rattle.sqlite_store.specs.declared.store.FileStore.{FileStore}
 use Rattle.sqlite_trees.specs.declared.store.Store.{Ghosts}
-use Rattle.sqlite.specs.Files.{file_state}
+use Rattle.sqlite.specs.Files.{file_state, over_files}
 use Rattle.sqlite.specs.Held.{Held, state}
 use Rattle.sqlite.specs.Recovery.{Image}
 use Rattle.sqlite.specs.State.{HasCleanDisk}
 use Rattle.cad_tables.specs.Opening.{most_revision}
 use Rattle.cad_versions.specs.declared.command.Command.{Command}
 use Rattle.cad_register.specs.Images.{HoldsRegister, IsEmptyFile, FindsRegister}
-use Rattle.cad_register.specs.Opening.{Outcome, connection_in, IsFoundAs}
+use Rattle.cad_register.specs.Opening.{Outcome, Opened, OpenedOrCreated, connection_in, IsFoundAs}
 use Rattle.cad_register.specs.Registers.{IsRegisterOf}
 
 -- a run over a database: its register is had or refused, and the work is done over that
@@ -33,9 +33,18 @@ module _ {S : Type 0} (g : Ghosts S) (image : Image) (found : Outcome S) where
     pub held : IsClean → (commands : List Command) → HoldsRegister image commands → length commands ≤ most_revision → IsFoundAs g commands found
     pub empty : IsClean → IsEmptyFile image → IfOk found (λ register. IsRegisterOf g register [])
 
--- a run over the files of a register, which held this at first: their database is opened, and the run is over that
-pub record RunsInFile {D O : Type 0} {d : disk.Ghosts D} (image : Image) (Opens : Held (FileStore D d) → Outcome (FileStore D d) → Type 0) (Begins : Outcome (FileStore D d) → Type 0) (Works : Outcome (FileStore D d) → O × Held (FileStore D d) → Type 0) (ended : O × Held (FileStore D d)) : Type 0 where
-  pub lent : Held (FileStore D d)
-  pub finds : FindsRegister image (file_state lent)
-  pub runs : RunsOver Opens Works lent ended
-  pub begins : Begins runs.found
+-- a run over the files of a register, which held this at first
+module _ {D O : Type 0} {d : disk.Ghosts D} (image : Image) (Works : Outcome (FileStore D d) → O × Held (FileStore D d) → Type 0) (ended : O × Held (FileStore D d)) where
+  -- their database is opened, the register that they held is found, and none is made; the work is done over that
+  pub record RunsInFile : Type 0 where
+    pub lent : Held (FileStore D d)
+    pub finds : FindsRegister image (file_state lent)
+    pub runs : RunsOver (Opened over_files) Works lent ended
+    pub begins : IsFoundIn over_files image runs.found
+
+  -- so, but where no register stands one is made
+  pub record RunsInFileOrNew : Type 0 where
+    pub lent : Held (FileStore D d)
+    pub finds : FindsRegister image (file_state lent)
+    pub runs : RunsOver (OpenedOrCreated over_files) Works lent ended
+    pub begins : IsFoundOrMadeIn over_files image runs.found
