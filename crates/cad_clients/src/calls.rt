@@ -5,7 +5,7 @@ ghost use Rattle.cad_network.specs.Deeds.{AddsSome};
 ghost use Rattle.cad_clients.specs.Channels.{Closes, SendsFault};
 
 use crate::turned::{Ending, Turned};
-use cad_desk::{Desk, DeskFault, Event};
+use cad_desk::{Desk, DeskFault};
 use cad_network::Network;
 use cad_serve::fixed_head;
 use cad_stream::Responder;
@@ -14,7 +14,7 @@ use cad_stream::Responder;
 pub(crate) fn close<R: Responder>(desk: &mut Desk<R>, c: u32)
     ensures { Closes R.Responder c desk.old desk.new }
 {
-    drop(desk.step(Event::Close(c)));
+    let _ = desk.close(c);
 }
 
 /// Tells the fault at a socket, as far as one write takes that.

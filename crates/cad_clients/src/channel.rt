@@ -5,7 +5,7 @@ ghost use Rattle.std.specs.Prelude.{◌≤◌, length};
 use crate::calls::{close, refuse};
 use crate::cut::{first_part, rest_from};
 use crate::turned::{Ending, Turned};
-use cad_desk::{Desk, DeskFault, Event, Reply};
+use cad_desk::{Desk, DeskFault, Outgoing};
 use cad_network::{Network, is_blocked};
 use cad_stream::Responder;
 use std::alloc::Global;
@@ -116,8 +116,8 @@ impl Channel {
             close(desk, c);
             return refuse(net, socket, DeskFault::Memory);
         };
-        match desk.step(Event::Bytes(c, piece)) {
-            Ok(Reply::Sent { bytes, ends }) => {
+        match desk.feed(c, piece) {
+            Ok(Outgoing { bytes, ends }) => {
                 self.fed_at = self.input_at;
                 self.input_at += count;
                 self.output = bytes;
@@ -125,7 +125,6 @@ impl Channel {
                 self.ends = ends;
                 Turned::Fed
             }
-            Ok(Reply::Opened | Reply::Closed | Reply::Entered(_)) => unreachable!(),
             Err(fault) => refuse(net, socket, fault),
         }
     }

@@ -8,7 +8,7 @@ use crate::limits::Limits;
 use crate::logging::AccessLog;
 use crate::served::{Served, is_over};
 use crate::turned::Turned;
-use cad_desk::{Desk, DeskFault, Event, Reply};
+use cad_desk::{Desk, DeskFault};
 use cad_network::Network;
 use cad_stream::Responder;
 use std::alloc::{AllocError, Global};
@@ -92,13 +92,11 @@ impl<S: Drop> Clients<S> {
         ensures { AddsSome (N.history net.old) (N.history net.new)
             (Opens R.Responder N.name c now socket desk.old self.old result desk.new self.new) }
     {
-        match desk.step(Event::Open(c)) {
-            Ok(Reply::Opened) => {
+        match desk.open(c) {
+            Ok(()) => {
                 self.put(c, Client::new(alloc, socket, now));
                 Ok(())
             }
-            Ok(Reply::Closed | Reply::Sent { bytes: _, ends: _ } | Reply::Entered(_)) =>
-                unreachable!(),
             Err(fault) => {
                 tell_fault(net, &socket, fault);
                 net.let_go(socket);
@@ -140,7 +138,7 @@ impl<S: Drop> Clients<S> {
             (Closes R.Responder N.name c desk.old self.old desk.new self.new) }
     {
         if let Some(client) = self.take(c) {
-            drop(desk.step(Event::Close(c)));
+            let _ = desk.close(c);
             net.let_go(client.into_socket());
         }
     }

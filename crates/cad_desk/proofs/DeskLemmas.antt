@@ -1,7 +1,9 @@
 -- A piece that is refused closes its connection, and a command that is refused leaves them all.
-use Rattle.std.proofs.Common.{◌≡◌, ◌≢◌, ◌⊎◌, ℕ, Bool, true, false, cond, nat_eq, List, ◌++◌, Some, None, is_some, Err, refl, sym, ap, subst, ◌∙◌, inl, inr}
+use Rattle.std.proofs.Common.{◌≡◌, ◌≢◌, ◌⊎◌, ℕ, Bool, true, false, cond, nat_eq, List, ◌++◌, Some, None, is_some, Ok, Err, refl, sym, ap, subst, ◌∙◌, inl, inr}
 use Rattle.std.specs.Global.{Vec}
 use Rattle.std.specs.HashMap.{get}
+use Rattle.std.specs.Prelude.{Result}
+use Rattle.std.specs.Result.{result_err}
 use Rattle.cad_versions.specs.declared.command.Command.{Command}
 use Rattle.cad_versions.specs.declared.fault.RegisterFault.{RegisterFault}
 use Rattle.cad_versions.specs.declared.fault.RegisterFault.TheVariants as register
@@ -14,6 +16,7 @@ use Rattle.cad_desk.specs.declared.event.Event.TheVariants.{Bytes, Office}
 use Rattle.cad_desk.specs.declared.fault.DeskFault.{DeskFault}
 use Rattle.cad_desk.specs.declared.fault.DeskFault.TheVariants.{Memory, Register}
 use Rattle.cad_desk.specs.Faults.{fault_of}
+use Rattle.cad_desk.specs.Calls.{entered}
 use Rattle.cad_desk.specs.Connections.{Connections, rest_at, Changes, Keeps}
 use Rattle.cad_desk.specs.Desks.{responder_of, connections_of, IsDamagedFor, Steps}
 
@@ -99,3 +102,12 @@ module _ {R : Type 0} (g : Ghosts R) where
           clean = a.clean;
         })
       ]
+
+  -- a refused command at the call that enters it
+  pub refused_entry : (old new : Desk R) (command : Command) (fault : RegisterFault) (result : Result ℕ RegisterFault) → result_err result ≡ Some fault → Keeps (connections_of old) (connections_of new)
+      → Applied g.stands_for g.counts g.lives g.fails g.fails_to_enter g.refuses_command g.damaged_for_command (responder_of old) command (Err fault) (responder_of new)
+      → Steps g old (Office command) (entered result) new
+  refused_entry old new command fault (Ok revision) told keeps a = absurd cc
+  refused_entry old new command fault (Err other) told keeps a =
+      let same : other ≡ fault = cc in
+      rw same (refused_command old new command fault (fault_of fault) refl keeps a)

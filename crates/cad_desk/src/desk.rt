@@ -1,9 +1,9 @@
 //! The desk.
 
-use crate::event::{Event, Reply};
+use crate::event::{Event, Outgoing, Reply};
 use crate::fault::DeskFault;
 use cad_stream::{Connection, Fed, Responder};
-use cad_versions::Command;
+use cad_versions::{Command, RegisterFault};
 use std::alloc::Global;
 use std::collections::HashMap;
 
@@ -31,6 +31,7 @@ impl<R: Responder> Desk<R> {
     ghost use Rattle.std.specs.Prelude.{◌≡◌, ℕ, None};
     ghost use Rattle.cad_desk.specs.declared.event.Event.TheVariants.{Open, Bytes, Close, Office};
     ghost use Rattle.cad_desk.specs.Connections.{rest_at};
+    ghost use Rattle.cad_desk.specs.Calls.{opened, sent, closed, entered};
     ghost use Rattle.cad_desk.specs.Desks.{responder_of, connections_of, Steps};
 
     /// A desk without connections.
@@ -57,8 +58,9 @@ impl<R: Responder> Desk<R> {
         responder
     }
 
-    fn open(&mut self, c: u32) -> Result<Reply, DeskFault>
-        ensures { Steps R.Responder self.old (Open c) result self.new }
+    /// Opens a connection of this number, from 0 to `u32::MAX`. At most 64 are open at once.
+    pub fn open(&mut self, c: u32) -> Result<(), DeskFault>
+        ensures { Steps R.Responder self.old (Open c) (opened result) self.new }
     {
         if self.connections.contains_key(&c) {
             return Err(DeskFault::KnownConnection);
@@ -68,14 +70,14 @@ impl<R: Responder> Desk<R> {
         }
         let connection = Connection::new(self.alloc);
         match self.connections.insert(c, connection) {
-            Ok(_) => Ok(Reply::Opened),
+            Ok(_) => Ok(()),
             Err(_) => Err(DeskFault::Memory),
         }
     }
 
-    /// A connection that is refused is not put back, and so it is closed.
-    fn take(&mut self, c: u32, piece: Vec<u8>) -> Result<Reply, DeskFault>
-        ensures { Steps R.Responder self.old (Bytes c piece) result self.new }
+    /// Takes a piece of a connection's bytes. Where it is refused the connection is closed.
+    pub fn feed(&mut self, c: u32, piece: Vec<u8>) -> Result<Outgoing, DeskFault>
+        ensures { Steps R.Responder self.old (Bytes c piece) (sent result) self.new }
     {
         let Some(connection) = self.connections.remove(&c) else {
             return Err(DeskFault::UnknownConnection);
@@ -89,30 +91,30 @@ impl<R: Responder> Desk<R> {
             Err(fault) => return Err(DeskFault::from(fault)),
         };
         match connection {
-            None => Ok(Reply::Sent { bytes, ends: true }),
+            None => Ok(Outgoing { bytes, ends: true }),
             Some(connection) => match self.connections.insert(c, connection) {
-                Ok(_) => Ok(Reply::Sent { bytes, ends: false }),
+                Ok(_) => Ok(Outgoing { bytes, ends: false }),
                 Err(_) => Err(DeskFault::Memory),
             },
         }
     }
 
-    fn close(&mut self, c: u32) -> Result<Reply, DeskFault>
-        ensures { Steps R.Responder self.old (Close c) result self.new }
+    /// Closes a connection: no request comes of its bytes any more.
+    pub fn close(&mut self, c: u32) -> Result<(), DeskFault>
+        ensures { Steps R.Responder self.old (Close c) (closed result) self.new }
     {
         match self.connections.remove(&c) {
-            Some(_) => Ok(Reply::Closed),
+            Some(_) => Ok(()),
             None => Err(DeskFault::UnknownConnection),
         }
     }
 
-    fn enter(&mut self, command: Command) -> Result<Reply, DeskFault>
-        ensures { Steps R.Responder self.old (Office command) result self.new }
+    /// Enters a command of the land office, and gives the revision since.
+    pub fn enter(&mut self, command: Command) -> Result<u64, RegisterFault>
+        ensures { Steps R.Responder self.old (Office command) (entered result) self.new }
     {
-        match self.responder.enter(command) {
-            Ok(revision) => Ok(Reply::Entered(revision)),
-            Err(fault) => Err(DeskFault::from(fault)),
-        }
+        let revision = self.responder.enter(command)?;
+        Ok(revision)
     }
 
     /// Takes an event, and answers it whole. Bytes that are refused close their connection; all else stays as it was.
@@ -120,10 +122,22 @@ impl<R: Responder> Desk<R> {
         ensures { Steps R.Responder self.old event result self.new }
     {
         match event {
-            Event::Open(c) => self.open(c),
-            Event::Bytes(c, piece) => self.take(c, piece),
-            Event::Close(c) => self.close(c),
-            Event::Office(command) => self.enter(command),
+            Event::Open(c) => {
+                self.open(c)?;
+                Ok(Reply::Opened)
+            }
+            Event::Bytes(c, piece) => {
+                let Outgoing { bytes, ends } = self.feed(c, piece)?;
+                Ok(Reply::Sent { bytes, ends })
+            }
+            Event::Close(c) => {
+                self.close(c)?;
+                Ok(Reply::Closed)
+            }
+            Event::Office(command) => match self.enter(command) {
+                Ok(revision) => Ok(Reply::Entered(revision)),
+                Err(fault) => Err(DeskFault::from(fault)),
+            },
         }
     }
 }

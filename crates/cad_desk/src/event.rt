@@ -15,6 +15,15 @@ pub enum Event {
     Office(Command),
 }
 
+/// What goes out to a connection for a piece of its bytes.
+#[derive(Debug, Drop)]
+pub struct Outgoing {
+    /// The replies to the requests that the piece made whole, one after the other.
+    pub bytes: Vec<u8>,
+    /// Whether the connection ended with the last of them.
+    pub ends: bool,
+}
+
 /// What a desk answers.
 #[derive(Debug, Drop)]
 pub enum Reply {

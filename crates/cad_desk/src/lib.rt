@@ -1,16 +1,17 @@
 //! A desk for many connections and one land office: one event at a time, each answered whole.
 //!
-//! - `Desk`: the open connections, over anything that answers requests; `Desk::step` takes an event
-//! - `Event`, `Reply`: what happens, and what the desk answers
+//! - `Desk`: the open connections, over anything that answers requests; `open`, `feed`, `close` and `enter` are its calls, and
+//!   `Outgoing` is what goes out for a piece of bytes
+//! - `Event`, `Reply`: the same calls as values, with their answers; `Desk::step` takes one
 //! - `DeskFault`: why it refuses
 //! - `laws`: what holds of every list of events
 //!
 //! ```text
 //! let mut desk = Desk::new(alloc, responder);
-//! desk.step(Event::Open(1))             // Ok(Reply::Opened)
-//! desk.step(Event::Open(1))             // Err(DeskFault::KnownConnection)
-//! desk.step(Event::Bytes(1, piece))     // Ok(Reply::Sent { bytes, ends: false })
-//! desk.step(Event::Office(command))     // Ok(Reply::Entered(1))
+//! desk.open(1)                          // Ok(())
+//! desk.open(1)                          // Err(DeskFault::KnownConnection)
+//! desk.feed(1, piece)                   // Ok(Outgoing { bytes, ends: false })
+//! desk.enter(command)                   // Ok(1)
 //! desk.step(Event::Close(1))            // Ok(Reply::Closed)
 //! ```
 #![tactic(auto)]
@@ -21,5 +22,5 @@ mod fault;
 pub mod laws;
 
 pub use desk::Desk;
-pub use event::{Event, Reply};
+pub use event::{Event, Outgoing, Reply};
 pub use fault::DeskFault;

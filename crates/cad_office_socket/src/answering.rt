@@ -7,7 +7,7 @@ ghost use Rattle.cad_office_socket.specs.Entries.{EntersAtDesk};
 ghost use Rattle.cad_office_socket.specs.Turns.{IsUnheld};
 
 use cad_commands::{CommandError, read_command};
-use cad_desk::{Desk, DeskFault, Event, Reply};
+use cad_desk::Desk;
 use cad_office::{Answer, Line, LineState};
 use cad_stream::Responder;
 use cad_versions::{Command, RegisterFault};
@@ -16,16 +16,9 @@ use std::alloc::Global;
 fn apply<R: Responder>(desk: &mut Desk<R>, command: Command) -> Answer
     ensures { (line : List ℕ) → Asks line command → AnswersLine (EntersAtDesk R.Responder) line desk.old result desk.new }
 {
-    match desk.step(Event::Office(command)) {
-        Ok(Reply::Entered(revision)) => Answer::Entered(revision),
-        Ok(Reply::Opened | Reply::Closed | Reply::Sent { bytes: _, ends: _ }) => unreachable!(),
-        Err(DeskFault::Register(fault)) => Answer::Refused(fault),
-        Err(DeskFault::Memory) => Answer::Refused(RegisterFault::Memory),
-        Err(
-            DeskFault::UnknownConnection
-            | DeskFault::KnownConnection
-            | DeskFault::TooManyConnections,
-        ) => { unreachable!() }
+    match desk.enter(command) {
+        Ok(revision) => Answer::Entered(revision),
+        Err(fault) => Answer::Refused(fault),
     }
 }
 

@@ -9,7 +9,7 @@ ghost use Rattle.cad_io.specs.Known.{ReadsAndWrites, Writes};
 use crate::ending::Ending;
 use crate::serve_fault::ServeFault;
 use crate::writing::write_counted_head;
-use cad_desk::{Desk, DeskFault, Event, Reply};
+use cad_desk::{Desk, DeskFault, Outgoing};
 use cad_io::{CountedRead, CountedWrite, PIECE_LEN, write_counted};
 use cad_stream::Responder;
 use std::alloc::Global;
@@ -21,7 +21,7 @@ fn close<R: Responder>(desk: &mut Desk<R>, c: u32)
     requires { IsOpen c desk.old }
     ensures { Closes R.Responder c desk.old desk.new }
 {
-    drop(desk.step(Event::Close(c)));
+    let _ = desk.close(c);
 }
 
 /// Tells the fault, if it has a head. Where that write fails, the fault stands all the same.
@@ -76,9 +76,8 @@ fn take_piece<W: CountedWrite, R: Responder>(
         close(desk, c);
         return Ok(Some(refuse(writer, DeskFault::Memory)));
     };
-    match desk.step(Event::Bytes(c, bytes)) {
-        Ok(Reply::Sent { bytes, ends }) => send(writer, desk, c, &bytes, ends),
-        Ok(Reply::Opened | Reply::Closed | Reply::Entered(_)) => unreachable!(),
+    match desk.feed(c, bytes) {
+        Ok(Outgoing { bytes, ends }) => send(writer, desk, c, &bytes, ends),
         Err(fault) => Ok(Some(refuse(writer, fault))),
     }
 }
@@ -129,7 +128,7 @@ pub fn serve<I: CountedRead, W: CountedWrite, R: Responder>(
     ensures told { TellsRefusal (W.failures writer.new) (W.contents writer.old) (W.contents writer.new) result }
     ensures counted { CountsReads most_turns (result ≡ Err ServeFault.TurnsSpent) (I.reads reader.old) (I.reads reader.new) }
 {
-    if let Err(fault) = desk.step(Event::Open(c)) {
+    if let Err(fault) = desk.open(c) {
         return Ok(refuse(writer, fault));
     }
     for turn_count in 0..TURNS {

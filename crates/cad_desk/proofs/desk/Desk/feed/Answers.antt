@@ -1,7 +1,7 @@
 use Rattle.std.proofs.Common.{sym, ap}
 use Rattle.cad_stream.specs.Feeding.{bytes_left}
 use Rattle.cad_desk.proofs.DeskLemmas.{taken_out, refused_piece}
-use Rattle.cad_desk.proofs.desk.Desk.take.Goals as goal
+use Rattle.cad_desk.proofs.desk.Desk.feed.Goals as goal
 
 pub returns-in-Err : goal.returns-in-Err
 returns-in-Err g c =
