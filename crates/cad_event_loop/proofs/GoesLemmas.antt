@@ -28,7 +28,7 @@ use Rattle.cad_office_socket.specs.declared.turned.EntryTurned.TheVariants as en
 use Rattle.cad_event_loop.specs.declared.stopped.Stopped.{Stopped}
 use Rattle.cad_event_loop.specs.Hosting.{end_of_client, Each, IsServing, IsClosing, IsLastAct, IsLastEnding, IsLastTurn, IsTurnedAway, Hosts, Serves}
 use Rattle.cad_event_loop.specs.inner.Standing.{standing_of, standing_at, IsWoken, IsAsked, IsPaced, LosesNobody, GivesTurn}
-use Rattle.cad_event_loop.specs.Turns.{Standing, absent, waiting, ready, woken, is_told, stands_after, is_turn_of, has_turn}
+use Rattle.cad_event_loop.specs.Turns.{Standing, absent, waiting, ready, woken, is_among, stands_after, is_turn_of, has_turn}
 use Rattle.cad_event_loop.proofs.StandingLemmas.{turn_right, passes-nil, passes-more, passes-append}
 use Rattle.cad_event_loop.specs.Works.{Held, held_of, held_at, Place, place_of, AtOffice, Puts, Same, Said, Work, wakes, opens, acts, waits, ends, office_comes, enters, office_leaves, aside, deeds_in, deeds_of, all_deeds, end_with, end_of_cause, end_of_turned, end_by, end_in, IsOf, IsAside, Tells, Works, Goes}
 
@@ -499,7 +499,7 @@ told_more c (first ∷ places) place old = go (nat_eq first c) (told_more c plac
     last false = refl
 
     go : (is : Bool) → stands_after c old (wakes (places ++ place ∷ [])) ≡ (if nat_eq place c then woken (stands_after c old (wakes places)) else stands_after c old (wakes places))
-        → (if is || is_told c (places ++ place ∷ []) then woken old else old) ≡ (if nat_eq place c then woken (if is || is_told c places then woken old else old) else (if is || is_told c places then woken old else old))
+        → (if is || is_among c (places ++ place ∷ []) then woken old else old) ≡ (if nat_eq place c then woken (if is || is_among c places then woken old else old) else (if is || is_among c places then woken old else old))
     go true more = last (nat_eq place c)
     go false more = more
 

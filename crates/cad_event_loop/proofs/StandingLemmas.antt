@@ -8,7 +8,7 @@ use Rattle.cad_clients.specs.Notes.{MayGoOn}
 use Rattle.cad_clients.specs.Slots.{client_in, client_at}
 use Rattle.cad_event_loop.specs.declared.stopped.Stopped.{Stopped}
 use Rattle.cad_event_loop.specs.inner.Standing.{standing_of, standing_at, IsAsked, IsPaced, LosesNobody, GivesTurn, most_for_one, GivesTurnsBelow, IfWhole, ServesAll, MakesRound, MadeRounds}
-use Rattle.cad_event_loop.specs.Turns.{Standing, absent, waiting, ready, Standings, woken, is_told, stands_after, stands_in, is_turn_of, has_turn, EachHasTurn, GivesTurns, most_in_round, IsRound, AreRounds, all_works, AreServed}
+use Rattle.cad_event_loop.specs.Turns.{Standing, absent, waiting, ready, Standings, woken, is_among, stands_after, stands_in, is_turn_of, has_turn, EachHasTurn, GivesTurns, most_in_round, IsRound, AreRounds, all_works, AreServed}
 use Rattle.cad_event_loop.specs.Works.{Work, wakes, opens, acts, waits, ends, office_comes, enters, office_leaves, aside}
 
 pub stands_in-append : (c : ℕ) (old : Standing) (xs ys : List Work) → stands_in c old (xs ++ ys) ≡ stands_in c (stands_in c old xs) ys
@@ -46,7 +46,7 @@ waiting_ready : waiting ≡ ready → ⊥
 waiting_ready e = cc
 
 woken_ready : (c : ℕ) (places : List ℕ) (old : Standing) → old ≡ ready → stands_after c old (wakes places) ≡ ready
-woken_ready c places old is = go (is_told c places)
+woken_ready c places old is = go (is_among c places)
   where
     go : (told : Bool) → (if told then woken old else old) ≡ ready
     go true = ap woken is

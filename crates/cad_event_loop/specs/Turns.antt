@@ -23,13 +23,13 @@ woken waiting = ready
 woken ready = ready
 
 -- the network tells of place c
-abbrev pub is_told : ℕ → List ℕ → Bool
-is_told c [] = false
-is_told c (place ∷ places) = nat_eq place c || is_told c places
+abbrev pub is_among : ℕ → List ℕ → Bool
+is_among c [] = false
+is_among c (place ∷ places) = nat_eq place c || is_among c places
 
 -- how connection c stands after one thing is done: it may go on since it was opened, or the network told of it, or it had a turn at which it did not wait
 abbrev pub stands_after : ℕ → Standing → Work → Standing
-stands_after c old (wakes places) = if is_told c places then woken old else old
+stands_after c old (wakes places) = if is_among c places then woken old else old
 stands_after c old (opens s d) = if nat_eq d c then ready else old
 stands_after c old (acts s d act) = if nat_eq d c then ready else old
 stands_after c old (waits s d) = if nat_eq d c then waiting else old
