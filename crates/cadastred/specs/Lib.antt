@@ -1,2 +1,2 @@
-pub mod Hosting
 pub mod Words
+pub mod inner

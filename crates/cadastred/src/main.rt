@@ -17,8 +17,7 @@ mod words;
 
 use cad_serve::{read_words, tell};
 use cadastred_run::{Invocation, Outcome};
-use land::{close, run_service};
-use sqlite::Unknown;
+use land::run_service;
 use std::process::ExitCode;
 use words::begin;
 
@@ -28,7 +27,7 @@ fn run(rt: &HostRuntime) -> Outcome {
         Err(cause) => return Outcome::without_arguments(cause),
     };
     match begin(Invocation::of_words(&words), &mut rt.stdout()) {
-        Ok(service) => close(run_service(rt, service, Unknown, &mut rt.stdout())),
+        Ok(service) => run_service(rt, service),
         Err(outcome) => outcome,
     }
 }

@@ -6,5 +6,5 @@ pub returns-in-Err : goal.returns-in-Err
 returns-in-Err g c = record {
   found = Err (c.in-Err.fault, c.in-Err.connection);
   opened = c.in-Err.ensures;
-  works = record { ends = refl; back = refl; nothing = (refl, Adds-nil _, refl) };
+  hosts = record { ends = refl; back = refl; nothing = (refl, Adds-nil _, refl) };
 }
