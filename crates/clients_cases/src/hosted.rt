@@ -3,7 +3,8 @@
 use crate::refusing::Refusing;
 use crate::script::put_text;
 use crate::steps::read_steps;
-use crate::wire::{Peer, Wire};
+use crate::wire::Wire;
+use crate::world::Peer;
 use cad_clients::NoLog;
 use cad_desk::Desk;
 use cad_event_loop::{Stopped, host};
@@ -32,7 +33,7 @@ pub(crate) fn put_hosted(answer: &mut String, alloc: Global, text: &str) -> Resu
     let mut desk = Desk::new(alloc, Refusing::new(alloc));
     let hosted = host(alloc, &mut wire, &mut desk, &mut NoLog);
     answer.push_str(stopped_name(&hosted))?;
-    for peer in &wire.peers {
+    for peer in &wire.world.peers {
         put_peer(answer, peer)?;
     }
     Ok(())

@@ -2,7 +2,8 @@
 //! input is something that happens, and a line is printed for it.
 //!
 //! - `sockets`: sockets that give and take as they are told
-//! - `steps`: what happens at a network; `wire`: the network at which it does
+//! - `steps`: what happens at a network; `world`: its peers, at which it does
+//! - `wire`: the network, and `history`: what was done there, so that the loop meets its whole contract here
 //! - `room`: the clients, the office and their sockets, each served as it is told
 //! - `hosted`: the same by the loop; `refusing`: what answers there, whose database refuses commands for object 6
 //! - `script`: the lines, and what is printed for them
@@ -27,6 +28,7 @@
 //! Any other line is answered by `no case`, and an empty one is passed over.
 #![tactic(auto)]
 
+mod history;
 mod hosted;
 mod refusing;
 mod room;
@@ -34,6 +36,7 @@ mod script;
 mod sockets;
 mod steps;
 mod wire;
+mod world;
 
 use room::Room;
 use script::put_answer;

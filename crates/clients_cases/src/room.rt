@@ -1,6 +1,7 @@
 //! The clients, the land office and their sockets, each served as it is told.
 
-use crate::wire::{Peer, Wire};
+use crate::wire::Wire;
+use crate::world::Peer;
 use cad_clients::{Clients, Limits, NoLog, ROOM, Served};
 use cad_desk::Desk;
 use cad_office_socket::{Entry, EntryTurned};
@@ -98,12 +99,12 @@ impl Room {
     /// The peer of a client.
     pub(crate) fn peer(&mut self, c: u32) -> Option<&mut Peer> {
         let name = self.name(c)?;
-        self.wire.peers.get_mut(name as usize)
+        self.wire.peer(name)
     }
 
     /// The peer of the land office.
     pub(crate) fn office(&mut self) -> Option<&mut Peer> {
-        self.wire.peers.get_mut(self.office as usize)
+        self.wire.peer(self.office)
     }
 
     /// Whether a reply of this client has not gone out.
@@ -124,7 +125,7 @@ impl Room {
             &mut self.desk,
             &mut NoLog,
         );
-        let written = take_written(self.alloc, self.wire.peers.get_mut(name as usize));
+        let written = take_written(self.alloc, self.wire.peer(name));
         if served != Served::Stays {
             self.set_name(c, None);
         }
@@ -146,7 +147,7 @@ impl Room {
         let turned = self
             .entry
             .turn(self.alloc, &mut self.wire, &self.office, &mut self.desk);
-        let written = take_written(self.alloc, self.wire.peers.get_mut(self.office as usize));
+        let written = take_written(self.alloc, self.wire.peer(self.office));
         (turned, written)
     }
 }

@@ -4,7 +4,7 @@ use crate::hosted::put_hosted;
 use crate::room::Room;
 use crate::sockets::Sender;
 use crate::steps::read_bytes;
-use crate::wire::Peer;
+use crate::world::Peer;
 use cad_clients::{Ending, ROOM, Served};
 use cad_office_socket::EntryTurned;
 use std::alloc::AllocError;

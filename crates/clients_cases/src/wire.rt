@@ -1,219 +1,96 @@
-//! A network whose peers do as they are told.
+//! A network whose peers do as they are told, and whose history is known.
 
-use crate::sockets::{Sender, Taker};
+use crate::history::{Done, History};
 use crate::steps::Step;
+use crate::world::{Peer, World};
 use cad_network::Network;
 use std::alloc::{AllocError, Global};
-use std::io::{Error, ErrorKind, Read, Result, Write};
+use std::io::Result;
 
-/// The other end of a socket.
-#[derive(Drop)]
-pub(crate) struct Peer {
-    pub(crate) sender: Sender,
-    pub(crate) taker: Taker,
-    /// Its socket was let go.
-    pub(crate) is_left: bool,
-}
-
-/// Sockets that wait at a door, by the numbers of their peers.
-#[derive(Drop)]
-struct Door {
-    waiting: Vec<u32>,
-    at: usize,
-    /// So often one can't be handed over.
-    refusals: u32,
-}
-
-impl Door {
-    fn new(alloc: Global) -> Door {
-        Door {
-            waiting: Vec::new(alloc),
-            at: 0,
-            refusals: 0,
-        }
-    }
-
-    fn take(&mut self) -> Result<u32> {
-        if 0 < self.refusals {
-            self.refusals -= 1;
-            return Err(Error::from(ErrorKind::Other));
-        }
-        let Some(name) = self.waiting.get(self.at) else {
-            return Err(Error::from(ErrorKind::WouldBlock));
-        };
-        let name = *name;
-        self.at = self.at.saturating_add(1);
-        Ok(name)
-    }
-}
-
-/// A network whose peers do as they are told, by steps: those up to the next `End` are done until a wait ends.
+/// A network whose peers do as they are told, and what was done there.
 #[derive(Drop)]
 pub(crate) struct Wire {
-    alloc: Global,
-    pub(crate) peers: Vec<Peer>,
-    clients: Door,
-    offices: Door,
-    places: Vec<usize>,
-    places_at: usize,
-    unwatched: u32,
-    seconds: u64,
-    steps: Vec<Step>,
-    steps_at: usize,
+    pub(crate) world: World,
+    history: History,
 }
 
 impl Wire {
     /// No peers, and these steps.
     pub(crate) fn new(alloc: Global, steps: Vec<Step>) -> Wire {
         Wire {
-            alloc,
-            peers: Vec::new(alloc),
-            clients: Door::new(alloc),
-            offices: Door::new(alloc),
-            places: Vec::new(alloc),
-            places_at: 0,
-            unwatched: 0,
-            seconds: 0,
-            steps,
-            steps_at: 0,
+            world: World::new(alloc, steps),
+            history: History::new(alloc),
         }
     }
 
     /// One more peer, and its number.
     pub(crate) fn add_peer(&mut self) -> std::result::Result<u32, AllocError> {
-        let name = u32::try_from(self.peers.len()).unwrap_or(u32::MAX);
-        self.peers.push(Peer {
-            sender: Sender::new(self.alloc),
-            taker: Taker::new(self.alloc),
-            is_left: false,
-        })?;
-        Ok(name)
+        self.world.add_peer()
     }
 
-    fn come(&mut self) -> std::result::Result<(), AllocError> {
-        let name = self.add_peer()?;
-        self.clients.waiting.push(name)?;
-        Ok(())
-    }
-
-    fn come_office(&mut self) -> std::result::Result<(), AllocError> {
-        let name = self.add_peer()?;
-        self.offices.waiting.push(name)?;
-        Ok(())
-    }
-
-    /// Does a step of a peer.
-    fn do_at(peer: &mut Peer, step: &Step) -> std::result::Result<(), AllocError> {
-        match step {
-            Step::Give(_, bytes) => peer.sender.give(bytes)?,
-            Step::Room(_, count) => peer.taker.room = peer.taker.room.saturating_add(*count),
-            Step::Hang(_) => peer.sender.has_ended = true,
-            Step::Break(_) => {
-                peer.sender.is_broken = true;
-                peer.taker.is_broken = true;
-            }
-            _ => {}
-        }
-        Ok(())
-    }
-
-    /// Does a step.
-    fn do_step(&mut self, step: &Step) -> std::result::Result<(), AllocError> {
-        match step {
-            Step::Come => self.come()?,
-            Step::Office => self.come_office()?,
-            Step::Wake(places) => self.places.extend_from_slice(places)?,
-            Step::Second(second) => self.seconds = self.seconds.max(*second),
-            Step::Refuse(count) => self.clients.refusals = *count,
-            Step::Unwatched(count) => self.unwatched = *count,
-            Step::End => {}
-            Step::Give(at, _) | Step::Room(at, _) | Step::Hang(at) | Step::Break(at) => {
-                if let Some(peer) = self.peers.get_mut(*at) {
-                    Wire::do_at(peer, step)?;
-                }
-            }
-        }
-        Ok(())
-    }
-
-    /// Does the steps up to the next end. `false`: there are no more.
-    fn do_steps(&mut self) -> std::result::Result<bool, AllocError> {
-        let steps = std::mem::replace(&mut self.steps, Vec::new(self.alloc));
-        let mut is_ended = false;
-        for at in self.steps_at..steps.len() {
-            if let Some(step) = steps.get(at) {
-                self.do_step(step)?;
-                self.steps_at = at.saturating_add(1);
-                if let Step::End = step {
-                    is_ended = true;
-                    break;
-                }
-            }
-        }
-        self.steps = steps;
-        Ok(is_ended)
+    /// The peer of this number.
+    pub(crate) fn peer(&mut self, name: u32) -> Option<&mut Peer> {
+        self.world.peers.get_mut(name as usize)
     }
 }
 
 impl Network for Wire {
-    ghost use Rattle.std.specs.Prelude.{None};
+    ghost use Rattle.clients_cases.specs.Histories.{known};
 
     type Socket = u32;
 
-    ghost history = { λ _. None };
+    ghost history = { λ wire. known wire.history };
 
     ghost name = { λ socket. socket };
 
     fn accept(&mut self) -> Result<u32> {
-        self.clients.take()
+        match self.world.take_client() {
+            Ok(name) => {
+                self.history.add(Done::Came(name));
+                Ok(name)
+            }
+            Err(error) => Err(error),
+        }
     }
 
     fn accept_office(&mut self) -> Result<u32> {
-        self.offices.take()
+        match self.world.take_office() {
+            Ok(name) => {
+                self.history.add(Done::OfficeCame(name));
+                Ok(name)
+            }
+            Err(error) => Err(error),
+        }
     }
 
     fn watch(&mut self, _socket: &mut u32, _place: usize) -> Result<()> {
-        if 0 < self.unwatched {
-            self.unwatched -= 1;
-            return Err(Error::from(ErrorKind::Other));
-        }
-        Ok(())
+        self.world.watch()
     }
 
     fn read(&mut self, socket: &u32, buffer: &mut [u8]) -> Result<usize> {
-        match self.peers.get_mut(*socket as usize) {
-            Some(peer) => peer.sender.read(buffer),
-            None => Err(Error::from(ErrorKind::Other)),
-        }
+        let read = self.world.read(*socket, buffer);
+        self.history.add_read(*socket, buffer, &read);
+        read
     }
 
     fn write(&mut self, socket: &u32, bytes: &[u8]) -> Result<usize> {
-        match self.peers.get_mut(*socket as usize) {
-            Some(peer) => peer.taker.write(bytes),
-            None => Err(Error::from(ErrorKind::Other)),
-        }
+        let written = self.world.write(*socket, bytes);
+        self.history.add_write(*socket, bytes, &written);
+        written
     }
 
     fn let_go(&mut self, socket: u32) {
-        if let Some(peer) = self.peers.get_mut(socket as usize) {
-            peer.is_left = true;
-        }
+        self.world.let_go(socket);
+        self.history.add(Done::Left(socket));
     }
 
     fn wait(&mut self, _milliseconds: u64) -> Result<u64> {
-        self.places.clear();
-        self.places_at = 0;
-        if self.do_steps()? {
-            Ok(self.seconds)
-        } else {
-            Err(Error::from(ErrorKind::Other))
-        }
+        self.world.wait()
     }
 
     fn next_ready(&mut self) -> Option<usize> {
-        let place = self.places.get(self.places_at)?;
-        let place = *place;
-        self.places_at = self.places_at.saturating_add(1);
+        let place = self.world.next_place()?;
+        self.history.add(Done::Woke(place));
         Some(place)
     }
 
