@@ -2,7 +2,8 @@
 """A second reading of the land office's rules, in Python and not from the crates.
 
 It tells what the office answers to lines, over a ledger in memory that is empty at first, by docs/OFFICE.md; and of those behind the line
-`= features`, over a ledger of their own, also the features of the last revision as JSON, by scripts/server_model.py.
+`= features`, over a ledger of their own, also the features of the last revision as JSON, by scripts/server_model.py; and of those behind
+the line `= journals`, over one more, also the journals that lines `journal N` ask for.
 scripts/check_further_cases holds the stored answers of crates/office_cases against it.
 
     scripts/office_model.py < LINES
@@ -237,9 +238,54 @@ def shown(text):
             yield f"{name} {server_model.compact(server_model.feature_tree(identifier, told)).decode()}"
 
 
+# ---- the journal: the accepted commands, each with all members that its class may have
+
+MEMBERS = {
+    "party": ("code", "name"),
+    "unit": ("name",),
+    "parcel": ("area", "holes", "label", "shape", "spot", "unit"),
+    "right": ("code", "party", "share", "unit"),
+    "restriction": ("code", "party", "required", "share", "unit"),
+    "responsibility": ("code", "party", "share", "unit"),
+}
+
+
+def line_of(do, number, at, name, said):
+    """The line of a command, its members in byte order; a member that was not given is null, and the holes of a shape without any are none."""
+    day_text = "%04d-%02d-%02d" % at
+    if do == "retire":
+        tree = {"do": do, "last": day_text, "object": number}
+    else:
+        body_tree = {member: said.get(member) for member in MEMBERS[name]}
+        if "shape" in said:
+            body_tree["shape"], *body_tree["holes"] = said["shape"]
+        tree = {"do": do, "first": day_text, "object": number, name: body_tree}
+    return json.dumps(tree, ensure_ascii=False, separators=(",", ":"))
+
+
+def journals(text):
+    """The answers to the lines, of which those that say `journal N` ask for the commands behind a revision."""
+    entered, accepted = b"", []
+    for line in text.split(b"\n"):
+        if line.startswith(b"journal "):
+            behind = int(line[8:])
+            if behind > len(accepted):
+                yield "refused 12 UnknownRevision"
+                continue
+            yield from accepted[behind:]
+            yield f"end {len(accepted)}"
+        elif line:
+            entered += line + b"\n"
+            *_, answer = answers(entered)
+            yield answer
+            if answer.startswith("revision "):
+                accepted.append(line_of(*command(line)))
+
+
 def main():
-    lines, _, behind = sys.stdin.buffer.read().partition(b"\n= features\n")
-    for answer in (*answers(lines), *answers(behind), *shown(behind)):
+    lines, _, asked = sys.stdin.buffer.read().partition(b"\n= journals\n")
+    lines, _, behind = lines.partition(b"\n= features\n")
+    for answer in (*answers(lines), *answers(behind), *shown(behind), *journals(asked)):
         print(answer)
 
 

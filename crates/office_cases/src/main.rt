@@ -1,4 +1,4 @@
-//! Lines of the land office, answered over a ledger in memory, and features as JSON.
+//! Lines of the land office, answered over a ledger in memory, features as JSON, and journals of a register in memory.
 //!
 //! The lines are in `stdin`, and what is printed for each is in `stdout`: docs/OFFICE.md row by row, each limit from both sides, and bytes
 //! that are no text. The first line, `{"do":"enter","object":11,"first":"2000-01-01","unit":{}}`, is answered by `revision 1`, and the
@@ -11,8 +11,18 @@
 //! units {"geometry":null,"id":"11.1","properties":{"begin":"2000-01-01","end":null,"name":null,"number":1,"object":11},"type":"Feature"}
 //! ```
 //!
-//! The status is 0 where all lines were read, and else the number of the office's fault; 100 where a feature can't be printed.
+//! The lines behind the line `= journals` are entered into a register in a database in memory, and answered alike. The line `journal N`
+//! among them is answered by the journal behind revision N, a command a line, and `end R`, R the revision then:
+//!
+//! ```text
+//! {"do":"enter","first":"2000-01-01","object":11,"unit":{"name":null}}
+//! end 1
+//! ```
+//!
+//! The status is 0 where all lines were read, and else the number of the office's fault; 100 where a feature or a journal can't be printed.
 #![tactic(auto)]
+
+mod journals;
 
 ghost use Rattle.cad_versions.specs.Listing.{IsListing};
 
@@ -23,22 +33,23 @@ use cad_memory_ledger::MemoryLedger;
 use cad_office::office;
 use cad_schema::Collection;
 use cad_versions::{Ledger, Version};
+use journals::print_journals;
 use std::io::{Cursor, Error, ErrorKind, Read, Result};
 use std::process::ExitCode;
 
-/// The line between the two parts, with the end of the line before it.
+/// The line before the part of features, with the end of the line before it.
 const FEATURES: &[u8] = b"\n= features\n";
 
-/// The status where a feature can't be printed.
+/// The same before the part of journals.
+const JOURNALS: &[u8] = b"\n= journals\n";
+
+/// The status where a feature or a journal can't be printed.
 const NOT_PRINTED: u8 = 100;
 
-/// The two parts of the input; the second is empty where the line between them is missing.
-fn parts(input: &[u8]) -> (&[u8], &[u8]) {
-    match input
-        .windows(FEATURES.len())
-        .position(|part| part == FEATURES)
-    {
-        Some(at) => (&input[..at], &input[at + FEATURES.len()..]),
+/// What stands before a line and behind it; nothing stands behind where the line is missing.
+fn parts<'a>(input: &'a [u8], line: &[u8]) -> (&'a [u8], &'a [u8]) {
+    match input.windows(line.len()).position(|part| part == line) {
+        Some(at) => (&input[..at], &input[at + line.len()..]),
         None => (input, b"".as_slice()),
     }
 }
@@ -81,7 +92,8 @@ fn print_ledger(rt: &HostRuntime, ledger: &mut MemoryLedger) -> Result<()> {
 
 /// The status of a run over this input.
 fn run(rt: &HostRuntime, input: &[u8]) -> u8 {
-    let (lines, features) = parts(input);
+    let (input, journals) = parts(input, JOURNALS);
+    let (lines, features) = parts(input, FEATURES);
     let ended = entered(rt, lines, &mut MemoryLedger::new(rt.alloc()));
     if ended != 0 {
         return ended;
@@ -91,10 +103,10 @@ fn run(rt: &HostRuntime, input: &[u8]) -> u8 {
     if ended != 0 {
         return ended;
     }
-    match print_ledger(rt, &mut ledger) {
-        Ok(()) => 0,
-        Err(_) => NOT_PRINTED,
+    if print_ledger(rt, &mut ledger).is_err() || print_journals(rt, journals).is_err() {
+        return NOT_PRINTED;
     }
+    0
 }
 
 fn main(rt: HostRuntime) -> ExitCode {
