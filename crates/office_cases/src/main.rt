@@ -24,6 +24,7 @@
 
 mod journals;
 
+ghost use Rattle.std.specs.Prelude.{◌<◌, length};
 ghost use Rattle.cad_versions.specs.Listing.{IsListing};
 
 use cad_feature::flatten;
@@ -47,7 +48,9 @@ const JOURNALS: &[u8] = b"\n= journals\n";
 const NOT_PRINTED: u8 = 100;
 
 /// What stands before a line and behind it; nothing stands behind where the line is missing.
-fn parts<'a>(input: &'a [u8], line: &[u8]) -> (&'a [u8], &'a [u8]) {
+fn parts<'a>(input: &'a [u8], line: &[u8]) -> (&'a [u8], &'a [u8])
+    requires { 0 < length line.now }
+{
     match input.windows(line.len()).position(|part| part == line) {
         Some(at) => (&input[..at], &input[at + line.len()..]),
         None => (input, b"".as_slice()),
