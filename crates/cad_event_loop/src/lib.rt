@@ -7,7 +7,7 @@
 //!
 //! What is proved: from nobody on a list of works was done, whose deeds are all that was done at the network; it ended as the
 //! database's refusal exactly where one of them was refused so, whatever becomes of the connection that asked, and as the
-//! office's wish only where a connection of the office read `stop`; then nothing more is read or answered, and at every end each
+//! office's wish only where a connection of the office read `stop`; it closes without reading or answering, and at every end each
 //! socket is let go. The works are rounds, in each of which each connection has a turn that may go on: it was opened or told of
 //! since its last turn, or did not wait then. `laws` has what follows for a socket, for the office's and for the ledger.
 //!
@@ -15,6 +15,7 @@
 //! `scripts/check_proxy`:
 //!
 //! - that the office has a turn after each client's;
+//! - that no work comes between the one by which hosting ends and the closing;
 //! - the times: each round drops the clients that `Clients::is_overdue` tells of, by 60 and 300 seconds and the seconds that the
 //!   network told; five for replies and the office's answer at the end, 50 milliseconds where the system could not hand over
 //!   somebody who waits at a door.
