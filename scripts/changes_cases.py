@@ -18,8 +18,8 @@ After each command of the second part come requests:
 - for parts of collections, drawn at random, at drawn revisions;
 - for single features.
 
-A third of the registers is first asked for a page while it is empty, a third after the first part, and a third after the first command
-of the second part.
+The first request for a page comes at one of three times: before the first command, after the first part, or after the first command of the
+second part. A third of the registers has each of these.
 
 Two further registers follow. One has more than a hundred and fifty revisions. In the other, a command touches more features than a base
 may get changes. Both are asked at old revisions, some of them from before the first page.
