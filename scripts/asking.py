@@ -12,7 +12,7 @@ FIRST_UNIT, FIRST_PARTY, FIRST_RIGHT = 1000001, 2000001, 3000001
 
 
 def shape_at(at):
-    """A square of six corners: a thousand stand side by side."""
+    """A square of six corners, in rows of a thousand."""
     x, y = at % 1000 * SIDE, at // 1000 * SIDE
     half = x + SIDE // 2
     return [[x, y], [half, y], [x + SIDE, y], [x + SIDE, y + SIDE], [half, y + SIDE], [x, y + SIDE]]
@@ -27,7 +27,7 @@ def plain(parcels):
 
 
 def land(parcels):
-    """A unit and a party for ten parcels each, and a right for each parcel. One label in 26 begins with A, and one area in 500
+    """A unit and a party for each ten parcels, and a right for each parcel. One label in 26 begins with A, and one area in 500
     is above 997."""
     for at in range(parcels // 10):
         yield {"do": "enter", "object": FIRST_UNIT + at, "first": "2000-01-01", "unit": {"name": f"Unit {at}"}}
@@ -48,13 +48,13 @@ TEN_PARCELS, TEN_PARTIES = 9, 2.8
 
 
 def unit_of(parcel):
-    """The unit of a parcel of a county: ten parcels have nine."""
+    """The unit of a parcel of a county. Ten parcels have nine units."""
     return FIRST_UNIT + (parcel - 1) * TEN_PARCELS // 10
 
 
 class County:
-    """A made-up land of so many parcels, with nine units and two or three parties for each ten of them: each unit has an owner, two of
-    fifteen were sold once, and some have a mortgage. Every run has the same lines."""
+    """A made-up county of so many parcels, with nine units and two or three parties for each ten of them. Each unit has an owner, two of
+    fifteen units were sold once, and some have a mortgage. Every run has the same lines."""
 
     def __init__(self, parcels):
         self.random = random.Random(21)
@@ -81,7 +81,7 @@ class County:
             yield self.held(self.day(2004, 2015), "restriction", unit=unit, code="mortgage", required=True)
 
     def lines(self):
-        """Units begin before 1991, and parcels from 1995 on."""
+        """The lines of the county. Units begin before 1991, and parcels from 1995 on."""
         chance = self.random
         for at in range(self.parties):
             name = f"{chance.choice(FIRST_NAMES)} {chr(65 + chance.randrange(26))}. {chance.choice(LAST_NAMES)}"
@@ -96,13 +96,13 @@ class County:
 
 
 def spent_by(process):
-    """The processor time of a process of one thread so far, in seconds."""
+    """The processor time so far of a process that has one thread, in seconds."""
     with open(f"/proc/{process}/schedstat", encoding="ascii") as status:
         return int(status.read().split()[0]) / 1e9
 
 
 class Client:
-    """A kept connection."""
+    """A client that keeps its connection open."""
 
     def __init__(self, address):
         host, port = address.rsplit(":", 1)
@@ -116,7 +116,7 @@ class Client:
             self.socket.sendall(head[at:at + (piece or len(head))])
 
     def reply(self):
-        """The body of the next reply, read whole."""
+        """The body of the next response, read completely."""
         while b"\r\n\r\n" not in self.rest:
             self.rest += self.more()
         fields, self.rest = self.rest.split(b"\r\n\r\n", 1)

@@ -1,4 +1,4 @@
-"""A headless Chromium that a script drives by its DevTools protocol over two pipes. Needs Debian's package chromium."""
+"""Drives a headless Chromium by its DevTools protocol over two pipes. Needs Debian's package chromium."""
 import base64
 import json
 import os
@@ -11,7 +11,7 @@ TOOL = shutil.which("chromium")
 
 
 class Browser:
-    """One page. What its console and its loading complain of is kept in `complaints`."""
+    """One page. `complaints` has the errors of its console and of its loading."""
 
     def __init__(self, width, height, fields):
         self.folder = tempfile.TemporaryDirectory(ignore_cleanup_errors=True)
@@ -37,7 +37,7 @@ class Browser:
         self.resize(width, height)
 
     def resize(self, width, height, mobile=False):
-        """Sets the size of the page, on a phone with touch. Once that was left, Chromium delivers touches no more."""
+        """Sets the size of the page. A phone has touch. After a switch back from a phone, Chromium delivers no touches any more."""
         self.send("Emulation.setDeviceMetricsOverride", width=width, height=height, deviceScaleFactor=1, mobile=mobile)
         self.send("Emulation.setTouchEmulationEnabled", enabled=mobile)
 
@@ -105,11 +105,11 @@ class Browser:
         self.send("Emulation.setEmulatedMedia", media=media, features=[{"name": name.replace("_", "-"), "value": value} for name, value in features.items()])
 
     def pdf(self):
-        """The page as it is printed."""
+        """The page as PDF, as it is printed."""
         return base64.b64decode(self.send("Page.printToPDF", preferCSSPageSize=True, printBackground=True)["data"])
 
     def downloads(self, folder):
-        """Files that the page saves go to the folder."""
+        """Sets the folder to which the page saves files."""
         self.send("Page.setDownloadBehavior", behavior="allow", downloadPath=str(folder))
 
     def picture(self, path):

@@ -1,21 +1,30 @@
 #!/usr/bin/env python3
-"""Registers whose units and parties are amended and retired under what is joined to their names, as cases of crates/cad_cases.
+"""Writes cases of crates/cad_cases: registers whose units and parties are amended and retired while other objects show their names.
 
-    scripts/changes_cases.py [SEED]     prints the cases; those that are stored are of seed 1
+    scripts/changes_cases.py [SEED]     prints the cases; the stored ones have seed 1
 
-Each of sixty registers has two parts. In the first, units, parties, and parcels, rights, restrictions and responsibilities that name
-them are entered. In the second a unit and a party are amended, and a unit and a party retired: others, or the same ones. For each of
-these changes the first part has objects of each class that can name what is changed and that begin on the day before it, on it, and
-on the day after it. Some registers have one more amendment, a dependent that is amended or retired itself, or dependents that are
-entered once what they name is retired. After each command of the second part each collection that it can touch is asked whole, at the
-newest revision and at each one from the first command of this part on; then there are questions that are drawn, at revisions that
-are drawn, and single features. The first page of a third of the registers is asked of nothing, of a third behind the first part, and
-of a third behind the first command of the second.
+Each of sixty registers has two parts:
 
-Then a register has a hundred and fifty revisions and more, and in the last one commands touch more features than a base may get
-changes. Both are asked at old revisions, some from before the first page.
+- The first part enters units and parties, and parcels, rights, restrictions and responsibilities that name them.
+- The second part amends a unit and a party, and retires a unit and a party, the same ones or others.
 
-scripts/check_changes_cases counts in the stored cases what they have of this.
+For each of these changes, the first part has objects that name the changed one. They are of each class that can name it. They begin on
+the day before the change, on its day, and on the day after. Some registers also have a further amendment, or a dependent that is amended
+or retired itself. Some enter dependents after the object that they name is retired.
+
+After each command of the second part come requests:
+
+- for each whole collection that the command can touch, at the newest revision and at each one since this part began;
+- for parts of collections, drawn at random, at drawn revisions;
+- for single features.
+
+The first request for a page comes at one of three times: before the first command, after the first part, or after the first command of the
+second part. A third of the registers has each of these.
+
+Two further registers follow. One has more than a hundred and fifty revisions. In the other, a command touches more features than a base
+may get changes. Both are asked at old revisions, some of them from before the first page.
+
+scripts/check_changes_cases counts what the stored cases have of this.
 """
 import json
 import random
@@ -52,7 +61,7 @@ OF_PARTIES = ["party_name='{name}'", "party_name IS NULL AND unit=2", "party=3 O
 
 
 class Change(NamedTuple):
-    """An amendment from a day on, or a retirement at its end, of a unit or a party."""
+    """An amendment of a unit or a party from a day on, or its retirement at the end of the day."""
 
     kind: str
     object: int
@@ -70,12 +79,12 @@ def asked(target):
 
 
 class Register:
-    """The objects that a script has entered, and the lines that change them and ask for them."""
+    """The objects that a script has entered, with the lines that change and request them."""
 
     def __init__(self, chance):
         self.chance = chance
         self.number, self.revision = 0, 0
-        # of each object its class, the first day of each of its versions, and its body
+        # By object: its class, the first day of each of its versions, and its body.
         self.kinds, self.days, self.bodies = {}, {}, {}
         self.counts = [Counter()]
 
@@ -103,7 +112,7 @@ class Register:
         return self.line(self.kinds[number], {"do": "retire", "object": number, "last": text_of(last)})
 
     def body(self, kind, unit=None, party=None):
-        """A short body. A parcel has a shape or not, and its area or not."""
+        """A short body. A parcel may lack its shape and its area."""
         chance = self.chance
         if kind in OBJECTS:
             name = {"name": self.name(kind) if chance.random() < 0.9 else None}
@@ -116,7 +125,7 @@ class Register:
         return {**body, "party": party} if party else body
 
     def renamed(self, number):
-        """The body of a unit or a party with another name, with none, or with the one that it has."""
+        """The body of a unit or a party: with another name, without a name, or with the same one."""
         old, manner = self.bodies[number], self.chance.choice(["other", "other", "other", "dropped", "equal"])
         name = old["name"] if manner == "equal" else None
         while manner == "other" and name in (None, old["name"]):
@@ -124,14 +133,14 @@ class Register:
         return {**old, "name": name}
 
     def version(self, number, back=0):
-        """The identifier's target of an object's last version, or of one before it."""
+        """The target of the request for an object's last version, or for an earlier one."""
         last = len(self.days[number])
         return f"/collections/{COLLECTIONS[self.kinds[number]]}/items/{number}.{max(last - back, 1)}"
 
-    # ---- questions
+    # ---- requests
 
     def whole(self, kind, revision):
-        """All of a collection at a revision."""
+        """The request for a whole collection at a revision."""
         given = [f"revision={revision}"] if revision < self.revision else []
         given += ["limit=1000"] if self.counts[revision][kind] > 10 else []
         query = "&".join(given)
@@ -150,7 +159,7 @@ class Register:
         return "datetime=" + self.chance.choice([near, f"../{near}", f"{near}/.."])
 
     def drawn(self, kind, revision):
-        """A part of a collection, by a filter, days, a box, a limit, or two of these."""
+        """The request for a part of a collection, by a filter, days, a box, a limit, or two of these."""
         chance = self.chance
         left = chance.randrange(5) * 70_000
         parts = [self.filter(kind), self.datetime(), f"limit={chance.randrange(1, 4)}"]
@@ -165,12 +174,12 @@ class Register:
         return [kind, *NAMING.get(kind, [])]
 
     def naming(self, number):
-        """The objects that name an object, or the object itself where none can."""
+        """The objects that name an object, or the object itself if its class cannot be named."""
         field = self.kinds[number]
         return [it for it, body in self.bodies.items() if body.get(field) == number] or [number]
 
     def questions(self, number, begun):
-        """What is asked behind a command on the object, where the second part begins with the revision `begun`."""
+        """The requests after a command on the object. The second part begins with the revision `begun`."""
         chance, kinds = self.chance, self.touched(number)
         for kind in kinds:
             yield self.whole(kind, self.revision)
@@ -187,14 +196,14 @@ class Register:
 # ---- the sixty registers
 
 def merged(chance, runs):
-    """All elements of some lists, each list in its order."""
+    """The elements of all lists, mixed. Each list keeps its order."""
     runs = [list(run) for run in runs]
     while any(runs):
         yield chance.choice([run for run in runs if run]).pop(0)
 
 
 def changes(chance, are_same, is_amended_again):
-    """The amendments and retirements of the units and the parties; of which kinds the same object is amended and retired."""
+    """The amendments and retirements of units and parties, and the kinds whose same object is amended and retired."""
     day, runs = chance.randrange(20, 50), []
     for kind, (one, other) in OBJECTS.items():
         at = day + chance.choice([0, 0, 0, 0, 1])
@@ -209,7 +218,7 @@ def changes(chance, are_same, is_amended_again):
 
 
 def first_part(register, planned):
-    """Units and parties, and objects that name each on the days round its changes."""
+    """Enters units and parties, and objects that name them on the days around each change."""
     chance = register.chance
     needed = {number: {it.day + aside for it in planned if it.object == number for aside in (-1, 0, 1)} for numbers in OBJECTS.values() for number in numbers}
     for kind, numbers in OBJECTS.items():
@@ -232,7 +241,7 @@ def change(register, it):
 
 
 def dependent_changed(register, is_amended):
-    """A dependent is amended on the day after it begins, and names others then, or it is retired."""
+    """Amends a dependent on the day after it begins, so that it names others, or retires it."""
     chance = register.chance
     number = chance.choice([it for it, kind in register.kinds.items() if kind in DEPENDENTS])
     first = register.days[number][-1]
@@ -243,7 +252,7 @@ def dependent_changed(register, is_amended):
 
 
 def entered_late(register, retired, aside):
-    """A dependent of what is retired, which begins on its last day, or on the day after."""
+    """Enters a dependent of a retired object, which begins on its last day or on the day after."""
     kind = register.chance.choice(NAMING[retired.kind])
     named = {"unit": register.chance.choice(OBJECTS["unit"]), retired.kind: retired.object}
     line = register.enter(kind, retired.day + aside, register.body(kind, **named))
@@ -251,7 +260,7 @@ def entered_late(register, retired, aside):
 
 
 def second_part(register, planned, more):
-    """Each command, with the object that it is on. What comes beside the planned changes comes anywhere, or at the end."""
+    """Each command with its object. Commands that are not planned changes come anywhere, or at the end."""
     chance = register.chance
     acts = [lambda it=it: (it.object, change(register, it)) for it in planned]
     if more in ("amended", "retired"):
@@ -264,7 +273,7 @@ def second_part(register, planned, more):
 
 
 def script(chance, at):
-    """One of the registers: what is the same and what comes beside goes by turns."""
+    """The lines of one register. Its number decides which objects are changed twice and which commands are added."""
     are_same = {0: [], 3: [], 6: [], 9: chance.sample(list(OBJECTS), 1)}.get(at % 10, list(OBJECTS))
     more = ["amended", "late", "retired", None, "again", None][(at // 10 + at) % 6]
     planned = changes(chance, are_same, chance.choice(list(OBJECTS)) if more == "again" else None)
@@ -284,7 +293,7 @@ def script(chance, at):
 # ---- further registers
 
 def many_revisions(chance):
-    """A unit and a party are renamed by turns from days on before their dependents begin, so each revision has names of its own."""
+    """Renames a unit and a party alternately, from days before their dependents begin. So each revision has its own names."""
     register = Register(chance)
     yield from ("empty", "open 1")
     yield register.enter("unit", 0, {"name": "A"})
@@ -309,7 +318,7 @@ def many_revisions(chance):
 
 
 def many_named(chance, most):
-    """A party that many name, where a base gets at most so many changes."""
+    """Changes a party that many objects name, while a base gets at most that many changes."""
     register = Register(chance)
     yield from (f"changes {most}", "empty", "open 1")
     yield register.enter("unit", 0, {"name": "A"})

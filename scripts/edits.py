@@ -1,4 +1,4 @@
-"""Wrong bodies: edits of a crate's code that the prover, or a test, has to refuse."""
+"""Reads wrong bodies, which are edits of a crate's code that the prover or a test has to refuse."""
 import glob
 import os
 
@@ -6,28 +6,28 @@ TOP = os.path.realpath(os.path.join(os.path.dirname(os.path.abspath(__file__)), 
 
 
 def of_gate(crate="*", name="*"):
-    """The edits that the gate tries, of a crate or of one name."""
+    """The edits that the gate tries, for a crate or with one name."""
     return sorted(glob.glob(f"{TOP}/crates/{crate}/must-fail/{name}.edit"))
 
 
 def aside(crate="*", name="*"):
-    """The further ones, that stand aside."""
+    """The further edits, those in wrong-bodies/."""
     return sorted(glob.glob(f"{TOP}/wrong-bodies/{crate}/{name}.edit"))
 
 
 def for_tests():
-    """Those that no contract can refuse, since what they tell may come at any call: a test has to."""
+    """The edits that a test has to refuse. No contract can, since what they report may happen at any call."""
     return sorted(glob.glob(f"{TOP}/wrong-for-tests/*/*.edit"))
 
 
 def crate_of(edit):
-    """The name of the crate whose code the edit turns."""
+    """The name of the crate whose code the edit changes."""
     folder = os.path.dirname(edit)
     return os.path.basename(os.path.dirname(folder) if os.path.basename(folder) == "must-fail" else folder)
 
 
 def turned(edit):
-    """The texts that the edit makes, by the paths of their files in the crate, and why it can't be put in place."""
+    """The changed texts by the paths of their files in the crate, and the reasons why the edit cannot be put in place."""
     crate = f"{TOP}/crates/{crate_of(edit)}"
     path, old, pairs, texts, why = "", None, 0, {}, []
     with open(edit, encoding="utf-8", newline="") as it:
@@ -43,7 +43,7 @@ def turned(edit):
                     texts[path] = it.read()
             count = texts[path].count(old)
             if count != 1:
-                why.append(f"a text stands {count} times in {path}")
+                why.append(f"a text occurs {count} times in {path}")
             new = line[len("new:") :]
             texts[path] = texts[path].replace(old, new[1:] if new.startswith(" ") else new)
             pairs += 1

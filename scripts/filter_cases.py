@@ -1,6 +1,9 @@
 #!/usr/bin/env python3
-"""Writes cases of filters of the whole language, for scripts/filter_model.py: each row of the kinds both ways, each
-fault at the front, in the middle and at the end, every keyword in three spellings, each limit from both sides."""
+"""Writes cases of filters of the whole language for scripts/filter_model.py.
+
+They have each row of the kinds in both orders, and each fault at the front, in the middle and at the end. They have every keyword in three
+spellings, and each limit from both sides.
+"""
 import sys
 
 import filter_model as m

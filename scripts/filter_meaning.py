@@ -1,11 +1,11 @@
 #!/usr/bin/env python3
-"""A second reading of what filters mean, in Python and not from the crates.
-
-It tells which features of the sample register a filter takes, on an asked day or days where there are any. The trees are
-those of scripts/filter_model.py, the features are written out below. Cases are lines `COLLECTION FILTER`, or
-`COLLECTION/DATETIME FILTER`; scripts/meaning_cases.py writes some.
+"""A second implementation of what filters mean, in Python. It does not follow the crates.
 
     scripts/meaning_cases.py | scripts/filter_meaning.py
+
+It prints which features of the sample register a filter takes, on the requested days if there are any. scripts/filter_model.py makes the
+trees. The features are written out below. Cases are lines `COLLECTION FILTER` or `COLLECTION/DATETIME FILTER`, and
+scripts/meaning_cases.py writes some.
 """
 from filter_model import COMMON, SCHEMAS, answer, day_of, tell, tree_of, whole_of
 
@@ -24,7 +24,7 @@ RESTRICTIONS = [(31, 1, "2006-01-01", None, "noBuilding", None, None, 11, None, 
 UNITS = [(10, 1, "2000-01-01", None, "Mill"), (11, 1, "2000-01-01", None, None)]
 PARTIES = [(20, 1, "2000-01-01", None, "Ana Straße", "naturalPerson")]
 
-# An open start lies before every day, an open end after every day.
+# An open start is before every day, an open end after every day.
 FIRST, LAST = (-1,), (10000,)
 
 
@@ -33,7 +33,7 @@ def span(begin, end):
 
 
 def shape_of(value, holes=()):
-    """A point, or the region inside a list of corners, without those of its holes."""
+    """A point, or the region inside a list of corners, without the regions of its holes."""
     if value is None:
         return None
     return ("spot", value) if isinstance(value, tuple) else ("region", [value, *holes])
@@ -118,7 +118,7 @@ def within(a, b):
     return all(holds_point(b, it) for it in corners_of(a))
 
 
-# ---- values: None is no value
+# ---- values: None means no value
 
 def bounded(number):
     return number if number is not None and -2**63 <= number < 2**63 else None
@@ -188,7 +188,7 @@ def days(found):
     return found if found is None or isinstance(found[0], tuple) else (found, found)
 
 
-# ---- truth: True, False, or None where nothing is known
+# ---- truth: True, False, or None if it is unknown
 
 def compared(sign, a, b):
     return {"=": a == b, "<>": a != b, "<": a < b, ">": a > b, "<=": a <= b, ">=": a >= b}[sign]
@@ -267,14 +267,14 @@ def truth(tree, feature):
 # ---- cases
 
 def asked_days(text):
-    """The days that are asked, of days and open ends alone."""
+    """The requested days. The text has only days and open ends."""
     first, slash, last = text.partition("/")
     ends = [None if it in ("", "..") else day_of(it) for it in (first, last if slash else first)]
     return span(*ends)
 
 
 def is_days(text):
-    """Whether a text asks for days: of days and open ends alone, as the cases have them."""
+    """Whether a text requests days, by the forms that the cases have: only days and open ends."""
     first, slash, last = text.partition("/")
     if not slash:
         return day_of(first) is not None
@@ -285,7 +285,7 @@ def is_days(text):
 
 
 def taken(collection, asked, tree):
-    """The identifiers of the features that the filter takes, behind the word."""
+    """The word `accepted`, and the identifiers of the features that the filter takes."""
     found = ["accepted"]
     for identifier, feature in features(collection):
         lives = asked is None or related("T_INTERSECTS", feature["lifespan"], asked)
@@ -295,7 +295,7 @@ def taken(collection, asked, tree):
 
 
 def told(name, data):
-    """What a case is answered: its name is that of a collection, maybe with `/` and days behind it."""
+    """The answer to a case. Its name is that of a collection, maybe with `/` and days after it."""
     collection, slash, asked = name.partition("/")
     first = answer(collection, data)
     return first if first != "accepted" else taken(collection, asked_days(asked) if slash else None, tree_of(data))

@@ -1,11 +1,11 @@
 #!/usr/bin/env python3
-"""A second reading of the rules of the whole filter language, in Python and not from the crates.
-
-It tells of a filter's text, for a collection, its first fault with its place, or that it is accepted, so that the
-crates' definitions can be looked at from a second side. Cases are lines `COLLECTION FILTER`; scripts/filter_cases.py
-writes some 1,100 of them, which stand in crates/cql_cases/stdin, and scripts/check_filter_cases compares the answers.
+"""A second implementation of the rules of the whole filter language, in Python. It does not follow the crates.
 
     scripts/filter_cases.py | scripts/filter_model.py
+
+For a filter's text and a collection it prints the first fault with its place, or that the filter is accepted. Cases are lines
+`COLLECTION FILTER`. scripts/filter_cases.py writes some 1,100 of them, which are in crates/cql_cases/stdin. scripts/check_filter_cases
+compares the answers with the stored ones.
 """
 import re
 import sys
@@ -44,7 +44,7 @@ QUOTED = re.compile(rb'"([^"]*)"')
 
 
 def text_at(data, at):
-    """The content and the end of the text that begins at this quote, or None."""
+    """The content and the end of the text that begins at this quotation mark, or None."""
     content, i = b"", at + 1
     while i < len(data):
         if data[i:i + 2] in (b"''", b"\\'"):
@@ -283,7 +283,7 @@ def day_of(text):
 
 
 def crosses(corners):
-    """Whether two edges share more than they may."""
+    """Whether two edges share more than edges of a ring may share."""
     n = len(corners)
     edges = [(corners[i], corners[(i + 1) % n]) for i in range(n)]
 
@@ -320,7 +320,7 @@ def is_ring(corners):
 
 
 def is_in_ring(point, corners):
-    """Whether the point is on an edge of the ring, or inside: by the turns of the edges round it."""
+    """Whether the point is on an edge of the ring, or inside by the turns of the edges around it."""
     x, y = point
     winding = 0
     for (a, b), (c, d) in zip(corners, corners[1:] + corners[:1]):
@@ -335,14 +335,14 @@ def is_in_ring(point, corners):
 
 
 def is_region(rings):
-    """Whether the lists of corners are an outer ring and holes in its closed region."""
+    """Whether the lists of corners are an outer ring, and holes in its closed region."""
     if not all(is_ring(it) for it in rings) or len(rings) > 100 or sum(map(len, rings)) > 1000:
         return False
     return all(is_in_ring(corner, rings[0]) for hole in rings[1:] for corner in hole)
 
 
 def whole_of(spelled):
-    """The value, or the cause that it has none."""
+    """The value, or the cause of the fault."""
     sign, digits = (-1, spelled[1:]) if spelled.startswith("-") else (1, spelled)
     if re.search("[eE]", digits):
         return "NotWhole"
@@ -467,7 +467,7 @@ def answer(collection, data):
 
 
 def tell(answer_of):
-    """Prints what each case of standard input is answered."""
+    """Prints the answer to each case of standard input."""
     for line in sys.stdin.buffer.read().split(b"\n"):
         if line:
             name, _, text = line.partition(b" ")

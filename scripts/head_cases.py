@@ -1,10 +1,10 @@
 #!/usr/bin/env python3
-"""A thousand connections whose heads are cut, doubled, joined and changed in some bytes, as cases of crates/cad_cases.
+"""Writes cases of crates/cad_cases: a thousand connections whose heads are cut, doubled, joined, or changed in some bytes.
 
-    scripts/head_cases.py [SEED]        prints the cases; those that are stored are of seed 1
+    scripts/head_cases.py [SEED]        prints the cases; the stored ones have seed 1
 
-Left out are connections that end within a line which nothing can make whole: whether the server says so before the line's
-end is its own choice.
+It leaves out connections that end inside a line that can no longer become a line of a head. The server may reject such a line before its
+end or at its end.
 """
 import json
 import random
@@ -42,12 +42,12 @@ FIELDS = [
     "X-Empty:",
     "X-Long: " + "v" * 60,
 ]
-# Bytes that mean something in a head, and some that may stand in none.
+# Bytes that have a meaning in a head, and some that no head may contain.
 BYTES = b"\0\t\n\r !\"%&'()*+,-./0159:;<=?@AGHPTZ[\\]^_`az{|}~\x7f\x80\xc3\xa9\xff"
 
 
 def head(chance):
-    """A head, for the most part as it should be."""
+    """A head. Most of them are valid."""
     method = chance.choice(["GET"] * 17 + ["HEAD", "POST", "get"])
     version = chance.choice(["HTTP/1.1"] * 15 + ["HTTP/1.0"] * 2 + ["HTTP/2.0"])
     fields = ["Host: x"] * (chance.random() < 0.95) + chance.sample(FIELDS, chance.choice([0, 0, 0, 0, 1, 1, 2]))
@@ -58,7 +58,7 @@ def head(chance):
 
 
 def changed(data, chance):
-    """The bytes with one to three of them turned, put in or taken out."""
+    """The bytes, with one to three of them changed, inserted or removed."""
     data = bytearray(data)
     for _ in range(chance.randint(1, 3)):
         at = chance.randrange(len(data))
@@ -69,7 +69,7 @@ def changed(data, chance):
 
 
 def connection(chance):
-    """What a client sends: some heads, of which one or the other is changed, doubled or cut."""
+    """The bytes of a client: some heads, a few of them changed, doubled or cut."""
     heads = [head(chance) for _ in range(chance.choice([1, 1, 1, 2, 3]))]
     at = chance.randrange(len(heads))
     kind = chance.choice(["changed"] * 5 + ["cut", "doubled", "joined", "whole"])
@@ -85,13 +85,13 @@ def connection(chance):
     return b"".join(heads)
 
 
-# What may follow a part of a request line, or of a field, to make it whole.
+# Bytes that may complete a part of a request line or of a field.
 REST_OF_LINE = [b"", b"G / HTTP/1.1", b" / HTTP/1.1", b"/ HTTP/1.1", *(b" HTTP/1.1"[at:] for at in range(9))]
 REST_OF_FIELD = [b"", b"a:", b":"]
 
 
 def can_go_on(rest):
-    """Whether the line that the bytes end in can still become one of a head."""
+    """Whether the last line of the bytes can still become a line of a head."""
     lines = rest.split(b"\n")
     last, begun = lines[-1], [it for it in lines[:-1] if it not in (b"", b"\r")]
     if last in (b"", b"\r"):
@@ -102,7 +102,7 @@ def can_go_on(rest):
 
 
 def is_settled(data):
-    """Whether the replies to the bytes do not depend on when a hopeless rest is told."""
+    """Whether the replies to the bytes are the same, however early the server rejects a line that can no longer be valid."""
     desk = server_model.Desk(server_model.sample())
     desk.opened(1)
     desk.fed(1, data)

@@ -3,7 +3,7 @@
 
 RING = "(0 0, 90 0, 90 90, 0 90, 0 0)"
 HOLE = "(10 10, 20 10, 10 20, 10 10)"
-# A wide region round all parcels; parcels 1 and 2 fill the box from 0 to 40000 and 20000, parcel 3 is a triangle above it.
+# A wide region around all parcels. Parcels 1 and 2 fill the box from 0 to 40000 and 20000, and parcel 3 is a triangle above it.
 WIDE = "(-9000 -9000, 90000 -9000, 90000 90000, -9000 90000, -9000 -9000)"
 
 
@@ -16,7 +16,7 @@ def box(x, y, u, v):
 
 
 def grammar():
-    """What may stand behind a ring, and inside the second and the third one."""
+    """Texts after a ring, and texts inside the second and the third ring."""
     for behind in ("", ")", ",", ", ", ",)", " IS NULL", ", IS NULL", f" {HOLE})", f"; {HOLE})", f", {HOLE}", f", {HOLE}) IS NULL",
                    f", {HOLE[1:-1]})", f", ({HOLE}))", f", {HOLE}, {HOLE}) IS NULL", f", {HOLE}, {HOLE}", f", {HOLE},) IS NULL",
                    f", {HOLE}, IS NULL", f", {HOLE} {HOLE})", f", {HOLE} AND TRUE", f", {HOLE})) IS NULL", f", 5) IS NULL",
@@ -33,7 +33,7 @@ def grammar():
 
 
 def numbers():
-    """A number that is none, in each ring; the first of several; before a ring that is none."""
+    """Invalid numbers: one in each ring, the first of several, and one before an invalid ring."""
     for wrong in ("2.5", "1e3", "-9223372036854775809", "9223372036854775808"):
         bad = f"(10 10, {wrong} 10, 10 20, 10 10)"
         yield polygon(RING, bad) + " IS NULL"
@@ -48,7 +48,7 @@ def numbers():
 
 
 def rings():
-    """Rings that bound a region, and rings that bound none."""
+    """Rings that bound a region, and rings that do not."""
     for holes in (["(10 10, 20 10, 10 20)"], ["(10 10, 20 10, 10 20, 10 11)"], ["(10 10, 20 10, 10 20, 11 10)"], ["(10 10)"],
                   ["(10 10, 20 10, 10 10)"], ["(10 10, 20 10, 30 10, 10 10)"], ["(10 10, 20 20, 20 10, 10 20, 10 10)"],
                   ["(10 10, 20 10, 20 10, 10 20, 10 10)"], [HOLE, "(10 10, 20 10, 10 20)"], [HOLE, "(30 30, 40 40, 40 30, 30 40, 30 30)"],
@@ -60,13 +60,13 @@ def rings():
     yield polygon(HOLE, RING) + " IS NULL"
     yield polygon("(0 0, 90 0, 90 90, 0 90)", HOLE) + " IS NULL"
     yield polygon("(0 0, 90 90, 90 0, 0 90, 0 0)", HOLE) + " IS NULL"
-    # (a notch that the hole's edge leaves, though its corners do not)
+    # (the hole's edge leaves the region at a notch, but its corners do not)
     yield polygon("(0 0, 90 0, 90 90, 45 10, 0 90, 0 0)", "(5 60, 85 60, 45 1, 5 60)") + " IS NULL"
     yield polygon("(0 0, 90 0, 90 90, 45 10, 0 90, 0 0)", "(5 60, 45 60, 45 1, 5 60)") + " IS NULL"
 
 
 def places():
-    """Where the fault of a region stands among others."""
+    """The place of a region's fault among other faults."""
     bad = polygon(RING, box(80, 80, 91, 90))
     for text in (f"NOT {bad} IS NULL", f"area > 0 AND {bad} IS NULL", f"areas > 5 AND {bad} IS NULL", f"{bad} IS NULL AND areas > 5",
                  f"S_INTERSECTS(geometry, {bad})", f"S_WITHIN(geometry, {bad})", f"S_WITHIN({bad}, geometry)",
@@ -77,7 +77,7 @@ def places():
 
 
 def literals():
-    """Points, boxes and regions against a region with two holes, the second of which touches the outer ring."""
+    """Points, boxes and regions, and a region with two holes. The second hole touches the outer ring."""
     region = polygon(RING, box(10, 10, 20, 20), box(40, 60, 60, 90))
     for x, y in ((5, 5), (0, 0), (10, 10), (10, 15), (15, 15), (20, 12), (21, 12), (11, 11), (50, 75), (50, 90), (50, 60), (40, 75), (39, 75),
                  (90, 45), (91, 45), (15, 10), (15, 45), (95, 15), (-5, 15), (61, 60)):
@@ -100,7 +100,7 @@ def literals():
 
 
 def parcels():
-    """Regions whose holes hold parcels, touch them, or lie in them."""
+    """Regions whose holes hold parcels, touch them, or are inside them."""
     for holes in ([box(-1, -1, 40001, 60001)], [box(-1, -1, 40001, 20001)], [box(0, 0, 40000, 20000)], [box(0, 0, 20000, 20000)],
                   [box(-1, -1, 20001, 20001)], [box(-1, -1, 19999, 20001)], [box(1, 1, 19999, 19999)], [box(-1, -1, 40001, 20001), box(-1, 20002, 30001, 60001)],
                   [box(-1, -1, 40001, 20001), box(0, 30000, 30000, 60000)], [box(20001, 1, 39999, 19999)], ["(0 30000, 30000 30000, 0 60000, 0 30000)"],

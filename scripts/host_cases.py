@@ -1,12 +1,19 @@
 #!/usr/bin/env python3
-"""Cases of the loop over a network whose peers do as they are told, for crates/clients_cases.
+"""Writes cases for crates/clients_cases: the loop over a network whose peers follow a script.
 
-    scripts/host_cases.py [SEED] [COUNT]     prints the cases; those that are stored are of seed 1, 400 of them, and those below
+    scripts/host_cases.py [SEED] [COUNT]     prints the cases; the stored ones have seed 1 and count 400
 
-Each case is a line `host STEPS`: clients and land offices that come, send, take and fail in some order, and of which the network tells
-in some order; short reads and writes, want of memory for a reply, want of descriptors, more clients than there is room for, offices
-that leave before their answer is written, clients that do nothing for too long, and stops while replies are under way. Commands for
-object 6 are refused by the database, and that is told at the end whatever becomes of the office: the first cases are of this.
+Each case is a line `host STEPS`. In it, clients and land offices connect, send, take and fail in some order, and the network reports them in
+some order. The cases have:
+
+- short reads and short writes;
+- no memory for a reply, and no descriptors;
+- more clients than the server has room for;
+- offices that leave before their answer is written;
+- clients that do nothing for too long;
+- stops while replies are being written.
+
+The database refuses commands for object 6. The end must report that even if the office has left, and the first cases test this.
 """
 import random
 import sys
@@ -27,7 +34,7 @@ REFUSALS = [
 
 
 def texts(chance):
-    """What a client sends: requests, one after the other, in pieces."""
+    """The pieces that a client sends: requests, one after the other."""
     whole = "".join(chance.choice(REQUESTS) for _ in range(chance.randint(1, 4)))
     while whole:
         count = chance.choice([1, 5, 17, len(whole), len(whole)])
@@ -36,7 +43,7 @@ def texts(chance):
 
 
 class Case:
-    """A case as it is drawn: who is there, and what they have to send yet."""
+    """A case while it is drawn: the peers, and what they still have to send."""
 
     def __init__(self, chance):
         self.chance, self.steps, self.peers, self.unsent, self.offices = chance, [], 0, {}, set()
@@ -54,7 +61,7 @@ class Case:
         self.peers += 1
 
     def act(self):
-        """Something that a peer does."""
+        """A step of a peer."""
         peer = self.chance.randrange(self.peers)
         what = self.chance.random()
         if what < 0.5 and self.unsent[peer]:
@@ -67,14 +74,14 @@ class Case:
             self.steps.append(f"break {peer}")
 
     def wait(self, doors=False):
-        """What the network tells, in some order, and the end of a wait."""
+        """The peers that the network reports, in some order, and the end of a wait."""
         places = [64, 65, 66] + list(range(min(self.peers, 64)))
         told = [it for it in places if self.chance.random() < (0.6 if self.peers < 20 else 0.15) or doors and it in (65, 66)]
         self.chance.shuffle(told)
         self.steps += [" ".join(["wake"] + [str(it) for it in told])] * bool(told) + ["end"]
 
     def stop(self):
-        """An office comes and asks to stop."""
+        """An office connects and sends `stop`."""
         self.steps += ["office", f"give {self.peers} stop_" if self.chance.random() < 0.8 else f"give {self.peers} stop"]
         self.unsent[self.peers] = []
         self.peers += 1

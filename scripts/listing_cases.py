@@ -1,12 +1,14 @@
 #!/usr/bin/env python3
-"""Servers that may list their ledger a few times, as cases of crates/cad_cases: what is kept of revisions is not read again.
+"""Writes cases of crates/cad_cases that show that a server does not read kept revisions again.
 
-    scripts/listing_cases.py        prints the cases, which stand at the end of the stored ones
+    scripts/listing_cases.py        prints the cases, which are the last of the stored ones
 
-A server over the sample register may list it once, for the first page. Then each kind of command on each class is entered, the first
-of them under the names that parcels, rights and restrictions have, and behind each command pages of what it can touch are asked for,
-and in the end pages of the revisions before: so many as are kept at least, where a base gets at most 512, 3 and no changes. A server
-that may list no more answers that memory is wanting to what it does not keep, and goes on with what it does.
+A server over the sample register may list its ledger once, for the first page. Then the cases enter each kind of command on each class.
+The first of them change names that parcels, rights and restrictions show. After each command, they request pages of what it can touch.
+
+At the end they request pages of the revisions before, as many as the server keeps at least. This is done with bases that get at most 512, 3
+and no changes. A server that may not list its ledger reports out of memory for a revision that it does not keep, and continues with the
+others.
 """
 import json
 
@@ -15,7 +17,7 @@ COLLECTIONS = ["parcels", "rights", "restrictions", "units", "parties", "respons
 UNITS, PARTIES = COLLECTIONS[:4] + COLLECTIONS[5:], COLLECTIONS[1:3] + COLLECTIONS[4:]
 FIRST, NO_BOUND = 10, 2**64 - 1
 
-# The bound of changes, and of how many revisions before the newest pages are kept at least.
+# The bound of changes, and the least number of revisions before the newest whose pages are kept.
 BOUNDS = [(512, 20), (3, 3), (0, 1)]
 
 # A command, and the collections that it can touch.
@@ -65,7 +67,7 @@ def listed_once(most, before):
 
 
 def wanting():
-    """A ledger of which no listing is to be had, of which one, and after a restart one again."""
+    """A ledger that cannot be listed, one that can be listed once, and the same after a restart."""
     yield from ("memory may be wanting", "listings 0", "sample", "open 1", asked("units"), asked("units"), "open 1", asked("lakes"))
     yield from ("listings 1", "restart", "open 1", asked("units", 3), asked("units"), "open 1", asked("parcels", 3))
     yield from (entered(COMMANDS[0][0]), asked("units", FIRST), "open 1", asked("parcels", 3), "restart", "open 1")

@@ -1,5 +1,5 @@
 #!/usr/bin/env python3
-"""Writes the cases of meaning in crates/cql_cases/stdin: what filters take of the sample register."""
+"""Writes the cases of meaning in crates/cql_cases/stdin: which features of the sample register filters take."""
 
 DAY = "parcels/2012-05-01"
 RELATIONS = ("AFTER BEFORE DISJOINT INTERSECTS EQUALS CONTAINS DURING MEETS METBY STARTS STARTEDBY FINISHES FINISHEDBY "
@@ -11,7 +11,7 @@ SHAPES = ["POINT(0 0)", "POINT(20000 10000)", "POINT(10000 10000)", "POINT(15000
 
 
 def written():
-    """The rows that users ask about first."""
+    """The filters that users ask about first."""
     for text in ("area > 390", "NOT area > 390", "area = area", "area * 0 = 0", "area - area = 0",
                  "area NOT BETWEEN 500 AND 1000 div 0", "area IN (380, area * 0 + 900, 1 div 0)",
                  "area NOT IN (380, area * 0 + 900, 1 div 0)", "1000 div area > 1", "area % 7 - 2 * 3 < 0",
@@ -34,7 +34,7 @@ def written():
 
 
 def days():
-    """Days that are asked, on both sides of each edge."""
+    """Requested days on both sides of each edge."""
     for asked in ("2000-12-31", "2001-01-01", "2009-12-31", "2010-01-01", "2009-12-31/2010-01-01", "../2003-01-01",
                   "2005-06-01/..", "../..", "2005-05-31", "/", "9999-12-31"):
         yield f"parcels/{asked}", "area > 0"
@@ -45,7 +45,7 @@ def days():
 
 
 def wholes():
-    """Sums and products: each step bounded, cut toward zero, none without a value or over zero."""
+    """Sums and products: bounds of each step, division cut toward zero, missing values, and division by zero."""
     for text in ("area + 1 = 381", "area - 380 = 0", "area * 2 = 1800", "2 * area - area = area", "area div 7 = 54",
                  "area % 7 = 4", "-(0) = area", "area - 400 < 0", "(area - 900) div 7 = -74", "(area - 900) % 7 = -2",
                  "-7 div -2 = 3", "7 div -2 = -3", "7 % -2 = 1", "-7 % -2 = -1", "1 div 0 IS NULL", "1 % 0 IS NULL",
@@ -121,7 +121,7 @@ def times():
 
 
 def shapes():
-    """Points, boxes and regions, on corners and edges, inside and outside."""
+    """Points, boxes and regions, on corners and edges, inside and outside of parcels."""
     for shape in SHAPES:
         yield "parcels", f"S_INTERSECTS(geometry, {shape})"
         yield "parcels", f"S_INTERSECTS({shape}, geometry)"

@@ -1,10 +1,11 @@
 #!/usr/bin/env python3
-"""Runs of events in which memory may be wanting: rows of requests and commands, by the events of a desk and by serving.
+"""Writes the cases of crates/cad_register_cases: runs of requests and commands, in which scripts/refused refuses memory.
 
-    scripts/memory_cases.py        prints them, which are the stored cases of crates/cad_register_cases
+    scripts/memory_cases.py        prints the cases
 
-scripts/refused refuses each growth of them in turn, over a ledger without a database and over a register in one. Runs with commands
-are there once more where a base of a collection gets no changes: then each command that changes features makes new bases.
+scripts/refused refuses one growth after another, over a ledger without a database and over a register in one. There are runs by the events
+of a desk, and runs by serving a connection. Runs with commands come a second time, with bases that get no changes. There, each command
+that changes features makes new bases.
 """
 import itertools
 import json
@@ -18,12 +19,12 @@ def request(target):
     return f"GET {target} HTTP/1.1\r\nHost: x\r\n\r\n"
 
 
-# What another connection has sent before a row, and sends behind it: its reply shows the revision.
+# What another connection sends before and after a row. Its reply shows the revision.
 BEGUN, REST = "GET /collections/units/items?limit=1 HTTP/1.1\r\n", "Host: x\r\n\r\n"
 
 
 def by_events(row):
-    """The row on connection 1. Each request is asked again on a new connection, and each command is entered again."""
+    """The row on connection 1. Each request is sent again on a new connection, and each command is entered again."""
     others = itertools.count(10)
     yield from ("memory may be wanting", "open 1", "open 2", sent(2, BEGUN))
     for it in row:
@@ -36,7 +37,7 @@ def by_events(row):
 
 
 def by_serving(row):
-    """Each request of the row on a connection that is served, twice, and each command entered twice."""
+    """Each request of the row twice, on a connection that is served, and each command entered twice."""
     yield from ("memory may be wanting", "open 2", sent(2, BEGUN))
     for it in row:
         yield from [f"office {it}" if it.startswith("{") else f"serve 3 {json.dumps(request(it))}"] * 2
@@ -76,10 +77,10 @@ ROWS = {
     ],
 }
 
-# Want of memory in the middle of a run: two connections, one of which sends a long head in pieces while the other is
-# answered, and is opened again behind what may close it; pages, features, filters and a reply of more than 4 KB; commands of
-# the office that are tried again, with the requests that see them, on a register of ten commands and on an empty one, whose
-# first command needs memory.
+# Memory may run out in the middle of this run. It has two connections. One sends a long head in pieces while the other gets replies.
+# Connections that may have been closed are opened again. The run has pages, features, filters, and a reply of more than 4 KB. The office
+# enters commands twice, and requests show them. The register has ten commands at first, and is then empty, so that its first command needs
+# memory.
 GOING_ON = r"""memory may be wanting
 open 1
 open 2
@@ -130,7 +131,7 @@ close 1
 close 2
 """
 
-# A server that begins anew over what the one before gives back, between two pages of a walk and behind a command.
+# A server that starts again over the ledger of the one before, between two pages of a walk and after a command.
 RESTART = r"""memory may be wanting
 open 1
 bytes 1 "GET /collections/parcels/items?limit=2 HTTP/1.1\r\nHost: x\r\n\r\n"
@@ -146,7 +147,7 @@ serve 2 "GET /collections/parcels/items?limit=1&after=3.1 HTTP/1.1\r\nHost: x\r\
 
 
 def runs():
-    """Each run by its name."""
+    """The runs by their names."""
     made = {"connections and commands": GOING_ON.splitlines(), "a restart": RESTART.splitlines()}
     for name, row in ROWS.items():
         made[f"{name}, by events"], made[f"{name}, by serving"] = list(by_events(row)), list(by_serving(row))

@@ -1,12 +1,18 @@
 #!/usr/bin/env python3
-"""A second reading of the rules of normal forms: what crates/cql_cases answers to `normal`, from scripts/filter_meaning.py and the
-rules of ranges, and not from the crates.
+"""A second implementation of the rules of normal forms, in Python. It does not follow the crates.
 
     scripts/stored_cases.py cql_cases in normal | scripts/normal_model.py      prints the answers
 
-A form is ("constant", b), ("range", property, low, high), ("front", property, low, high) of a LIKE that stays a condition,
-("and", parts), ("or", parts), ("equality",) of flags or ("other",). An end is None, ("with", value) or ("without", value). Of NOT the opposite form is
-taken, so no form has a NOT.
+It gives the answers of crates/cql_cases to lines `normal`, and uses scripts/filter_meaning.py. A form is one of these:
+
+- ("constant", b)
+- ("range", property, low, high)
+- ("front", property, low, high), for a LIKE that remains a condition
+- ("and", parts) or ("or", parts)
+- ("equality",), for flags
+- ("other",)
+
+An end of a range is ("with", value), ("without", value) or None. NOT gives the opposite form, so no form has a NOT.
 """
 import re
 import sys
@@ -22,7 +28,7 @@ OTHER, EQUALITY = ("other",), ("equality",)
 
 
 def is_fixed(tree):
-    """No property is inside."""
+    """Whether the term has no property."""
     return tree[0] != "name" and all(is_fixed(it) for it in tree[2] if isinstance(it, tuple))
 
 
@@ -47,7 +53,7 @@ def compared(sign, left, right):
 
 
 def equal_flags(left, right):
-    """The form of an equality of flags, which is no range."""
+    """The form of an equality of flags, which is not a range."""
     fixed = [is_fixed(left), is_fixed(right)]
     if all(fixed):
         return ("constant", left[3] == right[3])
@@ -61,7 +67,7 @@ def is_empty(low, high):
 
 
 def higher(a, b):
-    """The lower end that lets less in."""
+    """The stricter of two lower ends."""
     if a is None or b is None:
         return a or b
     return max(a, b, key=lambda it: (it[1], it[0] == "without"))
@@ -101,7 +107,7 @@ def some_of(forms):
 
 
 def end_of_front(front):
-    """The least text above all that begin with the front."""
+    """The least text that is above all texts with this front."""
     while front:
         last = ord(front[-1])
         if last != 0x10FFFF:
@@ -134,7 +140,7 @@ def between(left, low, high, side):
 
 
 def form_of(tree, side):
-    """The form of the features of which the filter is true, or false."""
+    """The form of the features for which the filter is true, or false."""
     operator, _, parts, extra = tree
     if operator == "truth":
         return ("constant", extra == side)
@@ -158,7 +164,7 @@ def form_of(tree, side):
 
 
 def is_ordered(parts):
-    """Whether whole numbers, texts or days are compared: no flags."""
+    """Whether it compares whole numbers, texts or days, and not flags."""
     return all(it[0] != "truth" and not (it[0] == "name" and it[3] == "party_required") for it in parts)
 
 
@@ -169,7 +175,7 @@ def shown(value):
 
 
 def offered(form):
-    """The range that a form offers: its own, or that of the first part of an AND that has one."""
+    """The range that a form offers: its own, or that of the first part of an AND that has a range."""
     for kind, *rest in form[1] if form[0] == "and" else [form]:
         if kind in ("range", "front"):
             return " ".join([rest[0]] + ["free" if it is None else f"{it[0]} {shown(it[1])}" for it in rest[1:]])
@@ -194,7 +200,7 @@ def told(name, data):
 
 
 def cases(data):
-    """The cases of the lines, each mark replaced by what the lines before its own say."""
+    """The cases of the lines. Earlier lines say what replaces each mark."""
     texts = []
     for line in data.split(b"\n"):
         again = re.match(rb"repeat ([0-9]+) (.*)", line, re.S)

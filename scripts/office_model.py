@@ -1,12 +1,14 @@
 #!/usr/bin/env python3
-"""A second reading of the land office's rules, in Python and not from the crates.
-
-It tells what the office answers to lines, over a ledger in memory that is empty at first, by docs/OFFICE.md; and of those behind the line
-`= features`, over a ledger of their own, also the features of the last revision as JSON, by scripts/server_model.py; and of those behind
-the line `= journals`, over one more, also the journals that lines `journal N` ask for.
-scripts/check_further_cases holds the stored answers of crates/office_cases against it.
+"""A second implementation of the land office's rules, in Python. It follows docs/OFFICE.md and not the crates.
 
     scripts/office_model.py < LINES
+
+It prints the office's answers to lines, over a ledger in memory that is empty at first. Two lines begin a new ledger:
+
+- After `= features` it also prints the features of the last revision as JSON, by scripts/server_model.py.
+- After `= journals` it also prints the journals that lines `journal N` request.
+
+scripts/check_further_cases compares the stored answers of crates/office_cases with it.
 """
 import json
 import sys
@@ -14,7 +16,7 @@ import sys
 import server_model
 from filter_model import day_of, is_ring
 
-# Digits without end are read as numbers.
+# Numbers may have any number of digits.
 sys.set_int_max_str_digits(0)
 
 LINE = 65536
@@ -30,14 +32,14 @@ def need(holds):
         raise NotACommand
 
 
-# ---- JSON, as its text is read: the last of two members of one name counts, and a number is whole where it is written so
+# ---- reading JSON: the last of two members with one name counts, and a number is whole if it is written as a whole number
 
 class Fraction:
     """A number with a fraction, an exponent or a sign before 0."""
 
 
 def utf8(value):
-    """No text in the value has half a pair of surrogates."""
+    """Whether no text in the value has half a pair of surrogates."""
     if isinstance(value, str):
         value.encode("utf-8")
     elif isinstance(value, list):
@@ -133,7 +135,7 @@ def is_in(t, corners):
 
 
 def region(outline, holes):
-    """An outer ring and the holes in it: 100 rings and 1,000 corners at most, and no corner of a hole outside the outer ring."""
+    """An outer ring and its holes: at most 100 rings and 1,000 corners, and no corner of a hole outside the outer ring."""
     outer = ring(outline)
     need(holes is None or isinstance(holes, list))
     rings = [outer] + [ring(it) for it in holes or []]
@@ -142,7 +144,7 @@ def region(outline, holes):
     return rings
 
 
-# ---- bodies: the members of each class, those that have to be there, and what each is read as
+# ---- bodies: the members of each class, which of them are required, and how each is read
 
 RIGHT = {"unit": object_id, "party": object_id, "code": words, "share": share}
 BODIES = {
@@ -182,7 +184,7 @@ def command(line):
     return told["do"], number, day(told["first"]), name, body(name, told[name])
 
 
-# ---- the register: of each object its class, the first day of its open version, and whether one is open
+# ---- the register: for each object its class, the first day of its open version, and whether a version is open
 
 def refusal(register, do, number, at, name, said):
     known = register.get(number)
@@ -228,7 +230,7 @@ def answers(text):
 
 
 def shown(text):
-    """The features of the last revision that the lines make, each behind the name of its collection."""
+    """The features of the last revision of the lines, each after the name of its collection."""
     register = server_model.Register()
     for line in text.split(b"\n"):
         if line:
@@ -251,7 +253,7 @@ MEMBERS = {
 
 
 def line_of(do, number, at, name, said):
-    """The line of a command, its members in byte order; a member that was not given is null, and the holes of a shape without any are none."""
+    """The line of a command, with its members in byte order. A member that was not given is null. A shape without holes has an empty list."""
     day_text = "%04d-%02d-%02d" % at
     if do == "retire":
         tree = {"do": do, "last": day_text, "object": number}
@@ -264,7 +266,7 @@ def line_of(do, number, at, name, said):
 
 
 def journals(text):
-    """The answers to the lines, of which those that say `journal N` ask for the commands behind a revision."""
+    """The answers to the lines. A line `journal N` requests the commands after a revision."""
     entered, accepted = b"", []
     for line in text.split(b"\n"):
         if line.startswith(b"journal "):

@@ -1,12 +1,14 @@
 #!/usr/bin/env python3
-"""A second reading of the rules of plans: what crates/page_cases answers of filters and pages, from scripts/normal_model.py, the parameters of
-scripts/server_model.py and the table of menus and costs, and not from the crates.
+"""A second implementation of the rules of plans, in Python. It does not follow the crates.
 
     scripts/stored_cases.py page_cases in - asks self next body word fault | scripts/plan_model.py      prints the answers
-    scripts/plan_model.py docs/FILTERS.md                  fails where a row of its table of what is looked at tells another number
+    scripts/plan_model.py docs/FILTERS.md          fails if a row of its table of examined features has another number
 
-A plan is ("all",), ("empty",), ("range", property, low, high), ("near", property, box), ("meet", plans) or ("join", plans); a
-box is the least and the greatest coordinates. Forms are those of normal_model.py, and ("near", property, box) beside them.
+It gives the answers of crates/page_cases about filters and pages. It uses scripts/normal_model.py, the parameters of
+scripts/server_model.py, and the table of menus and costs.
+
+A plan is ("all",), ("empty",), ("range", property, low, high), ("near", property, box), ("meet", plans) or ("join", plans). A box is the least
+and the greatest coordinates. Forms are those of normal_model.py, and in addition ("near", property, box).
 """
 import re
 import sys
@@ -35,7 +37,7 @@ def box_of(shape):
 
 
 def form_of(tree, side):
-    """The form of a condition; a true relation with a shape is near it."""
+    """The form of a condition. Features for which a relation with a shape is true are near that shape."""
     if tree[0] != "spatial" or not side or tree[3] == "S_DISJOINT":
         return plain_form(tree, side)
     named = [it for it in tree[2] if it[0] == "name"]
@@ -61,7 +63,7 @@ def cells(box):
 
 
 def is_near(shape, box):
-    """In more than 64 cells, or in one that the box touches."""
+    """Whether the shape is in more than 64 cells, or in one that the box touches."""
     if shape is None:
         return False
     (left, low, right, high), (x0, y0, x1, y1) = cells(box_of(shape)), cells(box)
@@ -142,7 +144,7 @@ def given(identifiers):
 
 
 def filter_answer(line):
-    """What is answered of a filter, with its window."""
+    """The answer about a filter, with its window."""
     found = re.fullmatch(rb"([a-z]+)(?:/(-?[0-9]+),(-?[0-9]+),(-?[0-9]+),(-?[0-9]+))? (.*)", line)
     if not found or found[1].decode() not in model.SCHEMAS:
         return "no case"
@@ -162,14 +164,14 @@ def filter_answer(line):
 
 
 def meets_window(x, window):
-    """Without a window every feature does; a feature without geometry meets none."""
+    """Whether a feature meets the window. Every feature meets a missing window. A feature without geometry meets no window."""
     if window is None:
         return True
     return x.get("geometry") is not None and meaning.meets(x["geometry"], ("frame", window[:2], window[2:]))
 
 
 def request_answer(target):
-    """What is answered of a request: the page by the chosen plan, with what it took."""
+    """The answer about a request: the page by the chosen plan, and what the page cost."""
     name, _, query = target.partition(b"?")
     collection = name.decode(errors="replace")
     if collection not in model.SCHEMAS:
@@ -200,7 +202,7 @@ def request_answer(target):
 
 
 def page_answer(target):
-    """The body of the page that is asked for, and the target of its link to the next one; or the body of the query's fault."""
+    """The body of the requested page, and the target of its link to the next one. If the query has a fault, the body of the fault."""
     name, _, query = target.partition(b"?")
     collection = name.decode(errors="replace")
     if collection not in model.SCHEMAS:
@@ -217,7 +219,7 @@ def page_answer(target):
 
 
 def feature_answer(words):
-    """The body of a feature, or the one that tells that there is none."""
+    """The body of a feature, or the body that says that it does not exist."""
     collection, space, name = words.decode().partition(" ")
     if not space or collection not in model.SCHEMAS or server.identifier_of(name) is None:
         return "no case"
@@ -245,7 +247,7 @@ ROW = re.compile(r"\| ([0-9]+) \| `([^`]+)` \| [^|]* \|")
 
 
 def check_page(path):
-    """The rows below a head `looked at`, each with the number of parcels that are tested and the filter."""
+    """Compares the rows below a head `looked at`. Each has the number of tested parcels, and the filter."""
     with open(path, encoding="utf-8") as page:
         rows = page.read().partition("| looked at | filter |")[2].partition("\n\n")[0].split("\n")[2:]
     for row in rows:
@@ -253,7 +255,7 @@ def check_page(path):
         found = request_answer(b"parcels?filter=" + quote_plus(shown[2]).encode()) if shown else ""
         if f" examined {shown and shown[1]} " not in found:
             sys.exit(f"plan_model: {path}: {row}: {found}")
-    print(f"plan_model: {len(rows)} rows of {path} tell how many features are tested")
+    print(f"plan_model: {len(rows)} rows of {path} have the number of features that are tested")
 
 
 def main():

@@ -1,10 +1,10 @@
 #!/usr/bin/env python3
-"""Prints filters drawn at random, each with a collection in front, as the programs of cases read them.
+"""Prints random filters, each with a collection before it, as the programs of cases read them.
 
     scripts/random_filters.py SEED COUNT
 
-They are drawn by the grammar, over the names of the collection and values of the sample register; in some a kind is the wrong one,
-a name unknown or a literal refused, and a third has a character or a word too many or too few.
+The script draws filters by the grammar, with the names of the collection and with values of the sample register. Some have a wrong kind, an
+unknown name or an invalid literal. A third has a character or a word too many or too few.
 """
 import random
 import sys
@@ -24,7 +24,7 @@ WORDS = ["NOT", "AND", "OR", "NULL", "IN", "BETWEEN", "1", "=", "(", ")"]
 
 
 class Drawn:
-    """Draws filters of one collection."""
+    """Draws filters for one collection."""
 
     def __init__(self, draw, collection):
         self.draw, self.collection = draw, collection
@@ -33,13 +33,13 @@ class Drawn:
         return self.draw.random() < share
 
     def word(self, word):
-        """A keyword in some case."""
+        """A keyword, in upper, lower or mixed case."""
         if self.is_so(0.8):
             return word
         return "".join(self.draw.choice([it.lower(), it.upper()]) for it in word)
 
     def one(self, *ways):
-        """What one of these calls draws."""
+        """The result of one of these calls."""
         return self.draw.choice(ways)()
 
     def name(self, *kinds):
@@ -155,7 +155,7 @@ class Drawn:
         )
 
     def changed(self, text):
-        """The text with a character or a word more or less."""
+        """The text, with a character or a word added or removed."""
         words, at = text.split(" "), self.draw.randrange(len(text) + 1)
         place = self.draw.randrange(len(words))
         return self.draw.choice([
@@ -167,7 +167,7 @@ class Drawn:
 
 
 def filters(seed, count):
-    """So many lines `COLLECTION FILTER`, the same for the same seed."""
+    """That many lines `COLLECTION FILTER`, the same for the same seed."""
     draw = random.Random(seed)
     names = [*SCHEMAS, *["parcels"] * 3]
     while count:

@@ -1,7 +1,7 @@
-// Refuses one growth of a program, for scripts/refused. Loaded before the C library (LD_PRELOAD), it counts the calls of
-// malloc and realloc, answers the one whose number REFUSE gives with nothing, and writes the count to the file COUNTED.
+// Refuses one growth of a program, for scripts/refused. It is loaded before the C library (LD_PRELOAD), and counts the calls of malloc and
+// realloc. The call with the number REFUSE returns null. The count goes to the file COUNTED.
 //
-// The calls of the C library are declared here (x86-64, Linux), so that the toolchain's own clang, which has no headers, compiles it.
+// The calls of the C library are declared here (x86-64, Linux). So the toolchain's own clang, which has no headers, can compile it.
 typedef unsigned long size_t;
 typedef struct file FILE;
 
@@ -16,7 +16,7 @@ unsigned long strtoul(const char *text, char **end, int base);
 void *malloc(size_t size);
 void *realloc(void *old, size_t size);
 
-// The call that stands behind this library's own.
+// The C library's call with this name.
 #define NEXT(name) ((__typeof__(&name))dlsym((void *)-1L, #name))
 
 static unsigned long count, refused;

@@ -1,7 +1,7 @@
-"""Runs the programs on files for the scripts that look at them: the office on lines, and servers with a client.
+"""Runs the programs on files, for the scripts that test them: the office on lines, and servers with a client.
 
-The programs are crates/cadastre/out/cadastre and crates/cadastred/out/cadastred, or what the variables CADASTRE and CADASTRED name.
-How a server is started stands here alone.
+The programs are crates/cadastre/out/cadastre and crates/cadastred/out/cadastred. The variables CADASTRE and CADASTRED name others.
+Only this file starts servers.
 """
 import contextlib
 import json
@@ -21,7 +21,7 @@ COLLECTIONS = ["parcels", "rights", "restrictions", "units", "parties", "respons
 
 
 def need(program, target):
-    """Ends the run where a program isn't built."""
+    """Ends the run if a program is not built."""
     if not os.access(program, os.X_OK):
         print(f"build {program} first, by 'make {target}'", file=sys.stderr)
         sys.exit(2)
@@ -36,7 +36,7 @@ def need_service():
 
 
 def enter(file, lines):
-    """What the office answers to lines, one answer a line."""
+    """The office's answers to lines, one for each line."""
     text = "".join(it + "\n" for it in lines).encode()
     return subprocess.run([PROGRAM, "office", str(file)], input=text, stdout=subprocess.PIPE).stdout.decode().splitlines()
 
@@ -50,31 +50,31 @@ def sample_lines():
 
 @contextlib.contextmanager
 def listening(*words):
-    """A server at a port that the system chose; its address."""
+    """Runs a server at a port that the system chooses, and gives its address."""
     with subprocess.Popen(words, stdout=subprocess.PIPE, text=True) as server:
         try:
             first = server.stdout.readline().split()
             if first[:1] != ["listening"]:
-                sys.exit(f"{' '.join(words)} tells no address")
+                sys.exit(f"{' '.join(words)} prints no address")
             yield f"http://{first[1]}"
         finally:
             server.kill()
 
 
 def serving(file):
-    """`cadastre serve` on the file."""
+    """Runs `cadastre serve` on the file, and gives its address."""
     return listening(PROGRAM, "serve", str(file), "127.0.0.1:0", "1000000")
 
 
 @contextlib.contextmanager
 def hosting(file):
-    """`cadastred` on the file, with its office's socket in a folder of its own."""
+    """Runs `cadastred` on the file, with its office's socket in a folder of its own, and gives its address."""
     with tempfile.TemporaryDirectory() as folder, listening(SERVICE, str(file), "127.0.0.1:0", f"{folder}/office") as address:
         yield address
 
 
 def get(address, target):
-    """The body of a page, as a tree. The connection ends with it, since one is served at a time."""
+    """The body of a page, as a tree. The connection ends after it, since `cadastre serve` serves one at a time."""
     with urlopen(urljoin(address, target), timeout=60) as reply:
         return json.load(reply)
 

@@ -1,14 +1,19 @@
 #!/usr/bin/env python3
-"""A second reading of the server's rules, in Python and not from the crates.
+"""A second implementation of the server's rules, in Python. It does not follow the crates.
 
-It tells what a desk over a ledger in memory, which holds the sample register, answers to events, one a line: `open C`,
-`bytes C JSON`, `close C`, `office COMMAND`, `serve C JSON`, `restart`, after which no connection is known, and `sample` and
-`empty`, which begin anew. `changes N` bounds what the server keeps beside its bases, which changes no answer. Lines and answers are
-those of crates/cad_cases and, over a register in a database, of crates/cad_register_cases. Filters and features are judged by
-scripts/filter_model.py and scripts/filter_meaning.py. scripts/check_server_cases holds the stored answers of both against it, and
-scripts/refused those of runs in which memory is refused once.
+    scripts/server_model.py [N] < EVENTS    N: the event, from 1 on, for which memory runs out
 
-    scripts/server_model.py [N] < EVENTS    N: the event, from 1 on, that is refused for want of memory
+It prints the answers of a desk to events, one a line. At first the desk is over the sample register. The events are:
+
+- `open C`, `bytes C JSON`, `close C`, `serve C JSON`, on connection C
+- `office COMMAND`
+- `restart`, after which no connection is known
+- `sample` and `empty`, which begin with a new register
+- `changes N`, a bound on what the server keeps in addition to its bases; it changes no answer
+
+Lines and answers are those of crates/cad_cases and, over a register in a database, of crates/cad_register_cases. It uses
+scripts/filter_model.py and scripts/filter_meaning.py for filters and features. scripts/check_server_cases compares the stored answers of
+both programs with it. scripts/refused compares those of runs in which memory is refused once.
 """
 from datetime import datetime, timedelta
 import json
@@ -20,7 +25,7 @@ import filter_model
 from filter_meaning import asked_days, meets, related, shape_of, span, truth
 from filter_model import SCHEMAS, day_of, tree_of
 
-# Digits without end are read as numbers.
+# Numbers may have any number of digits.
 sys.set_int_max_str_digits(0)
 
 FRONT = 32768
@@ -36,12 +41,12 @@ MOST = 2147483647
 # ---- the register: versions are dicts, in the order of their entry; `entered` and `closed` are revisions
 
 class Wanting(Exception):
-    """Memory is wanting for a listing."""
+    """There is no memory for a listing."""
 
 
 class Register:
-    """It may be listed so often, which is of no account where that is None: what is listed once is kept, and so is what a command
-    makes of the newest revision where that is kept."""
+    """It may be listed `listings` times; None means no limit. A revision that was listed is kept. If the newest revision is kept, so is the
+    one that a command makes of it."""
 
     def __init__(self):
         self.versions, self.revision = [], 0
@@ -146,12 +151,12 @@ def named_on(versions, object_, day):
 
 
 def rings_of(version):
-    """The rings of a parcel's shape, its outline first, or None where it has none."""
+    """The rings of a parcel's shape, its outline first, or None if it has no shape."""
     return [version["shape"]] + (version.get("holes") or []) if version.get("shape") else None
 
 
 def features(versions, collection):
-    """The features: the identifier, values as replies write them by name, and values as filters ask them."""
+    """The features, each as its identifier, its values by name as replies write them, and its values as filters see them."""
     for it in versions:
         if it["class"] != CLASSES[collection]:
             continue
@@ -264,8 +269,8 @@ INSTANT = re.compile(r"([0-9]{4}-[0-9]{2}-[0-9]{2})[Tt ]([0-9]{2}:[0-9]{2})(?:(:
 
 
 def moment_of(text):
-    """The day of a moment as text: a day, or an instant with an offset, taken as its day in UTC. Of the spellings without
-    separators, which the server's reader takes too, none is read here."""
+    """The day of a moment as text: a day, or an instant with an offset, as its day in UTC. The server also reads spellings without
+    separators, and this function does not."""
     found = INSTANT.fullmatch(text)
     if not found:
         return text if day_of(text) else None
@@ -279,7 +284,7 @@ def moment_of(text):
 
 
 def moments_of(text):
-    """The asked days, or None."""
+    """The requested days, or None."""
     first, slash, last = text.partition("/")
     ends = [it if slash and it in ("", "..") else moment_of(it) for it in ((first, last) if slash else (first,))]
     if None in ends:
@@ -384,7 +389,7 @@ def is_request_line(line):
 
 
 def head_at(data):
-    """The head at the front, of 64 fields at most, and the bytes behind it; "bad" where none can come, None where one may."""
+    """The head at the front, with at most 64 fields, and the bytes after it. It is "bad" if no head can come, and None if one still may."""
     front, at, lines = data[:FRONT], 0, []
     while True:
         end = front.find(b"\n", at)
@@ -468,7 +473,7 @@ class Desk:
         self.register, self.lines = register, {}
 
     def fed(self, number, piece):
-        """The replies to a piece. Where they end the connection, it is unknown then."""
+        """The replies to a piece. If they end the connection, it is unknown afterwards."""
         held, out = self.lines.pop(number) + piece, b""
         while True:
             found = head_at(held)
@@ -494,7 +499,7 @@ class Desk:
         return None
 
     def served(self, number, data):
-        """How serving a connection ends that sends these bytes, and what is written: a byte is read at a time."""
+        """Serves a connection that sends these bytes, and reads one byte at a time. Returns how that ends, and what is written."""
         refused = self.opened(number)
         if refused:
             return refused + ' ""'
@@ -515,7 +520,7 @@ class Desk:
         return "Sent " + written_bytes(out) + ("" if number in self.lines else " ends")
 
     def step(self, line):
-        """What a line is answered: the cases write a command as the register takes it, or as no object that does anything."""
+        """The answer to a line. The cases write a command as the register takes it, or an object that does nothing."""
         kind, _, rest = line.partition(" ")
         number, space, text = rest.partition(" ")
         known, data = NUMBER.fullmatch(number) and int(number) < 2**32, piece_of(text)
@@ -532,8 +537,8 @@ class Desk:
         return "no case"
 
     def wanting(self, line):
-        """What a line is answered that is refused for want of memory: its connection is closed, and all else is as before. Of
-        a connection that is served so, nothing was replied to yet."""
+        """The answer to a line for which memory runs out. Its connection is closed, and everything else is as before. If the line serves a
+        connection, no reply was written yet."""
         kind, _, rest = line.partition(" ")
         if kind not in ("open", "bytes", "serve", "office"):
             return self.step(line)
@@ -547,7 +552,7 @@ NO_MEMORY = b"HTTP/1.1 503 Service Unavailable\r\nContent-Length: 0\r\nConnectio
 
 
 def is_command(text):
-    """Whether it is an object that names an object and a day; members and values are not judged here."""
+    """Whether it is an object that names an object and a day. This does not check other members and values."""
     try:
         tree = json.loads(text)
     except ValueError:
@@ -556,7 +561,7 @@ def is_command(text):
 
 
 def piece_of(text):
-    """The bytes that a string writes, each of whose characters is a byte, or a list of such strings and of pairs [N, STRING]."""
+    """The bytes of a string, one byte for each character, or of a list of such strings and of pairs [N, STRING]."""
     try:
         tree = json.loads(text)
         parts = [[1, it] if isinstance(it, str) else it for it in (tree if isinstance(tree, list) else [tree])]
@@ -576,7 +581,7 @@ def written_bytes(data):
 
 
 def answers(lines, wanting=None):
-    """Each event, and what it is answered. The one with the number `wanting` is refused for want of memory."""
+    """Each event with its answer. For the event with the number `wanting`, memory runs out."""
     desk, count, listings = Desk(sample()), 0, None
     for line in lines:
         line = line.rstrip("\n")

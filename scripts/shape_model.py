@@ -1,10 +1,10 @@
 #!/usr/bin/env python3
-"""A second reading of rings, regions and the relations of shapes, in Python and not from the crate.
-
-It answers the cases of shapes of crates/land_cases. Points where lines cross are solved for as fractions, and a point is
-judged by the edges above it, where the crate looks at those right of it.
+"""A second implementation of rings, regions and the relations of shapes, in Python. It does not follow the crate.
 
     scripts/stored_cases.py land_cases in - day asked interval relations | scripts/shape_model.py      prints the answers
+
+It answers the cases of shapes of crates/land_cases. It computes points where lines cross as fractions. It tests a point by the edges above
+it, while the crate uses the edges to its right.
 """
 import re
 import sys

@@ -1,10 +1,13 @@
-// Has one call of a file fail, or the program end there, for scripts/check_stops. Loaded before the C library (LD_PRELOAD), it counts
-// the calls that read, write, cut or sync the file that STOP_FILE names. From the one whose number STOP_AT gives on, STOP_HOW decides:
-// `fail` answers each with EIO and changes nothing, `end` ends the program before the call, `torn` does so too, and writes half of the
-// bytes before. The count goes to the file COUNTED where the program ends by itself. What a file of the folder of STOP_FILE held when
-// it was last synced stands under its name in the folder SYNCED.
+// Makes calls of a file fail, or ends the program at one of them, for scripts/check_stops. It is loaded before the C library (LD_PRELOAD),
+// and counts the calls that read, write, cut or sync the file that STOP_FILE names. STOP_HOW says what happens at call number STOP_AT:
+// - `fail`: this call and all further ones return EIO and change nothing.
+// - `end`: the program ends before the call.
+// - `torn`: the call writes half of its bytes, and the program ends.
 //
-// The calls of the C library are declared here (x86-64, Linux), so that the toolchain's own clang, which has no headers, compiles it.
+// If the program ends by itself, the count goes to the file COUNTED. At each sync of a file in the folder of STOP_FILE, its contents are
+// copied to the folder SYNCED, under the file's name.
+//
+// The calls of the C library are declared here (x86-64, Linux). So the toolchain's own clang, which has no headers, can compile it.
 typedef unsigned long size_t;
 typedef long ssize_t, off_t;
 
@@ -33,7 +36,7 @@ int ftruncate(int fd, off_t size);
 int fsync(int fd);
 int fdatasync(int fd);
 
-// The call that stands behind this library's own.
+// The C library's call with this name.
 #define NEXT(name) ((__typeof__(&name))dlsym((void *)-1L, #name))
 
 static const char *file, *how, *synced, *counted;
@@ -71,13 +74,13 @@ static const char *path_of(int fd) {
     return path;
 }
 
-// Whether this call is one that the file doesn't make.
+// Whether this call is to be stopped.
 static int is_stopped(int fd) {
     if (!file || !stop || strcmp(path_of(fd), file)) return 0;
     return ++count >= stop;
 }
 
-// Ends the program, or answers that the call failed.
+// Ends the program, or reports that the call failed.
 static int refuse(void) {
     if (strcmp(how, "fail")) kill(getpid(), SIGKILL);
     *__errno_location() = EIO;
@@ -98,7 +101,7 @@ int ftruncate(int fd, off_t size) {
     return is_stopped(fd) ? refuse() : NEXT(ftruncate)(fd, size);
 }
 
-// Keeps what the file holds now, since a loss of power leaves that.
+// Keeps a copy of the file as it is now, since a loss of power leaves that.
 static void keep(int fd) {
     static char bytes[65536];
     char path[PATH], to[PATH];

@@ -1,11 +1,13 @@
 #!/usr/bin/env python3
-"""The stored cases of a program and their answers, told apart by the word that a case begins with.
+"""Prints the stored cases of a program, or their answers, by the word that a case begins with.
 
     scripts/stored_cases.py PROGRAM in|out [-] WORD ..
 
-Prints the cases of crates/PROGRAM/stdin that begin with one of the words, or their answers; behind `-` those that begin with none of
-them. The word `truth` or `normal`, which stands before the case itself, is left out. Lines that are no cases, those without bytes, those
-that begin with `#` and those that only write the next case (`repeat N TEXT`), have no answers, but in a program that answers every line.
+With `in` it prints the cases of crates/PROGRAM/stdin that begin with one of the words, and with `out` their answers. After `-` it prints
+those that begin with none of the words. It leaves out the words `truth` and `normal`, since the case itself follows them.
+
+Some lines are not cases and have no answers: empty lines, lines that begin with `#`, and lines that only write the next case
+(`repeat N TEXT`). Some programs answer every line.
 """
 import re
 import sys
@@ -17,7 +19,7 @@ ANSWER_EVERY_LINE = ("land_cases",)
 
 
 def cases(program):
-    """Each case with the lines that write it and its answer: its first word, its lines without that word where it stands before them."""
+    """Each case as its first word, the lines that write it, and its answer. The lines do not have a word that precedes the case."""
     stored = CRATES / program
     answers = iter((stored / "stdout").read_bytes().split(b"\n")[:-1])
     written, every = [], program in ANSWER_EVERY_LINE
@@ -33,7 +35,7 @@ def cases(program):
 
 
 def of_words(program, words, others=False):
-    """The lines of those cases, and their answers."""
+    """The lines of these cases, and their answers."""
     chosen = [(lines, answer) for word, lines, answer in cases(program) if (word in words) != others]
     return [line for lines, _ in chosen for line in lines], [answer for _, answer in chosen]
 

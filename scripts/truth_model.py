@@ -1,10 +1,10 @@
 #!/usr/bin/env python3
-"""A second reading of what filters say of features, in Python and not from the crates.
-
-It answers the cases of crates/cql_cases behind `truth`: of which features a filter is true, of which false, and of which
-neither. Its own code reads days, texts, sums and shapes; trees are those of filter_model.py.
+"""A second implementation of what filters say of features, in Python. It does not follow the crates.
 
     scripts/stored_cases.py cql_cases in truth | scripts/truth_model.py      prints the answers
+
+It answers the cases of crates/cql_cases after `truth`: for which features a filter is true, for which false, and for which neither. It has
+its own code for days, texts, sums and shapes. filter_model.py makes the trees.
 """
 import sys
 from fractions import Fraction
@@ -77,7 +77,7 @@ def step(sign, a, b):
     return result if -2**63 <= result < 2**63 else None
 
 
-# ---- shapes: a kind and its rings, each a list of corners; a spot is one corner
+# ---- shapes: a kind and its rings, each a list of corners; a point is one corner
 
 def edges(shape):
     if shape[0] == "spot":

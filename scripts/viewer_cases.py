@@ -1,5 +1,7 @@
-"""What scripts/check_viewer looks at in viewer/ besides the map, its filters and its panel: finding, who holds what, time, citations,
-and hands of every kind. Each function takes the page and what the register has, and ends the run at the first difference."""
+"""The checks of viewer/ that scripts/check_viewer runs besides its own: finding, who holds what, time, citations, and ways to operate the page.
+
+Each function gets the page and the contents of the register. It ends the run at the first difference.
+"""
 import csv
 import io
 import json
@@ -34,7 +36,7 @@ def texts(page, selector):
 
 
 def press(page, selector, text=""):
-    """Clicks the first element of a selector that has the text."""
+    """Clicks the first element with the selector and the text."""
     found = f"[...document.querySelectorAll({json.dumps(selector)})].find((it) => it.textContent.includes({json.dumps(text)}))"
     if not page.at.value(f"const it = {found}; it?.click(); return it !== undefined;".join(("(() => {", "})()"))):
         fails(f"the page has no {selector} with {text}")
@@ -49,7 +51,7 @@ def is_middle(page, point):
 # ---- finding
 
 def check_find(page, everything):
-    """Parcels, units and parties are found by name in any case and by number, and the map goes there."""
+    """Checks that parcels, units and parties are found by name in any case of letters and by number, and that the map goes there."""
     page.open(f"day={DAY}")
     page.put("find", "10/2")
     labels = {it["properties"]["object"]: it["properties"]["label"] for it in everything["parcels"] if "10/2" in it["properties"]["label"]}
@@ -73,14 +75,14 @@ def check_find(page, everything):
 
 
 def side_of(box, sides):
-    """Where a box lies outside of others' sides."""
+    """The side on which a box is outside of the view."""
     upright = "above" if box[1] > sides["high"] else "below" if box[3] < sides["low"] else ""
     across = "to the right" if box[0] > sides["right"] else "to the left" if box[2] < sides["left"] else ""
     return " ".join(filter(None, (upright, across)))
 
 
 def check_outside(page, everything):
-    """What a filter takes outside of the view is counted by its side; All brings it into view."""
+    """Checks that the page counts by side the parcels of a filter outside of the view, and that All brings them into view."""
     page.open(f"day={DAY}")
     page.put("find", "14/1")
     press(page, "#found button", "14/1")
@@ -109,7 +111,7 @@ def check_outside(page, everything):
 # ---- who holds what
 
 def check_party(page, everything):
-    """From a right to its party, and to all that it holds on the day."""
+    """Checks the way from a right to its party, and to all that the party holds on the day."""
     page.open(f"day={DAY}&parcel=94")
     right = next(it["properties"] for it in everything["rights"] if it["properties"]["unit"] == 1000068 and holds_on(it, DAY))
     press(page, "#panel td button", right["party_name"])
@@ -137,7 +139,7 @@ def colour_of(page, selector):
 # ---- time
 
 def check_bars(page, everything):
-    """A parcel's versions are bars by day, and a list says which revision changed what."""
+    """Checks that a parcel's versions are bars by day, and that a click on a bar shows its day."""
     page.open(f"day={DAY}&parcel=94")
     versions = [it["properties"] for it in everything["parcels"] if it["properties"]["object"] == 94]
     box = lambda selector: page.at.value(f"[...document.querySelectorAll({json.dumps(selector)})].map((it) => {{ const box = it.getBoundingClientRect(); return [box.left, box.right]; }})")
@@ -154,7 +156,7 @@ def check_bars(page, everything):
 
 
 def check_history(page, lines):
-    """The revisions that changed a parcel are those of its lines."""
+    """Checks that the list of a parcel's changes has the revisions of its lines, and says what each changed."""
     page.open(f"day={DAY}&parcel=94")
     press(page, "#panel .history summary")
     mine = [str(at) for at, it in enumerate(lines, 1) if json.loads(it)["object"] == 94]
@@ -166,7 +168,7 @@ def check_history(page, lines):
 
 
 def check_compare(page, everything, number, past, older):
-    """Two revisions side by side, with what changed in two colours."""
+    """Checks two revisions side by side, with the changed parcels in two colours."""
     page.open(f"day={DAY}&revision={number}")
     page.press("whole")
     page.put("against", str(number - 60))
@@ -205,7 +207,7 @@ def colour_value(page, name):
 
 
 def check_today(page):
-    """Today is the day of the reader's own time zone."""
+    """Checks that today is the day of the reader's own time zone."""
     for zone, hours in (("Pacific/Kiritimati", 14), ("Pacific/Pago_Pago", -11)):
         page.at.send("Emulation.setTimezoneOverride", timezoneId=zone)
         page.open("revision=5")
@@ -220,7 +222,7 @@ def check_today(page):
 # ---- citations
 
 def check_address_moves(page, last):
-    """The page follows its address, back and forward too; moves of the map make no entries."""
+    """Checks that the page follows its address, also back and forward, and that moves of the map make no entries in the history."""
     page.open(f"day={DAY}")
     first = page.text("status")
     page.press("earlier")
@@ -240,7 +242,7 @@ def check_address_moves(page, last):
 
 
 def check_citation(page, last, folder):
-    """The link and the request hold the revision; files have what is shown, in whole millimetres."""
+    """Checks that the link and the request hold the revision, and that files have what is shown, in whole millimetres."""
     page.open(f"day={DAY}&filter=area+%3E+500")
     page.at.downloads(folder)
     page.press("cite")
@@ -275,7 +277,7 @@ def shape_of(feature):
 
 
 def check_sheet(page, everything, last, folder):
-    """The sheet is A4 and has the map, the day, the revision, the list, the panel, the requests and the date of print."""
+    """Checks that the sheet is A4 and has the map, the day, the revision, the list, the panel, the requests and the date of print."""
     page.open(f"day={DAY}&parcel=94")
     data = page.at.pdf()
     pages = len(re.findall(rb"/Type /Page\b", data))
@@ -297,7 +299,7 @@ def check_sheet(page, everything, last, folder):
     need([it for it in ("Revisions 369 and 370", "version 1 to 2", "revision=369", "revision=370") if it not in text], [], "a comparison on the sheet")
 
 
-# ---- hands of every kind
+# ---- ways to operate the page
 
 CUT = """[...document.querySelectorAll("body *")].filter((it) => {
   const box = it.getBoundingClientRect();
@@ -306,7 +308,7 @@ CUT = """[...document.querySelectorAll("body *")].filter((it) => {
 
 
 def check_phone(page, everything, picture):
-    """At 390 by 844 nothing is cut off; fingers zoom, scroll and choose."""
+    """Checks that nothing is cut off at 390 by 844, and that fingers zoom, scroll and choose."""
     page.at.resize(390, 844, mobile=True)
     page.open(f"day={DAY}")
     need([page.at.value("innerWidth"), page.at.value(CUT)], [390, []], "what is cut off")
@@ -349,7 +351,7 @@ def check_phone(page, everything, picture):
 
 
 def check_keyboard(page, everything):
-    """By keys alone parcels are found and chosen, and a screen reader hears which, and how many there are."""
+    """Checks that keys alone find and choose parcels, and that a screen reader gets their names and their number."""
     page.open(f"day={DAY}")
     page.at.value("document.getElementById('filter').focus()")
     page.at.key("Tab")
@@ -392,13 +394,13 @@ def check_keyboard(page, everything):
 
 
 def brightness(colour):
-    """The luminance of a colour, as WCAG 2.1 has it."""
+    """The luminance of a colour by WCAG 2.1."""
     parts = [it / 255 / 12.92 if it <= 10 else ((it / 255 + 0.055) / 1.055) ** 2.4 for it in colour[:3]]
     return 0.2126 * parts[0] + 0.7152 * parts[1] + 0.0722 * parts[2]
 
 
 def check_colours(page, everything):
-    """Dark and light pages can be read, and the legend has the colours of the map."""
+    """Checks that dark and light pages have enough contrast, and that the legend has the colours of the map."""
     park = next(it for it in held_on(everything["parcels"], DAY) if it["properties"]["label"] == "Park")
     inside = [park["geometry"]["coordinates"][0][0][at] + 5000 for at in range(2)]
     for scheme in ("dark", "light"):
@@ -426,7 +428,7 @@ DARKEST = """(() => {
 
 
 def check_small(page):
-    """Outlines of parcels under three pixels fade."""
+    """Checks that outlines of parcels under three pixels fade."""
     page.at.media(prefers_color_scheme="light")
     page.open(f"day={DAY}")
     near = page.at.value(DARKEST)

@@ -1,5 +1,7 @@
-"""viewer/ in headless Chromium, behind nginx by the snippet of docs/OPERATIONS.md and `cadastred`, for the scripts that hold what the
-page shows against the register. Needs Debian's packages chromium, nginx-light and openssl."""
+"""Opens viewer/ in headless Chromium, behind `cadastred` and nginx with the snippet of docs/OPERATIONS.md.
+
+The scripts that use it compare what the page shows with the register. Needs Debian's packages chromium, nginx-light and openssl.
+"""
 import base64
 import contextlib
 import json
@@ -31,14 +33,14 @@ def need(found, wanted, name):
 # ---- the proxy
 
 def snippet():
-    """The servers of nginx in docs/OPERATIONS.md, the one behind and its own."""
+    """The two parts of the snippet in docs/OPERATIONS.md: the upstream server, and nginx's own."""
     text = (TOP / "docs/OPERATIONS.md").read_text(encoding="utf-8")
     return re.search(r"^    upstream .*?^    server \{.*?^    \}$", text, re.M | re.S)[0]
 
 
 @contextlib.contextmanager
 def proxy(folder, address):
-    """nginx before a server, over TLS and with a password; its address."""
+    """Runs nginx in front of a server, over TLS and with a password, and gives its address."""
     with socket.socket() as it:
         it.bind(("127.0.0.1", 0))
         port = it.getsockname()[1]
@@ -73,7 +75,7 @@ def wait_for(port):
 
 
 def need_tools():
-    """Ends the run where a program isn't built, or a tool isn't there."""
+    """Ends the run if a program is not built or a tool is missing."""
     served.need_program()
     served.need_service()
     for tool in ("chromium", "openssl", "nginx"):
@@ -89,13 +91,13 @@ def shown_text(count, day, revision, last, asked=""):
 
 
 class Page:
-    """The page in a browser, its address behind the proxy, and that of the server."""
+    """The page in a browser, its address at the proxy, and the address of the server."""
 
     def __init__(self, at, address, server):
         self.at, self.address, self.server = at, address, server
 
     def open(self, fragment):
-        """Goes to the page; the seconds until it was drawn."""
+        """Opens the page, and returns the seconds until it was drawn."""
         self.at.send("Page.navigate", url="about:blank")
         start = time.monotonic()
         self.at.send("Page.navigate", url=f"{self.address}/viewer/#{fragment}")
@@ -105,7 +107,7 @@ class Page:
         return seconds
 
     def settle(self):
-        """Waits until nothing is asked for any more."""
+        """Waits until no request is open."""
         time.sleep(0.3)
         self.at.until("document.body.dataset.busy === undefined && !document.querySelector('[aria-busy]')")
 
@@ -136,7 +138,7 @@ class Page:
 
 @contextlib.contextmanager
 def opened(file):
-    """A page behind the proxy of a server of the file."""
+    """Opens the page behind the proxy of a server on the file."""
     fields = {"Authorization": "Basic " + base64.b64encode(b"ana:secret").decode()}
     with tempfile.TemporaryDirectory() as name, served.hosting(file) as address, proxy(Path(name), address) as behind:
         at = browser.Browser(WIDTH, HEIGHT, fields)

@@ -198,7 +198,7 @@ function paintDensity(pen, { colours, place, box }) {
     const [left, top] = place(point);
     if (left < 0 || top < 0 || left >= box.width || top >= box.height) continue;
     const at = (Math.floor(top / SQUARE) + 1) * columns + Math.floor(left / SQUARE) + 1;
-    // some parcels stand for all, so a square is counted with those round it
+    // some parcels represent all, so a square is counted with those around it
     for (const row of [at - columns, at, at + columns]) for (const it of [row - 1, row, row + 1]) counts.set(it, (counts.get(it) ?? 0) + 1);
   }
   const most = Math.max(...counts.values());
