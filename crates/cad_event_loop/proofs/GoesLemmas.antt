@@ -1,5 +1,5 @@
 -- What is done, one thing after the other, and then more.
-use Rattle.std.proofs.Common.{◌≡◌, ◌⊎◌, ℕ, ◌+◌, ◌<◌, ◌≤◌, nat_eq, Bool, true, false, ◌||◌, List, [], ◌∷◌, ◌++◌, map, length, Option, None, Some, IsSomeAnd, option_map, Result, Ok, Err, refl, sym, ap, subst, ◌∙◌, append_assoc, append-nil, inl, inr, if◌then◌else◌, arith}
+use Rattle.std.proofs.Common.{◌≡◌, ◌⊎◌, ℕ, ◌+◌, ◌<◌, ◌≤◌, nat_eq, Bool, true, false, ◌||◌, List, [], ◌∷◌, ◌++◌, map, length, length-append, Option, None, Some, IsSomeAnd, option_map, Result, Ok, Err, refl, sym, ap, subst, ◌∙◌, append_assoc, append-nil, inl, inr, if◌then◌else◌, arith}
 use Rattle.std.proofs.lemmas.Bool.{cases_lt, eqb-true, eq-eqb}
 use Rattle.std.proofs.lemmas.Option.{slice_get_past}
 use Rattle.std.specs.Option.{option_or}
@@ -15,7 +15,8 @@ use Rattle.cad_clients.specs.declared.turned.Ending.{Ending}
 use Rattle.cad_clients.specs.declared.turned.Ending.TheVariants.{PeerEnded, WeEnded, Refused, ReadFailed, WriteFailed}
 use Rattle.cad_clients.specs.declared.turned.Turned.{Turned}
 use Rattle.cad_clients.specs.declared.turned.Turned.TheVariants.{Wrote, Took, Fed, Waits, Over}
-use Rattle.cad_clients.specs.Channels.{Act, wrote, took, fed, unsent, Does, EndsSo, IsSending, SendsFault}
+use Rattle.std.specs.Global.{Vec}
+use Rattle.cad_clients.specs.Channels.{Act, wrote, took, fed, written_in, unsent, Does, EndsSo, IsSending, SendsFault}
 use Rattle.cad_clients.specs.declared.client.Client.{Client}
 use Rattle.cad_clients.specs.declared.clients.Clients.{Clients}
 use Rattle.cad_clients.specs.declared.served.Served.{Served}
@@ -25,12 +26,13 @@ use Rattle.cad_clients.specs.Slots.{client_in, client_at, Changes, Keeps}
 use Rattle.cad_clients.specs.Steps as steps
 use Rattle.cad_office_socket.specs.declared.turned.EntryTurned.{EntryTurned}
 use Rattle.cad_office_socket.specs.declared.turned.EntryTurned.TheVariants as entry
+use Rattle.cad_event_loop.specs.declared.peers.Peers.{Peers}
 use Rattle.cad_event_loop.specs.declared.stopped.Stopped.{Stopped}
 use Rattle.cad_event_loop.specs.Hosting.{end_of_client, Each, IsServing, IsClosing, IsLastAct, IsLastEnding, IsLastTurn, IsTurnedAway, Hosts, Serves}
-use Rattle.cad_event_loop.specs.inner.Standing.{standing_of, standing_at, IsWoken, IsAsked, IsPaced, LosesNobody, GivesTurn}
-use Rattle.cad_event_loop.specs.Turns.{Standing, absent, waiting, ready, woken, is_among, stands_after, is_turn_of, has_turn}
-use Rattle.cad_event_loop.proofs.StandingLemmas.{turn_right, passes-nil, passes-more, passes-append}
-use Rattle.cad_event_loop.specs.Works.{Held, held_of, held_at, Place, place_of, AtOffice, Puts, Same, Said, Work, wakes, opens, acts, waits, ends, office_comes, enters, office_leaves, aside, deeds_in, deeds_of, all_deeds, end_with, end_of_cause, end_of_turned, end_by, end_in, IsOf, IsAside, Tells, Works, Goes}
+use Rattle.cad_event_loop.specs.inner.Standing.{standing_of, standing_at, standing_office, standings_of, standings, IsWoken, IsAsked, IsPaced, IsAtDoors, LosesNobody, GivesTurn, GivesTurnAlone}
+use Rattle.cad_event_loop.specs.Turns.{Standing, absent, waiting, ready, Standings, woken, is_among, office_place, stands_after, stands_in, office_after, office_in, is_turn_of, is_wait_of, is_end_of, any_of, has_turn, turns_of, written_by, written_to, Replies, HasEnough}
+use Rattle.cad_event_loop.proofs.StandingLemmas.{stands_in-append, office_in-append, any_right, any_none, one_of, none_of, turns_of-append, written_to-append, beyond}
+use Rattle.cad_event_loop.specs.Works.{Held, held_of, held_at, Place, place_of, AtOffice, Puts, Same, Said, Work, wakes, opens, acts, waits, ends, office_comes, enters, office_leaves, aside, deeds_in, deeds_of, all_deeds, end_with, end_of_cause, end_of_turned, end_by, end_in, EndsBy, IsOf, IsAside, Tells, Works, Goes}
 
 pub all_deeds-append : (xs ys : List Work) → all_deeds (xs ++ ys) ≡ all_deeds xs ++ all_deeds ys
 all_deeds-append [] ys = refl
@@ -103,6 +105,21 @@ pub end_in-append : (xs ys : List Work) → end_in (xs ++ ys) ≡ option_or (end
 end_in-append [] ys = refl
 end_in-append (work ∷ xs) ys = ap (λ (o : Option Stopped). option_or (end_by work) o) (end_in-append xs ys) ∙ sym (or_more (end_by work) (end_in xs) (end_in ys))
 
+-- nothing ends hosting first
+pub ends-then : (end : Option Stopped) (xs ys : List Work) → end_in xs ≡ None → EndsBy end ys → EndsBy end (xs ++ ys)
+ends-then None xs ys x y = end_in-append xs ys ∙ rw (x, y) refl
+ends-then (Some stopped) xs ys x y = (
+  xs ++ y.0,
+  y.1,
+  ap (λ (l : List Work). xs ++ l) y.2 ∙ sym (append_assoc xs y.0 (y.1 ∷ [])),
+  end_in-append xs y.0 ∙ rw (x, y.3) refl,
+  y.4,
+)
+
+pub ends-one : (end : Option Stopped) (work : Work) → end_by work ≡ end → EndsBy end (work ∷ [])
+ends-one None work is = or_nothing (end_by work) ∙ is
+ends-one (Some stopped) work is = ([], work, refl, refl, is)
+
 pub each-append : (May : Work → Type 0) (xs ys : List Work) → Each May xs → Each May ys → Each May (xs ++ ys)
 each-append May [] ys x y = y
 each-append May (work ∷ xs) ys x y = (x.0, each-append May xs ys x.1 y)
@@ -112,17 +129,17 @@ abbrev pub end_of_turn : Turned → Option Stopped
 end_of_turn (Over ending) = end_with ending
 end_of_turn other = None
 
-abbrev pub end_of_turns : List Turned → Option Stopped
-end_of_turns [] = None
-end_of_turns (turned ∷ before) = option_or (end_of_turns before) (end_of_turn turned)
+abbrev pub EndAs : List Turned → List Work → Type 0
+EndAs [] works = end_in works ≡ None
+EndAs (turned ∷ before) works = steps.any_over before ≡ false → EndsBy (end_of_turn turned) works
 
-none_ends : (turns : List Turned) → steps.any_over turns ≡ false → end_of_turns turns ≡ None
-none_ends [] e = refl
-none_ends (Over ending ∷ before) e = absurd (let clash : true ≡ false = e in cc)
-none_ends (Wrote ∷ before) e = or_nothing (end_of_turns before) ∙ none_ends before e
-none_ends (Took ∷ before) e = or_nothing (end_of_turns before) ∙ none_ends before e
-none_ends (Fed ∷ before) e = or_nothing (end_of_turns before) ∙ none_ends before e
-none_ends (Waits ∷ before) e = or_nothing (end_of_turns before) ∙ none_ends before e
+none_ends : (turns : List Turned) (works : List Work) → steps.any_over turns ≡ false → EndAs turns works → end_in works ≡ None
+none_ends [] works e end = end
+none_ends (Over ending ∷ before) works e end = absurd (let clash : true ≡ false = e in cc)
+none_ends (Wrote ∷ before) works e end = end e
+none_ends (Took ∷ before) works e end = end e
+none_ends (Fed ∷ before) works e end = end e
+none_ends (Waits ∷ before) works e end = end e
 
 -- where something is to be written, not all was
 unsent_clash : (channel : Channel) → IsSending channel → unsent channel ≡ [] → ⊥
@@ -158,6 +175,20 @@ closing_goes (enters o text turned deeds said) may = turn_goes turned may
 closing_goes (office_leaves o) may = refl
 closing_goes (aside deeds said) may = refl
 
+-- the network told of the land office's socket, or not
+woken_office : (at : AtOffice) (places : List ℕ) (old new : Bool) → new ≡ (is_among office_place places || old) → standing_office at new ≡ office_after (standing_office at old) (wakes places)
+woken_office None places old new is = go (is_among office_place places)
+  where
+    go : (told : Bool) → absent ≡ (if told then absent else absent)
+    go true = refl
+    go false = refl
+woken_office (Some office) places old new is = rw is (go (is_among office_place places) old)
+  where
+    go : (told was : Bool) → (if told || was then ready else waiting) ≡ (if told then woken (if was then ready else waiting) else (if was then ready else waiting))
+    go true true = refl
+    go true false = refl
+    go false was = refl
+
 module _ {R : Type 0} (g : Ghosts R) where
   pub goes-append : (xs ys : List Work) (a b d : Desk R) (p q r : Place) → Goes g a p xs b q → Goes g b q ys d r → Goes g a p (xs ++ ys) d r
   goes-append [] ys a b d p q r x y = subst (λ (h : Place). Goes g a h ys d r) x.1 (subst (λ (it : Desk R). Goes g it q ys d r) x.0 y)
@@ -187,15 +218,21 @@ module _ {R : Type 0} (g : Ghosts R) where
       (work ∷ [], subst (λ (l : List Deed). Adds from to l) (sym (all_deeds-one work)) adds, or_nothing (end_by work) ∙ is, (b, q, works, (refl, refl)), (may, tt))
 
   -- the network told of some sockets
-  pub hosts_woken : {S : Type 0} (clients next : Clients S) (from to : Option (List Deed)) (a : Desk R) (p q : Place) → AddsSome from to (IsWoken clients next) → Same p.slots q.slots → q.office ≡ p.office
+  pub hosts_woken : {S : Type 0} (peers next : Peers S) (from to : Option (List Deed)) (a : Desk R) (p q : Place) → AddsSome from to (IsWoken peers next) → Same p.slots q.slots → q.office ≡ p.office
       → Hosts g IsClosing None from a p to a q
-  hosts_woken clients next from to a p q told same office =
+  hosts_woken peers next from to a p q told same office =
       hosts-one IsClosing None from to a a p q (wakes told.2.0) (subst (λ (l : List Deed). Adds from to l) told.2.1 told.1) refl (refl, same, office) tt
 
-  pub serves_woken : {S : Type 0} (clients next : Clients S) (from to : Option (List Deed)) (a : Desk R) (p q : Place) → AddsSome from to (IsWoken clients next) → Same p.slots q.slots → q.office ≡ p.office
-      → Serves g (IsAsked clients next) None from a p to a q
-  serves_woken clients next from to a p q told same office =
-      (wakes told.2.0 ∷ [], subst (λ (l : List Deed). Adds from to l) (told.2.1 ∙ sym (append-nil (map woke told.2.0))) told.1, refl, (a, q, (refl, same, office), (refl, refl)), (tt, tt), (told.2.0, refl, told.2.2))
+  pub serves_woken : {S : Type 0} (peers next : Peers S) (at : AtOffice) (from to : Option (List Deed)) (a : Desk R) (p q : Place) → AddsSome from to (IsWoken peers next) → Same p.slots q.slots → q.office ≡ p.office
+      → Serves g (IsAsked (standings peers at) (standings next at)) None from a p to a q
+  serves_woken peers next at from to a p q told same office = (
+    wakes told.2.0 ∷ [],
+    subst (λ (l : List Deed). Adds from to l) (told.2.1 ∙ sym (append-nil (map woke told.2.0))) told.1,
+    refl,
+    (a, q, (refl, same, office), (refl, refl)),
+    (tt, tt),
+    (told.2.0, refl, record { few = omega arith; stand = told.2.2.0; office = woken_office at told.2.0 peers.ready.office next.ready.office told.2.2.1 }),
+  )
 
   -- nothing is done, but for what is not held
   pub hosts-same : (May : Work → Type 0) (from to : Option (List Deed)) (a : Desk R) (p q : Place) → May (aside [] None) → Adds from to [] → Same p.slots q.slots → q.office ≡ p.office → Hosts g May None from a p to a q
@@ -213,7 +250,7 @@ module _ {R : Type 0} (g : Ghosts R) where
   serves-then P Q T later from mid to a b d p q r so x y = (
     x.0 ++ y.0,
     subst (λ (l : List Deed). Adds from to l) (sym (all_deeds-append x.0 y.0)) (Adds-trans from mid to (all_deeds x.0) (all_deeds y.0) x.1 y.1),
-    end_in-append x.0 y.0 ∙ rw (x.2, y.2) refl,
+    ends-then later x.0 y.0 x.2 y.2,
     goes-append x.0 y.0 a b d p q r x.3 y.3,
     each-append IsServing x.0 y.0 x.4 y.4,
     so x.0 y.0 x.5 y.5,
@@ -222,7 +259,7 @@ module _ {R : Type 0} (g : Ghosts R) where
   pub serves-one : (P : List Work → Type 0) (end : Option Stopped) (from to : Option (List Deed)) (a b : Desk R) (p q : Place) (work : Work)
       → Adds from to (deeds_of work) → end_by work ≡ end → Works g a p work b q → IsServing work → P (work ∷ []) → Serves g P end from a p to b q
   serves-one P end from to a b p q work adds is works may so =
-      (work ∷ [], subst (λ (l : List Deed). Adds from to l) (sym (all_deeds-one work)) adds, or_nothing (end_by work) ∙ is, (b, q, works, (refl, refl)), (may, tt), so)
+      (work ∷ [], subst (λ (l : List Deed). Adds from to l) (sym (all_deeds-one work)) adds, ends-one end work is, (b, q, works, (refl, refl)), (may, tt), so)
 
   pub serves-same : (P : List Work → Type 0) (from to : Option (List Deed)) (a : Desk R) (p q : Place) → Adds from to [] → Same p.slots q.slots → q.office ≡ p.office → P (aside [] None ∷ []) → Serves g P None from a p to a q
   serves-same P from to a p q adds same office so = serves-one P None from to a a p q (aside [] None) adds refl (tt, refl, same, inl refl, office) tt so
@@ -241,11 +278,22 @@ module _ {R : Type 0} (g : Ghosts R) where
   said_at_end c s old new channel WriteFailed deeds e = (Some (Close c, e.2.0), refl, e.2.1, λ sending. tt)
 
   module _ {S : Type 0} (name : S → ℕ) (c : ℕ) (office : AtOffice) where
+    -- what is written to it in the turn, and what is left to write
+    abbrev WritesOn : Channel → Channel → Work → Type 0
+    WritesOn channel after work = unsent channel ≡ written_by c work ++ unsent after
+
+    abbrev IsKind : Turned → Channel → Channel → Work → Type 0
+    IsKind Wrote channel after work = WritesOn channel after work
+    IsKind Took channel after work = WritesOn channel after work
+    IsKind Fed channel after work = (s : ℕ) × (piece : Vec ℕ) × (out : Vec ℕ) × (over : Bool) × (work ≡ acts s c (fed piece out over)) × (unsent after ≡ out.items)
+    IsKind Waits channel after work = (is_wait_of c work ≡ true) × WritesOn channel after work
+    IsKind (Over ending) channel after work = is_end_of c work ≡ true
+
     -- a turn of this channel is one thing
-    abbrev IsOneWork : Desk R → Clients S → Channel → Option Stopped → Desk R → Clients S → List Deed → Type 0
-    IsOneWork old clients channel end new next deeds =
+    abbrev IsOneWork : Turned → Desk R → Clients S → Channel → Option Stopped → Desk R → Clients S → Channel → List Deed → Type 0
+    IsOneWork turned old clients channel end new next after deeds =
         (work : Work) × (deeds ≡ deeds_of work) × Works g old (place_of name clients office) work new (place_of name next office) × (end_by work ≡ end) × IsServing work × (IsSending channel → IsClosing work)
-        × (is_turn_of c work ≡ true) × ((d : ℕ) → standing_at next d ≡ stands_after d (standing_at clients d) work)
+        × ((d : ℕ) → is_turn_of d work ≡ nat_eq c d) × ((d : ℕ) → standing_at next d ≡ stands_after d (standing_at clients d) work) × ((it : Standing) → office_after it work ≡ it) × IsKind turned channel after work
 
     -- how the connections stand after a change of this one
     changed_stands : (clients next : Clients S) (one : Option (Client S)) (it : Standing) → Changes clients next c one → standing_of one ≡ it → (d : ℕ) → standing_at next d ≡ (if nat_eq c d then it else standing_at clients d)
@@ -261,10 +309,10 @@ module _ {R : Type 0} (g : Ghosts R) where
     waits_stand : (client : Client S) → client.is_ready ≡ false → standing_of (Some client) ≡ waiting
     waits_stand client is = rw is refl
 
-    acted : (act : Act) (old new : Desk R) (clients next : Clients S) (client after : Client S) (deeds : List Deed) → client_at clients c ≡ Some client → after.socket ≡ client.socket
+    acted : (turned : Turned) (act : Act) (old new : Desk R) (clients next : Clients S) (client after : Client S) (deeds : List Deed) → client_at clients c ≡ Some client → after.socket ≡ client.socket
         → deeds ≡ deeds_in (name client.socket) act → Does g c old client.channel act new after.channel → Changes clients next c (Some after) → (IsSending client.channel → IsLastAct act) → after.is_ready ≡ true
-        → IsOneWork old clients client.channel None new next deeds
-    acted act old new clients next client after deeds at socket are does changes last is = (
+        → IsKind turned client.channel after.channel (acts (name client.socket) c act) → IsOneWork turned old clients client.channel None new next after.channel deeds
+    acted turned act old new clients next client after deeds at socket are does changes last is kind = (
       acts (name client.socket) c act,
       are,
       (
@@ -278,109 +326,335 @@ module _ {R : Type 0} (g : Ghosts R) where
       refl,
       tt,
       last,
-      eq-eqb c c refl,
+      (λ d. refl),
       changed_stands clients next (Some after) ready changes (may_stand after is),
+      (λ it. refl),
+      kind,
     )
 
+    own_written : (act : Act) (s : ℕ) (channel after : Channel) → unsent channel ≡ written_in act ++ unsent after → WritesOn channel after (acts s c act)
+    own_written act s channel after e = rw (eq-eqb c c refl) e
+
     turn_works : (now : ℕ) (turned : Turned) (old new : Desk R) (clients next : Clients S) (deeds : List Deed) → (t : steps.HasTurn g name c now old clients (Some turned) new next deeds)
-        → IsOneWork old clients t.0.channel (end_of_turn turned) new next deeds
-    turn_works now Wrote old new clients next deeds t = acted (wrote t.5.0) old new clients next t.0 t.1 deeds t.3 t.4 (t.6 ∙ (append-nil t.2 ∙ t.5.1)) t.5.3 t.8 (λ sending. tt) (ap (λ (n : notes.Notes). n.is_ready) t.7)
+        → IsOneWork turned old clients t.0.channel (end_of_turn turned) new next t.1.channel deeds
+    turn_works now Wrote old new clients next deeds t =
+        acted Wrote (wrote t.5.0) old new clients next t.0 t.1 deeds t.3 t.4 (t.6 ∙ (append-nil t.2 ∙ t.5.1)) t.5.3 t.8 (λ sending. tt) (ap (λ (n : notes.Notes). n.is_ready) t.7)
+        (own_written (wrote t.5.0) (name t.0.socket) t.0.channel t.1.channel t.5.3.0)
     turn_works now Took old new clients next deeds t =
-        acted (took t.5.0) old new clients next t.0 t.1 deeds t.3 t.4 (t.6 ∙ (append-nil t.2 ∙ t.5.1)) t.5.2 t.8 (λ sending. unsent_clash t.0.channel sending t.5.2.0.ready.all_sent) (ap (λ (n : notes.Notes). n.is_ready) t.7)
+        acted Took (took t.5.0) old new clients next t.0 t.1 deeds t.3 t.4 (t.6 ∙ (append-nil t.2 ∙ t.5.1)) t.5.2 t.8 (λ sending. unsent_clash t.0.channel sending t.5.2.0.ready.all_sent) (ap (λ (n : notes.Notes). n.is_ready) t.7)
+        (own_written (took t.5.0) (name t.0.socket) t.0.channel t.1.channel (t.5.2.0.ready.all_sent ∙ sym t.5.2.3.all_sent))
     turn_works now Fed old new clients next deeds t =
         let d = t.5.1 in
-        acted (fed d.0 d.1 d.2) old new clients next t.0 t.1 deeds t.3 t.4 (t.6 ∙ (append-nil t.2 ∙ t.5.0)) d.3 t.8 (λ sending. unsent_clash t.0.channel sending d.3.0.all_sent) (ap (λ (n : notes.Notes). n.is_ready) t.7)
+        acted Fed (fed d.0 d.1 d.2) old new clients next t.0 t.1 deeds t.3 t.4 (t.6 ∙ (append-nil t.2 ∙ t.5.0)) d.3 t.8 (λ sending. unsent_clash t.0.channel sending d.3.0.all_sent) (ap (λ (n : notes.Notes). n.is_ready) t.7)
+        (name t.0.socket, d.0, d.1, d.2, refl, d.3.3)
     turn_works now Waits old new clients next deeds t =
         let puts = subst (λ (s : ℕ). Puts (held_at name clients) (held_at name next) c (Some (s, t.1.channel))) (ap name t.4) (held_puts name clients next c (Some t.1) t.8) in
         let here : held_at name clients c ≡ Some (name t.0.socket, t.1.channel) = ap (held_of name) t.3 ∙ ap (λ (it : Channel). Some (name t.0.socket, it)) (sym t.5.3) in
         let same = put_same (held_at name clients) (held_at name next) c (Some (name t.0.socket, t.1.channel)) here puts in
-        (waits (name t.0.socket) c, t.6 ∙ (append-nil t.2 ∙ t.5.0), (t.0.channel, ap (held_of name) t.3, t.5.1, t.5.2, same, refl), refl, tt, (λ sending. tt), eq-eqb c c refl, changed_stands clients next (Some t.1) waiting t.8 (waits_stand t.1 (ap (λ (n : notes.Notes). n.is_ready) t.7)))
+        (waits (name t.0.socket) c, t.6 ∙ (append-nil t.2 ∙ t.5.0), (t.0.channel, ap (held_of name) t.3, t.5.1, t.5.2, same, refl), refl, tt, (λ sending. tt), (λ d. refl), changed_stands clients next (Some t.1) waiting t.8 (waits_stand t.1 (ap (λ (n : notes.Notes). n.is_ready) t.7)), (λ it. refl), (eq-eqb c c refl, ap unsent (sym t.5.3)))
     turn_works now (Over ending) old new clients next deeds t =
         let said = said_at_end c (name t.0.socket) old new t.0.channel ending t.2 t.5 in
-        (ends (name t.0.socket) c (Some ending) deeds said.0, refl, (t.0.channel, ap (held_of name) t.3, (t.2, t.6, t.5), said.1, said.2, held_puts name clients next c None t.8, refl), refl, tt, said.3, eq-eqb c c refl, changed_stands clients next None absent t.8 refl)
+        (ends (name t.0.socket) c (Some ending) deeds said.0, refl, (t.0.channel, ap (held_of name) t.3, (t.2, t.6, t.5), said.1, said.2, held_puts name clients next c None t.8, refl), refl, tt, said.3, (λ d. refl), changed_stands clients next None absent t.8 refl, (λ it. refl), eq-eqb c c refl)
 
-    -- the works of these turns lose nobody
+    -- the desk took a piece in these works, and this of what it sent is left to write
+    record HasFed (next : Clients S) (works : List Work) : Type 0 where
+      before : List Work
+      later : List Work
+      s : ℕ
+      piece : Vec ℕ
+      out : Vec ℕ
+      over : Bool
+      all : works ≡ before ++ acts s c (fed piece out over) ∷ later
+      remains : (client : Client S) → client_at next c ≡ Some client → out.items ≡ written_to c later ++ unsent client.channel
+
+    -- the works of these turns
     record AreTurns (clients next : Clients S) (turns : List Turned) (works : List Work) : Type 0 where
-      passes : LosesNobody (length turns) clients next works
+      count : length works ≡ length turns
+      stand : (d : ℕ) → standing_at next d ≡ stands_in d (standing_at clients d) works
+      kept_office : (it : Standing) → office_in it works ≡ it
+      others : (d : ℕ) → nat_eq c d ≡ false → standing_at next d ≡ standing_at clients d
       turn : (turns ≡ []) ⊎ (has_turn c works ≡ true)
+      alone : (d : ℕ) → nat_eq c d ≡ false → has_turn d works ≡ false
+      many : turns_of c works ≡ length turns
+      waited : (before : List Turned) → turns ≡ Waits ∷ before → any_of (is_wait_of c) works ≡ true
+      ended : (ending : Ending) (before : List Turned) → turns ≡ Over ending ∷ before → any_of (is_end_of c) works ≡ true
+      fed_some : (steps.fed_in turns ≡ 0) ⊎ HasFed next works
+      here : (turned : Turned) (before : List Turned) → turns ≡ turned ∷ before → steps.is_over turned ≡ false → (client : Client S) × (client_at next c ≡ Some client)
 
     others_stand : (clients next : Clients S) (one : Option (Client S)) → Changes clients next c one → (d : ℕ) → nat_eq c d ≡ false → standing_at next d ≡ standing_at clients d
     others_stand clients next one changes d other = ap (λ (o : Option (Client S)). standing_of o) (changes d ∙ rw other refl)
 
-    -- a turn loses nobody
-    one_turn : (clients next : Clients S) (one : Option (Client S)) (work : Work) → Changes clients next c one → is_turn_of c work ≡ true → ((d : ℕ) → standing_at next d ≡ stands_after d (standing_at clients d) work) → LosesNobody 1 clients next (work ∷ [])
-    one_turn clients next one work changes is stands = record {
-      paced = record { few = omega arith; stand = stands };
-      kept = λ d may. go d may (nat_eq c d) refl;
+    put_here : (clients next : Clients S) (one : Option (Client S)) → Changes clients next c one → client_at next c ≡ one
+    put_here clients next one changes = changes c ∙ rw (eq-eqb c c refl) refl
+
+    same_client : (one other : Client S) (o : Option (Client S)) → o ≡ Some one → o ≡ Some other → one ≡ other
+    same_client one other o x y = let both : Some one ≡ Some other = sym x ∙ y in cc
+
+    no_client : (one : Client S) (o : Option (Client S)) → o ≡ None → o ≡ Some one → ⊥
+    no_client one o x y = let both : ◌≡◌ {A = Option (Client S)} None (Some one) = sym x ∙ y in cc
+
+    last_turn : (turned it : Turned) (before rest : List Turned) → turned ∷ before ≡ it ∷ rest → turned ≡ it
+    last_turn turned it before rest e = cc
+
+    -- one more turn at which more is written of what the desk sent
+    fed_on : (clients next : Clients S) (client after : Client S) (works : List Work) (work : Work) → client_at clients c ≡ Some client → Changes clients next c (Some after) → WritesOn client.channel after.channel work
+        → HasFed clients works → HasFed next (works ++ work ∷ [])
+    fed_on clients next client after works work at changes writes h = record {
+      before = h.before;
+      later = h.later ++ work ∷ [];
+      s = h.s;
+      piece = h.piece;
+      out = h.out;
+      over = h.over;
+      all = ap (λ (l : List Work). l ++ work ∷ []) h.all ∙ append_assoc h.before (acts h.s c (fed h.piece h.out h.over) ∷ h.later) (work ∷ []);
+      remains = λ it here.
+          let same = same_client after it (client_at next c) (put_here clients next (Some after) changes) here in
+          let more : written_to c (h.later ++ work ∷ []) ≡ written_to c h.later ++ written_by c work = written_to-append c h.later (work ∷ []) ∙ ap (λ (l : List ℕ). written_to c h.later ++ l) (append-nil (written_by c work)) in
+          subst (λ (one : Client S). h.out.items ≡ written_to c (h.later ++ work ∷ []) ++ unsent one.channel) same
+          (h.remains client at ∙ (ap (λ (l : List ℕ). written_to c h.later ++ l) writes ∙ (sym (append_assoc (written_to c h.later) (written_by c work) (unsent after.channel)) ∙ ap (λ (l : List ℕ). l ++ unsent after.channel) (sym more))));
     }
-      where
-        go : (d : ℕ) → standing_at clients d ≡ ready → (same : Bool) → nat_eq c d ≡ same → (has_turn d (work ∷ []) ≡ true) ⊎ (standing_at next d ≡ ready)
-        go d may true e = inl (subst (λ (n : ℕ). has_turn n (work ∷ []) ≡ true) (eqb-true c d e) (rw is refl))
-        go d may false e = inr (others_stand clients next one changes d e ∙ may)
+
+    fed_now : (clients next : Clients S) (after : Client S) (works : List Work) (s : ℕ) (piece out : Vec ℕ) (over : Bool) → Changes clients next c (Some after) → unsent after.channel ≡ out.items
+        → HasFed next (works ++ acts s c (fed piece out over) ∷ [])
+    fed_now clients next after works s piece out over changes sent = record {
+      before = works;
+      later = [];
+      s = s;
+      piece = piece;
+      out = out;
+      over = over;
+      all = refl;
+      remains = λ it here.
+          let same = same_client after it (client_at next c) (put_here clients next (Some after) changes) here in
+          subst (λ (one : Client S). out.items ≡ unsent one.channel) same (sym sent);
+    }
+
+    fed_over : (clients next : Clients S) (works : List Work) (work : Work) → Changes clients next c None → HasFed clients works → HasFed next (works ++ work ∷ [])
+    fed_over clients next works work changes h = record {
+      before = h.before;
+      later = h.later ++ work ∷ [];
+      s = h.s;
+      piece = h.piece;
+      out = h.out;
+      over = h.over;
+      all = ap (λ (l : List Work). l ++ work ∷ []) h.all ∙ append_assoc h.before (acts h.s c (fed h.piece h.out h.over) ∷ h.later) (work ∷ []);
+      remains = λ it here. absurd (no_client it (client_at next c) (put_here clients next None changes) here);
+    }
+
+    fed_more : (turned : Turned) (before : List Turned) (clients next : Clients S) (client after : Client S) (works : List Work) (work : Work) → client_at clients c ≡ Some client → Changes clients next c (steps.left_after turned after)
+        → IsKind turned client.channel after.channel work → (steps.fed_in before ≡ 0) ⊎ HasFed clients works → (steps.fed_in (turned ∷ before) ≡ 0) ⊎ HasFed next (works ++ work ∷ [])
+    fed_more Wrote before clients next client after works work at changes kind was = elim was [
+      | inl none ↦ inl (omega (arith, none))
+      | inr some ↦ inr (fed_on clients next client after works work at changes kind some)
+    ]
+    fed_more Took before clients next client after works work at changes kind was = elim was [
+      | inl none ↦ inl (omega (arith, none))
+      | inr some ↦ inr (fed_on clients next client after works work at changes kind some)
+    ]
+    fed_more Fed before clients next client after works work at changes kind was =
+        inr (subst (λ (it : Work). HasFed next (works ++ it ∷ [])) (sym kind.4) (fed_now clients next after works kind.0 kind.1 kind.2 kind.3 changes kind.5))
+    fed_more Waits before clients next client after works work at changes kind was = elim was [
+      | inl none ↦ inl (omega (arith, none))
+      | inr some ↦ inr (fed_on clients next client after works work at changes kind.1 some)
+    ]
+    fed_more (Over ending) before clients next client after works work at changes kind was = elim was [
+      | inl none ↦ inl (omega (arith, none))
+      | inr some ↦ inr (fed_over clients next works work changes some)
+    ]
+
+    kind_waits : (turned : Turned) (channel after : Channel) (work : Work) → IsKind turned channel after work → turned ≡ Waits → is_wait_of c work ≡ true
+    kind_waits turned channel after work kind is = (subst (λ (it : Turned). IsKind it channel after work) is kind).0
+
+    kind_ends : (turned : Turned) (ending : Ending) (channel after : Channel) (work : Work) → IsKind turned channel after work → turned ≡ Over ending → is_end_of c work ≡ true
+    kind_ends turned ending channel after work kind is = subst (λ (it : Turned). IsKind it channel after work) is kind
+
+    one_more : (n m : ℕ) (is : Bool) → is ≡ true → n ≡ m → n + ((if is then 1 else 0) + 0) ≡ m + 1
+    one_more n m true is e = omega (arith, e)
+    one_more n m false is e = absurd (let clash : false ≡ true = is in cc)
+
+    turns_more : (turned : Turned) (before : List Turned) (clients mid next : Clients S) (client after : Client S) (works : List Work) (work : Work) → AreTurns clients mid before works → client_at mid c ≡ Some client
+        → Changes mid next c (steps.left_after turned after) → ((d : ℕ) → is_turn_of d work ≡ nat_eq c d) → ((d : ℕ) → standing_at next d ≡ stands_after d (standing_at mid d) work) → ((it : Standing) → office_after it work ≡ it)
+        → IsKind turned client.channel after.channel work → AreTurns clients next (turned ∷ before) (works ++ work ∷ [])
+    turns_more turned before clients mid next client after works work are at changes whose stands rests kind =
+        let is = whose c ∙ eq-eqb c c refl in
+        let count = are.count in
+        let all = length-append works (work ∷ []) in
+        let many = are.many in
+        let sum = turns_of-append c works (work ∷ []) ∙ one_more (turns_of c works) (length before) (is_turn_of c work) is many in
+        record {
+          count = omega (arith, count, all);
+          stand = λ d. stands d ∙ (ap (λ (it : Standing). stands_after d it work) (are.stand d) ∙ sym (stands_in-append d (standing_at clients d) works (work ∷ [])));
+          kept_office = λ it. office_in-append it works (work ∷ []) ∙ (rests (office_in it works) ∙ are.kept_office it);
+          others = λ d other. others_stand mid next (steps.left_after turned after) changes d other ∙ are.others d other;
+          alone = λ d other. any_none (is_turn_of d) works (work ∷ []) (are.alone d other) (none_of (is_turn_of d) work (whose d ∙ other));
+          turn = inr (any_right (is_turn_of c) works (work ∷ []) (one_of (is_turn_of c) work is));
+          many = omega (arith, sum);
+          waited = λ rest e. any_right (is_wait_of c) works (work ∷ []) (one_of (is_wait_of c) work (kind_waits turned client.channel after.channel work kind (last_turn turned Waits before rest e)));
+          ended = λ ending rest e. any_right (is_end_of c) works (work ∷ []) (one_of (is_end_of c) work (kind_ends turned ending client.channel after.channel work kind (last_turn turned (Over ending) before rest e)));
+          fed_some = fed_more turned before mid next client after works work at changes kind are.fed_some;
+          here = λ it rest e goes.
+              let over : steps.is_over turned ≡ false = ap steps.is_over (last_turn turned it before rest e) ∙ goes in
+              (after, put_here mid next (steps.left_after turned after) changes ∙ rw over refl);
+        }
+
+    turns_none : (clients next : Clients S) → next ≡ clients → AreTurns clients next [] []
+    turns_none clients next same = subst (λ (it : Clients S). AreTurns clients it [] []) (sym same) (record {
+      count = refl;
+      stand = λ d. refl;
+      kept_office = λ it. refl;
+      others = λ d other. refl;
+      turn = inl refl;
+      alone = λ d other. refl;
+      many = refl;
+      waited = λ before e. (let clash : ◌≡◌ {A = List Turned} [] (Waits ∷ before) = e in cc);
+      ended = λ ending before e. (let clash : ◌≡◌ {A = List Turned} [] (Over ending ∷ before) = e in cc);
+      fed_some = inl refl;
+      here = λ turned before e goes. (let clash : ◌≡◌ {A = List Turned} [] (turned ∷ before) = e in cc);
+    })
 
     turns_go : (now : ℕ) (turns : List Turned) (old new : Desk R) (clients next : Clients S) (deeds : List Deed) → steps.HasTurns g name c now old clients turns new next deeds
-        → (works : List Work) × (deeds ≡ all_deeds works) × (end_in works ≡ end_of_turns turns) × Goes g old (place_of name clients office) works new (place_of name next office) × Each IsServing works × AreTurns clients next turns works
-    turns_go now [] old new clients next deeds t =
-        let none = subst (λ (it : Clients S). AreTurns clients it [] []) (sym t.2) (record { passes = passes-nil 0 clients; turn = inl refl }) in
-        ([], t.0, refl, (t.1, ap (λ (it : Clients S). place_of name it office) t.2), tt, none)
+        → (works : List Work) × (deeds ≡ all_deeds works) × EndAs turns works × Goes g old (place_of name clients office) works new (place_of name next office) × Each IsServing works × AreTurns clients next turns works
+    turns_go now [] old new clients next deeds t = ([], t.0, refl, (t.1, ap (λ (it : Clients S). place_of name it office) t.2), tt, turns_none clients next t.2)
     turns_go now (turned ∷ before) old new clients next deeds t =
         let first = turns_go now before old t.0 clients t.1 t.2 t.4 in
-        let last = turn_works now turned t.0 new t.1 next t.3 t.5 in
-        let one = one_turn t.1 next (steps.left_after turned t.5.1) last.0 t.5.8 last.6 last.7 in (
+        let last = turn_works now turned t.0 new t.1 next t.3 t.5 in (
           first.0 ++ last.0 ∷ [],
           t.6 ∙ (ap (λ (l : List Deed). l ++ t.3) first.1 ∙ (ap (λ (l : List Deed). all_deeds first.0 ++ l) (last.1 ∙ sym (all_deeds-one last.0)) ∙ sym (all_deeds-append first.0 (last.0 ∷ [])))),
-          end_in-append first.0 (last.0 ∷ []) ∙ rw (or_nothing (end_by last.0), first.2, last.3) refl,
+          (λ none. ends-then (end_of_turn turned) first.0 (last.0 ∷ []) (none_ends before first.0 none first.2) (ends-one (end_of_turn turned) last.0 last.3)),
           goes-append first.0 (last.0 ∷ []) old t.0 new (place_of name clients office) (place_of name t.1 office) (place_of name next office) first.3 (new, place_of name next office, last.2, (refl, refl)),
           each-append IsServing first.0 (last.0 ∷ []) first.4 (last.4, tt),
-          record {
-            passes = passes-append (length before) 1 (length (turned ∷ before)) clients t.1 next first.0 (last.0 ∷ []) (omega arith) first.5.passes one;
-            turn = inr (turn_right c first.0 (last.0 ∷ []) (rw last.6 refl));
-          },
+          turns_more turned before clients t.1 next t.5.0 t.5.1 first.0 last.0 first.5 t.5.3 t.5.8 last.6 last.7 last.8 last.9,
         )
 
-    some_turns : (turns : List Turned) (next : Clients S) → steps.IsEnough c turns next → turns ≡ [] → ⊥
-    some_turns turns next enough none = elim enough [
-      | inl rests ↦ (let clash : ◌≡◌ {A = List Turned} [] (Waits ∷ rests.0) = sym none ∙ rests.1 in cc)
+    -- how all stand, where the land office's socket may give or take something, or not
+    abbrev all_at : Bool → Clients S → Standings
+    all_at flag clients = standings_of clients office flag
+
+    turns_paced : (flag : Bool) (clients next : Clients S) (turns : List Turned) (works : List Work) → length turns ≤ 4 → AreTurns clients next turns works → IsPaced 4 (all_at flag clients) (all_at flag next) works
+    turns_paced flag clients next turns works most are =
+        let count = are.count in
+        record { few = omega (arith, count, most); stand = are.stand; office = sym (are.kept_office (standing_office office flag)) }
+
+    -- it has its turns, and all others stand as they did
+    turns_given : (flag : Bool) (clients next : Clients S) (turns : List Turned) (works : List Work) → length turns ≤ 4 → AreTurns clients next turns works → HasEnough c works → GivesTurnAlone c 4 (all_at flag clients) (all_at flag next) works
+    turns_given flag clients next turns works most are enough = record {
+      gives = record {
+        passes = record {
+          paced = turns_paced flag clients next turns works most are;
+          kept = λ d is. go d is (nat_eq c d) refl;
+          kept_office = λ is. inr is;
+        };
+        turn = λ is. enough;
+      };
+      alone = are.alone;
+    }
+      where
+        go : (d : ℕ) → standing_at clients d ≡ ready → (same : Bool) → nat_eq c d ≡ same → HasEnough d works ⊎ (standing_at next d ≡ ready)
+        go d is true e = inl (subst (λ (n : ℕ). HasEnough n works) (eqb-true c d e) enough)
+        go d is false e = inr (are.others d e ∙ is)
+
+    none_sent : (channel : Channel) → (IsSending channel → ⊥) → unsent channel ≡ []
+    none_sent channel not = go (unsent channel) not
+      where
+        go : (bytes : List ℕ) → (0 < length bytes → ⊥) → bytes ≡ []
+        go [] not = refl
+        go (byte ∷ bytes) not = absurd (not (omega arith))
+
+    some_turn : (turns : List Turned) → (turns ≡ [] → ⊥) → (turned : Turned) × (before : List Turned) × (turns ≡ turned ∷ before)
+    some_turn [] not = absurd (not refl)
+    some_turn (turned ∷ before) not = (turned, before, refl)
+
+    one_turn : (turns : List Turned) → steps.fed_in turns ≡ 1 → turns ≡ [] → ⊥
+    one_turn turns one none = let no_piece = ap steps.fed_in none in omega (arith, one, no_piece)
+
+    four_turns : (turns : List Turned) → length turns ≡ 4 → turns ≡ [] → ⊥
+    four_turns turns four none = let count = ap (λ (l : List Turned). length l) none in omega (arith, count, four)
+
+    first_goes : (turned : Turned) (before turns : List Turned) → turns ≡ turned ∷ before → steps.any_over turns ≡ false → steps.is_over turned ≡ false
+    first_goes turned before turns e none = (or_none (steps.is_over turned) (steps.any_over before) (sym (ap steps.any_over e) ∙ none)).0
+
+    had_turn : (clients next : Clients S) (turns : List Turned) (works : List Work) → (turns ≡ [] → ⊥) → AreTurns clients next turns works → has_turn c works ≡ true
+    had_turn clients next turns works some are = elim are.turn [
+      | inl none ↦ absurd (some none)
+      | inr has ↦ has
+    ]
+
+    -- the reply to a piece went out
+    replied : (clients next : Clients S) (turns : List Turned) (works : List Work) → steps.any_over turns ≡ false → AreTurns clients next turns works → steps.fed_in turns ≡ 1 → (IsSomeAnd (client_at next c) notes.IsSending → ⊥) → Replies c works
+    replied clients next turns works none are one not = elim are.fed_some [
+      | inl zero_fed ↦ absurd (omega (arith, zero_fed, one))
+      | inr h ↦
+          let some = some_turn turns (one_turn turns one) in
+          let here = are.here some.0 some.1 some.2 (first_goes some.0 some.1 turns some.2 none) in
+          let idle = none_sent here.0.channel (λ sending. not (subst (λ (o : Option (Client S)). IsSomeAnd o notes.IsSending) (sym here.1) sending)) in
+          let all = h.remains here.0 here.1 ∙ (ap (λ (l : List ℕ). written_to c h.later ++ l) idle ∙ append-nil (written_to c h.later)) in
+          record {
+            before = h.before;
+            later = h.later;
+            s = h.s;
+            piece = h.piece;
+            out = h.out;
+            over = h.over;
+            more = [];
+            all = h.all;
+            written = sym all ∙ sym (append-nil h.out.items);
+          }
+    ]
+
+    -- it had its turns, and has no more for now
+    gave_enough : (clients next : Clients S) (turns : List Turned) (works : List Work) → steps.any_over turns ≡ false → steps.IsEnough c turns next → AreTurns clients next turns works → HasEnough c works
+    gave_enough clients next turns works none enough are = elim enough [
+      | inl rests ↦
+          let some : (turns ≡ [] → ⊥) = (λ nil. (let clash : ◌≡◌ {A = List Turned} [] (Waits ∷ rests.0) = sym nil ∙ rests.1 in cc)) in
+          record { turn = had_turn clients next turns works some are; enough = inr (inl (are.waited rests.0 rests.1)) }
       | inr more ↦
           elim more [
-            | inl replied ↦ (let none_fed = ap steps.fed_in none in let one = replied.0 in omega (arith, none_fed, one))
-            | inr four ↦ (let count = ap (λ (l : List Turned). length l) none in omega (arith, count, four))
+            | inl one ↦ record { turn = had_turn clients next turns works (one_turn turns one.0) are; enough = inr (inr (inl (replied clients next turns works none are one.0 one.1))) }
+            | inr four ↦
+                let many = are.many in
+                record { turn = had_turn clients next turns works (four_turns turns four) are; enough = inr (inr (inr (omega (arith, many, four)))) }
           ]
     ]
 
-    -- it had a turn, and no more than four
-    gave_turn : (clients next : Clients S) (turns : List Turned) (works : List Work) → (turns ≡ [] → ⊥) → length turns ≤ 4 → AreTurns clients next turns works → GivesTurn c 4 clients next works
-    gave_turn clients next turns works some most are = record {
-      passes = passes-more (length turns) 4 clients next works most are.passes;
-      turn = λ may. elim are.turn [
-        | inl none ↦ absurd (some none)
-        | inr has ↦ has
-      ];
-    }
-
     -- there is no such connection
-    kept_nobody : (clients next : Clients S) → client_at clients c ≡ None → Keeps clients next → GivesTurn c 4 clients next (aside [] None ∷ [])
-    kept_nobody clients next none keeps =
+    kept_nobody : (flag : Bool) (clients next : Clients S) → client_at clients c ≡ None → Keeps clients next → GivesTurnAlone c 4 (all_at flag clients) (all_at flag next) (aside [] None ∷ [])
+    kept_nobody flag clients next none keeps =
         let stand : ((d : ℕ) → standing_at next d ≡ standing_at clients d) = (λ d. ap (λ (o : Option (Client S)). standing_of o) (keeps d)) in
         record {
-          passes = record { paced = record { few = omega arith; stand = stand }; kept = λ d may. inr (stand d ∙ may) };
-          turn = λ may. (let clash : absent ≡ ready = sym (ap (λ (o : Option (Client S)). standing_of o) none) ∙ may in cc);
+          gives = record {
+            passes = record { paced = record { few = omega arith; stand = stand; office = refl }; kept = λ d is. inr (stand d ∙ is); kept_office = λ is. inr is };
+            turn = λ is. (let clash : absent ≡ ready = sym (ap (λ (o : Option (Client S)). standing_of o) none) ∙ is in cc);
+          };
+          alone = λ d other. refl;
         }
 
     -- a connection was served
-    pub served_hosts : (now : ℕ) (served : Served) (from to : Option (List Deed)) (old new : Desk R) (clients next : Clients S)
-        → AddsSome from to (steps.IsServed g name c now old clients served new next) → Serves g (GivesTurn c 4 clients next) (end_of_client served) from old (place_of name clients office) to new (place_of name next office)
-    served_hosts now Stays from to old new clients next s =
-        let go = turns_go now s.2.0 old new clients next s.0 s.2.1 in
-        (go.0, subst (λ (l : List Deed). Adds from to l) go.1 s.1, go.2 ∙ none_ends s.2.0 s.2.4, go.3, go.4, gave_turn clients next s.2.0 go.0 (some_turns s.2.0 next s.2.3) s.2.5 go.5)
-    served_hosts now (Served-Over ending) from to old new clients next s =
+    pub served_hosts : (flag : Bool) (now : ℕ) (served : Served) (from to : Option (List Deed)) (old new : Desk R) (clients next : Clients S)
+        → AddsSome from to (steps.IsServed g name c now old clients served new next) → Serves g (GivesTurnAlone c 4 (all_at flag clients) (all_at flag next)) (end_of_client served) from old (place_of name clients office) to new (place_of name next office)
+    served_hosts flag now Stays from to old new clients next s =
+        let go = turns_go now s.2.0 old new clients next s.0 s.2.1 in (
+          go.0,
+          subst (λ (l : List Deed). Adds from to l) go.1 s.1,
+          none_ends s.2.0 go.0 s.2.4 go.2,
+          go.3,
+          go.4,
+          turns_given flag clients next s.2.0 go.0 s.2.5 go.5 (gave_enough clients next s.2.0 go.0 s.2.4 s.2.3 go.5),
+        )
+    served_hosts flag now (Served-Over ending) from to old new clients next s =
         let go = turns_go now (Over ending ∷ s.2.0) old new clients next s.0 s.2.1 in
         let few = s.2.4 in
-        let some : (Over ending ∷ s.2.0 ≡ [] → ⊥) = (λ e. cc) in
-        (go.0, subst (λ (l : List Deed). Adds from to l) go.1 s.1, go.2 ∙ rw (none_ends s.2.0 s.2.3) refl, go.3, go.4, gave_turn clients next (Over ending ∷ s.2.0) go.0 some (omega (arith, few)) go.5)
-    served_hosts now Unknown from to old new clients next s =
-        subst (λ (d : Desk R). Serves g (GivesTurn c 4 clients next) None from old (place_of name clients office) to d (place_of name next office)) (sym s.2.2)
-        (serves-same (GivesTurn c 4 clients next) from to old (place_of name clients office) (place_of name next office) (subst (λ (l : List Deed). Adds from to l) s.2.1 s.1) (held_same name clients next s.2.3) refl (kept_nobody clients next s.2.0 s.2.3))
+        let some : (Over ending ∷ s.2.0 ≡ [] → ⊥) = (λ e. cc) in (
+          go.0,
+          subst (λ (l : List Deed). Adds from to l) go.1 s.1,
+          go.2 s.2.3,
+          go.3,
+          go.4,
+          turns_given flag clients next (Over ending ∷ s.2.0) go.0 (omega (arith, few)) go.5
+              (record { turn = had_turn clients next (Over ending ∷ s.2.0) go.0 some go.5; enough = inl (go.5.ended ending s.2.0 refl) }),
+        )
+    served_hosts flag now Unknown from to old new clients next s =
+        subst (λ (d : Desk R). Serves g (GivesTurnAlone c 4 (all_at flag clients) (all_at flag next)) None from old (place_of name clients office) to d (place_of name next office)) (sym s.2.2)
+        (serves-same (GivesTurnAlone c 4 (all_at flag clients) (all_at flag next)) from to old (place_of name clients office) (place_of name next office) (subst (λ (l : List Deed). Adds from to l) s.2.1 s.1) (held_same name clients next s.2.3) refl (kept_nobody flag clients next s.2.0 s.2.3))
 
     -- a turn of a connection of which a reply has not gone out
     pub sent_hosts : (now : ℕ) (turned : Option Turned) (from to : Option (List Deed)) (old new : Desk R) (clients next : Clients S) → ((client : Client S) → client_at clients c ≡ Some client → IsSending client.channel)
@@ -411,47 +685,47 @@ module _ {R : Type 0} (g : Ghosts R) where
         → AddsSome from to (steps.Closes g name c old clients new next) → Hosts g May None from old (place_of name clients office) to new (place_of name next office)
     closed_hosts May from to old new clients next none may s = closed_at May (client_at clients c) from to old new clients next none may refl s
 
-    dropped_at : (one : Option (Client S)) (from to : Option (List Deed)) (old new : Desk R) (clients next : Clients S)
-        → client_at clients c ≡ one → AddsSome from to (steps.ClosesAt g name c one old clients new next) → Serves g (IsPaced 1 clients next) None from old (place_of name clients office) to new (place_of name next office)
-    dropped_at None from to old new clients next at s =
-        subst (λ (d : Desk R). Serves g (IsPaced 1 clients next) None from old (place_of name clients office) to d (place_of name next office)) (sym s.2.1)
-        (serves-same (IsPaced 1 clients next) from to old (place_of name clients office) (place_of name next office) (subst (λ (l : List Deed). Adds from to l) s.2.0 s.1) (held_same name clients next s.2.2) refl
-        (record { few = omega arith; stand = λ d. ap (λ (o : Option (Client S)). standing_of o) (s.2.2 d) }))
-    dropped_at (Some client) from to old new clients next at s =
+    dropped_at : (flag : Bool) (one : Option (Client S)) (from to : Option (List Deed)) (old new : Desk R) (clients next : Clients S)
+        → client_at clients c ≡ one → AddsSome from to (steps.ClosesAt g name c one old clients new next) → Serves g (IsAtDoors 1 (all_at flag clients) (all_at flag next)) None from old (place_of name clients office) to new (place_of name next office)
+    dropped_at flag None from to old new clients next at s =
+        subst (λ (d : Desk R). Serves g (IsAtDoors 1 (all_at flag clients) (all_at flag next)) None from old (place_of name clients office) to d (place_of name next office)) (sym s.2.1)
+        (serves-same (IsAtDoors 1 (all_at flag clients) (all_at flag next)) from to old (place_of name clients office) (place_of name next office) (subst (λ (l : List Deed). Adds from to l) s.2.0 s.1) (held_same name clients next s.2.2) refl
+        (record { paced = record { few = omega arith; stand = λ d. ap (λ (o : Option (Client S)). standing_of o) (s.2.2 d); office = refl }; quiet = λ e. refl }))
+    dropped_at flag (Some client) from to old new clients next at s =
         let closes = s.2.1 in
         let said : Said = Some (Close c, closes.0) in
-        serves-one (IsPaced 1 clients next) None from to old new (place_of name clients office) (place_of name next office) (ends (name client.socket) c None s.0 said) s.1 refl
+        serves-one (IsAtDoors 1 (all_at flag clients) (all_at flag next)) None from to old new (place_of name clients office) (place_of name next office) (ends (name client.socket) c None s.0 said) s.1 refl
         (client.channel, ap (held_of name) at, (s.2.0, closes), refl, closes.1, held_puts name clients next c None s.2.2, refl) tt
-        (record { few = omega arith; stand = changed_stands clients next None absent s.2.2 refl })
+        (record { paced = record { few = omega arith; stand = changed_stands clients next None absent s.2.2 refl; office = refl }; quiet = λ e. refl })
 
     -- a connection that is overdue was closed
-    pub dropped_hosts : (from to : Option (List Deed)) (old new : Desk R) (clients next : Clients S)
-        → AddsSome from to (steps.Closes g name c old clients new next) → Serves g (IsPaced 1 clients next) None from old (place_of name clients office) to new (place_of name next office)
-    dropped_hosts from to old new clients next s = dropped_at (client_at clients c) from to old new clients next refl s
+    pub dropped_hosts : (flag : Bool) (from to : Option (List Deed)) (old new : Desk R) (clients next : Clients S)
+        → AddsSome from to (steps.Closes g name c old clients new next) → Serves g (IsAtDoors 1 (all_at flag clients) (all_at flag next)) None from old (place_of name clients office) to new (place_of name next office)
+    dropped_hosts flag from to old new clients next s = dropped_at flag (client_at clients c) from to old new clients next refl s
 
     -- a socket came, and was taken as connection c, or turned away by the desk
-    pub opened_hosts : (now : ℕ) (result : Result (Unit {0}) DeskFault) (socket : S) (from mid to : Option (List Deed)) (old new : Desk R) (clients next : Clients S) → client_at clients c ≡ None
-        → Adds from mid (came (name socket) ∷ []) → AddsSome mid to (steps.Opens g name c now socket old clients result new next) → Serves g (IsPaced 1 clients next) None from old (place_of name clients office) to new (place_of name next office)
-    opened_hosts now (Ok done) socket from mid to old new clients next free comes s =
+    pub opened_hosts : (flag : Bool) (now : ℕ) (result : Result (Unit {0}) DeskFault) (socket : S) (from mid to : Option (List Deed)) (old new : Desk R) (clients next : Clients S) → client_at clients c ≡ None
+        → Adds from mid (came (name socket) ∷ []) → AddsSome mid to (steps.Opens g name c now socket old clients result new next) → Serves g (IsAtDoors 1 (all_at flag clients) (all_at flag next)) None from old (place_of name clients office) to new (place_of name next office)
+    opened_hosts flag now (Ok done) socket from mid to old new clients next free comes s =
         let o = s.2.2 in
         let same = subst (λ (l : List Deed). Adds mid to l) s.2.1 s.1 in
-        serves-one (IsPaced 1 clients next) None from to old new (place_of name clients office) (place_of name next office) (opens (name socket) c) (Adds-trans from mid to (came (name socket) ∷ []) [] comes same) refl (
+        serves-one (IsAtDoors 1 (all_at flag clients) (all_at flag next)) None from to old new (place_of name clients office) (place_of name next office) (opens (name socket) c) (Adds-trans from mid to (came (name socket) ∷ []) [] comes same) refl (
           o.0.channel,
           ap (held_of name) free,
           o.2,
           s.2.0,
           subst (λ (it : S). Puts (held_at name clients) (held_at name next) c (Some (name it, o.0.channel))) o.1 (held_puts name clients next c (Some o.0) o.5),
           refl,
-        ) tt (record { few = omega arith; stand = changed_stands clients next (Some o.0) ready o.5 (may_stand o.0 (ap (λ (n : notes.Notes). n.is_ready) o.4)) })
-    opened_hosts now (Err fault) socket from mid to old new clients next free comes s =
-        serves-one (IsPaced 1 clients next) None from to old new (place_of name clients office) (place_of name next office) (aside (came (name socket) ∷ s.0) (Some (Open c, Err fault)))
+        ) tt (record { paced = record { few = omega arith; stand = changed_stands clients next (Some o.0) ready o.5 (may_stand o.0 (ap (λ (n : notes.Notes). n.is_ready) o.4)); office = refl }; quiet = λ e. refl })
+    opened_hosts flag now (Err fault) socket from mid to old new clients next free comes s =
+        serves-one (IsAtDoors 1 (all_at flag clients) (all_at flag next)) None from to old new (place_of name clients office) (place_of name next office) (aside (came (name socket) ∷ s.0) (Some (Open c, Err fault)))
         (Adds-trans from mid to (came (name socket) ∷ []) s.0 comes s.1) refl (
           (c, ap (held_of name) free, refl, refl),
           s.2.0,
           held_same name clients next s.2.1,
           inr (inl (name socket, fault, s.2.2.0, s.2.2.1, ap (λ (l : List Deed). came (name socket) ∷ l) s.2.2.2)),
           refl,
-        ) tt (record { few = omega arith; stand = λ d. ap (λ (o : Option (Client S)). standing_of o) (s.2.1 d) })
+        ) tt (record { paced = record { few = omega arith; stand = λ d. ap (λ (o : Option (Client S)). standing_of o) (s.2.1 d); office = refl }; quiet = λ e. refl })
 
 -- what is held stays so
 pub same-trans : (a b d : Held) → Same a b → Same b d → Same a d
@@ -467,13 +741,13 @@ marked_same name old new c changes =
     put_same (held_at name old) (held_at name new) c (held_of name (option_map notes.marked (client_at old c))) (sym (marked_held name (client_at old c))) (held_puts name old new c (option_map notes.marked (client_at old c)) changes)
 
 -- a socket came for which there is no number, and was turned away
-pub away_hosts : {R S : Type 0} (g : Ghosts R) (t : ℕ) (from mid to : Option (List Deed)) (old : Desk R) (here : Place) (clients : Clients S)
-    → Adds from mid (came t ∷ []) → AddsSome mid to (IsTurnedAway t) → Serves g (IsPaced 1 clients clients) None from old here to old here
-away_hosts g t from mid to old here clients comes away =
-    serves-one g (IsPaced 1 clients clients) None from to old old here here (aside (came t ∷ away.0) None)
+pub away_hosts : {R : Type 0} (g : Ghosts R) (t : ℕ) (from mid to : Option (List Deed)) (old : Desk R) (here : Place) (stand : Standings)
+    → Adds from mid (came t ∷ []) → AddsSome mid to (IsTurnedAway t) → Serves g (IsAtDoors 1 stand stand) None from old here to old here
+away_hosts g t from mid to old here stand comes away =
+    serves-one g (IsAtDoors 1 stand stand) None from to old old here here (aside (came t ∷ away.0) None)
     (Adds-trans from mid to (came t ∷ []) away.0 comes away.1) refl
     (tt, refl, (λ c. refl), inr (inl (t, Memory, away.2.0, away.2.1, ap (λ (l : List Deed). came t ∷ l) away.2.2)), refl) tt
-    (record { few = omega arith; stand = λ d. refl })
+    (record { paced = record { few = omega arith; stand = λ d. refl; office = refl }; quiet = λ e. refl })
 
 -- the network told of more sockets
 pub woken_more : (places : List ℕ) (place : ℕ) → map woke places ++ woke place ∷ [] ≡ map woke (places ++ place ∷ [])
@@ -507,6 +781,27 @@ pub told_then : {S : Type 0} (c : ℕ) (places : List ℕ) (place : ℕ) (old mi
     → standing_at new c ≡ (if nat_eq place c then woken (standing_at mid c) else standing_at mid c) → standing_at new c ≡ stands_after c (standing_at old c) (wakes (places ++ place ∷ []))
 told_then c places place old mid new before told =
     told ∙ (ap (λ (it : Standing). if nat_eq place c then woken it else it) before ∙ sym (told_more c places place (standing_at old c)))
+
+-- the same of the land office's socket
+told_office : (places : List ℕ) (place : ℕ) (old : Bool) → (is_among office_place (places ++ place ∷ []) || old) ≡ (nat_eq place office_place || (is_among office_place places || old))
+told_office [] place old = go (nat_eq place office_place)
+  where
+    go : (is : Bool) → ((is || false) || old) ≡ (is || old)
+    go true = refl
+    go false = refl
+told_office (first ∷ places) place old = go (nat_eq first office_place) (told_office places place old)
+  where
+    last : (is : Bool) → true ≡ (is || true)
+    last true = refl
+    last false = refl
+
+    go : (is : Bool) → (is_among office_place (places ++ place ∷ []) || old) ≡ (nat_eq place office_place || (is_among office_place places || old))
+        → ((is || is_among office_place (places ++ place ∷ [])) || old) ≡ (nat_eq place office_place || ((is || is_among office_place places) || old))
+    go true more = last (nat_eq place office_place)
+    go false more = more
+
+pub told_office_then : (places : List ℕ) (place : ℕ) (old mid new : Bool) → mid ≡ (is_among office_place places || old) → new ≡ (nat_eq place office_place || mid) → new ≡ (is_among office_place (places ++ place ∷ []) || old)
+told_office_then places place old mid new before told = told ∙ (ap (λ (it : Bool). nat_eq place office_place || it) before ∙ sym (told_office places place old))
 
 -- a mark tells of this connection
 pub marked_stands : {S : Type 0} (old new : Clients S) (place : ℕ) → Changes old new place (option_map notes.marked (client_at old place)) → (c : ℕ) → standing_at new c ≡ (if nat_eq place c then woken (standing_at old c) else standing_at old c)

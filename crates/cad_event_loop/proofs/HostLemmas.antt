@@ -1,5 +1,4 @@
 -- All that hosting does, by how it ended.
-use Rattle.std.specs.Option.{option_or}
 use Rattle.std.proofs.Common.{◌≡◌, ℕ, Bool, true, false, List, [], ◌∷◌, Option, None, Some, Result, Ok, Err, IsErr, refl, sym, ap, subst, inl, inr, arith}
 use Rattle.cad_stream.specs.declared.responder.Responder.{Ghosts}
 use Rattle.cad_desk.specs.declared.desk.Desk.{Desk}
@@ -17,7 +16,7 @@ use Rattle.cad_event_loop.specs.Hosting.{end_of_rounds, IsClosing, IsLastOf, Hos
 use Rattle.cad_event_loop.specs.Turns.{nobody, AreServed}
 use Rattle.cad_event_loop.specs.inner.Offices.{office_at}
 use Rattle.cad_event_loop.specs.inner.Rounds.{here, IsNobody}
-use Rattle.cad_event_loop.specs.Works.{Place, IsEmpty, held_of, Work, wakes, opens, acts, waits, ends, office_comes, enters, office_leaves, aside, is_store, store_end, end_of_cause, end_of_turned, end_by, end_in, all_deeds}
+use Rattle.cad_event_loop.specs.Works.{Place, IsEmpty, held_of, Work, wakes, opens, acts, waits, ends, office_comes, enters, office_leaves, aside, is_store, store_end, end_of_cause, end_of_turned, end_by, EndsBy, all_deeds}
 use Rattle.cad_event_loop.proofs.GoesLemmas.{all_deeds-append, goes-append}
 
 store_or_none : (refused : Bool) → store_end refused ≡ Some RoundsSpent → ⊥
@@ -56,13 +55,8 @@ none_spends (enters o text turned deeds said) e = turn_spends turned e
 none_spends (office_leaves o) e = nothing_spends e
 none_spends (aside deeds said) e = nothing_spends e
 
-first_spends : (first later : Option Stopped) → (first ≡ Some RoundsSpent → ⊥) → (later ≡ Some RoundsSpent → ⊥) → option_or first later ≡ Some RoundsSpent → ⊥
-first_spends None later one other e = other e
-first_spends (Some it) later one other e = one e
-
-never_spent : (works : List Work) → end_in works ≡ Some RoundsSpent → ⊥
-never_spent [] e = nothing_spends e
-never_spent (work ∷ later) e = first_spends (end_by work) (end_in later) (none_spends work) (never_spent later) e
+never_spent : (works : List Work) → EndsBy (Some RoundsSpent) works → ⊥
+never_spent works e = none_spends e.1 e.4
 
 abbrev empty : Place
 empty = record { slots = λ c. None; office = None }

@@ -8,3 +8,4 @@ pub mod SocketLemmas
 pub mod StreamLemmas
 pub mod OfficeLemmas
 pub mod HostLemmas
+pub mod ReplyLemmas

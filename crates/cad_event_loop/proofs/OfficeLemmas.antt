@@ -1,6 +1,6 @@
 -- What turns of the land office are among all that is done.
 use Rattle.std.specs.Prelude.{⊤}
-use Rattle.std.proofs.Common.{◌≡◌, ℕ, ◌≤◌, Bool, true, false, not, ◌&&◌, List, length, length-append, [], ◌∷◌, ◌++◌, Option, None, Some, is_none, Ok, Err, refl, sym, ap, subst, ◌∙◌, append-nil, append_assoc, inl, inr, if◌then◌else◌, arith}
+use Rattle.std.proofs.Common.{◌≡◌, ℕ, ◌+◌, ◌≤◌, Bool, true, false, not, ◌&&◌, List, length, length-append, [], ◌∷◌, ◌++◌, Option, None, Some, is_none, Ok, Err, refl, sym, ap, subst, ◌∙◌, append-nil, append_assoc, inl, inr, if◌then◌else◌, arith}
 use Rattle.cad_stream.specs.declared.responder.Responder.{Ghosts}
 use Rattle.cad_desk.specs.declared.desk.Desk.{Desk}
 use Rattle.cad_desk.specs.declared.event.Event.TheVariants.{Office as Entering}
@@ -24,13 +24,13 @@ use Rattle.cad_clients.specs.declared.clients.Clients.{Clients}
 use Rattle.cad_event_loop.specs.declared.office.Office.{Office}
 use Rattle.cad_event_loop.specs.declared.stopped.Stopped.{Stopped}
 use Rattle.cad_event_loop.specs.Hosting.{Each, IsServing, IsClosing, Hosts, Serves}
-use Rattle.cad_event_loop.specs.inner.Offices.{office_at, HasBegun as OfficeHasBegun, HasBegunUnless, end_of_office, is_over, left_deeds, left_at, HasOfficeTurns, HasSent}
-use Rattle.cad_event_loop.specs.Works.{Said, AtOffice, Place, place_of, Held, Work, enters, office_comes, office_leaves, aside, all_deeds, store_end, end_of_turned, end_in, is_last, SaysSo, IsLineSaid, Tells, Works, Goes}
+use Rattle.cad_event_loop.specs.inner.Offices.{office_at, HasBegun as OfficeHasBegun, HasBegunUnless, end_of_office, is_over, may_go_on, left_deeds, left_at, HasOfficeTurns, HasSent}
+use Rattle.cad_event_loop.specs.Works.{Said, AtOffice, Place, place_of, Held, Work, enters, office_comes, office_leaves, aside, all_deeds, store_end, end_of_turned, end_in, EndsBy, is_last, SaysSo, IsLineSaid, Tells, Works, Goes}
 use Rattle.cad_event_loop.proofs.LifeLemmas.{none_some, one_some}
-use Rattle.cad_event_loop.specs.inner.Standing.{standing_at, IsPaced, LosesNobody}
-use Rattle.cad_event_loop.specs.Turns.{Standing, stands_in}
-use Rattle.cad_event_loop.proofs.StandingLemmas.{stands_in-append, passes-same}
-use Rattle.cad_event_loop.proofs.GoesLemmas.{all_deeds-append, or_nothing, goes-append, end_in-append, each-append, hosts-one, serves-one}
+use Rattle.cad_event_loop.specs.inner.Standing.{standing_at, standing_office, standings_of, IsPaced, IsAtDoors, ServesOffice}
+use Rattle.cad_event_loop.specs.Turns.{Standing, absent, waiting, ready, Standings, stands_in, office_in, office_turned, is_turn_of, is_office_turn, any_of, has_turn}
+use Rattle.cad_event_loop.proofs.StandingLemmas.{stands_in-append, office_in-append, any_right, any_none, office_passes}
+use Rattle.cad_event_loop.proofs.GoesLemmas.{all_deeds-append, or_nothing, goes-append, end_in-append, ends-then, ends-one, each-append, hosts-one, serves-one}
 
 -- what is left after a turn, as serving tells it
 abbrev end_of_some : Option EntryServed → Option Stopped
@@ -76,6 +76,32 @@ same_last (Lost answer) = go (is_store answer)
 same_last Stops = refl
 same_last Waits = refl
 same_last Over = refl
+
+-- how it stands after a turn, as serving tells it
+abbrev stand_of_served : EntryServed → Standing
+stand_of_served end = if is_over end then absent else (if may_go_on end then ready else waiting)
+
+abbrev stand_of_some : Option EntryServed → Standing
+stand_of_some None = ready
+stand_of_some (Some end) = stand_of_served end
+
+same_stand : (turned : EntryTurned) → office_turned (is_last turned) turned ≡ stand_of_some (end_at turned)
+same_stand Wrote = refl
+same_stand Took = refl
+same_stand Added = refl
+same_stand (Answered answer) = go (is_store answer)
+  where
+    go : (refused : Bool) → ready ≡ stand_of_some (if refused then Some served.StoreRefused else None)
+    go true = refl
+    go false = refl
+same_stand (Lost answer) = go (is_store answer)
+  where
+    go : (refused : Bool) → office_turned (not refused) (Lost answer) ≡ stand_of_some (if refused then Some served.StoreRefused else Some served.Over)
+    go true = refl
+    go false = refl
+same_stand Stops = refl
+same_stand Waits = refl
+same_stand Over = refl
 
 both_go : (end : Option EntryServed) (rest : Bool) → (is_none end && rest) ≡ true → (end ≡ None) × (rest ≡ true)
 both_go None rest both = (refl, both)
@@ -173,6 +199,12 @@ module _ {R : Type 0} (g : Ghosts R) where
     record AreTurns (turns : List EntryTurned) (works : List Work) : Type 0 where
       count : length works ≡ length turns
       stays : (c : ℕ) (old : Standing) → stands_in c old works ≡ old
+      last : (turned : EntryTurned) (before : List EntryTurned) → turns ≡ turned ∷ before → (old : Standing) → office_in old works ≡ office_turned (is_last turned) turned
+      turn : (turned : EntryTurned) (before : List EntryTurned) → turns ≡ turned ∷ before → any_of is_office_turn works ≡ true
+      quiet : (c : ℕ) → has_turn c works ≡ false
+
+    last_turn : (turned it : EntryTurned) (before rest : List EntryTurned) → turned ∷ before ≡ it ∷ rest → turned ≡ it
+    last_turn turned it before rest e = cc
 
     turns_more : (turned : EntryTurned) (turns : List EntryTurned) (works : List Work) (text : List ℕ) (deeds : List Deed) (said : Said) → AreTurns turns works → AreTurns (turned ∷ turns) (works ++ enters o text turned deeds said ∷ [])
     turns_more turned turns works text deeds said are =
@@ -181,12 +213,24 @@ module _ {R : Type 0} (g : Ghosts R) where
         record {
           count = omega (arith, all, count);
           stays = λ c old. stands_in-append c old works (enters o text turned deeds said ∷ []) ∙ are.stays c old;
+          last = λ it rest e old. office_in-append old works (enters o text turned deeds said ∷ []) ∙ ap (λ (one : EntryTurned). office_turned (is_last one) one) (last_turn turned it turns rest e);
+          quiet = λ c. any_none (is_turn_of c) works (enters o text turned deeds said ∷ []) (are.quiet c) refl;
+          turn = λ it rest e. any_right is_office_turn works (enters o text turned deeds said ∷ []) refl;
         }
+
+    turns_none : AreTurns [] []
+    turns_none = record {
+      count = refl;
+      quiet = λ c. refl;
+      stays = λ c old. refl;
+      last = λ turned before e old. (let clash : ◌≡◌ {A = List EntryTurned} [] (turned ∷ before) = e in cc);
+      turn = λ turned before e. (let clash : ◌≡◌ {A = List EntryTurned} [] (turned ∷ before) = e in cc);
+    }
 
     -- turns that go on
     turns_go : (turns : List EntryTurned) (old new : Desk R) (entry next : Entry) (deeds : List Deed) → IsBegun entry → all_go_on turns ≡ true → HasTurns g o old entry turns new next deeds
         → (works : List Work) × (deeds ≡ all_deeds works) × (end_in works ≡ None) × Goes g old (at_entry entry) works new (at_entry next) × Each IsServing works × IsBegun next × AreTurns turns works
-    turns_go [] old new entry next deeds begun go t = ([], t.0, refl, (t.1, ap at_entry t.2), tt, subst IsBegun (sym t.2) begun, record { count = refl; stays = λ c old. refl })
+    turns_go [] old new entry next deeds begun go t = ([], t.0, refl, (t.1, ap at_entry t.2), tt, subst IsBegun (sym t.2) begun, turns_none)
     turns_go (turned ∷ before) old new entry next deeds begun go t =
         let both = both_go (end_at turned) (all_go_on before) go in
         let first = turns_go before old t.0 entry t.1 t.2 begun both.1 t.4 in
@@ -209,7 +253,7 @@ module _ {R : Type 0} (g : Ghosts R) where
     -- and the last one
     turns_end : (end : EntryServed) (turned : EntryTurned) (before : List EntryTurned) (old new : Desk R) (entry next : Entry) (deeds : List Deed) → IsBegun entry → all_go_on before ≡ true
         → HasTurns g o old entry (turned ∷ before) new next deeds → end_of_turned turned ≡ end_of_office end → is_last turned ≡ is_over end
-        → (works : List Work) × (deeds ++ left_deeds (is_over end) o ≡ all_deeds works) × (end_in works ≡ end_of_office end) × Goes g old (at_entry entry) works new (left_with (is_over end) next) × Each IsServing works × AreTurns (turned ∷ before) works
+        → (works : List Work) × (deeds ++ left_deeds (is_over end) o ≡ all_deeds works) × EndsBy (end_of_office end) works × Goes g old (at_entry entry) works new (left_with (is_over end) next) × Each IsServing works × AreTurns (turned ∷ before) works
     turns_end end turned before old new entry next deeds begun go t ends over =
         let first = turns_go before old t.0 entry t.1 t.2 begun go t.4 in
         let one = turn_works turned t.0 new t.1 next t.3 first.5 t.5 in
@@ -220,31 +264,46 @@ module _ {R : Type 0} (g : Ghosts R) where
           ap (λ (l : List Deed). l ++ left_deeds (is_over end) o) (t.6 ∙ ap (λ (l : List Deed). l ++ t.3) first.1)
               ∙ (append_assoc (all_deeds first.0) t.3 (left_deeds (is_over end) o)
               ∙ (ap (λ (l : List Deed). all_deeds first.0 ++ l) (same ∙ sym (append-nil (t.3 ++ left_deeds (is_last turned) o))) ∙ sym (all_deeds-append first.0 (work ∷ [])))),
-          end_in-append first.0 (work ∷ []) ∙ rw (or_nothing (end_of_turned turned), first.2, ends) refl,
+          ends-then (end_of_office end) first.0 (work ∷ []) first.2 (ends-one (end_of_office end) work ends),
           goes-append g first.0 (work ∷ []) old t.0 new (at_entry entry) (at_entry t.1) (left_with (is_over end) next) first.3 (new, left_with (is_over end) next, works, (refl, refl)),
           each-append IsServing first.0 (work ∷ []) first.4 (tt, tt),
           turns_more turned before first.0 one.0 (t.3 ++ left_deeds (is_last turned) o) one.1 first.6,
         )
 
-    -- eight turns at most
-    abbrev AreFew : List Work → Type 0
-    AreFew works = (turns : List EntryTurned) × (length turns ≤ most_turns) × AreTurns turns works
+    -- eight turns at most, after which it stands so
+    record AreFew (end : EntryServed) (works : List Work) : Type 0 where
+      few : length works ≤ most_turns
+      stays : (c : ℕ) (old : Standing) → stands_in c old works ≡ old
+      last : (old : Standing) → office_in old works ≡ stand_of_served end
+      turn : any_of is_office_turn works ≡ true
+      quiet : (c : ℕ) → has_turn c works ≡ false
+
+    few_turns : (end : EntryServed) (turned : EntryTurned) (before : List EntryTurned) (works : List Work) → length (turned ∷ before) ≤ most_turns → stand_of_some (end_at turned) ≡ stand_of_served end → AreTurns (turned ∷ before) works → AreFew end works
+    few_turns end turned before works most stands are =
+        let count = are.count in
+        record {
+          few = omega (arith, count, most);
+          stays = are.stays;
+          last = λ old. are.last turned before refl old ∙ (same_stand turned ∙ stands);
+          turn = are.turn turned before refl;
+          quiet = are.quiet;
+        }
 
     -- the office was served
     served_go : (end : EntryServed) (old new : Desk R) (entry next : Entry) (deeds : List Deed) → IsBegun entry → IsEntryServed g o old entry end new next deeds
-        → (works : List Work) × (deeds ++ left_deeds (is_over end) o ≡ all_deeds works) × (end_in works ≡ end_of_office end) × Goes g old (at_entry entry) works new (left_with (is_over end) next) × Each IsServing works × AreFew works
+        → (works : List Work) × (deeds ++ left_deeds (is_over end) o ≡ all_deeds works) × EndsBy (end_of_office end) works × Goes g old (at_entry entry) works new (left_with (is_over end) next) × Each IsServing works × AreFew end works
     served_go end old new entry next deeds begun s = go s.0 s.1 s.2
       where
         go : (turns : List EntryTurned) → HasTurns g o old entry turns new next deeds → IsEnough turns end next
-            → (works : List Work) × (deeds ++ left_deeds (is_over end) o ≡ all_deeds works) × (end_in works ≡ end_of_office end) × Goes g old (at_entry entry) works new (left_with (is_over end) next) × Each IsServing works × AreFew works
+            → (works : List Work) × (deeds ++ left_deeds (is_over end) o ≡ all_deeds works) × EndsBy (end_of_office end) works × Goes g old (at_entry entry) works new (left_with (is_over end) next) × Each IsServing works × AreFew end works
         go [] t enough = absurd enough
         go (turned ∷ before) t enough = elim enough.1 [
           | inl ends ↦
               let all = turns_end end turned before old new entry next deeds begun enough.0 t (same_end turned ∙ ap end_of_some ends) (same_last turned ∙ ap over_of_some ends) in
-              (all.0, all.1, all.2, all.3, all.4, (turned ∷ before, enough.2, all.5))
+              (all.0, all.1, all.2, all.3, all.4, few_turns end turned before all.0 enough.2 (ap stand_of_some ends) all.5)
           | inr goes ↦
               let all = turns_end end turned before old new entry next deeds begun enough.0 t (same_end turned ∙ (ap end_of_some goes.0 ∙ ap end_of_office (sym goes.1))) (same_last turned ∙ (ap over_of_some goes.0 ∙ ap is_over (sym goes.1))) in
-              (all.0, all.1, all.2, all.3, all.4, (turned ∷ before, enough.2, all.5))
+              (all.0, all.1, all.2, all.3, all.4, few_turns end turned before all.0 enough.2 (ap stand_of_some goes.0 ∙ ap stand_of_served (sym goes.1)) all.5)
         ]
 
   -- where it goes on a line has begun
@@ -262,17 +321,28 @@ module _ {R : Type 0} (g : Ghosts R) where
           ]
 
   module _ {S : Type 0} (name : S → ℕ) where
+    -- how it stands, by what is left of it
+    left_stands : (end : EntryServed) (o : ℕ) (after : Entry) → standing_office (left_at (is_over end) o after) (may_go_on end) ≡ stand_of_served end
+    left_stands end o after = go (is_over end)
+      where
+        go : (over : Bool) → standing_office (left_at over o after) (may_go_on end) ≡ (if over then absent else (if may_go_on end then ready else waiting))
+        go true = refl
+        go false = refl
+
     -- the land office was served
-    pub office_hosts : (office : Office S) (result : EntryServed × Option (Office S)) (from to : Option (List Deed)) (old new : Desk R) (clients : Clients S) → IsBegun office.entry
-        → AddsSome from to (HasOfficeTurns g name old office result new) → Serves g (LosesNobody 8 clients clients) (end_of_office result.0) from old (place_of name clients (office_at name (Some office))) to new (place_of name clients (office_at name result.1))
-    office_hosts office result from to old new clients begun s =
+    pub office_hosts : (office : Office S) (flag : Bool) (result : EntryServed × Option (Office S)) (from to : Option (List Deed)) (old new : Desk R) (clients : Clients S) → IsBegun office.entry
+        → AddsSome from to (HasOfficeTurns g name old office result new)
+        → Serves g (ServesOffice 8 (standings_of clients (office_at name (Some office)) flag) (standings_of clients (office_at name result.1) (may_go_on result.0))) (end_of_office result.0) from old (place_of name clients (office_at name (Some office))) to new (place_of name clients (office_at name result.1))
+    office_hosts office flag result from to old new clients begun s =
         let t = s.2 in
         let slots : Held = (place_of name clients None).slots in
         let go = served_go slots (name office.socket) result.0 old new office.entry t.0 t.1 begun t.2 in
         let goes = subst (λ (it : AtOffice). Goes g old (at_entry slots (name office.socket) office.entry) go.0 new (record { slots = slots; office = it })) (sym t.4) go.3 in
-        let count = go.5.2.count in
-        let few = go.5.1 in
-        (go.0, subst (λ (l : List Deed). Adds from to l) (t.3 ∙ go.1) s.1, go.2, goes, go.4, passes-same 8 clients clients go.0 (omega (arith, count, few)) (λ c. refl) (λ c. go.5.2.stays c (standing_at clients c)))
+        let first = standings_of clients (office_at name (Some office)) flag in
+        let last = standings_of clients (office_at name result.1) (may_go_on result.0) in
+        let stands = ap (λ (it : AtOffice). standing_office it (may_go_on result.0)) t.4 ∙ left_stands result.0 (name office.socket) t.0 in
+        let paced : IsPaced 8 first last go.0 = record { few = go.5.few; stand = λ c. sym (go.5.stays c (standing_at clients c)); office = stands ∙ sym (go.5.last first.office) } in
+        (go.0, subst (λ (l : List Deed). Adds from to l) (t.3 ∙ go.1) s.1, go.2, goes, go.4, office_passes 8 first last go.0 paced (λ c. refl) go.5.turn go.5.quiet)
 
     entry_begun : (o : ℕ) (after : Entry) (office : Office S) → IsBegun after → ◌≡◌ {A = AtOffice} (Some (name office.socket, office.entry)) (Some (o, after)) → IsBegun office.entry
     entry_begun o after office begun at = subst IsBegun (sym (ap (λ (p : ℕ × Entry). p.1) (one_some {X = ℕ × Entry} (name office.socket, office.entry) (o, after) at))) begun
@@ -315,18 +385,18 @@ module _ {R : Type 0} (g : Ghosts R) where
         by_send Stops after own w = absurd w
 
     -- the office comes
-    pub came_hosts : (office : Office S) (socket : S) (from to : Option (List Deed)) (old : Desk R) (clients : Clients S)
+    pub came_hosts : (office : Office S) (socket : S) (flag : Bool) (from to : Option (List Deed)) (old : Desk R) (clients : Clients S)
         → office.socket ≡ socket → IsNewEntry office.entry → Adds from to (office_came (name socket) ∷ [])
-        → Serves g (IsPaced 1 clients clients) None from old (place_of name clients None) to old (place_of name clients (office_at name (Some office)))
-    came_hosts office socket from to old clients same is_new adds =
-        serves-one g (IsPaced 1 clients clients) None from to old old (place_of name clients None) (place_of name clients (office_at name (Some office))) (office_comes (name socket)) adds refl
-        (office.entry, refl, is_new, ap (λ (it : S). Some (name it, office.entry)) same, (λ c. refl), refl) tt (record { few = omega arith; stand = λ c. refl })
+        → Serves g (IsAtDoors 1 (standings_of clients None flag) (standings_of clients (office_at name (Some office)) true)) None from old (place_of name clients None) to old (place_of name clients (office_at name (Some office)))
+    came_hosts office socket flag from to old clients same is_new adds =
+        serves-one g (IsAtDoors 1 (standings_of clients None flag) (standings_of clients (office_at name (Some office)) true)) None from to old old (place_of name clients None) (place_of name clients (office_at name (Some office))) (office_comes (name socket)) adds refl
+        (office.entry, refl, is_new, ap (λ (it : S). Some (name it, office.entry)) same, (λ c. refl), refl) tt (record { paced = record { few = omega arith; stand = λ c. refl; office = refl }; quiet = λ c. refl })
 
     -- the office comes, and the network can't tell of it
-    pub unwatched_hosts : (t : ℕ) (from mid to : Option (List Deed)) (old : Desk R) (here : Place) (clients : Clients S) → Adds from mid (office_came t ∷ []) → Adds mid to (left t ∷ []) → Serves g (IsPaced 1 clients clients) None from old here to old here
-    unwatched_hosts t from mid to old here clients comes goes =
-        serves-one g (IsPaced 1 clients clients) None from to old old here here (aside (office_came t ∷ left t ∷ []) None) (Adds-trans from mid to (office_came t ∷ []) (left t ∷ []) comes goes) refl
-        (tt, refl, (λ c. refl), inr (inr (t, refl)), refl) tt (record { few = omega arith; stand = λ c. refl })
+    pub unwatched_hosts : (t : ℕ) (from mid to : Option (List Deed)) (old : Desk R) (here : Place) (stand : Standings) → Adds from mid (office_came t ∷ []) → Adds mid to (left t ∷ []) → Serves g (IsAtDoors 1 stand stand) None from old here to old here
+    unwatched_hosts t from mid to old here stand comes goes =
+        serves-one g (IsAtDoors 1 stand stand) None from to old old here here (aside (office_came t ∷ left t ∷ []) None) (Adds-trans from mid to (office_came t ∷ []) (left t ∷ []) comes goes) refl
+        (tt, refl, (λ c. refl), inr (inr (t, refl)), refl) tt (record { paced = record { few = omega arith; stand = λ c. refl; office = refl }; quiet = λ c. refl })
 
     -- the office is let go
     pub left_hosts : (office : Office S) (from to : Option (List Deed)) (old : Desk R) (clients : Clients S) → Adds from to (left (name office.socket) ∷ [])

@@ -1,225 +1,477 @@
--- How connections stand after what is done, and that each that may go on has its turn.
+-- How clients and the land office stand after what is done, and that each that may go on has its turns.
 use Rattle.std.proofs.Common.{◌≡◌, ◌⊎◌, inl, inr, ℕ, ◌+◌, ◌*◌, ◌<◌, ◌≤◌, Bool, true, false, ◌||◌, List, [], ◌∷◌, ◌++◌, length, length-append, append_assoc, append-nil, Option, None, Some, IsSomeAnd, Result, Ok, Err, refl, sym, ap, subst, ◌∙◌, if◌then◌else◌, arith}
 use Rattle.std.proofs.lemmas.Bool.{cases_lt}
 use Rattle.std.proofs.lemmas.Option.{slice_get_past}
+use Rattle.cad_network.specs.lemmas.DeedLemmas.{or_none}
+use Rattle.cad_clients.specs.Channels.{fed}
 use Rattle.cad_clients.specs.declared.client.Client.{Client}
 use Rattle.cad_clients.specs.declared.clients.Clients.{Clients}
 use Rattle.cad_clients.specs.Notes.{MayGoOn}
 use Rattle.cad_clients.specs.Slots.{client_in, client_at}
+use Rattle.cad_event_loop.specs.declared.peers.Peers.{Peers}
 use Rattle.cad_event_loop.specs.declared.stopped.Stopped.{Stopped}
-use Rattle.cad_event_loop.specs.inner.Standing.{standing_of, standing_at, IsAsked, IsPaced, LosesNobody, GivesTurn, most_for_one, GivesTurnsBelow, IfWhole, ServesAll, MakesRound, MadeRounds}
-use Rattle.cad_event_loop.specs.Turns.{Standing, absent, waiting, ready, Standings, woken, is_among, stands_after, stands_in, is_turn_of, has_turn, EachHasTurn, GivesTurns, most_in_round, IsRound, AreRounds, all_works, AreServed}
-use Rattle.cad_event_loop.specs.Works.{Work, wakes, opens, acts, waits, ends, office_comes, enters, office_leaves, aside}
+use Rattle.cad_event_loop.specs.inner.Standing.{standing_of, standing_at, standing_office, standings, IsAsked, IsPaced, IsAtDoors, LosesNobody, ServesOffice, GivesTurn, GivesTurnAlone, HasVisits, HearsBetween, VisitsClient, most_for_one, GivesTurnsBelow, IfWhole, ServesAll, ServesEach, MakesRound, MadeRounds}
+use Rattle.cad_event_loop.specs.Turns.{Standing, absent, waiting, ready, Standings, woken, is_among, office_place, stands_after, stands_in, office_after, office_in, all_after, is_turn_of, is_wait_of, is_end_of, is_office_turn, any_of, has_turn, turns_of, written_by, written_to, Replies, HasEnough, EachHasTurn, IsQuiet, HearsOffice, IsVisit, AreVisits, ComesByVisits, GivesTurns, most_in_round, IsRound, AreRounds, all_works, AreServed}
+use Rattle.cad_event_loop.specs.Works.{AtOffice, Work, wakes, opens, acts, waits, ends, office_comes, enters, office_leaves, aside}
 
 pub stands_in-append : (c : ℕ) (old : Standing) (xs ys : List Work) → stands_in c old (xs ++ ys) ≡ stands_in c (stands_in c old xs) ys
 stands_in-append c old [] ys = refl
 stands_in-append c old (work ∷ xs) ys = stands_in-append c (stands_after c old work) xs ys
 
-turn_first : (a b : Bool) → a ≡ true → (a || b) ≡ true
-turn_first true b e = refl
-turn_first false b e = absurd (let clash : false ≡ true = e in cc)
+pub office_in-append : (old : Standing) (xs ys : List Work) → office_in old (xs ++ ys) ≡ office_in (office_in old xs) ys
+office_in-append old [] ys = refl
+office_in-append old (work ∷ xs) ys = office_in-append (office_after old work) xs ys
 
-turn_later : (a b : Bool) → b ≡ true → (a || b) ≡ true
-turn_later true b e = refl
-turn_later false b e = e
+one_first : (a b : Bool) → a ≡ true → (a || b) ≡ true
+one_first true b e = refl
+one_first false b e = absurd (let clash : false ≡ true = e in cc)
 
-turn_cases : (a b : Bool) → (a || b) ≡ true → (a ≡ true) ⊎ (b ≡ true)
-turn_cases true b e = inl refl
-turn_cases false b e = inr e
+one_later : (a b : Bool) → b ≡ true → (a || b) ≡ true
+one_later true b e = refl
+one_later false b e = e
 
--- a turn among these is one among more
-pub turn_left : (c : ℕ) (xs ys : List Work) → has_turn c xs ≡ true → has_turn c (xs ++ ys) ≡ true
-turn_left c [] ys e = absurd (let clash : false ≡ true = e in cc)
-turn_left c (work ∷ xs) ys e = elim (turn_cases (is_turn_of c work) (has_turn c xs) e) [
-  | inl now ↦ turn_first (is_turn_of c work) (has_turn c (xs ++ ys)) now
-  | inr later ↦ turn_later (is_turn_of c work) (has_turn c (xs ++ ys)) (turn_left c xs ys later)
+one_cases : (a b : Bool) → (a || b) ≡ true → (a ≡ true) ⊎ (b ≡ true)
+one_cases true b e = inl refl
+one_cases false b e = inr e
+
+neither : (a b : Bool) → a ≡ false → b ≡ false → (a || b) ≡ false
+neither true b e f = absurd (let clash : true ≡ false = e in cc)
+neither false b e f = f
+
+-- one among these is one among more
+pub any_left : (is : Work → Bool) (xs ys : List Work) → any_of is xs ≡ true → any_of is (xs ++ ys) ≡ true
+any_left is [] ys e = absurd (let clash : false ≡ true = e in cc)
+any_left is (work ∷ xs) ys e = elim (one_cases (is work) (any_of is xs) e) [
+  | inl now ↦ one_first (is work) (any_of is (xs ++ ys)) now
+  | inr later ↦ one_later (is work) (any_of is (xs ++ ys)) (any_left is xs ys later)
 ]
 
-pub turn_right : (c : ℕ) (xs ys : List Work) → has_turn c ys ≡ true → has_turn c (xs ++ ys) ≡ true
-turn_right c [] ys e = e
-turn_right c (work ∷ xs) ys e = turn_later (is_turn_of c work) (has_turn c (xs ++ ys)) (turn_right c xs ys e)
+pub one_of : (is : Work → Bool) (work : Work) → is work ≡ true → any_of is (work ∷ []) ≡ true
+one_of is work e = one_first (is work) false e
 
-none_ready : absent ≡ ready → ⊥
+pub none_of : (is : Work → Bool) (work : Work) → is work ≡ false → any_of is (work ∷ []) ≡ false
+none_of is work e = neither (is work) false e refl
+
+pub any_right : (is : Work → Bool) (xs ys : List Work) → any_of is ys ≡ true → any_of is (xs ++ ys) ≡ true
+any_right is [] ys e = e
+any_right is (work ∷ xs) ys e = one_later (is work) (any_of is (xs ++ ys)) (any_right is xs ys e)
+
+-- none among these and none among those
+pub any_none : (is : Work → Bool) (xs ys : List Work) → any_of is xs ≡ false → any_of is ys ≡ false → any_of is (xs ++ ys) ≡ false
+any_none is [] ys x y = y
+any_none is (work ∷ xs) ys x y = let both = or_none (is work) (any_of is xs) x in neither (is work) (any_of is (xs ++ ys)) both.0 (any_none is xs ys both.1 y)
+
+pub quiet-append : (xs ys : List Work) → IsQuiet xs → IsQuiet ys → IsQuiet (xs ++ ys)
+quiet-append xs ys x y c = any_none (is_turn_of c) xs ys (x c) (y c)
+
+works-append : (xs ys : List (List Work)) → all_works (xs ++ ys) ≡ all_works xs ++ all_works ys
+works-append [] ys = refl
+works-append (first ∷ more) ys = ap (λ (l : List Work). first ++ l) (works-append more ys) ∙ sym (append_assoc first (all_works more) (all_works ys))
+
+visits-append : (stand : Standing) (xs ys : List (List Work)) → AreVisits stand xs → AreVisits (office_in stand (all_works xs)) ys → AreVisits stand (xs ++ ys)
+visits-append stand [] ys x y = y
+visits-append stand (first ∷ more) ys x y = (x.0, visits-append (office_in stand first) more ys x.1 (subst (λ (it : Standing). AreVisits it ys) (office_in-append stand first (all_works more)) y))
+
+visits-then : (stand : Standing) (xs ys : List Work) → HasVisits stand xs → HasVisits (office_in stand xs) ys → HasVisits stand (xs ++ ys)
+visits-then stand xs ys x y = record {
+  visits = x.visits ++ y.visits;
+  all = ap (λ (l : List Work). l ++ ys) x.all ∙ (ap (λ (l : List Work). all_works x.visits ++ l) y.all ∙ sym (works-append x.visits y.visits));
+  are = visits-append stand x.visits y.visits x.are (subst (λ (l : List Work). AreVisits (office_in stand l) y.visits) x.all y.are);
+}
+
+visits-nil : (stand : Standing) → HasVisits stand []
+visits-nil stand = record { visits = []; all = refl; are = tt }
+
+sum_more : (a b d e : ℕ) → e ≡ b + d → a + e ≡ (a + b) + d
+sum_more a b d e is = omega (arith, is)
+
+none_before : (n : ℕ) → n ≡ 0 + n
+none_before n = omega arith
+
+pub turns_of-append : (c : ℕ) (xs ys : List Work) → turns_of c (xs ++ ys) ≡ turns_of c xs + turns_of c ys
+turns_of-append c [] ys = none_before (turns_of c ys)
+turns_of-append c (work ∷ xs) ys = sum_more (if is_turn_of c work then 1 else 0) (turns_of c xs) (turns_of c ys) (turns_of c (xs ++ ys)) (turns_of-append c xs ys)
+
+pub written_to-append : (c : ℕ) (xs ys : List Work) → written_to c (xs ++ ys) ≡ written_to c xs ++ written_to c ys
+written_to-append c [] ys = refl
+written_to-append c (work ∷ xs) ys = ap (λ (l : List ℕ). written_by c work ++ l) (written_to-append c xs ys) ∙ sym (append_assoc (written_by c work) (written_to c xs) (written_to c ys))
+
+replies_left : (c : ℕ) (xs ys : List Work) → Replies c xs → Replies c (xs ++ ys)
+replies_left c xs ys r = record {
+  before = r.before;
+  later = r.later ++ ys;
+  s = r.s;
+  piece = r.piece;
+  out = r.out;
+  over = r.over;
+  more = r.more ++ written_to c ys;
+  all = ap (λ (l : List Work). l ++ ys) r.all ∙ append_assoc r.before (acts r.s c (fed r.piece r.out r.over) ∷ r.later) ys;
+  written = written_to-append c r.later ys ∙ (ap (λ (l : List ℕ). l ++ written_to c ys) r.written ∙ append_assoc r.out.items r.more (written_to c ys));
+}
+
+replies_right : (c : ℕ) (xs ys : List Work) → Replies c ys → Replies c (xs ++ ys)
+replies_right c xs ys r = record {
+  before = xs ++ r.before;
+  later = r.later;
+  s = r.s;
+  piece = r.piece;
+  out = r.out;
+  over = r.over;
+  more = r.more;
+  all = ap (λ (l : List Work). xs ++ l) r.all ∙ sym (append_assoc xs r.before (acts r.s c (fed r.piece r.out r.over) ∷ r.later));
+  written = r.written;
+}
+
+pub enough_left : (c : ℕ) (xs ys : List Work) → HasEnough c xs → HasEnough c (xs ++ ys)
+enough_left c xs ys h = record {
+  turn = any_left (is_turn_of c) xs ys h.turn;
+  enough = elim h.enough [
+    | inl over ↦ inl (any_left (is_end_of c) xs ys over)
+    | inr goes ↦
+        elim goes [
+          | inl waited ↦ inr (inl (any_left (is_wait_of c) xs ys waited))
+          | inr more ↦
+              elim more [
+                | inl replied ↦ inr (inr (inl (replies_left c xs ys replied)))
+                | inr four ↦ inr (inr (inr (let sum = turns_of-append c xs ys in omega (arith, sum, four))))
+              ]
+        ]
+  ];
+}
+
+pub enough_right : (c : ℕ) (xs ys : List Work) → HasEnough c ys → HasEnough c (xs ++ ys)
+enough_right c xs ys h = record {
+  turn = any_right (is_turn_of c) xs ys h.turn;
+  enough = elim h.enough [
+    | inl over ↦ inl (any_right (is_end_of c) xs ys over)
+    | inr goes ↦
+        elim goes [
+          | inl waited ↦ inr (inl (any_right (is_wait_of c) xs ys waited))
+          | inr more ↦
+              elim more [
+                | inl replied ↦ inr (inr (inl (replies_right c xs ys replied)))
+                | inr four ↦ inr (inr (inr (let sum = turns_of-append c xs ys in omega (arith, sum, four))))
+              ]
+        ]
+  ];
+}
+
+pub none_ready : absent ≡ ready → ⊥
 none_ready e = cc
 
-waiting_ready : waiting ≡ ready → ⊥
+pub waiting_ready : waiting ≡ ready → ⊥
 waiting_ready e = cc
 
-woken_ready : (c : ℕ) (places : List ℕ) (old : Standing) → old ≡ ready → stands_after c old (wakes places) ≡ ready
-woken_ready c places old is = go (is_among c places)
-  where
-    go : (told : Bool) → (if told then woken old else old) ≡ ready
-    go true = ap woken is
-    go false = is
+woken_if : (told : Bool) (old : Standing) → old ≡ ready → (if told then woken old else old) ≡ ready
+woken_if true old is = ap woken is
+woken_if false old is = is
 
 whole : {E : Type 0} (result : Result (Option Stopped) E) (So : Type 0) → So → IfWhole result So
 whole (Ok None) So so = so
 whole (Ok (Some stopped)) So so = tt
 whole (Err error) So so = tt
 
-gives_more : (stands : Standings) (xs ys : List Work) → GivesTurns stands xs → GivesTurns stands (xs ++ ys)
-gives_more stands [] ys gives = absurd gives
-gives_more stands (wakes places ∷ xs) ys gives = λ c is. turn_left c xs ys (gives c is)
-gives_more stands (opens s c ∷ xs) ys gives = absurd gives
-gives_more stands (acts s c act ∷ xs) ys gives = absurd gives
-gives_more stands (waits s c ∷ xs) ys gives = absurd gives
-gives_more stands (ends s c cause deeds said ∷ xs) ys gives = absurd gives
-gives_more stands (office_comes o ∷ xs) ys gives = absurd gives
-gives_more stands (enters o text turned deeds said ∷ xs) ys gives = absurd gives
-gives_more stands (office_leaves o ∷ xs) ys gives = absurd gives
-gives_more stands (aside deeds said ∷ xs) ys gives = absurd gives
+visits_more : (stand : Standing) (xs ys : List Work) → IsQuiet ys → ComesByVisits stand xs → ComesByVisits stand (xs ++ ys)
+visits_more stand xs ys quiet x = record {
+  visits = x.visits;
+  rest = x.rest ++ ys;
+  all = ap (λ (l : List Work). l ++ ys) x.all ∙ append_assoc (all_works x.visits) x.rest ys;
+  are = x.are;
+  quiet = quiet-append x.rest ys x.quiet quiet;
+}
+
+gives_more : (stands : Standings) (xs ys : List Work) → IsQuiet ys → GivesTurns stands xs → GivesTurns stands (xs ++ ys)
+gives_more stands [] ys quiet gives = absurd gives
+gives_more stands (wakes places ∷ xs) ys quiet gives = (
+  record { clients = λ c is. enough_left c xs ys (gives.0.clients c is); office = λ is. any_left is_office_turn xs ys (gives.0.office is) },
+  visits_more (office_after stands.office (wakes places)) xs ys quiet gives.1,
+)
+gives_more stands (opens s c ∷ xs) ys quiet gives = absurd gives
+gives_more stands (acts s c act ∷ xs) ys quiet gives = absurd gives
+gives_more stands (waits s c ∷ xs) ys quiet gives = absurd gives
+gives_more stands (ends s c cause deeds said ∷ xs) ys quiet gives = absurd gives
+gives_more stands (office_comes o ∷ xs) ys quiet gives = absurd gives
+gives_more stands (enters o text turned deeds said ∷ xs) ys quiet gives = absurd gives
+gives_more stands (office_leaves o ∷ xs) ys quiet gives = absurd gives
+gives_more stands (aside deeds said ∷ xs) ys quiet gives = absurd gives
 
 cut_off : {E : Type 0} (So : Type 0) (result : Result (Option Stopped) E) → IfWhole result ⊥ → IfWhole result So
 cut_off So (Ok None) cut = absurd cut
 cut_off So (Ok (Some stopped)) cut = tt
 cut_off So (Err error) cut = tt
 
-module _ {S : Type 0} where
-  pub paced-append : (m n most : ℕ) (a b d : Clients S) (xs ys : List Work) → m + n ≤ most → IsPaced m a b xs → IsPaced n b d ys → IsPaced most a d (xs ++ ys)
-  paced-append m n most a b d xs ys within x y =
-      let count = length-append xs ys in
-      let few = x.few in
-      let more = y.few in
-      record {
-        few = omega (arith, count, few, more, within);
-        stand = λ c. y.stand c ∙ (ap (λ (it : Standing). stands_in c it ys) (x.stand c) ∙ sym (stands_in-append c (standing_at a c) xs ys));
-      }
+pub paced-append : (m n most : ℕ) (a b d : Standings) (xs ys : List Work) → m + n ≤ most → IsPaced m a b xs → IsPaced n b d ys → IsPaced most a d (xs ++ ys)
+paced-append m n most a b d xs ys within x y =
+    let count = length-append xs ys in
+    let few = x.few in
+    let more = y.few in
+    record {
+      few = omega (arith, count, few, more, within);
+      stand = λ c. y.stand c ∙ (ap (λ (it : Standing). stands_in c it ys) (x.stand c) ∙ sym (stands_in-append c (a.clients c) xs ys));
+      office = y.office ∙ (ap (λ (it : Standing). office_in it ys) x.office ∙ sym (office_in-append a.office xs ys));
+    }
 
-  pub paced-nil : (most : ℕ) (a : Clients S) → IsPaced most a a []
-  paced-nil most a = record { few = omega arith; stand = λ c. refl }
+pub paced-nil : (most : ℕ) (a : Standings) → IsPaced most a a []
+paced-nil most a = record { few = omega arith; stand = λ c. refl; office = refl }
 
-  pub paced-more : (m most : ℕ) (a b : Clients S) (xs : List Work) → m ≤ most → IsPaced m a b xs → IsPaced most a b xs
-  paced-more m most a b xs within x = let few = x.few in record { few = omega (arith, few, within); stand = x.stand }
+pub paced-more : (m most : ℕ) (a b : Standings) (xs : List Work) → m ≤ most → IsPaced m a b xs → IsPaced most a b xs
+paced-more m most a b xs within x = let few = x.few in record { few = omega (arith, few, within); stand = x.stand; office = x.office }
 
-  pub passes-nil : (most : ℕ) (a : Clients S) → LosesNobody most a a []
-  passes-nil most a = record { paced = paced-nil most a; kept = λ c is. inr is }
+pub doors-append : (m n most : ℕ) (a b d : Standings) (xs ys : List Work) → m + n ≤ most → IsAtDoors m a b xs → IsAtDoors n b d ys → IsAtDoors most a d (xs ++ ys)
+doors-append m n most a b d xs ys within x y = record { paced = paced-append m n most a b d xs ys within x.paced y.paced; quiet = quiet-append xs ys x.quiet y.quiet }
 
-  pub passes-more : (m most : ℕ) (a b : Clients S) (xs : List Work) → m ≤ most → LosesNobody m a b xs → LosesNobody most a b xs
-  passes-more m most a b xs within x = record { paced = paced-more m most a b xs within x.paced; kept = x.kept }
+pub doors-nil : (most : ℕ) (a : Standings) → IsAtDoors most a a []
+doors-nil most a = record { paced = paced-nil most a; quiet = λ c. refl }
 
-  pub passes-append : (m n most : ℕ) (a b d : Clients S) (xs ys : List Work) → m + n ≤ most → LosesNobody m a b xs → LosesNobody n b d ys → LosesNobody most a d (xs ++ ys)
-  passes-append m n most a b d xs ys within x y = record {
-    paced = paced-append m n most a b d xs ys within x.paced y.paced;
-    kept = λ c is. elim (x.kept c is) [
-      | inl had ↦ inl (turn_left c xs ys had)
-      | inr still ↦
-          elim (y.kept c still) [
-            | inl has ↦ inl (turn_right c xs ys has)
-            | inr stays ↦ inr stays
-          ]
-    ];
-  }
+pub doors-more : (m most : ℕ) (a b : Standings) (xs : List Work) → m ≤ most → IsAtDoors m a b xs → IsAtDoors most a b xs
+doors-more m most a b xs within x = record { paced = paced-more m most a b xs within x.paced; quiet = x.quiet }
 
-  -- nobody stands otherwise
-  pub passes-same : (most : ℕ) (a b : Clients S) (xs : List Work) → length xs ≤ most → ((c : ℕ) → standing_at b c ≡ standing_at a c) → ((c : ℕ) → stands_in c (standing_at a c) xs ≡ standing_at a c) → LosesNobody most a b xs
-  passes-same most a b xs few same stays = record { paced = record { few = few; stand = λ c. same c ∙ sym (stays c) }; kept = λ c is. inr (same c ∙ is) }
+pub passes-nil : (most : ℕ) (a : Standings) → LosesNobody most a a []
+passes-nil most a = record { paced = paced-nil most a; kept = λ c is. inr is; kept_office = λ is. inr is }
 
-  -- the network is asked who may go on
-  pub asked_passes : (most : ℕ) (a b : Clients S) (xs : List Work) → 1 ≤ most → IsAsked a b xs → LosesNobody most a b xs
-  asked_passes most a b xs some asked = subst (λ (works : List Work). LosesNobody most a b works) (sym asked.1) record {
-    paced = record { few = omega (arith, some); stand = asked.2 };
-    kept = λ c is. inr (asked.2 c ∙ woken_ready c asked.0 (standing_at a c) is);
-  }
+pub passes-more : (m most : ℕ) (a b : Standings) (xs : List Work) → m ≤ most → LosesNobody m a b xs → LosesNobody most a b xs
+passes-more m most a b xs within x = record { paced = paced-more m most a b xs within x.paced; kept = x.kept; kept_office = x.kept_office }
 
-  pub asked_nothing : (a b : Clients S) → ((c : ℕ) → standing_at b c ≡ standing_at a c) → IsAsked a b (wakes [] ∷ [])
-  asked_nothing a b same = ([], refl, same)
+kept_then : (a b d : Standings) (xs ys : List Work) → (a.office ≡ ready → (any_of is_office_turn xs ≡ true) ⊎ (b.office ≡ ready)) → (b.office ≡ ready → (any_of is_office_turn ys ≡ true) ⊎ (d.office ≡ ready))
+    → a.office ≡ ready → (any_of is_office_turn (xs ++ ys) ≡ true) ⊎ (d.office ≡ ready)
+kept_then a b d xs ys x y is = elim (x is) [
+  | inl had ↦ inl (any_left is_office_turn xs ys had)
+  | inr still ↦
+      elim (y still) [
+        | inl has ↦ inl (any_right is_office_turn xs ys has)
+        | inr stays ↦ inr stays
+      ]
+]
 
-  pub turn_passes : (c m : ℕ) (a b : Clients S) (xs : List Work) → GivesTurn c m a b xs → LosesNobody m a b xs
-  turn_passes c m a b xs x = x.passes
+pub passes-append : (m n most : ℕ) (a b d : Standings) (xs ys : List Work) → m + n ≤ most → LosesNobody m a b xs → LosesNobody n b d ys → LosesNobody most a d (xs ++ ys)
+passes-append m n most a b d xs ys within x y = record {
+  paced = paced-append m n most a b d xs ys within x.paced y.paced;
+  kept = λ c is. elim (x.kept c is) [
+    | inl had ↦ inl (enough_left c xs ys had)
+    | inr still ↦
+        elim (y.kept c still) [
+          | inl has ↦ inl (enough_right c xs ys has)
+          | inr stays ↦ inr stays
+        ]
+  ];
+  kept_office = kept_then a b d xs ys x.kept_office y.kept_office;
+}
 
-  -- connection c has its turn, and then more is done
-  pub turn_then : (c m n most : ℕ) (a b d : Clients S) (xs ys : List Work) → m + n ≤ most → GivesTurn c m a b xs → LosesNobody n b d ys → GivesTurn c most a d (xs ++ ys)
-  turn_then c m n most a b d xs ys within x y = record {
-    passes = passes-append m n most a b d xs ys within x.passes y;
-    turn = λ is. turn_left c xs ys (x.turn is);
-  }
+-- the land office had its turns, and the clients stand as they did
+pub office_passes : (most : ℕ) (a b : Standings) (xs : List Work) → IsPaced most a b xs → ((c : ℕ) → b.clients c ≡ a.clients c) → any_of is_office_turn xs ≡ true → IsQuiet xs → ServesOffice most a b xs
+office_passes most a b xs paced same turn quiet = record { passes = record { paced = paced; kept = λ c is. inr (same c ∙ is); kept_office = λ is. inl turn }; quiet = quiet; turn = λ is. turn }
 
-  pub turn_more : (c m most : ℕ) (a b : Clients S) (xs : List Work) → m ≤ most → GivesTurn c m a b xs → GivesTurn c most a b xs
-  turn_more c m most a b xs within x = record { passes = passes-more m most a b xs within x.passes; turn = x.turn }
+-- it has none, since it may not go on
+pub office_none : (most : ℕ) (a : Standings) → (a.office ≡ ready → ⊥) → ServesOffice most a a []
+office_none most a not = record { passes = passes-nil most a; quiet = λ c. refl; turn = λ is. absurd (not is) }
 
-  is_ready_of : (o : Option (Client S)) → standing_of o ≡ ready → IsSomeAnd o MayGoOn
-  is_ready_of None e = absurd (none_ready e)
-  is_ready_of (Some client) e = go client.is_ready e
-    where
-      go : (is : Bool) → (if is then ready else waiting) ≡ ready → is ≡ true
-      go true e = refl
-      go false e = absurd (waiting_ready e)
+-- the land office waits, or is not here
+pub office_rests : (office : AtOffice) → standing_office office false ≡ ready → ⊥
+office_rests None e = none_ready e
+office_rests (Some office) e = waiting_ready e
 
-  -- it has none, since it may not go on
-  pub turn_none : (c most : ℕ) (a : Clients S) → (IsSomeAnd (client_at a c) MayGoOn → ⊥) → GivesTurn c most a a []
-  turn_none c most a not = record { passes = passes-nil most a; turn = λ is. absurd (not (is_ready_of (client_at a c) is)) }
+pub office_unready : {S : Type 0} (peers : Peers S) (office : AtOffice) → peers.ready.office ≡ false → ServesOffice 8 (standings peers office) (standings peers office) []
+office_unready peers office unready = office_none 8 (standings peers office) (go peers.ready.office unready)
+  where
+    go : (flag : Bool) → flag ≡ false → standing_office office flag ≡ ready → ⊥
+    go true e = absurd (let clash : true ≡ false = e in cc)
+    go false e = office_rests office
 
-  pub below-nil : (a : Clients S) → GivesTurnsBelow 0 a a []
-  below-nil a = record { passes = passes-nil 0 a; turns = λ d within is. absurd (omega (arith, within)) }
+-- the network is asked who may go on
+pub asked_stands : (a b : Standings) (xs : List Work) → (asked : IsAsked a b xs) → (c : ℕ) → b.clients c ≡ stands_in c (a.clients c) (wakes asked.0 ∷ [])
+asked_stands a b xs asked c = asked.2.stand c ∙ ap (λ (l : List Work). stands_in c (a.clients c) l) asked.1
 
-  pub below-then : (c : ℕ) (a b d : Clients S) (xs ys : List Work) → GivesTurnsBelow c a b xs → GivesTurn c most_for_one b d ys → GivesTurnsBelow (c + 1) a d (xs ++ ys)
-  below-then c a b d xs ys x y = record {
-    passes = passes-append (most_for_one * c) most_for_one (most_for_one * (c + 1)) a b d xs ys (omega arith) x.passes y.passes;
-    turns = λ e within is. elim (cases_lt e c) [
-      | inl before ↦ turn_left e xs ys (x.turns e before is)
-      | inr past ↦
-          let same : e ≡ c = omega (arith, within, past) in
-          elim (x.passes.kept e is) [
-            | inl had ↦ turn_left e xs ys had
-            | inr still ↦ turn_right e xs ys (subst (λ (n : ℕ). has_turn n ys ≡ true) (sym same) (y.turn (ap (standing_at b) (sym same) ∙ still)))
-          ]
-    ];
-  }
+pub asked_office : (a b : Standings) (xs : List Work) → (asked : IsAsked a b xs) → b.office ≡ office_in a.office (wakes asked.0 ∷ [])
+asked_office a b xs asked = asked.2.office ∙ ap (λ (l : List Work). office_in a.office l) asked.1
 
-  -- no number is above the last
-  beyond : (a : Clients S) (d : ℕ) → 64 ≤ d → standing_at a d ≡ absent
-  beyond a d past = let room = a.room in ap (λ (o : Option (Option (Client S))). standing_of (client_in o)) (slice_get_past a.slots.items d (omega (arith, past, room)))
+pub asked_quiet : (a b : Standings) (xs : List Work) → IsAsked a b xs → IsQuiet xs
+asked_quiet a b xs asked = subst IsQuiet (sym asked.1) (λ c. refl)
 
-  pub all_served : {E : Type 0} (c : ℕ) (a b : Clients S) (xs : List Work) → 64 ≤ c → c ≤ 64 → GivesTurnsBelow c a b xs → ServesAll {E = E} (Ok None) a b xs
-  all_served c a b xs least most x = record {
-    paced = paced-more (most_for_one * c) (most_for_one * 64) a b xs (omega (arith, most)) x.passes.paced;
-    turns = λ d is. elim (cases_lt d c) [
+pub asked_passes : (most : ℕ) (a b : Standings) (xs : List Work) → 1 ≤ most → IsAsked a b xs → LosesNobody most a b xs
+asked_passes most a b xs some asked = record {
+  paced = paced-more 1 most a b xs some asked.2;
+  kept = λ c is. inr (asked_stands a b xs asked c ∙ woken_if (is_among c asked.0) (a.clients c) is);
+  kept_office = λ is. inr (asked_office a b xs asked ∙ woken_if (is_among office_place asked.0) a.office is);
+}
+
+pub turn_passes : (c m : ℕ) (a b : Standings) (xs : List Work) → GivesTurn c m a b xs → LosesNobody m a b xs
+turn_passes c m a b xs x = x.passes
+
+-- connection c has its turns, and then more is done
+pub turn_then : (c m n most : ℕ) (a b d : Standings) (xs ys : List Work) → m + n ≤ most → GivesTurn c m a b xs → LosesNobody n b d ys → GivesTurn c most a d (xs ++ ys)
+turn_then c m n most a b d xs ys within x y = record {
+  passes = passes-append m n most a b d xs ys within x.passes y;
+  turn = λ is. enough_left c xs ys (x.turn is);
+}
+
+pub turn_more : (c m most : ℕ) (a b : Standings) (xs : List Work) → m ≤ most → GivesTurn c m a b xs → GivesTurn c most a b xs
+turn_more c m most a b xs within x = record { passes = passes-more m most a b xs within x.passes; turn = x.turn }
+
+is_ready_of : {S : Type 0} (o : Option (Client S)) → standing_of o ≡ ready → IsSomeAnd o MayGoOn
+is_ready_of None e = absurd (none_ready e)
+is_ready_of (Some client) e = go client.is_ready e
+  where
+    go : (is : Bool) → (if is then ready else waiting) ≡ ready → is ≡ true
+    go true e = refl
+    go false e = absurd (waiting_ready e)
+
+-- it has none, since it may not go on
+pub turn_none : {S : Type 0} (c most : ℕ) (peers : Peers S) (office : AtOffice) → (IsSomeAnd (client_at peers.clients c) MayGoOn → ⊥) → GivesTurn c most (standings peers office) (standings peers office) []
+turn_none c most peers office not = record { passes = passes-nil most (standings peers office); turn = λ is. absurd (not (is_ready_of (client_at peers.clients c) is)) }
+
+-- the network tells, and then the land office has its turns
+pub hears_then : {E : Type 0} (result : Result (Option Stopped) E) (a b d : Standings) (xs ys : List Work) → IsAsked a b xs → ServesOffice 8 b d ys → HearsBetween 9 result a d (xs ++ ys)
+hears_then result a b d xs ys asked served = record {
+  passes = passes-append 1 8 9 a b d xs ys (omega arith) (asked_passes 1 a b xs (omega arith) asked) served.passes;
+  quiet = quiet-append xs ys (asked_quiet a b xs asked) served.quiet;
+  hears = whole result (HearsOffice a.office (xs ++ ys)) (subst (λ (l : List Work). HearsOffice a.office (l ++ ys)) (sym asked.1) (λ is. served.turn (asked_office a b xs asked ∙ is)));
+}
+
+-- the system refuses that
+pub hears_cut : {E : Type 0} (error : E) (a b : Standings) (xs : List Work) → IsAsked a b xs → HearsBetween 9 (Err error) a b xs
+hears_cut error a b xs asked = record { passes = asked_passes 9 a b xs (omega arith) asked; quiet = asked_quiet a b xs asked; hears = tt }
+
+-- it is not here
+pub hears_none : {E : Type 0} (a : Standings) → a.office ≡ absent → HearsBetween {E = E} 9 (Ok None) a a []
+hears_none a is = record { passes = passes-nil 9 a; quiet = λ c. refl; hears = is }
+
+-- a client and then the land office
+visit_one : (c m n : ℕ) (E : Type 0) (a b d : Standings) (xs ys : List Work) → GivesTurnAlone c m a b xs → HearsBetween {E = E} n (Ok None) b d ys → HasVisits a.office (xs ++ ys)
+visit_one c m n E a b d xs ys x y = record {
+  visits = (xs ++ ys) ∷ [];
+  all = sym (append-nil (xs ++ ys));
+  are = (record { c = c; own = xs; later = ys; all = refl; alone = x.alone; quiet = y.quiet; hears = subst (λ (it : Standing). HearsOffice it ys) x.gives.passes.paced.office y.hears }, tt);
+}
+
+pub visit_then : {E : Type 0} (result : Result (Option Stopped) E) (c : ℕ) (a b d : Standings) (xs ys : List Work) → GivesTurnAlone c 4 a b xs → HearsBetween 9 result b d ys → VisitsClient c 13 result a d (xs ++ ys)
+visit_then {E} result c a b d xs ys x y = record { gives = turn_then c 4 9 13 a b d xs ys (omega arith) x.gives y.passes; visits = go result y }
+  where
+    go : (result : Result (Option Stopped) E) → HearsBetween 9 result b d ys → IfWhole result (HasVisits a.office (xs ++ ys))
+    go (Ok None) y = visit_one c 4 9 E a b d xs ys x y
+    go (Ok (Some stopped)) y = tt
+    go (Err error) y = tt
+
+-- hosting ends by the client
+pub visit_cut : {E : Type 0} (stopped : Stopped) (c : ℕ) (a b : Standings) (xs : List Work) → GivesTurnAlone c 4 a b xs → VisitsClient {E = E} c 13 (Ok (Some stopped)) a b xs
+visit_cut stopped c a b xs x = record { gives = turn_more c 4 13 a b xs (omega arith) x.gives; visits = tt }
+
+-- there is no visit, since it may not go on
+pub visit_none : {S E : Type 0} (c : ℕ) (peers : Peers S) (office : AtOffice) → (IsSomeAnd (client_at peers.clients c) MayGoOn → ⊥) → VisitsClient {E = E} c 13 (Ok None) (standings peers office) (standings peers office) []
+visit_none c peers office not = record { gives = turn_none c 13 peers office not; visits = visits-nil (standing_office office peers.ready.office) }
+
+pub below-nil : (a : Standings) → GivesTurnsBelow 0 a a []
+below-nil a = record { passes = passes-nil 0 a; turns = λ d within is. absurd (omega (arith, within)); visits = visits-nil a.office }
+
+pub below-then : {E : Type 0} (c : ℕ) (a b d : Standings) (xs ys : List Work) → GivesTurnsBelow c a b xs → VisitsClient {E = E} c most_for_one (Ok None) b d ys → GivesTurnsBelow (c + 1) a d (xs ++ ys)
+below-then c a b d xs ys x y = record {
+  visits = visits-then a.office xs ys x.visits (subst (λ (it : Standing). HasVisits it ys) x.passes.paced.office y.visits);
+  passes = passes-append (most_for_one * c) most_for_one (most_for_one * (c + 1)) a b d xs ys (omega arith) x.passes y.gives.passes;
+  turns = λ e within is. elim (cases_lt e c) [
+    | inl before ↦ enough_left e xs ys (x.turns e before is)
+    | inr past ↦
+        let same : e ≡ c = omega (arith, within, past) in
+        elim (x.passes.kept e is) [
+          | inl had ↦ enough_left e xs ys had
+          | inr still ↦ enough_right e xs ys (subst (λ (n : ℕ). HasEnough n ys) (sym same) (y.gives.turn (ap b.clients (sym same) ∙ still)))
+        ]
+  ];
+}
+
+-- no number is above the last
+pub beyond : {S : Type 0} (clients : Clients S) (d : ℕ) → 64 ≤ d → standing_at clients d ≡ absent
+beyond {S} clients d past = let room = clients.room in ap (λ (o : Option (Option (Client S))). standing_of (client_in o)) (slice_get_past clients.slots.items d (omega (arith, past, room)))
+
+pub all_served : {E : Type 0} (c : ℕ) (a b : Standings) (xs : List Work) → ((d : ℕ) → 64 ≤ d → a.clients d ≡ absent) → 64 ≤ c → c ≤ 64 → GivesTurnsBelow c a b xs → ServesAll {E = E} (Ok None) a b xs
+all_served c a b xs none least most x = record {
+  paced = paced-more (most_for_one * c) (most_for_one * 64) a b xs (omega (arith, most)) x.passes.paced;
+  turns = (
+    (λ d is. elim (cases_lt d c) [
       | inl within ↦ x.turns d within is
-      | inr past ↦ absurd (none_ready (sym (beyond a d (omega (arith, least, past))) ∙ is))
-    ];
-  }
+      | inr past ↦ absurd (none_ready (sym (none d (omega (arith, least, past))) ∙ is))
+    ]),
+    x.visits,
+  );
+  kept_office = x.passes.kept_office;
+}
 
-  -- hosting ends meanwhile
-  pub some_served : {E : Type 0} (result : Result (Option Stopped) E) (c : ℕ) (a b d : Clients S) (xs ys : List Work) → c < 64 → IfWhole result ⊥ → GivesTurnsBelow c a b xs → GivesTurn c most_for_one b d ys
-      → ServesAll result a d (xs ++ ys)
-  some_served result c a b d xs ys within cut x y = record {
-    paced = paced-append (most_for_one * c) most_for_one (most_for_one * 64) a b d xs ys (omega (arith, within)) x.passes.paced y.passes.paced;
-    turns = cut_off (EachHasTurn (standing_at a) (xs ++ ys)) result cut;
-  }
+-- hosting ends meanwhile
+pub some_served : {E : Type 0} (result : Result (Option Stopped) E) (c : ℕ) (a b d : Standings) (xs ys : List Work) → c < 64 → IfWhole result ⊥ → GivesTurnsBelow c a b xs → VisitsClient c most_for_one result b d ys
+    → ServesAll result a d (xs ++ ys)
+some_served result c a b d xs ys within cut x y = record {
+  paced = paced-append (most_for_one * c) most_for_one (most_for_one * 64) a b d xs ys (omega (arith, within)) x.passes.paced y.gives.passes.paced;
+  turns = cut_off (((c : ℕ) → a.clients c ≡ ready → HasEnough c (xs ++ ys)) × HasVisits a.office (xs ++ ys)) result cut;
+  kept_office = kept_then a b d xs ys x.passes.kept_office y.gives.passes.kept_office;
+}
 
-  -- the network tells who may go on, and they have their turns
-  pub asked_served : {E : Type 0} (result : Result (Option Stopped) E) (a b d : Clients S) (xs ys : List Work) → IsAsked a b xs → ServesAll result b d ys → MakesRound 833 result a d (xs ++ ys)
-  asked_served result a b d xs ys asked served = record {
-    paced = paced-append 1 832 833 a b d xs ys (omega arith) (asked_passes 1 a b xs (omega arith) asked).paced served.paced;
-    gives = subst (λ (works : List Work). IfWhole result (GivesTurns (standing_at a) (works ++ ys))) (sym asked.1) (go result served.turns);
-  }
-    where
-      go : {E : Type 0} (result : Result (Option Stopped) E) → IfWhole result (EachHasTurn (standing_at b) ys) → IfWhole result (GivesTurns (standing_at a) (wakes asked.0 ∷ ys))
-      go (Ok None) turns = λ c is. turns c (asked.2 c ∙ is)
-      go (Ok (Some stopped)) turns = tt
-      go (Err error) turns = tt
+pub error_served : {E F : Type 0} (error : E) (other : F) (c : ℕ) (a b d : Standings) (xs ys : List Work) → c < 64 → GivesTurnsBelow c a b xs → VisitsClient c most_for_one (Err other) b d ys → ServesAll (Err error) a d (xs ++ ys)
+error_served error other c a b d xs ys within x y = record { paced = (some_served (Err other) c a b d xs ys within tt x y).paced; turns = tt; kept_office = (some_served (Err other) c a b d xs ys within tt x y).kept_office }
 
-  -- or the system refuses that
-  pub asked_only : {E : Type 0} (most : ℕ) (error : E) (a b : Clients S) (xs : List Work) → 1 ≤ most → IsAsked a b xs → MakesRound most (Err error) a b xs
-  asked_only most error a b xs some asked = record { paced = (asked_passes most a b xs some asked).paced; gives = tt }
+-- the clients have their turns, and then the land office
+pub office_then : {E F : Type 0} (result : Result (Option Stopped) F) (a b d : Standings) (xs ys : List Work) → ServesAll {E = E} (Ok None) a b xs → ServesOffice 8 b d ys → ServesEach 840 result a d (xs ++ ys)
+office_then result a b d xs ys x y = record {
+  paced = paced-append 832 8 840 a b d xs ys (omega arith) x.paced y.passes.paced;
+  turns = whole result (EachHasTurn a (xs ++ ys) × ComesByVisits a.office (xs ++ ys)) (
+    record {
+      clients = λ c is. enough_left c xs ys (x.turns.0 c is);
+      office = λ is. elim (x.kept_office is) [
+        | inl had ↦ any_left is_office_turn xs ys had
+        | inr still ↦ any_right is_office_turn xs ys (y.turn still)
+      ];
+    },
+    record { visits = x.turns.1.visits; rest = ys; all = ap (λ (l : List Work). l ++ ys) x.turns.1.all; are = x.turns.1.are; quiet = y.quiet },
+  );
+}
 
-  -- they had their turns, and then more is done
-  pub round_then : {E F : Type 0} (result : Result (Option Stopped) F) (m n most : ℕ) (a b d : Clients S) (xs ys : List Work) → m + n ≤ most → MakesRound {E = E} m (Ok None) a b xs → IsPaced n b d ys → MakesRound most result a d (xs ++ ys)
-  round_then result m n most a b d xs ys within x y = record {
-    paced = paced-append m n most a b d xs ys within x.paced y;
-    gives = whole result (GivesTurns (standing_at a) (xs ++ ys)) (gives_more (standing_at a) xs ys x.gives);
-  }
+-- hosting ended before it had
+pub office_cut : {E : Type 0} (result : Result (Option Stopped) E) (a b : Standings) (xs : List Work) → IfWhole result ⊥ → ServesAll result a b xs → ServesEach 840 result a b xs
+office_cut result a b xs cut x = record { paced = paced-more 832 840 a b xs (omega arith) x.paced; turns = cut_off (EachHasTurn a xs × ComesByVisits a.office xs) result cut }
 
-  pub round_cut : {E : Type 0} (result : Result (Option Stopped) E) (m most : ℕ) (a b : Clients S) (xs : List Work) → m ≤ most → MakesRound m result a b xs → MakesRound most result a b xs
-  round_cut result m most a b xs within x = record { paced = paced-more m most a b xs within x.paced; gives = x.gives }
+-- the network tells who may go on, and they have their turns
+pub asked_served : {E : Type 0} (result : Result (Option Stopped) E) (a b d : Standings) (xs ys : List Work) → IsAsked a b xs → ServesEach 840 result b d ys → MakesRound 841 result a d (xs ++ ys)
+asked_served result a b d xs ys asked served = record {
+  paced = paced-append 1 840 841 a b d xs ys (omega arith) asked.2 served.paced;
+  gives = subst (λ (works : List Work). IfWhole result (GivesTurns a (works ++ ys))) (sym asked.1) (go result served.turns);
+}
+  where
+    go : {E : Type 0} (result : Result (Option Stopped) E) → IfWhole result (EachHasTurn b ys × ComesByVisits b.office ys) → IfWhole result (GivesTurns a (wakes asked.0 ∷ ys))
+    go (Ok None) turns = (
+      record { clients = λ c is. turns.0.clients c (asked_stands a b xs asked c ∙ is); office = λ is. turns.0.office (asked_office a b xs asked ∙ is) },
+      subst (λ (it : Standing). ComesByVisits it ys) (asked_office a b xs asked) turns.1,
+    )
+    go (Ok (Some stopped)) turns = tt
+    go (Err error) turns = tt
+
+-- or the system refuses that
+pub asked_only : {E : Type 0} (most : ℕ) (error : E) (a b : Standings) (xs : List Work) → 1 ≤ most → IsAsked a b xs → MakesRound most (Err error) a b xs
+asked_only most error a b xs some asked = record { paced = paced-more 1 most a b xs some asked.2; gives = tt }
+
+-- they had their turns, and then more is done
+pub round_then : {E F : Type 0} (result : Result (Option Stopped) F) (m n most : ℕ) (a b d : Standings) (xs ys : List Work) → m + n ≤ most → MakesRound {E = E} m (Ok None) a b xs → IsAtDoors n b d ys → MakesRound most result a d (xs ++ ys)
+round_then result m n most a b d xs ys within x y = record {
+  paced = paced-append m n most a b d xs ys within x.paced y.paced;
+  gives = whole result (GivesTurns a (xs ++ ys)) (gives_more a xs ys y.quiet x.gives);
+}
+
+pub round_cut : {E : Type 0} (result : Result (Option Stopped) E) (m most : ℕ) (a b : Standings) (xs : List Work) → m ≤ most → MakesRound m result a b xs → MakesRound most result a b xs
+round_cut result m most a b xs within x = record { paced = paced-more m most a b xs within x.paced; gives = x.gives }
 
 all_works-append : (rounds : List (List Work)) (round : List Work) → all_works (rounds ++ round ∷ []) ≡ all_works rounds ++ round
 all_works-append [] round = append-nil round
 all_works-append (first ∷ rounds) round = ap (λ (l : List Work). first ++ l) (all_works-append rounds round) ∙ sym (append_assoc first (all_works rounds) round)
 
-gives_alike : (some other : Standings) (works : List Work) → ((c : ℕ) → other c ≡ some c) → GivesTurns some works → GivesTurns other works
+-- all stand alike
+abbrev pub AreAlike : Standings → Standings → Type 0
+AreAlike some other = ((c : ℕ) → other.clients c ≡ some.clients c) × (other.office ≡ some.office)
+
+gives_alike : (some other : Standings) (works : List Work) → AreAlike some other → GivesTurns some works → GivesTurns other works
 gives_alike some other [] alike gives = absurd gives
-gives_alike some other (wakes places ∷ later) alike gives = λ c is. gives c (sym (ap (λ (it : Standing). stands_after c it (wakes places)) (alike c)) ∙ is)
+gives_alike some other (wakes places ∷ later) alike gives = (
+  record {
+    clients = λ c is. gives.0.clients c (sym (ap (λ (it : Standing). stands_after c it (wakes places)) (alike.0 c)) ∙ is);
+    office = λ is. gives.0.office (sym (ap (λ (it : Standing). office_after it (wakes places)) alike.1) ∙ is);
+  },
+  subst (λ (it : Standing). ComesByVisits it later) (sym (ap (λ (it : Standing). office_after it (wakes places)) alike.1)) gives.1,
+)
 gives_alike some other (opens s c ∷ later) alike gives = absurd gives
 gives_alike some other (acts s c act ∷ later) alike gives = absurd gives
 gives_alike some other (waits s c ∷ later) alike gives = absurd gives
@@ -229,45 +481,48 @@ gives_alike some other (enters o text turned deeds said ∷ later) alike gives =
 gives_alike some other (office_leaves o ∷ later) alike gives = absurd gives
 gives_alike some other (aside deeds said ∷ later) alike gives = absurd gives
 
-rounds_alike : (some other : Standings) (rounds : List (List Work)) → ((c : ℕ) → other c ≡ some c) → AreRounds some rounds → AreRounds other rounds
+pub round_alike : (some other : Standings) (round : List Work) → AreAlike some other → IsRound some round → IsRound other round
+round_alike some other round alike is = record { gives = gives_alike some other round alike is.gives; few = is.few }
+
+rounds_alike : (some other : Standings) (rounds : List (List Work)) → AreAlike some other → AreRounds some rounds → AreRounds other rounds
 rounds_alike some other [] alike are = tt
 rounds_alike some other (round ∷ rounds) alike are = (
-  record { gives = gives_alike some other round alike are.0.gives; few = are.0.few },
-  rounds_alike (λ c. stands_in c (some c) round) (λ c. stands_in c (other c) round) rounds (λ c. ap (λ (it : Standing). stands_in c it round) (alike c)) are.1,
+  round_alike some other round alike are.0,
+  rounds_alike (all_after some round) (all_after other round) rounds
+      ((λ c. ap (λ (it : Standing). stands_in c it round) (alike.0 c)), ap (λ (it : Standing). office_in it round) alike.1) are.1,
 )
 
 -- one more round
-rounds_more : (stands : Standings) (rounds : List (List Work)) (round : List Work) → AreRounds stands rounds → IsRound (λ c. stands_in c (stands c) (all_works rounds)) round → AreRounds stands (rounds ++ round ∷ [])
-rounds_more stands [] round are is = (is, tt)
+rounds_more : (stands : Standings) (rounds : List (List Work)) (round : List Work) → AreRounds stands rounds → IsRound (all_after stands (all_works rounds)) round → AreRounds stands (rounds ++ round ∷ [])
+rounds_more stands [] round are is = (round_alike (all_after stands []) stands round ((λ c. refl), refl) is, tt)
 rounds_more stands (first ∷ rounds) round are is = (
   are.0,
-  rounds_more (λ c. stands_in c (stands c) first) rounds round are.1
-      (record { gives = gives_alike (λ c. stands_in c (stands c) (all_works (first ∷ rounds))) (λ c. stands_in c (stands_in c (stands c) first) (all_works rounds)) round (λ c. sym (stands_in-append c (stands c) first (all_works rounds))) is.gives; few = is.few }),
+  rounds_more (all_after stands first) rounds round are.1
+      (round_alike (all_after stands (all_works (first ∷ rounds))) (all_after (all_after stands first) (all_works rounds)) round
+      ((λ c. sym (stands_in-append c (stands.clients c) first (all_works rounds))), sym (office_in-append stands.office first (all_works rounds))) is),
 )
 
-module _ {S : Type 0} where
-  pub rounds-nil : (a : Clients S) → MadeRounds a a []
-  rounds-nil a = record { rounds = []; all = refl; served = tt; stand = λ c. refl }
+pub rounds-nil : (a : Standings) → MadeRounds a a []
+rounds-nil a = record { rounds = []; all = refl; served = tt; stand = λ c. refl; office = refl }
 
-  pub rounds-then : {E : Type 0} (a b d : Clients S) (xs ys : List Work) → MadeRounds a b xs → MakesRound {E = E} most_in_round (Ok None) b d ys → MadeRounds a d (xs ++ ys)
-  rounds-then a b d xs ys x y = record {
-    rounds = x.rounds ++ ys ∷ [];
-    all = ap (λ (l : List Work). l ++ ys) x.all ∙ sym (all_works-append x.rounds ys);
-    served = rounds_more (standing_at a) x.rounds ys x.served (record {
-      gives = gives_alike (standing_at b) (λ c. stands_in c (standing_at a c) (all_works x.rounds)) ys (λ c. sym (x.stand c ∙ ap (λ (l : List Work). stands_in c (standing_at a c) l) x.all)) y.gives;
-      few = y.paced.few;
-    });
-    stand = λ c. y.paced.stand c ∙ (ap (λ (it : Standing). stands_in c it ys) (x.stand c) ∙ sym (stands_in-append c (standing_at a c) xs ys));
-  }
+pub rounds-then : {E : Type 0} (a b d : Standings) (xs ys : List Work) → MadeRounds a b xs → MakesRound {E = E} most_in_round (Ok None) b d ys → MadeRounds a d (xs ++ ys)
+rounds-then a b d xs ys x y = record {
+  rounds = x.rounds ++ ys ∷ [];
+  all = ap (λ (l : List Work). l ++ ys) x.all ∙ sym (all_works-append x.rounds ys);
+  served = rounds_more a x.rounds ys x.served (round_alike b (all_after a (all_works x.rounds)) ys
+      ((λ c. sym (x.stand c ∙ ap (λ (l : List Work). stands_in c (a.clients c) l) x.all)), sym (x.office ∙ ap (λ (l : List Work). office_in a.office l) x.all))
+      (record { gives = y.gives; few = y.paced.few }));
+  stand = λ c. y.paced.stand c ∙ (ap (λ (it : Standing). stands_in c it ys) (x.stand c) ∙ sym (stands_in-append c (a.clients c) xs ys));
+  office = y.paced.office ∙ (ap (λ (it : Standing). office_in it ys) x.office ∙ sym (office_in-append a.office xs ys));
+}
 
-  -- hosting ends within a round, or after one
-  pub rounds_end : {E : Type 0} (result : Result (Option Stopped) E) (a b d : Clients S) (xs ys : List Work) → MadeRounds a b xs → MakesRound most_in_round result b d ys → AreServed (standing_at a) (xs ++ ys)
-  rounds_end result a b d xs ys x y =
-      record { rounds = x.rounds; last = ys; all = ap (λ (l : List Work). l ++ ys) x.all; served = x.served; few = y.paced.few }
+-- hosting ends within a round, or after one
+pub rounds_end : {E : Type 0} (result : Result (Option Stopped) E) (a b d : Standings) (xs ys : List Work) → MadeRounds a b xs → MakesRound most_in_round result b d ys → AreServed a (xs ++ ys)
+rounds_end result a b d xs ys x y = record { rounds = x.rounds; last = ys; all = ap (λ (l : List Work). l ++ ys) x.all; served = x.served; few = y.paced.few }
 
-  pub rounds_spent : (a b : Clients S) (xs : List Work) → MadeRounds a b xs → AreServed (standing_at a) xs
-  rounds_spent a b xs x = record { rounds = x.rounds; last = []; all = x.all ∙ sym (append-nil (all_works x.rounds)); served = x.served; few = omega arith }
+pub rounds_spent : (a b : Standings) (xs : List Work) → MadeRounds a b xs → AreServed a xs
+rounds_spent a b xs x = record { rounds = x.rounds; last = []; all = x.all ∙ sym (append-nil (all_works x.rounds)); served = x.served; few = omega arith }
 
-  -- whoever stands alike is served alike
-  pub served_alike : (a : Clients S) (stands : Standings) (works : List Work) → ((c : ℕ) → stands c ≡ standing_at a c) → AreServed (standing_at a) works → AreServed stands works
-  served_alike a stands works alike s = record { rounds = s.rounds; last = s.last; all = s.all; served = rounds_alike (standing_at a) stands s.rounds alike s.served; few = s.few }
+-- whoever stands alike is served alike
+pub served_alike : (a b : Standings) (works : List Work) → AreAlike a b → AreServed a works → AreServed b works
+served_alike a b works alike s = record { rounds = s.rounds; last = s.last; all = s.all; served = rounds_alike a b s.rounds alike s.served; few = s.few }

@@ -14,7 +14,7 @@ use Rattle.cad_office_socket.specs.declared.turned.EntryTurned.TheVariants as tu
 use Rattle.cad_event_loop.specs.declared.stopped.Stopped.{Stopped}
 use Rattle.cad_event_loop.specs.declared.stopped.Stopped.TheVariants.{Asked, StoreRefused, RoundsSpent}
 use Rattle.cad_event_loop.specs.Turns.{nobody, AreServed}
-use Rattle.cad_event_loop.specs.Works.{Place, IsEmpty, Work, wakes, opens, acts, waits, ends, office_comes, enters, office_leaves, aside, all_deeds, end_with, end_in, Goes}
+use Rattle.cad_event_loop.specs.Works.{Place, IsEmpty, Work, wakes, opens, acts, waits, ends, office_comes, enters, office_leaves, aside, all_deeds, end_with, end_in, EndsBy, Goes}
 
 -- why hosting ends by what came of serving a client
 abbrev pub end_of_client : Served → Option Stopped
@@ -85,19 +85,19 @@ module _ {R : Type 0} (g : Ghosts R) where
   Hosts May end from old here to new next =
       (works : List Work) × Adds from to (all_deeds works) × (end_in works ≡ end) × Goes g old here works new next × Each May works
 
-  -- the same while clients and the land office are served, where this holds of the works
+  -- the same while clients and the land office are served, where this holds of the works: the work by which hosting ends is the last
   abbrev pub Serves : (List Work → Type 0) → Option Stopped → Option (List Deed) → Desk R → Place → Option (List Deed) → Desk R → Place → Type 0
   Serves Holds end from old here to new next =
-      (works : List Work) × Adds from to (all_deeds works) × (end_in works ≡ end) × Goes g old here works new next × Each IsServing works × Holds works
+      (works : List Work) × Adds from to (all_deeds works) × EndsBy end works × Goes g old here works new next × Each IsServing works × Holds works
 
-  -- from nobody on these works are done, whose deeds are all that is done at the network, until hosting ends by one of them, and everybody is served by them; and then others, until nobody is here
+  -- from nobody on these works are done, whose deeds are all that is done at the network, up to the one by which hosting ends, and everybody is served by them; and then at once others, until nobody is here
   pub record HostsBy (end : Option Stopped) (from : Option (List Deed)) (old : Desk R) (to : Option (List Deed)) (new : Desk R) : Type 0 where
     pub works : List Work
     pub closing : List Work
     pub first : Place
     pub last : Place
     pub deeds : Adds from to (all_deeds (works ++ closing))
-    pub ends : end_in works ≡ end
+    pub ends : EndsBy end works
     pub serving : Each IsServing works
     pub served : AreServed nobody works
     pub closed : Each IsClosing closing

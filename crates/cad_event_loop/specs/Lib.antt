@@ -4,4 +4,5 @@ pub mod Hosting
 pub mod Lives
 pub mod Laws
 pub mod Streams
+pub mod Replying
 pub mod inner

@@ -1,6 +1,10 @@
 -- Whose turn it is (own profile).
-use Rattle.std.specs.Prelude.{◌≡◌, ⊤, ℕ, ◌≤◌, nat_eq, Bool, true, false, ◌||◌, List, [], ◌∷◌, ◌++◌, length, Some, if◌then◌else◌}
-use Rattle.cad_event_loop.specs.Works.{Work, wakes, opens, acts, waits, ends, office_comes, enters, office_leaves, aside}
+use Rattle.std.specs.Prelude.{◌≡◌, ◌⊎◌, ⊤, ℕ, ◌+◌, ◌≤◌, nat_eq, Bool, true, false, ◌||◌, List, [], ◌∷◌, ◌++◌, length, Option, None, Some, if◌then◌else◌}
+use Rattle.std.specs.Global.{Vec}
+use Rattle.cad_clients.specs.Channels.{fed, written_in}
+use Rattle.cad_office_socket.specs.declared.turned.EntryTurned.{EntryTurned}
+use Rattle.cad_office_socket.specs.declared.turned.EntryTurned.TheVariants as turn
+use Rattle.cad_event_loop.specs.Works.{Work, wakes, opens, acts, waits, ends, office_comes, enters, office_leaves, aside, is_last}
 
 -- a connection is not open; or it waits until the network tells of its socket; or it may go on
 pub data Standing : Type 0 where
@@ -8,13 +12,14 @@ pub data Standing : Type 0 where
   waiting : Standing
   ready : Standing
 
--- how each connection stands
-abbrev pub Standings : Type 0
-Standings = ℕ → Standing
+-- how each connection stands, by its number, and the land office
+pub record Standings : Type 0 where
+  pub clients : ℕ → Standing
+  pub office : Standing
 
--- none is open
+-- nobody is here
 abbrev pub nobody : Standings
-nobody c = absent
+nobody = record { clients = λ c. absent; office = absent }
 
 -- the network tells of its socket
 abbrev pub woken : Standing → Standing
@@ -22,10 +27,14 @@ woken absent = absent
 woken waiting = ready
 woken ready = ready
 
--- the network tells of place c
+-- the network tells of this place
 abbrev pub is_among : ℕ → List ℕ → Bool
 is_among c [] = false
 is_among c (place ∷ places) = nat_eq place c || is_among c places
+
+-- the place by which it tells of the land office: those of the clients are their numbers
+abbrev pub office_place : ℕ
+office_place = 66
 
 -- how connection c stands after one thing is done: it may go on since it was opened, or the network told of it, or it had a turn at which it did not wait
 abbrev pub stands_after : ℕ → Standing → Work → Standing
@@ -44,6 +53,32 @@ abbrev pub stands_in : ℕ → Standing → List Work → Standing
 stands_in c old [] = old
 stands_in c old (work ∷ later) = stands_in c (stands_after c old work) later
 
+-- and the land office, after a turn of it: it may go on if it is not over and did not wait
+abbrev pub office_turned : Bool → EntryTurned → Standing
+office_turned true turned = absent
+office_turned false turn.Waits = waiting
+office_turned false other = ready
+
+-- after one thing is done, and after all of these
+abbrev pub office_after : Standing → Work → Standing
+office_after old (wakes places) = if is_among office_place places then woken old else old
+office_after old (opens s c) = old
+office_after old (acts s c act) = old
+office_after old (waits s c) = old
+office_after old (ends s c cause deeds said) = old
+office_after old (office_comes o) = ready
+office_after old (enters o text turned deeds said) = office_turned (is_last turned) turned
+office_after old (office_leaves o) = absent
+office_after old (aside deeds said) = old
+
+abbrev pub office_in : Standing → List Work → Standing
+office_in old [] = old
+office_in old (work ∷ later) = office_in (office_after old work) later
+
+-- all of them
+abbrev pub all_after : Standings → List Work → Standings
+all_after old works = record { clients = λ c. stands_in c (old.clients c) works; office = office_in old.office works }
+
 -- it is a turn of connection c: it writes, reads, has the desk take something, waits, or ends by itself
 abbrev pub is_turn_of : ℕ → Work → Bool
 is_turn_of c (acts s d act) = nat_eq d c
@@ -51,18 +86,105 @@ is_turn_of c (waits s d) = nat_eq d c
 is_turn_of c (ends s d (Some ending) deeds said) = nat_eq d c
 is_turn_of c other = false
 
--- one of these is
+-- at which its socket gives or takes nothing
+abbrev pub is_wait_of : ℕ → Work → Bool
+is_wait_of c (waits s d) = nat_eq d c
+is_wait_of c other = false
+
+-- at which it is over
+abbrev pub is_end_of : ℕ → Work → Bool
+is_end_of c (ends s d (Some ending) deeds said) = nat_eq d c
+is_end_of c other = false
+
+-- it is a turn of the land office
+abbrev pub is_office_turn : Work → Bool
+is_office_turn (enters o text turned deeds said) = true
+is_office_turn other = false
+
+-- one of these is such a work
+abbrev pub any_of : (Work → Bool) → List Work → Bool
+any_of is [] = false
+any_of is (work ∷ later) = is work || any_of is later
+
 abbrev pub has_turn : ℕ → List Work → Bool
-has_turn c [] = false
-has_turn c (work ∷ later) = is_turn_of c work || has_turn c later
+has_turn c works = any_of (is_turn_of c) works
 
--- each connection that may go on has a turn
-abbrev pub EachHasTurn : Standings → List Work → Type 0
-EachHasTurn stands works = (c : ℕ) → stands c ≡ ready → has_turn c works ≡ true
+-- how many turns of connection c these are
+abbrev pub turns_of : ℕ → List Work → ℕ
+turns_of c [] = 0
+turns_of c (work ∷ later) = (if is_turn_of c work then 1 else 0) + turns_of c later
 
--- the network tells whose sockets may go on, and then each connection that may go on has a turn
+-- what is written to connection c
+abbrev pub written_by : ℕ → Work → List ℕ
+written_by c (acts s d act) = if nat_eq d c then written_in act else []
+written_by c other = []
+
+abbrev pub written_to : ℕ → List Work → List ℕ
+written_to c [] = []
+written_to c (work ∷ later) = written_by c work ++ written_to c later
+
+-- the desk takes a piece of connection c, and all that it sends for that is written to it
+pub record Replies (c : ℕ) (works : List Work) : Type 0 where
+  pub before : List Work
+  pub later : List Work
+  pub s : ℕ
+  pub piece : Vec ℕ
+  pub out : Vec ℕ
+  pub over : Bool
+  pub more : List ℕ
+  pub all : works ≡ before ++ acts s c (fed piece out over) ∷ later
+  pub written : written_to c later ≡ out.items ++ more
+
+-- connection c has turns, and has no more for now: it is over at one of them, or its socket gives or takes nothing, or a reply goes out, or there are four
+pub record HasEnough (c : ℕ) (works : List Work) : Type 0 where
+  pub turn : has_turn c works ≡ true
+  pub enough : (any_of (is_end_of c) works ≡ true) ⊎ ((any_of (is_wait_of c) works ≡ true) ⊎ (Replies c works ⊎ (4 ≤ turns_of c works)))
+
+-- each connection that may go on has its turns, and the land office has one, if it may go on
+pub record EachHasTurn (stands : Standings) (works : List Work) : Type 0 where
+  pub clients : (c : ℕ) → stands.clients c ≡ ready → HasEnough c works
+  pub office : stands.office ≡ ready → any_of is_office_turn works ≡ true
+
+-- the works of them all
+abbrev pub all_works : List (List Work) → List Work
+all_works [] = []
+all_works (some ∷ more) = some ++ all_works more
+
+-- none of these is a client's turn
+abbrev pub IsQuiet : List Work → Type 0
+IsQuiet works = (c : ℕ) → has_turn c works ≡ false
+
+-- the land office is not here; or the network tells who may go on, and then it has a turn, if it may go on
+abbrev pub HearsOffice : Standing → List Work → Type 0
+HearsOffice stand [] = stand ≡ absent
+HearsOffice stand (wakes places ∷ later) = (office_after stand (wakes places) ≡ ready → any_of is_office_turn later ≡ true)
+HearsOffice stand other = ⊥
+
+-- turns of one client and of no other, and then the land office is heard
+pub record IsVisit (stand : Standing) (works : List Work) : Type 0 where
+  pub c : ℕ
+  pub own : List Work
+  pub later : List Work
+  pub all : works ≡ own ++ later
+  pub alone : (d : ℕ) → nat_eq c d ≡ false → has_turn d own ≡ false
+  pub quiet : IsQuiet later
+  pub hears : HearsOffice (office_in stand own) later
+
+abbrev pub AreVisits : Standing → List (List Work) → Type 0
+AreVisits stand [] = ⊤
+AreVisits stand (visit ∷ visits) = IsVisit stand visit × AreVisits (office_in stand visit) visits
+
+-- clients have their turns in visits alone
+pub record ComesByVisits (stand : Standing) (works : List Work) : Type 0 where
+  pub visits : List (List Work)
+  pub rest : List Work
+  pub all : works ≡ all_works visits ++ rest
+  pub are : AreVisits stand visits
+  pub quiet : IsQuiet rest
+
+-- the network tells whose sockets may go on, and then each has its turns that may go on, one client after the other, and the land office after each
 abbrev pub GivesTurns : Standings → List Work → Type 0
-GivesTurns stands (wakes places ∷ later) = EachHasTurn (λ c. stands_after c (stands c) (wakes places)) later
+GivesTurns stands (wakes places ∷ later) = EachHasTurn (all_after stands (wakes places ∷ [])) later × ComesByVisits (office_after stands.office (wakes places)) later
 GivesTurns stands other = ⊥
 
 -- the most that is done in a round: the network tells; 64 clients have four turns each, after which the network tells and the land office has eight turns; it has eight more; 64 clients are dropped, as many come, and the land office does
@@ -77,12 +199,7 @@ pub record IsRound (stands : Standings) (works : List Work) : Type 0 where
 -- these are rounds, one after the other
 abbrev pub AreRounds : Standings → List (List Work) → Type 0
 AreRounds stands [] = ⊤
-AreRounds stands (round ∷ rounds) = IsRound stands round × AreRounds (λ c. stands_in c (stands c) round) rounds
-
--- the works of them all
-abbrev pub all_works : List (List Work) → List Work
-all_works [] = []
-all_works (round ∷ rounds) = round ++ all_works rounds
+AreRounds stands (round ∷ rounds) = IsRound stands round × AreRounds (all_after stands round) rounds
 
 -- these works are rounds, in each of which everybody is served who may go on, and then the beginning of one more, if hosting ends within it
 pub record AreServed (stands : Standings) (works : List Work) : Type 0 where

@@ -166,6 +166,11 @@ abbrev pub end_in : List Work → Option Stopped
 end_in [] = None
 end_in (work ∷ later) = option_or (end_by work) (end_in later)
 
+-- hosting ends by the last of these for this reason, and by none before it; or, where there is no reason, by none
+abbrev pub EndsBy : Option Stopped → List Work → Type 0
+EndsBy None works = end_in works ≡ None
+EndsBy (Some stopped) works = (before : List Work) × (last : Work) × (works ≡ before ++ last ∷ []) × (end_in before ≡ None) × (end_by last ≡ Some stopped)
+
 -- the event is of connection c, and does not open it
 abbrev pub IsEventOf : ℕ → Event → Type 0
 IsEventOf c (Open d) = ⊥

@@ -2,6 +2,7 @@
 
 ghost use Rattle.cad_event_loop.specs.Lives.{EachHasItsLife};
 ghost use Rattle.cad_event_loop.specs.Laws.{LedgerStands, SocketsAreTheirOwn};
+ghost use Rattle.cad_event_loop.specs.Replying.{EachIsServed};
 ghost use Rattle.cad_event_loop.specs.Streams.{OfficeIsAnswered};
 
 use cad_clients::laws::channels_are_their_own;
@@ -32,4 +33,15 @@ pub fn sockets_are_their_own<R: Responder>()
 /// them where the office sent no more and no read and no write failed; whatever other sockets come.
 pub fn office_is_answered<R: Responder>()
     ensures { OfficeIsAnswered R.Responder }
+{}
+
+/// Of a connection that is open when a round begins, one of these holds in that round, if it is made to its end: it waits, at a
+/// turn in this round or since one before, and then all that was read was taken and all that the desk sent was written, or its
+/// socket took nothing more; or it is let go; or the desk takes a piece of what was read, and all that it sends for that is
+/// written; or it has four turns. So where bytes were read in a round, a request that is whole by then has its reply out at the
+/// end of the next, unless its peer takes nothing, or is gone, or four turns were not enough: a long reply, and each request
+/// after the first of those that came together, takes more rounds. What is under way when hosting ends goes out for five seconds
+/// at most.
+pub fn each_is_served<R: Responder>()
+    ensures { EachIsServed R.Responder }
 {}

@@ -3,19 +3,20 @@
 //! - `host`: takes clients at one door and the land office at another, until the office asks to stop
 //! - `Stopped`: why hosting ended
 //! - `CLIENTS_DOOR`, `OFFICE_DOOR`, `PLACES`: the places by which a network tells who may go on
-//! - `laws`: what was written to a socket, and which commands the ledger stands for at the end
+//! - `laws`: what was written to a socket, what comes of a connection in a round, and which commands the ledger stands for at
+//!   the end
 //!
 //! What is proved: from nobody on a list of works was done, whose deeds are all that was done at the network; it ended as the
 //! database's refusal exactly where one of them was refused so, whatever becomes of the connection that asked, and as the
-//! office's wish only where a connection of the office read `stop`; it closes without reading or answering, and at every end each
-//! socket is let go. The works are rounds, in each of which each connection has a turn that may go on: it was opened or told of
-//! since its last turn, or did not wait then. `laws` has what follows for a socket, for the office's and for the ledger.
+//! office's wish only where a connection of the office read `stop`; the work by which it ends is the last before it closes; it
+//! closes without reading or answering, and at every end each socket is let go. The works are rounds, in each of which each
+//! connection has its turns that may go on, and the land office has one after each client's: it came or was told of since its
+//! last turn, or did not wait then. A connection has turns up to one at which it waits or is over, or a reply went out, or four. `laws` has what
+//! follows for a socket, for the office's and for the ledger.
 //!
 //! What is left to be read here, and is only tested, by `clients_cases`, `scripts/check_host`, `scripts/check_clients` and
 //! `scripts/check_proxy`:
 //!
-//! - that the office has a turn after each client's;
-//! - that no work comes between the one by which hosting ends and the closing;
 //! - the times: each round drops the clients that `Clients::is_overdue` tells of, by 60 and 300 seconds and the seconds that the
 //!   network told; five for replies and the office's answer at the end, 50 milliseconds where the system could not hand over
 //!   somebody who waits at a door.

@@ -1,7 +1,7 @@
 //! The land office and its socket.
 
 ghost use Rattle.std.specs.Prelude.{◌≡◌};
-ghost use Rattle.cad_event_loop.specs.inner.Offices.{end_of_office, is_over as is_over_of};
+ghost use Rattle.cad_event_loop.specs.inner.Offices.{end_of_office, is_over as is_over_of, may_go_on as may_go_on_of};
 ghost use Rattle.cad_event_loop.specs.Works.{is_last as is_last_of};
 
 use crate::stopped::Stopped;
@@ -29,6 +29,13 @@ fn is_over(served: EntryServed) -> bool
     ensures { result ≡ is_over_of served }
 {
     matches!(served, EntryServed::Over)
+}
+
+/// Whether it may go on at once, if it is not over.
+pub(crate) fn may_go_on(served: EntryServed) -> bool
+    ensures { result ≡ may_go_on_of served }
+{
+    !matches!(served, EntryServed::Waits)
 }
 
 /// Whether it is over by a turn.

@@ -44,12 +44,12 @@ fn end_of(served: Served) -> Option<Stopped>
 }
 
 impl<S: Drop> Peers<S> {
-    ghost use Rattle.std.specs.Prelude.{ℕ, nat_eq, List, [], ◌∷◌, Option, None, IfOk, if◌then◌else◌};
+    ghost use Rattle.std.specs.Prelude.{ℕ, nat_eq, ◌||◌, List, [], ◌∷◌, Option, None, IfOk, if◌then◌else◌};
     ghost use Rattle.cad_network.specs.Deeds.{Deed, came, Adds, AddsSome};
     ghost use Rattle.cad_clients.specs.Slots.{client_at};
     ghost use Rattle.cad_event_loop.specs.Hosting.{Hosts, IsClosing, IsTurnedAway, Serves};
-    ghost use Rattle.cad_event_loop.specs.inner.Standing.{standing_at, GivesTurn, IsPaced, IsWoken};
-    ghost use Rattle.cad_event_loop.specs.Turns.{woken};
+    ghost use Rattle.cad_event_loop.specs.inner.Standing.{standing_at, standings, GivesTurnAlone, IsAtDoors, IsWoken};
+    ghost use Rattle.cad_event_loop.specs.Turns.{office_place, woken};
     ghost use Rattle.cad_event_loop.specs.Works.{held_at, place_of, AtOffice, Same};
 
     /// No client.
@@ -77,6 +77,7 @@ impl<S: Drop> Peers<S> {
     /// The socket at this place may give or take something.
     fn mark<N: Network<Socket = S>>(&mut self, place: usize)
         ensures woken { (c : ℕ) → standing_at self.new.clients c ≡ (if nat_eq place c then woken (standing_at self.old.clients c) else standing_at self.old.clients c) }
+        ensures office { self.new.ready.office ≡ (nat_eq place office_place || self.old.ready.office) }
         ensures held { Same (held_at N.name self.old.clients) (held_at N.name self.new.clients) }
     {
         if place == CLIENTS_DOOR {
@@ -92,7 +93,7 @@ impl<S: Drop> Peers<S> {
 
     /// Marks what the network tells.
     fn note<N: Network<Socket = S>>(&mut self, net: &mut N)
-        ensures told { AddsSome (N.history net.old) (N.history net.new) (IsWoken self.old.clients self.new.clients) }
+        ensures told { AddsSome (N.history net.old) (N.history net.new) (IsWoken self.old self.new) }
         ensures held { Same (held_at N.name self.old.clients) (held_at N.name self.new.clients) }
     {
         for _ in 0..PLACES {
@@ -109,7 +110,7 @@ impl<S: Drop> Peers<S> {
         net: &mut N,
         milliseconds: u64,
     ) -> Result<()>
-        ensures told { AddsSome (N.history net.old) (N.history net.new) (IsWoken self.old.clients self.new.clients) }
+        ensures told { AddsSome (N.history net.old) (N.history net.new) (IsWoken self.old self.new) }
         ensures held { Same (held_at N.name self.old.clients) (held_at N.name self.new.clients) }
     {
         let seconds = net.wait(milliseconds)?;
@@ -126,7 +127,7 @@ impl<S: Drop> Peers<S> {
         desk: &mut Desk<R>,
         log: &mut L,
     ) -> Option<Stopped>
-        ensures { (office : AtOffice) → Serves R.Responder (GivesTurn c 4 self.old.clients self.new.clients) result (N.history net.old) desk.old (place_of N.name self.old.clients office)
+        ensures { (office : AtOffice) → Serves R.Responder (GivesTurnAlone c 4 (standings self.old office) (standings self.new office)) result (N.history net.old) desk.old (place_of N.name self.old.clients office)
             (N.history net.new) desk.new (place_of N.name self.new.clients office) }
     {
         end_of(self.clients.serve(self.alloc, c, self.now, net, desk, log))
@@ -168,7 +169,7 @@ impl<S: Drop> Peers<S> {
         net: &mut N,
         desk: &mut Desk<R>,
     )
-        ensures { (office : AtOffice) → Serves R.Responder (IsPaced 1 self.old.clients self.new.clients) None (N.history net.old) desk.old (place_of N.name self.old.clients office)
+        ensures { (office : AtOffice) → Serves R.Responder (IsAtDoors 1 (standings self.old office) (standings self.new office)) None (N.history net.old) desk.old (place_of N.name self.old.clients office)
             (N.history net.new) desk.new (place_of N.name self.new.clients office) }
     {
         if self.clients.is_overdue(c, self.now, &LIMITS) {
@@ -182,7 +183,7 @@ impl<S: Drop> Peers<S> {
         net: &mut N,
         desk: &mut Desk<R>,
     )
-        ensures { (office : AtOffice) → Serves R.Responder (IsPaced 64 self.old.clients self.new.clients) None (N.history net.old) desk.old (place_of N.name self.old.clients office)
+        ensures { (office : AtOffice) → Serves R.Responder (IsAtDoors 64 (standings self.old office) (standings self.new office)) None (N.history net.old) desk.old (place_of N.name self.old.clients office)
             (N.history net.new) desk.new (place_of N.name self.new.clients office) }
     {
         for c in 0..ROOM {
@@ -222,7 +223,7 @@ impl<S: Drop> Peers<S> {
         log: &mut L,
     )
         ensures { (office : AtOffice) (before : Option (List Deed)) → Adds before (N.history net.old) (came (N.name socket) ∷ [])
-            → Serves R.Responder (IsPaced 1 self.old.clients self.new.clients) None before desk.old (place_of N.name self.old.clients office)
+            → Serves R.Responder (IsAtDoors 1 (standings self.old office) (standings self.new office)) None before desk.old (place_of N.name self.old.clients office)
             (N.history net.new) desk.new (place_of N.name self.new.clients office) }
     {
         let Some(c) = self.clients.free_number() else {
@@ -247,7 +248,7 @@ impl<S: Drop> Peers<S> {
         desk: &mut Desk<R>,
         log: &mut L,
     ) -> bool
-        ensures { (office : AtOffice) → Serves R.Responder (IsPaced 1 self.old.clients self.new.clients) None (N.history net.old) desk.old (place_of N.name self.old.clients office)
+        ensures { (office : AtOffice) → Serves R.Responder (IsAtDoors 1 (standings self.old office) (standings self.new office)) None (N.history net.old) desk.old (place_of N.name self.old.clients office)
             (N.history net.new) desk.new (place_of N.name self.new.clients office) }
     {
         match net.accept() {
@@ -266,7 +267,7 @@ impl<S: Drop> Peers<S> {
         desk: &mut Desk<R>,
         log: &mut L,
     )
-        ensures { (office : AtOffice) → Serves R.Responder (IsPaced 64 self.old.clients self.new.clients) None (N.history net.old) desk.old (place_of N.name self.old.clients office)
+        ensures { (office : AtOffice) → Serves R.Responder (IsAtDoors 64 (standings self.old office) (standings self.new office)) None (N.history net.old) desk.old (place_of N.name self.old.clients office)
             (N.history net.new) desk.new (place_of N.name self.new.clients office) }
     {
         if !self.ready.clients_door {

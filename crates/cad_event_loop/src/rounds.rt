@@ -1,13 +1,12 @@
 //! The clients and the land office, by turns.
 
-use crate::office::{Office, end_of};
+use crate::office::{Office, end_of, may_go_on};
 use crate::peers::Peers;
 use crate::readiness::OFFICE;
 use crate::stopped::Stopped;
 use cad_clients::{AccessLog, ROOM};
 use cad_desk::Desk;
 use cad_network::{Network, is_blocked};
-use cad_office_socket::EntryServed;
 use cad_stream::Responder;
 use std::alloc::{AllocError, Global};
 use std::io::Result;
@@ -30,8 +29,8 @@ impl<S: Drop> Rounds<S> {
     ghost use Rattle.cad_network.specs.Deeds.{Deed, office_came, Adds};
     ghost use Rattle.cad_event_loop.specs.Hosting.{end_of_round, end_of_rounds, Serves};
     ghost use Rattle.cad_event_loop.specs.inner.Offices.{HasBegun, HasBegunUnless};
-    ghost use Rattle.cad_event_loop.specs.inner.Rounds.{here, IsNobody};
-    ghost use Rattle.cad_event_loop.specs.inner.Standing.{standing_at, GivesTurn, IsAsked, IsPaced, MakesRound, LosesNobody, ServesAll};
+    ghost use Rattle.cad_event_loop.specs.inner.Rounds.{here, standing, IsNobody};
+    ghost use Rattle.cad_event_loop.specs.inner.Standing.{GivesTurnAlone, HearsBetween, IsAsked, IsAtDoors, MakesRound, ServesAll, ServesOffice, VisitsClient};
     ghost use Rattle.cad_event_loop.specs.Turns.{most_in_round, AreServed};
 
     /// Nobody.
@@ -52,7 +51,7 @@ impl<S: Drop> Rounds<S> {
         milliseconds: u64,
     ) -> Result<()>
         ensures office { self.new.office ≡ self.old.office }
-        ensures hosts { Serves R.Responder (IsAsked self.old.peers.clients self.new.peers.clients) None (N.history net.old) desk.old (here N.name self.old) (N.history net.new) desk.new (here N.name self.new) }
+        ensures hosts { Serves R.Responder (IsAsked (standing N.name self.old) (standing N.name self.new)) None (N.history net.old) desk.old (here N.name self.old) (N.history net.new) desk.new (here N.name self.new) }
     {
         self.peers.wait(net, milliseconds)
     }
@@ -65,7 +64,7 @@ impl<S: Drop> Rounds<S> {
     ) -> Option<Stopped>
         requires { HasBegun self.old.office }
         ensures begun { HasBegunUnless result self.new.office }
-        ensures hosts { Serves R.Responder (LosesNobody 8 self.old.peers.clients self.new.peers.clients) result (N.history net.old) desk.old (here N.name self.old) (N.history net.new) desk.new (here N.name self.new) }
+        ensures hosts { Serves R.Responder (ServesOffice 8 (standing N.name self.old) (standing N.name self.new)) result (N.history net.old) desk.old (here N.name self.old) (N.history net.new) desk.new (here N.name self.new) }
     {
         let Some(office) = self.office.take() else {
             self.peers.ready.office = false;
@@ -73,7 +72,7 @@ impl<S: Drop> Rounds<S> {
         };
         let (served, office) = office.serve(self.peers.alloc, net, desk);
         self.office = office;
-        self.peers.ready.office = !matches!(served, EntryServed::Waits);
+        self.peers.ready.office = may_go_on(served);
         end_of(served)
     }
 
@@ -85,7 +84,7 @@ impl<S: Drop> Rounds<S> {
     ) -> Option<Stopped>
         requires { HasBegun self.old.office }
         ensures begun { HasBegunUnless result self.new.office }
-        ensures hosts { Serves R.Responder (LosesNobody 8 self.old.peers.clients self.new.peers.clients) result (N.history net.old) desk.old (here N.name self.old) (N.history net.new) desk.new (here N.name self.new) }
+        ensures hosts { Serves R.Responder (ServesOffice 8 (standing N.name self.old) (standing N.name self.new)) result (N.history net.old) desk.old (here N.name self.old) (N.history net.new) desk.new (here N.name self.new) }
     {
         if !self.peers.ready.office {
             return None;
@@ -101,7 +100,7 @@ impl<S: Drop> Rounds<S> {
     ) -> Result<Option<Stopped>>
         requires { HasBegun self.old.office }
         ensures begun { HasBegunUnless (end_of_round result) self.new.office }
-        ensures hosts { Serves R.Responder (LosesNobody 9 self.old.peers.clients self.new.peers.clients) (end_of_round result) (N.history net.old) desk.old (here N.name self.old) (N.history net.new) desk.new (here N.name self.new) }
+        ensures hosts { Serves R.Responder (HearsBetween 9 result (standing N.name self.old) (standing N.name self.new)) (end_of_round result) (N.history net.old) desk.old (here N.name self.old) (N.history net.new) desk.new (here N.name self.new) }
     {
         if self.office.is_none() {
             return Ok(None);
@@ -119,7 +118,7 @@ impl<S: Drop> Rounds<S> {
         log: &mut L,
     ) -> Option<Stopped>
         ensures office { self.new.office ≡ self.old.office }
-        ensures hosts { Serves R.Responder (GivesTurn c 4 self.old.peers.clients self.new.peers.clients) result (N.history net.old) desk.old (here N.name self.old) (N.history net.new) desk.new (here N.name self.new) }
+        ensures hosts { Serves R.Responder (GivesTurnAlone c 4 (standing N.name self.old) (standing N.name self.new)) result (N.history net.old) desk.old (here N.name self.old) (N.history net.new) desk.new (here N.name self.new) }
     {
         self.peers.serve_one(c, net, desk, log)
     }
@@ -134,7 +133,7 @@ impl<S: Drop> Rounds<S> {
     ) -> Result<Option<Stopped>>
         requires { HasBegun self.old.office }
         ensures begun { HasBegunUnless (end_of_round result) self.new.office }
-        ensures hosts { Serves R.Responder (GivesTurn c 13 self.old.peers.clients self.new.peers.clients) (end_of_round result) (N.history net.old) desk.old (here N.name self.old) (N.history net.new) desk.new (here N.name self.new) }
+        ensures hosts { Serves R.Responder (VisitsClient c 13 result (standing N.name self.old) (standing N.name self.new)) (end_of_round result) (N.history net.old) desk.old (here N.name self.old) (N.history net.new) desk.new (here N.name self.new) }
     {
         if !self.peers.clients.is_ready(c) {
             return Ok(None);
@@ -154,7 +153,7 @@ impl<S: Drop> Rounds<S> {
     ) -> Result<Option<Stopped>>
         requires { HasBegun self.old.office }
         ensures begun { HasBegunUnless (end_of_round result) self.new.office }
-        ensures hosts { Serves R.Responder (ServesAll result self.old.peers.clients self.new.peers.clients) (end_of_round result) (N.history net.old) desk.old (here N.name self.old) (N.history net.new) desk.new (here N.name self.new) }
+        ensures hosts { Serves R.Responder (ServesAll result (standing N.name self.old) (standing N.name self.new)) (end_of_round result) (N.history net.old) desk.old (here N.name self.old) (N.history net.new) desk.new (here N.name self.new) }
     {
         for c in 0..ROOM {
             if let Some(stopped) = self.serve_client(c, net, desk, log)? {
@@ -174,7 +173,7 @@ impl<S: Drop> Rounds<S> {
         requires { self.old.office ≡ None }
         ensures begun { HasBegun self.new.office }
         ensures hosts { (before : Option (List Deed)) → Adds before (N.history net.old) (office_came (N.name socket) ∷ [])
-            → Serves R.Responder (IsPaced 1 self.old.peers.clients self.new.peers.clients) None before desk.old (here N.name self.old) (N.history net.new) desk.new (here N.name self.new) }
+            → Serves R.Responder (IsAtDoors 1 (standing N.name self.old) (standing N.name self.new)) None before desk.old (here N.name self.old) (N.history net.new) desk.new (here N.name self.new) }
     {
         if net.watch(&mut socket, OFFICE).is_err() {
             net.let_go(socket);
@@ -188,7 +187,7 @@ impl<S: Drop> Rounds<S> {
     fn take_office<N: Network<Socket = S>, R: Responder>(&mut self, net: &mut N, desk: &mut Desk<R>)
         requires { HasBegun self.old.office }
         ensures begun { HasBegun self.new.office }
-        ensures hosts { Serves R.Responder (IsPaced 1 self.old.peers.clients self.new.peers.clients) None (N.history net.old) desk.old (here N.name self.old) (N.history net.new) desk.new (here N.name self.new) }
+        ensures hosts { Serves R.Responder (IsAtDoors 1 (standing N.name self.old) (standing N.name self.new)) None (N.history net.old) desk.old (here N.name self.old) (N.history net.new) desk.new (here N.name self.new) }
     {
         if !self.peers.ready.office_door || self.office.is_some() {
             return;
@@ -207,7 +206,7 @@ impl<S: Drop> Rounds<S> {
         log: &mut L,
     )
         ensures office { self.new.office ≡ self.old.office }
-        ensures hosts { Serves R.Responder (IsPaced 128 self.old.peers.clients self.new.peers.clients) None (N.history net.old) desk.old (here N.name self.old) (N.history net.new) desk.new (here N.name self.new) }
+        ensures hosts { Serves R.Responder (IsAtDoors 128 (standing N.name self.old) (standing N.name self.new)) None (N.history net.old) desk.old (here N.name self.old) (N.history net.new) desk.new (here N.name self.new) }
     {
         self.peers.drop_overdue(net, desk);
         self.peers.take_clients(net, desk, log);
@@ -235,7 +234,7 @@ impl<S: Drop> Rounds<S> {
     ) -> Result<Option<Stopped>>
         requires { HasBegun self.old.office }
         ensures begun { HasBegunUnless (end_of_round result) self.new.office }
-        ensures hosts { Serves R.Responder (MakesRound 841 result self.old.peers.clients self.new.peers.clients) (end_of_round result) (N.history net.old) desk.old (here N.name self.old) (N.history net.new) desk.new (here N.name self.new) }
+        ensures hosts { Serves R.Responder (MakesRound 841 result (standing N.name self.old) (standing N.name self.new)) (end_of_round result) (N.history net.old) desk.old (here N.name self.old) (N.history net.new) desk.new (here N.name self.new) }
     {
         let patience = self.patience();
         self.wait(net, desk, patience)?;
@@ -254,7 +253,7 @@ impl<S: Drop> Rounds<S> {
     ) -> Result<Option<Stopped>>
         requires { HasBegun self.old.office }
         ensures begun { HasBegunUnless (end_of_round result) self.new.office }
-        ensures hosts { Serves R.Responder (MakesRound most_in_round result self.old.peers.clients self.new.peers.clients) (end_of_round result) (N.history net.old) desk.old (here N.name self.old) (N.history net.new) desk.new (here N.name self.new) }
+        ensures hosts { Serves R.Responder (MakesRound most_in_round result (standing N.name self.old) (standing N.name self.new)) (end_of_round result) (N.history net.old) desk.old (here N.name self.old) (N.history net.new) desk.new (here N.name self.new) }
     {
         if let Some(stopped) = self.serve_all(net, desk, log)? {
             return Ok(Some(stopped));
@@ -272,7 +271,7 @@ impl<S: Drop> Rounds<S> {
         log: &mut L,
     ) -> Result<Stopped>
         requires { HasBegun self.old.office }
-        ensures { Serves R.Responder (AreServed (standing_at self.old.peers.clients)) (end_of_rounds result) (N.history net.old) desk.old (here N.name self.old) (N.history net.new) desk.new (here N.name self.new) }
+        ensures { Serves R.Responder (AreServed (standing N.name self.old)) (end_of_rounds result) (N.history net.old) desk.old (here N.name self.old) (N.history net.new) desk.new (here N.name self.new) }
     {
         for _ in 0..u64::MAX {
             if let Some(stopped) = self.round(net, desk, log)? {

@@ -46,6 +46,11 @@ abbrev pub is_over : EntryServed → Bool
 is_over served.Over = true
 is_over other = false
 
+-- it may go on at once, if it is not over
+abbrev pub may_go_on : EntryServed → Bool
+may_go_on served.Waits = false
+may_go_on other = true
+
 -- its socket, and what is left of its connection, unless it is over and its socket is let go
 abbrev pub left_deeds : Bool → ℕ → List Deed
 left_deeds over o = if over then left o ∷ [] else []

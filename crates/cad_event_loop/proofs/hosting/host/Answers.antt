@@ -3,11 +3,13 @@ use Rattle.cad_event_loop.proofs.HostLemmas.{hosted_so, nobody_is}
 use Rattle.std.proofs.Common.{◌≡◌, ℕ, Option, inl, ap, sym}
 use Rattle.cad_clients.specs.declared.client.Client.{Client}
 use Rattle.cad_event_loop.specs.Turns.{nobody, AreServed}
-use Rattle.cad_event_loop.specs.inner.Standing.{standing_of, standing_at}
+use Rattle.cad_event_loop.specs.declared.office.Office.{Office}
+use Rattle.cad_event_loop.specs.inner.Offices.{office_at}
+use Rattle.cad_event_loop.specs.inner.Standing.{standing_of, standing_office}
 use Rattle.cad_event_loop.proofs.StandingLemmas.{served_alike}
 use Rattle.cad_event_loop.proofs.GoesLemmas.{serves-so}
 use Rattle.cad_event_loop.specs.Hosting.{end_of_rounds}
-use Rattle.cad_event_loop.specs.inner.Rounds.{here}
+use Rattle.cad_event_loop.specs.inner.Rounds.{here, standing}
 use Rattle.cad_event_loop.proofs.HostLemmas.{hosted_by, unhosted}
 use Rattle.std.proofs.lemmas.Result.{err_from_is_err_and}
 use Rattle.cad_event_loop.proofs.hosting.host.Goals as goal
@@ -23,9 +25,12 @@ run-hosted-requires g c = rw c.in_ok-rounds.ensures.1 tt
 pub returns : goal.returns
 returns g c =
     let first = nobody_is g.N.Network.name c.in_ok-rounds.rounds c.in_ok-rounds.ensures in
-    let alike : ((d : ℕ) → nobody d ≡ standing_at c.in_ok-rounds.rounds.peers.clients d) = (λ d. sym (ap (λ (o : Option (Client _)). standing_of o) (c.in_ok-rounds.ensures.0 d))) in
+    let rounds = c.in_ok-rounds.rounds in
+    let stand = standing g.N.Network.name rounds in
+    let clients : ((d : ℕ) → nobody.clients d ≡ stand.clients d) = (λ d. sym (ap (λ (o : Option (Client _)). standing_of o) (c.in_ok-rounds.ensures.0 d))) in
+    let office : nobody.office ≡ stand.office = sym (ap (λ (o : Option (Office _)). standing_office (office_at g.N.Network.name o) rounds.peers.ready.office) c.in_ok-rounds.ensures.1) in
     let served =
-    serves-so g.R.Responder (AreServed (standing_at c.in_ok-rounds.rounds.peers.clients)) (AreServed nobody) (end_of_rounds c.run-hosted.result) _ _ c.args.desk.now c.run-hosted.new.desk _ _
-    (λ works. served_alike c.in_ok-rounds.rounds.peers.clients nobody works alike) c.run-hosted.ensures in
+    serves-so g.R.Responder (AreServed stand) (AreServed nobody) (end_of_rounds c.run-hosted.result) _ _ c.args.desk.now c.run-hosted.new.desk _ _
+    (λ works. served_alike stand nobody works (clients, office)) c.run-hosted.ensures in
     let all = hosted_by g.R.Responder (end_of_rounds c.run-hosted.result) _ _ _ c.args.desk.now c.run-hosted.new.desk c.end-ended.new.desk (here g.N.Network.name c.in_ok-rounds.rounds) (here g.N.Network.name c.run-hosted.new.self) (here g.N.Network.name c.end-ended.new.self) first c.end-ended.ensures.nobody served c.end-ended.ensures.hosts in
     hosted_so g.R.Responder Error c.run-hosted.result c.last_of.result _ _ c.args.desk.now c.end-ended.new.desk c.last_of.ensures all

@@ -4,4 +4,4 @@ use Rattle.cad_event_loop.specs.Works.{held_at, Same}
 use Rattle.cad_event_loop.proofs.peers.Peers.note.Given as goal
 
 abbrev pub invariant-loop : goal.invariant-loop
-invariant-loop g l = AddsSome (g.N.Network.history l.fn.net) (g.N.Network.history l.net) (IsWoken l.fn.self.clients l.self.clients) × Same (held_at g.N.Network.name l.fn.self.clients) (held_at g.N.Network.name l.self.clients)
+invariant-loop g l = AddsSome (g.N.Network.history l.fn.net) (g.N.Network.history l.net) (IsWoken l.fn.self l.self) × Same (held_at g.N.Network.name l.fn.self.clients) (held_at g.N.Network.name l.self.clients)

@@ -1,6 +1,7 @@
 use Rattle.std.specs.declared.io.Error.{Error}
 use Rattle.std.proofs.Common.{None, Some, Ok, arith}
-use Rattle.cad_event_loop.specs.inner.Standing.{IsPaced, MakesRound}
+use Rattle.cad_event_loop.specs.inner.Rounds.{standing}
+use Rattle.cad_event_loop.specs.inner.Standing.{IsAtDoors, MakesRound}
 use Rattle.cad_event_loop.specs.Turns.{most_in_round}
 use Rattle.cad_event_loop.proofs.StandingLemmas.{round_cut, round_then}
 use Rattle.cad_event_loop.proofs.GoesLemmas.{serves-so, serves-then}
@@ -9,8 +10,8 @@ use Rattle.cad_event_loop.proofs.rounds.Rounds.round.Goals as goal
 pub returns-in-Some-clause-hosts : goal.returns-in-Some-clause-hosts
 returns-in-Some-clause-hosts g c =
     let one = rw c.in-Some.is at c.in_ok-stopped.ensures.hosts in
-    let first = c.args.self.now.peers.clients in
-    let last = c.serve_all.new.self.peers.clients in
+    let first = standing g.N.Network.name c.args.self.now in
+    let last = standing g.N.Network.name c.serve_all.new.self in
     serves-so g.R.Responder (MakesRound {E = Error} 841 (Ok (Some c.in-Some.stopped)) first last) (MakesRound {E = Error} most_in_round (Ok (Some c.in-Some.stopped)) first last) (Some c.in-Some.stopped) _ _ c.args.desk.now c.serve_all.new.desk _ _
     (λ works. round_cut {E = Error} (Ok (Some c.in-Some.stopped)) 841 most_in_round first last works (omega arith)) one
 
@@ -22,12 +23,12 @@ take_office-requires g c =
 pub returns-clause-hosts : goal.returns-clause-hosts
 returns-clause-hosts g c =
     let one = rw c.in_default.is at c.in_ok-stopped.ensures.hosts in
-    let first = c.args.self.now.peers.clients in
-    let served = c.serve_all.new.self.peers.clients in
-    let changed = c.change_clients.new.self.peers.clients in
-    let last = c.take_office.new.self.peers.clients in
+    let first = standing g.N.Network.name c.args.self.now in
+    let served = standing g.N.Network.name c.serve_all.new.self in
+    let changed = standing g.N.Network.name c.change_clients.new.self in
+    let last = standing g.N.Network.name c.take_office.new.self in
     let both =
-    serves-then g.R.Responder (MakesRound {E = Error} 841 (Ok None) first served) (IsPaced 128 served changed) (MakesRound {E = Error} 969 (Ok None) first changed) None _ _ _ c.args.desk.now c.serve_all.new.desk c.change_clients.new.desk _ _ _
+    serves-then g.R.Responder (MakesRound {E = Error} 841 (Ok None) first served) (IsAtDoors 128 served changed) (MakesRound {E = Error} 969 (Ok None) first changed) None _ _ _ c.args.desk.now c.serve_all.new.desk c.change_clients.new.desk _ _ _
     (λ xs ys. round_then {E = Error} {F = Error} (Ok None) 841 128 969 first served changed xs ys (omega arith)) one c.change_clients.ensures.hosts in
-    serves-then g.R.Responder (MakesRound {E = Error} 969 (Ok None) first changed) (IsPaced 1 changed last) (MakesRound {E = Error} most_in_round (Ok None) first last) None _ _ _ c.args.desk.now c.change_clients.new.desk c.take_office.new.desk _ _ _
+    serves-then g.R.Responder (MakesRound {E = Error} 969 (Ok None) first changed) (IsAtDoors 1 changed last) (MakesRound {E = Error} most_in_round (Ok None) first last) None _ _ _ c.args.desk.now c.change_clients.new.desk c.take_office.new.desk _ _ _
     (λ xs ys. round_then {E = Error} {F = Error} (Ok None) 969 1 most_in_round first changed last xs ys (omega arith)) both c.take_office.ensures.hosts
