@@ -5,10 +5,9 @@ ghost use Rattle.cadastred.specs.inner.Hosting.{RunsHost};
 ghost use Rattle.cadastred.specs.inner.Opening.{opening_fault};
 
 use cad_clients::AccessLog;
-use cad_mio::{Doors, MioNetwork, remove_door};
 use cad_network::Network;
 use cad_register::{Register, RegisterFault};
-use cadastred_run::{Log, Outcome, Service, host_over, open_doors};
+use cadastred_run::{Doors, Log, Outcome, Service, host_over, open_doors, remove_door};
 use sqlite::{Alter, Connection, Error, ErrorCode};
 use std::alloc::Global;
 use std::io::{Result as IoResult, Write};
@@ -56,7 +55,7 @@ fn host_file(rt: &HostRuntime, service: Service<'_>, doors: Doors) -> Outcome {
         return Outcome::Failed;
     };
     let (asked, found) = (doors.requested(), doors.address());
-    let Ok(mut net) = MioNetwork::new(rt, rt.alloc(), doors) else {
+    let Ok(mut net) = doors.into_network(rt, rt.alloc()) else {
         return Outcome::Failed;
     };
     let connection = match Connection::open(rt, service.file) {

@@ -1,3 +1,4 @@
+pub mod Doors
 pub mod Invocations
 pub mod Outcomes
 pub mod Hosting

@@ -2,15 +2,15 @@
 
 ghost use Rattle.std.specs.Prelude.{IfOk};
 ghost use Rattle.std.specs.Net.Grammar.{IsSocketText};
-ghost use Rattle.cad_mio.specs.Doors.{address_requested};
+ghost use Rattle.cadastred_run.specs.Doors.{address_requested};
 ghost use Rattle.cadastred_run.specs.Hosting.{EndsHosting, HostsOver};
 
+use crate::doors::{DoorFault, Doors};
 use crate::invocation::Service;
 use crate::outcome::Outcome;
 use cad_clients::AccessLog;
 use cad_desk::Desk;
 use cad_event_loop::host;
-use cad_mio::{DoorFault, Doors};
 use cad_network::Network;
 use cad_serve::{bound_for, read_address, tell_address};
 use cad_server::Server;

@@ -1,10 +1,13 @@
 //! A run of a server for many clients over any ledger: what a command line asks for, the work, and how it ended.
 //!
 //! - `Invocation`, `Service`: what the words of a command line ask for
-//! - `open_doors`: the sockets of a service
+//! - `open_doors`: the sockets of a service, `Doors`; `remove_door` removes the one that is a file
 //! - `host_over`: clients and the land office taken at a network and served over a ledger
 //! - `Outcome`: how a run ended, its status, and what is told of it
 //! - `Log`: a line of a log of access for each reply, with no byte of a client's that is not printable, or nothing
+//!
+//! No contract can say what is done to files, so a reader has to see of `Doors` that the office's socket has its rights for its
+//! owner and its group alone, and that a socket which nobody answers is removed before.
 //!
 //! No database is known here: the program finds the register of a file and lends it to these calls.
 //!
@@ -17,6 +20,7 @@
 #![tactic(auto)]
 
 mod access;
+mod doors;
 mod hosting;
 mod invocation;
 mod log;
@@ -26,6 +30,7 @@ mod printable;
 mod reply;
 mod request;
 
+pub use doors::{Doors, remove_door};
 pub use hosting::{host_over, open_doors};
 pub use invocation::{Invocation, Service};
 pub use log::Log;

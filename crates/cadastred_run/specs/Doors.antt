@@ -1,6 +1,6 @@
 -- The sockets of a host (own profile).
 use Rattle.std.specs.declared.net.socket_addr.SocketAddr.{SocketAddr}
-use Rattle.cad_mio.specs.declared.doors.Doors.{Doors}
+use Rattle.cadastred_run.specs.declared.doors.Doors.{Doors}
 
 -- the address at which clients were to come
 abbrev pub address_requested : Doors → SocketAddr

@@ -2,11 +2,14 @@
 
 ghost use Rattle.std.specs.Prelude.{◌≡◌, IfOk};
 
+use cad_mio::MioNetwork;
 use mio::net::{TcpListener, UnixListener, UnixStream};
+use std::alloc::Global;
 use std::fs::{Files, Permissions, remove_file, set_permissions, symlink_metadata};
 use std::io::{Error, ErrorKind, Result};
 use std::net::{Net, SocketAddr};
 use std::os::unix::fs::{FileTypeExt, PermissionsExt};
+use std::time::Clock;
 
 /// The rights of the office's socket: its owner and its group may write to it, and nobody else.
 const OFFICE_MODE: u32 = 0o660;
@@ -14,8 +17,8 @@ const OFFICE_MODE: u32 = 0o660;
 /// The sockets at which clients and the land office come.
 #[derive(Drop)]
 pub struct Doors {
-    pub(crate) clients: TcpListener,
-    pub(crate) office: UnixListener,
+    clients: TcpListener,
+    office: UnixListener,
     requested: SocketAddr,
 }
 
@@ -47,7 +50,7 @@ fn open_office<N: Net + Files>(rt: &N, path: &str) -> Result<UnixListener> {
 
 /// Why a socket is not bound.
 #[derive(Clone, Copy, Debug, PartialEq, Eq)]
-pub enum DoorFault {
+pub(crate) enum DoorFault {
     /// The address cannot be bound.
     Address,
     /// The office's path cannot be bound: another host is there, or another file, or the folder is missing or closed.
@@ -55,10 +58,10 @@ pub enum DoorFault {
 }
 
 impl Doors {
-    ghost use Rattle.cad_mio.specs.Doors.{address_requested};
+    ghost use Rattle.cadastred_run.specs.Doors.{address_requested};
 
     /// Binds both. The office's path may be that of a socket which a host left behind.
-    pub fn open<N: Net + Files>(
+    pub(crate) fn open<N: Net + Files>(
         rt: &N,
         address: SocketAddr,
         office: &str,
@@ -88,6 +91,15 @@ impl Doors {
     /// Where clients come.
     pub fn address(&self) -> Result<SocketAddr> {
         self.clients.local_addr()
+    }
+
+    /// A network at them.
+    pub fn into_network<'a, C: Net + Clock>(
+        self,
+        rt: &'a C,
+        alloc: Global,
+    ) -> Result<MioNetwork<'a, C>> {
+        MioNetwork::new(rt, alloc, self.clients, self.office)
     }
 }
 
