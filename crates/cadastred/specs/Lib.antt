@@ -1,2 +1,3 @@
+pub mod Hosting
+pub mod Keeping
 pub mod Words
-pub mod inner

@@ -1,4 +1,4 @@
--- What is told of the program, and how a run ends without a service (own profile).
+-- What the program prints about itself, and how a run ends without a service (own profile).
 use Rattle.std.specs.Prelude.{◌≡◌, ◌++◌, ℕ, ⊤, List, codes, Option, None, Some, Result, Ok, Err}
 use Rattle.std.specs.Io.KnownBytes.{Appends}
 use Rattle.cadastred_run.specs.declared.invocation.Service.{Service}
@@ -19,7 +19,7 @@ module _ (before after : Option (List ℕ)) where
   IsLine line outcome.Failed = ⊤
   IsLine line other = ⊥
 
-  -- a service begins, and nothing is told; or the run ends, by the usage or the version where that is asked for, and else as one with wrong arguments
+  -- a service begins, and nothing is written; or the run ends: by the usage or the version if one is requested, and else as one with wrong arguments
   abbrev pub Begins : Option Invocation → Result Service Outcome → Type 0
   Begins (Some (Serve service)) (Ok begun) = (begun ≡ service) × (after ≡ before)
   Begins (Some Help) (Err ended) = IsLine usage ended

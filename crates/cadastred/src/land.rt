@@ -1,30 +1,45 @@
-//! Clients and the land office, served over a register file.
+//! Serves clients and the land office over a register file.
 
-ghost use Rattle.std.specs.Prelude.{◌≡◌};
-ghost use Rattle.cadastred.specs.inner.Hosting.{RunsHost};
-ghost use Rattle.cadastred.specs.inner.Opening.{opening_fault};
+ghost use Rattle.std.specs.Prelude.{◌≡◌, IfOk, IfErr};
+ghost use Rattle.sqlite.specs.WalFiles.{image_at};
+ghost use Rattle.cad_register.specs.Opening.{OpenedOrCreated};
+ghost use Rattle.cad_register.specs.Running.{RunsOver};
+ghost use Rattle.cadastred_run.specs.Doors.{address_requested};
+ghost use Rattle.cadastred.specs.Hosting.{HostsRegister, HostsFound, HostsInFile, Serves, IsUnhosted, outcome_of_run};
 
 use cad_clients::AccessLog;
+use cad_event_loop::laws::ledger_stands;
 use cad_network::Network;
-use cad_register::{Register, RegisterFault};
+use cad_register::{Register, open_file};
+use cad_server::Server;
 use cadastred_run::{Doors, Log, Outcome, Service, host_over, open_doors, remove_door};
-use sqlite::{Alter, Connection, Error, ErrorCode};
+use sqlite::{Alter, Connection, FileFrom, FileStore, Start};
 use std::alloc::Global;
 use std::io::{Result as IoResult, Write};
 use std::net::SocketAddr;
 
-/// Why a file is not opened.
-fn open_fault(error: Error) -> RegisterFault
-    ensures { result ≡ opening_fault error }
+/// A run over a file: how it ended and the file's open database, or how it ended without one.
+pub type Ran<S> = Result<(Outcome, Connection<FileStore<FileFrom<S>>>), Outcome>;
+
+/// Hosts a register, and returns the connection of its database.
+fn host_register<N: Network, S: Alter, W: Write, A: AccessLog<N::Socket>>(
+    alloc: Global,
+    register: Register<S>,
+    asked: SocketAddr,
+    found: IoResult<SocketAddr>,
+    net: &mut N,
+    writer: &mut W,
+    log: &mut A,
+) -> (Outcome, Connection<S>)
+    ensures { HostsRegister asked (W.contents writer.old) (W.contents writer.new) (N.history net.old) (N.history net.new) S.Store register result }
 {
-    match error {
-        Error::SqliteFailure(ErrorCode::OutOfMemory) => RegisterFault::Memory,
-        _ => RegisterFault::Store,
-    }
+    ledger_stands::<Server<Register<S>>>();
+    let (outcome, left) = host_over(alloc, register, asked, found, net, writer, log);
+    (outcome, left.release())
 }
 
-/// Hosts the register of a database, which is made where none stands, and gives the database's connection back.
-fn host_register<N: Network, S: Alter, W: Write, A: AccessLog<N::Socket>>(
+/// Hosts the register of a database, and makes it if there is none. Returns the database's connection.
+fn host_found<N: Network, S: Alter, W: Write, A: AccessLog<N::Socket>>(
     alloc: Global,
     connection: Connection<S>,
     asked: SocketAddr,
@@ -33,56 +48,84 @@ fn host_register<N: Network, S: Alter, W: Write, A: AccessLog<N::Socket>>(
     writer: &mut W,
     log: &mut A,
 ) -> (Outcome, Connection<S>)
-    ensures { RunsHost S.Store asked (W.contents writer.old) (W.contents writer.new) (N.history net.old) (N.history net.new) log.old log.new connection result }
+    ensures { RunsOver (OpenedOrCreated S.Store) (HostsFound asked (W.contents writer.old) (W.contents writer.new)
+        (N.history net.old) (N.history net.new) (log.new ≡ log.old) S.Store) connection result }
 {
     match Register::open_or_create(alloc, connection) {
-        Ok(register) => {
-            let (outcome, register) = host_over(alloc, register, asked, found, net, writer, log);
-            (outcome, register.release())
-        }
+        Ok(register) => host_register(alloc, register, asked, found, net, writer, log),
         Err((fault, connection)) => (Outcome::Register(fault), connection),
     }
 }
 
-/// Hosts the register of a file at the sockets. A line is written for each reply on standard error, where that is asked for.
-fn host_file(rt: &HostRuntime, service: Service<'_>, doors: Doors) -> Outcome {
+/// Hosts the register of a file, which held this at first, at the sockets. If a log of access is requested, it goes to standard error.
+fn host_file<S: Start, W: Write>(
+    rt: &HostRuntime,
+    service: Service<'_>,
+    doors: Doors,
+    start: S,
+    writer: &mut W,
+) -> Ran<S>
+    ensures hosted { IfOk result (HostsInFile (W.contents writer.old) (W.contents writer.new) (image_at S.Start) (address_requested doors)) }
+    ensures unhosted { IfErr result (λ outcome. IsUnhosted outcome × (writer.new ≡ writer.old)) }
+{
     let errors = if service.logs {
         Some(rt.stderr())
     } else {
         None
     };
     let Ok(mut log) = Log::new(rt, rt.alloc(), errors) else {
-        return Outcome::Failed;
+        return Err(Outcome::Failed);
     };
     let (asked, found) = (doors.requested(), doors.address());
     let Ok(mut net) = doors.into_network(rt, rt.alloc()) else {
-        return Outcome::Failed;
+        return Err(Outcome::Failed);
     };
-    let connection = match Connection::open(rt, service.file) {
+    let connection = match open_file(rt, service.file, start) {
         Ok(connection) => connection,
-        Err(error) => return Outcome::Register(open_fault(error)),
+        Err(fault) => return Err(Outcome::Register(fault)),
     };
-    let (outcome, connection) = host_register(
+    Ok(host_found(
         rt.alloc(),
         connection,
         asked,
         found,
         &mut net,
-        &mut rt.stdout(),
+        writer,
         &mut log,
-    );
-    // The log of the database holds what was accepted where closing fails to copy it into the file.
-    let _ = connection.close();
-    outcome
+    ))
 }
 
-/// Serves the register of a file to clients, and takes the land office's lines, until it asks to stop.
-pub fn run_service(rt: &HostRuntime, service: Service<'_>) -> Outcome {
+/// Serves the register of a file, which held this at first, to clients, and takes the land office's lines, until the office sends
+/// `stop`. It writes the address to the writer.
+pub fn run_service<S: Start, W: Write>(
+    rt: &HostRuntime,
+    service: Service<'_>,
+    start: S,
+    writer: &mut W,
+) -> Ran<S>
+    ensures served { IfOk result (Serves (W.contents writer.old) (W.contents writer.new) (image_at S.Start) service.entry) }
+    ensures unserved { IfErr result (λ outcome. IsUnhosted outcome × (writer.new ≡ writer.old)) }
+{
     let doors = match open_doors(rt, service) {
         Ok(doors) => doors,
-        Err(outcome) => return outcome,
+        Err(Outcome::Office) => return Err(Outcome::Office),
+        Err(_) => return Err(Outcome::Address),
     };
-    let outcome = host_file(rt, service, doors);
+    let ran = host_file(rt, service, doors, start, writer);
     remove_door(rt, service.office);
-    outcome
+    ran
+}
+
+/// How a run over a file ended. Its database is closed.
+pub fn close<S: Start>(ran: Ran<S>) -> Outcome
+    ensures { result ≡ outcome_of_run ran }
+{
+    match ran {
+        Ok((outcome, connection)) => {
+            // If closing fails to copy the database's log into the file, the log still holds every accepted command.
+            let _ = connection.close();
+            outcome
+        }
+        Err(outcome) => outcome,
+    }
 }

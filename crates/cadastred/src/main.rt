@@ -1,15 +1,15 @@
 //! The cadastre feature server for many clients, and the land office, in one process.
 //!
-//! - `land`: clients and the land office, served over a register file
-//! - `words`: what is told of the program
+//! - `land`: serves clients and the land office over a register file
+//! - `words`: what the program prints about itself
 //!
-//! What a command line asks for, the same work over any ledger, and how a run ends stand in `cadastred_run`.
+//! `cadastred_run` reads the command line, does the same work over any ledger, and says how a run ends.
 //!
-//! - `cadastred land.db 127.0.0.1:8080 office.sock` serves the register of a file at an address, to many clients at once, and
-//!   takes the land office's lines at a Unix socket meanwhile. The register is made where none stands. It prints `listening
-//!   ADDRESS`, and ends by the office's line `stop`;
-//! - `cadastred --log land.db 127.0.0.1:8080 office.sock` writes a line to standard error for each reply;
-//! - `cadastred --help` and `cadastred --version` tell of the program.
+//! - `cadastred land.db 127.0.0.1:8080 office.sock` serves the register of a file at an address, to many clients at once. It also
+//!   takes the land office's lines at a Unix socket. If there is no register, it makes one. It prints `listening ADDRESS`, and
+//!   ends at the office's line `stop`;
+//! - `cadastred --log land.db 127.0.0.1:8080 office.sock` also writes a line to standard error for each response;
+//! - `cadastred --help` and `cadastred --version` print the usage and the version.
 #![tactic(auto)]
 
 mod land;
@@ -17,7 +17,8 @@ mod words;
 
 use cad_serve::{read_words, tell};
 use cadastred_run::{Invocation, Outcome};
-use land::run_service;
+use land::{close, run_service};
+use sqlite::Unknown;
 use std::process::ExitCode;
 use words::begin;
 
@@ -27,14 +28,14 @@ fn run(rt: &HostRuntime) -> Outcome {
         Err(cause) => return Outcome::without_arguments(cause),
     };
     match begin(Invocation::of_words(&words), &mut rt.stdout()) {
-        Ok(service) => run_service(rt, service),
+        Ok(service) => close(run_service(rt, service, Unknown, &mut rt.stdout())),
         Err(outcome) => outcome,
     }
 }
 
 fn main(rt: HostRuntime) -> ExitCode {
     let outcome = run(&rt);
-    // Where that cannot be written, the status alone tells it.
+    // If this line cannot be written, only the status reports the outcome.
     let _ = tell(&mut rt.stderr(), outcome.message());
     ExitCode::from(outcome.status())
 }

@@ -1,4 +1,4 @@
-//! What is told of the program.
+//! What the program prints about itself.
 
 ghost use Rattle.cadastred.specs.Words.{Begins, IsLine};
 
@@ -18,7 +18,7 @@ fn write_line<W: Write>(writer: &mut W, line: &str) -> Outcome
     }
 }
 
-/// The service that is asked for, or how the run ends without one: the usage or the version is told where that is asked for.
+/// The requested service, or how the run ends without one. If the usage or the version is requested, it is written.
 pub fn begin<'a, W: Write>(
     invocation: Option<Invocation<'a>>,
     writer: &mut W,

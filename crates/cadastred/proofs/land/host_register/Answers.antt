@@ -1,10 +1,12 @@
-use Rattle.std.proofs.Common.{Err, refl}
-use Rattle.cad_network.specs.lemmas.DeedLemmas.{Adds-nil}
+use Rattle.cad_register.specs.Ledgers.{register_as_ledger}
+use Rattle.cadastred.proofs.KeepingLemmas.{clean_before, keeps}
 use Rattle.cadastred.proofs.land.host_register.Goals as goal
 
-pub returns-in-Err : goal.returns-in-Err
-returns-in-Err g c = record {
-  found = Err (c.in-Err.fault, c.in-Err.connection);
-  opened = c.in-Err.ensures;
-  hosts = record { ends = refl; back = refl; nothing = (refl, Adds-nil _, refl) };
+pub returns : goal.returns
+returns g c = record {
+  left = c.host_over-outcome.result.1;
+  hosts = c.host_over-outcome.ensures;
+  back = c.release.ensures;
+  clean = clean_before (register_as_ledger g.S.Store) _ _ _ _ _ c.args.register c.host_over-outcome.result c.host_over-outcome.ensures;
+  keeps = keeps (register_as_ledger g.S.Store) _ _ _ _ _ c.args.register c.host_over-outcome.result c.ledger_stands.ensures c.host_over-outcome.ensures;
 }
