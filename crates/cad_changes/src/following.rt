@@ -13,7 +13,7 @@ use cad_versions::Command;
 use std::alloc::{AllocError, Global};
 
 /// The features of a collection after the command, told by those of the collection, the units and the parties before it, over the
-/// same base. An error is want of memory.
+/// same base. An error means out of memory.
 pub fn features_after(
     alloc: Global,
     command: &Command,

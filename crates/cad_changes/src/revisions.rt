@@ -33,7 +33,7 @@ fn layer_after(
     Ok(after)
 }
 
-/// The features after the command, over the same bases, as those of the revision with this number. An error is want of memory.
+/// The features after the command, over the same bases, as those of the revision with this number. An error means out of memory.
 pub fn snapshot_after(
     alloc: Global,
     snapshot: &Snapshot,

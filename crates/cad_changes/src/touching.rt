@@ -38,7 +38,7 @@ fn with_added(
 }
 
 /// The features of a collection that are new after the command, or may be others than before: told by the features of the
-/// collection, the units and the parties at the revision before it. An error is want of memory.
+/// collection, the units and the parties at the revision before it. An error means out of memory.
 ///
 /// Merged into the features of the revision before the command, they are those of the revision after it, where it is accepted.
 pub fn touched(

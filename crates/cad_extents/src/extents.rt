@@ -47,7 +47,7 @@ impl Extents {
     ghost use Rattle.cad_range.specs.Ranges.{lies_in};
     ghost use Rattle.cad_extents.specs.Extents.{IsWithin};
 
-    /// Those of these features, which have so many properties. An error is want of memory.
+    /// Those of these features, which have so many properties. An error means out of memory.
     pub fn of(alloc: Global, features: &[Feature], properties: usize) -> Result<Extents, AllocError>
         ensures { IfOk result (λ extents. AllByRecursion (IsWithin extents) features.now) }
     {
@@ -56,7 +56,7 @@ impl Extents {
         Ok(Extents { all })
     }
 
-    /// Those of the same features and of these. An error is want of memory.
+    /// Those of the same features and of these. An error means out of memory.
     pub fn with(&self, alloc: Global, features: &[Feature]) -> Result<Extents, AllocError>
         ensures own { IfOk result (λ extents. (x : Item) → IsWithin self.now x → IsWithin extents x) }
         ensures more { IfOk result (λ extents. AllByRecursion (IsWithin extents) features.now) }

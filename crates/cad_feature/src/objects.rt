@@ -71,7 +71,7 @@ impl<'a> Objects<'a> {
         }
     }
 
-    /// The versions with starts, for many searches. An error is want of memory.
+    /// The versions with starts, for many searches. An error means out of memory.
     pub(crate) fn marked(alloc: Global, versions: &'a [Version]) -> Result<Objects<'a>, AllocError>
         requires { IsListing versions.now }
         ensures { IfOk result (λ objects. objects.versions.now ≡ versions.now) }

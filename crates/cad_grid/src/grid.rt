@@ -38,7 +38,7 @@ impl Grid {
     ghost use Rattle.cad_grid.specs.Blocks.{block_of};
     ghost use Rattle.cad_grid.specs.Grids.{blocks_at, near_positions};
 
-    /// The grid of the features' property at that place. An error is want of memory.
+    /// The grid of the features' property at that place. An error means out of memory.
     pub fn build(alloc: Global, features: &[Feature], place: usize) -> Result<Grid, AllocError>
         requires { length features.now ≤ 4294967295 }
         ensures { IfOk result (λ grid. grid ≡ blocks_at place features.now) }
@@ -76,7 +76,7 @@ impl Grid {
         }
     }
 
-    /// The positions near the box, as they ascend. An error is want of memory.
+    /// The positions near the box, as they ascend. An error means out of memory.
     pub fn near(&self, alloc: Global, bounds: Bounds) -> Result<Vec<u32>, AllocError>
         ensures { IfOk result (λ found. found.items ≡ near_positions self.now (block_of bounds)) }
     {

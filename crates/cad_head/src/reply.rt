@@ -7,7 +7,7 @@ use crate::status::Status;
 use std::alloc::{AllocError, Global};
 
 /// The bytes of a reply with this JSON body, which tells that the connection ends after it where `ends` says so.
-/// An error is want of memory.
+/// An error means out of memory.
 pub fn reply_bytes(
     alloc: Global,
     status: Status,

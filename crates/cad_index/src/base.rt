@@ -41,7 +41,7 @@ impl Base {
     ghost use Rattle.cad_range.specs.Ranges.{lies_in};
     ghost use Rattle.cad_index.specs.Indexed.{AreIndexesOf};
 
-    /// These features of the collection with their indexes. An error is want of memory.
+    /// These features of the collection with their indexes. An error means out of memory.
     pub fn build(
         alloc: Global,
         features: Vec<Feature>,

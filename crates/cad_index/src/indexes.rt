@@ -60,7 +60,7 @@ impl Indexes {
     ghost use Rattle.cad_ordered.specs.Ranged.{column, range_positions};
     ghost use Rattle.cad_index.specs.Indexed.{AreIndexesOf, positions_if_any};
 
-    /// The indexes of these features of the collection. An error is want of memory.
+    /// The indexes of these features of the collection. An error means out of memory.
     pub fn build(
         alloc: Global,
         features: &[Feature],

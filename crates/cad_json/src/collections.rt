@@ -13,7 +13,7 @@ use cad_schema::Collection;
 use serde_json::{Value as Json, json};
 use std::alloc::{AllocError, Global};
 
-/// The body of `/collections`. An error is want of memory.
+/// The body of `/collections`. An error means out of memory.
 pub fn collections_body(alloc: Global) -> Result<String, AllocError>
     ensures text { IfOk result (λ text. string_bytes text ≡ compact_text collections_data) }
     ensures reads_back { IfOk result (λ text. read (string_bytes text) ≡ Some collections_data) }
@@ -21,7 +21,7 @@ pub fn collections_body(alloc: Global) -> Result<String, AllocError>
     collections_json(alloc)?.to_string(alloc)
 }
 
-/// The body of one collection's own path. An error is want of memory.
+/// The body of one collection's own path. An error means out of memory.
 pub fn collection_body(alloc: Global, collection: Collection) -> Result<String, AllocError>
     ensures text { IfOk result (λ text. string_bytes text ≡ compact_text (collection_data collection)) }
     ensures reads_back { IfOk result (λ text. read (string_bytes text) ≡ Some (collection_data collection)) }

@@ -9,7 +9,7 @@ ghost use Rattle.cad_json.specs.Faults.{word_data, filter_fault_data};
 use serde_json::{Value as Json, json};
 use std::alloc::{AllocError, Global};
 
-/// The body of a fault, by its word. An error is want of memory.
+/// The body of a fault, by its word. An error means out of memory.
 pub fn word_body(alloc: Global, word: &str) -> Result<String, AllocError>
     ensures text { IfOk result (λ text. string_bytes text ≡ compact_text (word_data word.now)) }
     ensures reads_back { IfOk result (λ text. read (string_bytes text) ≡ Some (word_data word.now)) }
@@ -18,7 +18,7 @@ pub fn word_body(alloc: Global, word: &str) -> Result<String, AllocError>
 }
 
 /// The body of the fault of a filter, by the name of its cause and its place in the filter's text.
-/// An error is want of memory.
+/// An error means out of memory.
 pub fn filter_fault_body(alloc: Global, cause: &str, place: usize) -> Result<String, AllocError>
     ensures text { IfOk result (λ text. string_bytes text ≡ compact_text (filter_fault_data cause.now place)) }
     ensures reads_back { IfOk result (λ text. read (string_bytes text) ≡ Some (filter_fault_data cause.now place)) }

@@ -115,7 +115,7 @@ impl Serialize for Sent<'_> {
     }
 }
 
-/// The text of a feature: its geometry, its identifier and its properties. An error is want of memory.
+/// The text of a feature: its geometry, its identifier and its properties. An error means out of memory.
 pub fn feature_text(
     alloc: Global,
     collection: Collection,

@@ -10,7 +10,7 @@ use crate::links::link_json;
 use serde_json::{Value as Json, json};
 use std::alloc::{AllocError, Global};
 
-/// The body of `/`. An error is want of memory.
+/// The body of `/`. An error means out of memory.
 pub fn landing_body(alloc: Global) -> Result<String, AllocError>
     ensures text { IfOk result (λ text. string_bytes text ≡ compact_text landing_data) }
     ensures reads_back { IfOk result (λ text. read (string_bytes text) ≡ Some landing_data) }

@@ -9,7 +9,7 @@ use serde::Serializer;
 use serde_json::{Value as Json, json};
 use std::alloc::{AllocError, Global};
 
-/// A link to JSON, by its target and its relation. An error is want of memory.
+/// A link to JSON, by its target and its relation. An error means out of memory.
 pub(crate) fn link_json(alloc: Global, href: &str, rel: &str) -> Result<Json, AllocError>
     ensures { IfOk result (λ json. view json ≡ link_data href.now rel.now) }
 {

@@ -12,7 +12,7 @@ use cad_schema::{Collection, Property, PropertyKind, schema};
 use serde_json::{Map, Value as Json, json};
 use std::alloc::{AllocError, Global};
 
-/// The body of a collection's queryables. An error is want of memory.
+/// The body of a collection's queryables. An error means out of memory.
 pub fn queryables_body(alloc: Global, collection: Collection) -> Result<String, AllocError>
     ensures text { IfOk result (λ text. string_bytes text ≡ compact_text (queryables_data collection)) }
     ensures reads_back { IfOk result (λ text. read (string_bytes text) ≡ Some (queryables_data collection)) }

@@ -7,7 +7,7 @@ use crate::Change;
 use crate::both::Both;
 use std::alloc::{AllocError, Global};
 
-/// The earlier changes with the later ones. An error is want of memory.
+/// The earlier changes with the later ones. An error means out of memory.
 pub(crate) fn with_later(
     alloc: Global,
     earlier: &[Change],

@@ -50,7 +50,7 @@ impl Change {
     }
 }
 
-/// The features as changes. An error is want of memory.
+/// The features as changes. An error means out of memory.
 pub fn as_changes(alloc: Global, features: Vec<Feature>) -> Result<Vec<Change>, AllocError>
     ensures { IfOk result (λ changes. changes.items ≡ features.items) }
 {

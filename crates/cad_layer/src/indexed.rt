@@ -38,7 +38,7 @@ fn shared(base: &Rc<Base>) -> &Base
     base
 }
 
-/// These features with their indexes, if a base can hold them. An error is want of memory.
+/// These features with their indexes, if a base can hold them. An error means out of memory.
 fn small_base(
     alloc: Global,
     features: Vec<Feature>,
@@ -76,7 +76,7 @@ impl Indexed {
     ghost use Rattle.cad_layer.specs.Identifiers.{identifier, IsTheOne};
     ghost use Rattle.cad_layer.specs.Walks.{all_in, IsInOrder};
 
-    /// These features of the collection, without changes. An error is want of memory.
+    /// These features of the collection, without changes. An error means out of memory.
     pub(crate) fn build(
         alloc: Global,
         features: Vec<Feature>,

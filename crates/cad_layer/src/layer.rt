@@ -89,7 +89,7 @@ impl Layer {
     ghost use Rattle.cad_layer.specs.Segments.{joined};
     ghost use Rattle.cad_layer.specs.Walks.{all_in};
 
-    /// These features of the collection, without changes. An error is want of memory.
+    /// These features of the collection, without changes. An error means out of memory.
     pub fn build(
         alloc: Global,
         features: Vec<Feature>,
@@ -102,7 +102,7 @@ impl Layer {
         Layer::in_segments(alloc, features, collection, OF_A_SEGMENT)
     }
 
-    /// The same in segments of so many features. An error is want of memory.
+    /// The same in segments of so many features. An error means out of memory.
     pub fn in_segments(
         alloc: Global,
         features: Vec<Feature>,
@@ -140,7 +140,7 @@ impl Layer {
         listed(&self.segments)
     }
 
-    /// All features, by copies. An error is want of memory.
+    /// All features, by copies. An error means out of memory.
     pub fn features(&self, alloc: Global) -> Result<Vec<Feature>, AllocError>
         ensures { IfOk result (λ all. all.items ≡ self.now.features) }
     {
@@ -148,7 +148,7 @@ impl Layer {
     }
 
     /// The same features with these merged into them, over the same bases. Where there are none of these, all is shared; else the
-    /// segments are, but for those in which these lie. An error is want of memory.
+    /// segments are, but for those in which these lie. An error means out of memory.
     pub fn with(&self, alloc: Global, touched: Vec<Feature>) -> Result<Layer, AllocError>
         requires { AreFeaturesOf self.now.collection touched.items }
         ensures { IfOk result (λ layer. layer ≡ record { collection = self.now.collection; features = all_in self.now.features touched.items }) }
@@ -198,7 +198,7 @@ impl Layer {
     }
 
     /// The same features, with new bases for the segment that has the most changes, and for those that have more than a quarter of
-    /// `most`. Where a segment has grown far, all is cut anew, if it can be. An error is want of memory.
+    /// `most`. Where a segment has grown far, all is cut anew, if it can be. An error means out of memory.
     pub fn rebased(&self, alloc: Global, most: usize) -> Result<Layer, AllocError>
         ensures { IfOk result (λ layer. layer ≡ self.now) }
     {
@@ -221,7 +221,7 @@ impl Layer {
         })
     }
 
-    /// The same features in new segments, where their positions are numbers that a base holds. An error is want of memory.
+    /// The same features in new segments, where their positions are numbers that a base holds. An error means out of memory.
     fn cut_anew(&self, alloc: Global) -> Result<Layer, AllocError>
         ensures { IfOk result (λ layer. layer ≡ self.now) }
     {

@@ -8,7 +8,7 @@ use crate::{Change, Walk};
 use cad_feature::Feature;
 use std::alloc::{AllocError, Global};
 
-/// Puts copies of what is left of a walk behind the others. An error is want of memory.
+/// Puts copies of what is left of a walk behind the others. An error means out of memory.
 pub(crate) fn push_all(
     alloc: Global,
     all: &mut Vec<Feature>,
@@ -24,7 +24,7 @@ pub(crate) fn push_all(
     Ok(())
 }
 
-/// The base with the changes, all by copies. An error is want of memory.
+/// The base with the changes, all by copies. An error means out of memory.
 pub fn merge(
     alloc: Global,
     base: &[Feature],

@@ -35,7 +35,7 @@ impl Recent {
         }
     }
 
-    /// These changes to the indexed features, and later ones. An error is want of memory.
+    /// These changes to the indexed features, and later ones. An error means out of memory.
     pub(crate) fn with(
         &self,
         alloc: Global,

@@ -62,7 +62,7 @@ impl Due {
     }
 }
 
-/// The same segments, and those that are due over new bases. An error is want of memory.
+/// The same segments, and those that are due over new bases. An error means out of memory.
 pub(crate) fn renewed(
     alloc: Global,
     segments: &[Segment],
@@ -82,7 +82,7 @@ pub(crate) fn renewed(
     Ok(all)
 }
 
-/// The features of all segments, by copies. An error is want of memory.
+/// The features of all segments, by copies. An error means out of memory.
 pub(crate) fn all_features(alloc: Global, segments: &[Segment]) -> Result<Vec<Feature>, AllocError>
     ensures { IfOk result (λ all. all.items ≡ joined segments.now) }
 {

@@ -29,7 +29,7 @@ fn push_replaced<T: Findable>(
     Ok(())
 }
 
-/// The features in whose place the changes stand, by copies: each is searched for. An error is want of memory.
+/// The features in whose place the changes stand, by copies: each is searched for. An error means out of memory.
 pub(crate) fn replaced_by<T: Findable>(
     alloc: Global,
     features: &T,

@@ -127,7 +127,7 @@ impl Segment {
         Segment::without_changes(alloc, start, indexed, recent.extents, spent)
     }
 
-    /// These features of the collection, without changes. An error is want of memory.
+    /// These features of the collection, without changes. An error means out of memory.
     pub(crate) fn build(
         alloc: Global,
         features: Vec<Feature>,
@@ -175,7 +175,7 @@ impl Segment {
     }
 
     /// The same features with these merged into them. Where there are none of these, all is shared; where there are no more than so many
-    /// recent changes then, the indexes are; else these get indexes too. An error is want of memory.
+    /// recent changes then, the indexes are; else these get indexes too. An error means out of memory.
     pub(crate) fn with(
         &self,
         alloc: Global,
@@ -231,7 +231,7 @@ impl Segment {
         self.spent
     }
 
-    /// The same features over a base of their own, where a base can hold them. An error is want of memory.
+    /// The same features over a base of their own, where a base can hold them. An error means out of memory.
     pub(crate) fn rebased(&self, alloc: Global) -> Result<Segment, AllocError>
         ensures { IfOk result (λ segment. segment ≡ self.now) }
     {

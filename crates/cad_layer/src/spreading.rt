@@ -26,7 +26,7 @@ pub(crate) fn is_from(feature: &Feature, object: u32) -> bool
     object <= object_of(feature)
 }
 
-/// Those from where the next segment starts; `touched` keeps the others. An error is want of memory.
+/// Those from where the next segment starts; `touched` keeps the others. An error means out of memory.
 fn cut_off(
     alloc: Global,
     touched: &mut Vec<Feature>,
@@ -45,7 +45,7 @@ fn cut_off(
     Ok(left)
 }
 
-/// The segments, each with those of the features that lie in it, and no more recent changes than so many. An error is want of memory.
+/// The segments, each with those of the features that lie in it, and no more recent changes than so many. An error means out of memory.
 pub(crate) fn spread(
     alloc: Global,
     segments: &[Segment],

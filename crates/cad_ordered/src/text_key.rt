@@ -63,7 +63,7 @@ impl TextKey {
     }
 }
 
-/// The texts of the keys, which are shared. An error is want of memory.
+/// The texts of the keys, which are shared. An error means out of memory.
 pub(crate) fn texts_of(alloc: Global, keys: Vec<TextKey>) -> Result<Vec<Rc<String>>, AllocError>
     ensures { IfOk result (λ texts. map (λ text. a_text (chars (string_bytes text.value))) texts.items ≡ map (λ key. a_text (chars (string_bytes key.text.value))) keys.items) }
 {

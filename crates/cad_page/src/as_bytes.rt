@@ -13,7 +13,7 @@ use cad_schema::Collection;
 use cad_snapshot::Snapshot;
 use std::alloc::{AllocError, Global};
 
-/// The body of the page that is asked for, of a snapshot of its revision. An error is want of memory.
+/// The body of the page that is asked for, of a snapshot of its revision. An error means out of memory.
 pub fn body(alloc: Global, ask: &Ask, snapshot: &Snapshot) -> Result<Vec<u8>, AllocError>
     ensures { IfOk result (λ bytes. bytes.items ≡ compact_text (page_data ask.now snapshot.now)) }
 {
@@ -21,7 +21,7 @@ pub fn body(alloc: Global, ask: &Ask, snapshot: &Snapshot) -> Result<Vec<u8>, Al
     Ok(text.into_bytes())
 }
 
-/// The target of that body's link to the next page; none where no features are left. An error is want of memory.
+/// The target of that body's link to the next page; none where no features are left. An error means out of memory.
 pub fn next_link(
     alloc: Global,
     ask: &Ask,
@@ -35,7 +35,7 @@ pub fn next_link(
     }
 }
 
-/// The body of one feature: as in a page, with its own links. An error is want of memory.
+/// The body of one feature: as in a page, with its own links. An error means out of memory.
 pub fn feature_body(
     alloc: Global,
     collection: Collection,
@@ -47,7 +47,7 @@ pub fn feature_body(
     Ok(text.into_bytes())
 }
 
-/// The body that tells the fault of a query. An error is want of memory.
+/// The body that tells the fault of a query. An error means out of memory.
 pub fn fault_body(alloc: Global, fault: &AskFault) -> Result<Vec<u8>, AllocError>
     ensures { IfOk result (λ bytes. bytes.items ≡ compact_text (fault_data fault.now)) }
 {
@@ -55,7 +55,7 @@ pub fn fault_body(alloc: Global, fault: &AskFault) -> Result<Vec<u8>, AllocError
     Ok(text.into_bytes())
 }
 
-/// The body of a fault, by its word. An error is want of memory.
+/// The body of a fault, by its word. An error means out of memory.
 pub fn word_body(alloc: Global, word: &str) -> Result<Vec<u8>, AllocError>
     ensures { IfOk result (λ bytes. bytes.items ≡ compact_text (word_data word.now)) }
 {

@@ -25,7 +25,7 @@ pub struct Report {
     pub examined: u64,
 }
 
-/// How the page that is asked for is found. An error is want of memory.
+/// How the page that is asked for is found. An error means out of memory.
 pub fn explain(alloc: Global, ask: &Ask, snapshot: &Snapshot) -> Result<Report, AllocError>
     ensures plan { IfOk result (λ report. IsChosen report.plan ask.now snapshot.now) }
     ensures cost { IfOk result (λ report. report.cost ≡ cost_in report.plan ask.now snapshot.now) }

@@ -22,7 +22,7 @@ fn lent(text: &Option<String>) -> Option<&str>
     }
 }
 
-/// The body of the page that is asked for, of a snapshot of its revision. An error is want of memory.
+/// The body of the page that is asked for, of a snapshot of its revision. An error means out of memory.
 pub fn body(alloc: Global, ask: &Ask, snapshot: &Snapshot) -> Result<String, AllocError>
     ensures text { IfOk result (λ text. string_bytes text ≡ compact_text (page_data ask.now snapshot.now)) }
     ensures reads_back { IfOk result (λ text. read (string_bytes text) ≡ Some (page_data ask.now snapshot.now)) }
@@ -45,7 +45,7 @@ pub fn body(alloc: Global, ask: &Ask, snapshot: &Snapshot) -> Result<String, All
     }
 }
 
-/// The target of that body's link to the next page; none where no features are left. An error is want of memory.
+/// The target of that body's link to the next page; none where no features are left. An error means out of memory.
 pub fn next_link(
     alloc: Global,
     ask: &Ask,

@@ -221,7 +221,7 @@ pub(crate) fn joined(alloc: Global, parts: &[Normal], layer: &Layer) -> Result<P
 }
 
 /// The first plan of least cost of the form's menu, for the features of the layer. Each feature that meets the form is one of
-/// its candidates, in the layer or not. An error is want of memory.
+/// its candidates, in the layer or not. An error means out of memory.
 pub fn choose(alloc: Global, form: &Normal, layer: &Layer) -> Result<Plan, AllocError>
     ensures way { IfOk result (λ plan. way_of plan ≡ choice (counts_of layer.now.features) form.now) }
     ensures least { IfOk result (λ plan. IsFirstOfLeast (counts_of layer.now.features) (way_of plan) (menu (counts_of layer.now.features) form.now)) }

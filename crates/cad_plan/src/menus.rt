@@ -113,7 +113,7 @@ fn plans_for(alloc: Global, form: &Normal, layer: &Layer) -> Result<Vec<Plan>, A
 }
 
 /// The plans for the form, in order, for the features of the layer. Each feature that meets the form is a candidate of each, in
-/// the layer or not. An error is want of memory.
+/// the layer or not. An error means out of memory.
 pub fn menu(alloc: Global, form: &Normal, layer: &Layer) -> Result<Vec<Plan>, AllocError>
     ensures ways { IfOk result (λ plans. map way_of plans.items ≡ menu_of (counts_of layer.now.features) form.now) }
     ensures covers { IfOk result (λ plans. (x : Item) → IsTrue (meets x form.now) → IsTrue (list_all (λ plan. is_candidate plan x) plans.items)) }

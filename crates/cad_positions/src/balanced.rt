@@ -25,7 +25,7 @@ fn joined_pairs<'a>(alloc: Global, sources: Vec<Source<'a>>) -> Result<Vec<Sourc
     Ok(pairs)
 }
 
-/// The positions that some of the sources have: of no sources, none. An error is want of memory.
+/// The positions that some of the sources have: of no sources, none. An error means out of memory.
 pub fn join_all<'a>(alloc: Global, sources: Vec<Source<'a>>) -> Result<Source<'a>, AllocError>
     ensures { IfOk result (λ joined. (k : ℕ) → has joined k ≡ has_any sources.entry.items k) }
 {
@@ -56,7 +56,7 @@ fn met_pairs<'a>(alloc: Global, sources: Vec<Source<'a>>) -> Result<Vec<Source<'
     Ok(pairs)
 }
 
-/// The positions that all of the sources have. An error is want of memory.
+/// The positions that all of the sources have. An error means out of memory.
 pub fn meet_all<'a>(alloc: Global, sources: Vec<Source<'a>>) -> Result<Source<'a>, AllocError>
     requires { 0 < length sources.items }
     ensures { IfOk result (λ met. (k : ℕ) → has met k ≡ has_all sources.entry.items k) }

@@ -61,7 +61,7 @@ impl<'a> Found<'a> {
         self.high - self.low
     }
 
-    /// They as they are best walked: few in a list that is sorted, many by their ranks. An error is want of memory.
+    /// They as they are best walked: few in a list that is sorted, many by their ranks. An error means out of memory.
     pub fn positions(&self, alloc: Global) -> Result<Positions<'a>, AllocError>
         ensures { IfOk result (Keeps self.now) }
     {

@@ -38,7 +38,7 @@ fn ranks_of(alloc: Global, places: &[u32], count: usize) -> Result<Vec<u32>, All
 impl Ranking {
     ghost use Rattle.cad_positions.specs.Parts.{places_in, ranks_in};
 
-    /// The ranking of `count` positions, of which these stand in this order. An error is want of memory.
+    /// The ranking of `count` positions, of which these stand in this order. An error means out of memory.
     pub fn new(alloc: Global, places: Vec<u32>, count: usize) -> Result<Ranking, AllocError>
         requires small { count ≤ 4294967295 }
         requires fewer { length places.items ≤ count }

@@ -77,7 +77,7 @@ impl<'a> Source<'a> {
         Source::Listed(Listed::of(rows))
     }
 
-    /// The positions below `end` of a source whose ranks lie from `from` to below `to`. An error is want of memory.
+    /// The positions below `end` of a source whose ranks lie from `from` to below `to`. An error means out of memory.
     pub fn tested(
         alloc: Global,
         source: Source<'a>,
@@ -98,7 +98,7 @@ impl<'a> Source<'a> {
         }))
     }
 
-    /// The positions that both have. An error is want of memory.
+    /// The positions that both have. An error means out of memory.
     pub(crate) fn met(
         alloc: Global,
         first: Source<'a>,
@@ -111,7 +111,7 @@ impl<'a> Source<'a> {
         Ok(Source::Met(Met { first, second }))
     }
 
-    /// The positions of either. An error is want of memory.
+    /// The positions of either. An error means out of memory.
     pub(crate) fn joined(
         alloc: Global,
         first: Source<'a>,

@@ -28,7 +28,7 @@ impl ParsedRequest {
     ghost use Rattle.cad_resource.specs.Requested.{requested_text};
     ghost use Rattle.cad_request.specs.ParsedRequests.{IsParsedRequest};
 
-    /// What a request wants that asks for this, or fails this check. An error is want of memory.
+    /// What a request wants that asks for this, or fails this check. An error means out of memory.
     pub fn of(
         alloc: Global,
         requested: &Result<ResourceQuery<'_>, Check>,

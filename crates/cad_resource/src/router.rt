@@ -21,7 +21,7 @@ impl Routes {
     ghost use Rattle.cad_resource.specs.Places.{place_of};
     ghost use Rattle.cad_resource.specs.RouteRows.{place_routed};
 
-    /// All routes. An error is want of memory.
+    /// All routes. An error means out of memory.
     pub fn new(alloc: Global) -> Result<Routes, AllocError> {
         Ok(Routes {
             router: router(alloc)?,

@@ -29,7 +29,7 @@ impl<'a> Bases<'a> {
     ghost use Rattle.cad_lookup.specs.Candidates.{is_candidate};
     ghost use Rattle.cad_run.specs.Bases.{rows_left};
 
-    /// The plan's candidates in the base. An error is want of memory.
+    /// The plan's candidates in the base. An error means out of memory.
     pub(crate) fn of(alloc: Global, plan: &Plan, base: &'a Base) -> Result<Bases<'a>, AllocError>
         ensures { IfOk result (λ bases. rows_left bases ≡ filter (is_candidate plan.now) base.now.features) }
     {

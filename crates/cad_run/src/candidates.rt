@@ -78,7 +78,7 @@ fn seek_each(sources: &mut [SegmentCandidates<'_, '_>], last: (ObjectId, u32))
 impl<'a, 'p> Candidates<'a, 'p> {
     ghost use Rattle.cad_run.specs.Left.{candidates_left};
 
-    /// Those of the layer. An error is want of memory.
+    /// Those of the layer. An error means out of memory.
     pub fn of(
         alloc: Global,
         plan: &'p Plan,

@@ -20,7 +20,7 @@ fn count_left<'a, S: FeatureSource<'a>>(source: S) -> u64
     count
 }
 
-/// How many features of the layer are candidates of the plan. An error is want of memory.
+/// How many features of the layer are candidates of the plan. An error means out of memory.
 pub fn candidate_count(alloc: Global, plan: &Plan, layer: &Layer) -> Result<u64, AllocError>
     ensures { IfOk result (λ count. count ≡ length (candidates plan.now layer.now.features)) }
 {

@@ -11,7 +11,7 @@ pub trait FeatureTest {
     /// Whether a feature passes.
     ghost passes: { Self → Item → Bool };
 
-    /// Whether the feature passes. An error is want of memory.
+    /// Whether the feature passes. An error means out of memory.
     fn test(&self, feature: &Feature) -> Result<bool, AllocError>
         ensures { IfOk result (λ passed. passed ≡ passes self.now feature.now) };
 }

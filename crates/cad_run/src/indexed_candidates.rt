@@ -34,7 +34,7 @@ impl<'a> IndexedCandidates<'a> {
     ghost use Rattle.cad_lookup.specs.Candidates.{is_candidate};
     ghost use Rattle.cad_run.specs.IndexedLeft.{indexed_left, BaseStandsFirst};
 
-    /// Those of the indexed features. An error is want of memory.
+    /// Those of the indexed features. An error means out of memory.
     pub(crate) fn of(
         alloc: Global,
         plan: &Plan,

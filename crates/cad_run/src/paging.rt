@@ -30,7 +30,7 @@ fn left_after<'a, S: FeatureSource<'a>>(source: S, after: Option<(ObjectId, u32)
 }
 
 /// The page of the plan's candidates that pass the test: the first of them after the one that is named, `limit` of them at
-/// most. An error is want of memory.
+/// most. An error means out of memory.
 ///
 /// Candidates are tested in their order, each once, up to the one that shows that more are left.
 pub fn page<'a, T: FeatureTest>(

@@ -33,7 +33,7 @@ impl<'a, 'p> SegmentCandidates<'a, 'p> {
     ghost use Rattle.cad_run.specs.SegmentLeft.{segment_left};
     ghost use Rattle.cad_run.specs.Slices.{identifier, later};
 
-    /// Those of the segment. An error is want of memory.
+    /// Those of the segment. An error means out of memory.
     pub(crate) fn of(
         alloc: Global,
         plan: &'p Plan,

@@ -24,7 +24,7 @@ impl SnapshotCache {
     ghost use Rattle.cad_server.specs.Keeping.{KeepsOf, StaysCached, StaysWith, LetsOldestGo, LetsEnteredGo, cached_at};
     ghost use Rattle.cad_server.specs.inner.Rooms.{most_read};
 
-    /// Nothing is kept yet. An error is want of memory.
+    /// Nothing is kept yet. An error means out of memory.
     pub(crate) fn new(alloc: Global) -> Result<SnapshotCache, AllocError>
         ensures { IfOk result (λ kept. (commands : List CommandOf) → KeepsOf commands kept) }
     {

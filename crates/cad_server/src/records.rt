@@ -246,7 +246,7 @@ impl<L: Ledger> Records<L> {
         response
     }
 
-    /// What a request wants. An error is want of memory, or of the ledger.
+    /// What a request wants. An error means out of memory, or of the ledger.
     pub(crate) fn tell(&mut self, wanted: ParsedRequest) -> Result<Response, RegisterFault>
         ensures { Tells L.Ledger wanted self.old result self.new }
     {

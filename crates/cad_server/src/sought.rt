@@ -26,7 +26,7 @@ pub(crate) fn revision_of(sought: &FeatureRequest, newest: u64) -> u64
     }
 }
 
-/// What is told of it. An error is want of memory.
+/// What is told of it. An error means out of memory.
 pub(crate) fn response_in(
     alloc: Global,
     sought: &FeatureRequest,

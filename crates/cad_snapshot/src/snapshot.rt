@@ -78,7 +78,7 @@ impl Snapshot {
     ghost use Rattle.cad_snapshot.specs.Layers.{features_of_layers};
     ghost use Rattle.cad_snapshot.specs.Snapshots.{features_at, IsSnapshotOf};
 
-    /// The features of these versions, which are those of the revision. An error is want of memory.
+    /// The features of these versions, which are those of the revision. An error means out of memory.
     pub fn build(
         alloc: Global,
         revision: u64,
@@ -178,7 +178,7 @@ impl Snapshot {
             .saturating_add(self.responsibilities.spent())
     }
 
-    /// The same features, with new bases for the segments of each collection that is not settled. An error is want of memory.
+    /// The same features, with new bases for the segments of each collection that is not settled. An error means out of memory.
     pub fn settled(&self, alloc: Global, most: usize) -> Result<Snapshot, AllocError>
         ensures { IfOk result (λ settled. settled ≡ self.now) }
     {

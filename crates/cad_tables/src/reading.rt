@@ -61,7 +61,7 @@ pub fn history<S: Alter>(conn: &mut Connection<S>, object: u32) -> Result<Vec<Ro
 pub trait Reader: Sized {
     ghost reads: { SqlRow → Self → Type 0 };
 
-    /// An error is want of memory.
+    /// An error means out of memory.
     fn read(alloc: Global, row: &Row) -> Result<Self, AllocError>
         ensures { IfOk result (reads row.now) };
 }

@@ -253,7 +253,7 @@ fn has_never(parts: &[Normal]) -> bool
     false
 }
 
-/// The AND of two forms. An error is want of memory.
+/// The AND of two forms. An error means out of memory.
 pub fn both<'a>(
     alloc: Global,
     first: Normal<'a>,
