@@ -14,7 +14,7 @@ use std::alloc::{AllocError, Global};
 
 /// The features of a collection after the command, told by those of the collection, the units and the parties before it, over the
 /// same base. An error means out of memory.
-pub fn features_after(
+pub(crate) fn features_after(
     alloc: Global,
     command: &Command,
     features: &Layer,

@@ -1,7 +1,6 @@
 //! What a command changes of the features of a revision.
 //!
 //! - [`touched`]: the features of a collection that a command adds or changes, told by the features before it
-//! - [`features_after`]: the features of a collection after a command, with those merged that it touches
 //! - [`snapshot_after`]: the features of all collections after a command
 //! - `laws`: that the features after a command are those before it with these merged, and more
 //!
@@ -19,6 +18,5 @@ mod reading;
 mod revisions;
 mod touching;
 
-pub use following::features_after;
 pub use revisions::snapshot_after;
 pub use touching::touched;

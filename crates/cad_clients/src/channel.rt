@@ -30,7 +30,7 @@ pub struct Channel {
 }
 
 impl Channel {
-    ghost use Rattle.std.specs.Prelude.{◌≡◌, ◌<◌, false, [], ◌∷◌};
+    ghost use Rattle.std.specs.Prelude.{◌≡◌, ◌<◌, false, ◌∷◌};
     ghost use Rattle.cad_network.specs.Deeds.{gave, AddsSome};
     ghost use Rattle.cad_serve.specs.Serving.{IsPiece};
     ghost use Rattle.cad_clients.specs.Channels.{unfed, unsent, last_fed as last_fed_of, has_ended, IsReady, IsIdle, IsSending, IsTurn};

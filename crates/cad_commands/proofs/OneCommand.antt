@@ -1,6 +1,6 @@
 -- An object says one command alone.
 use Rattle.std.proofs.Common.{◌≡◌, ℕ, List, codes, sym, ap, ◌∙◌}
-use Rattle.serde_json.specs.Data.{Data, Members, member, no_members}
+use Rattle.serde_json.specs.Data.{Members, member, no_members}
 use Rattle.serde_json.specs.Data as json
 use Rattle.cad_day.specs.declared.day.Day.{Day}
 use Rattle.cad_versions.specs.declared.object_id.ObjectId.{ObjectId}

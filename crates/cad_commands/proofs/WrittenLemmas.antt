@@ -2,7 +2,7 @@
 use Rattle.std.proofs.Common.{◌≡◌, ℕ, ◌^◌, ◌<◌, ◌≤◌, List, codes, Some, IsUtf8, refl, ap, arith}
 use Rattle.std.specs.Option.{ForSome, option_and_then}
 use Rattle.json.proofs.Printed.Utf8.{IsUtf8-are_ascii}
-use Rattle.serde_json.specs.Data.{Data, Members, depth}
+use Rattle.serde_json.specs.Data.{Members, depth}
 use Rattle.serde_json.specs.Data as json
 use Rattle.serde_json.specs.Find.{as_object}
 use Rattle.serde_json.specs.Read.{max_depth}

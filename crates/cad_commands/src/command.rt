@@ -1,6 +1,6 @@
 //! Commands, each a line of JSON.
 
-ghost use Rattle.std.specs.Prelude.{◌≡◌, map};
+ghost use Rattle.std.specs.Prelude.{map};
 ghost use Rattle.serde_json.specs.View.{members_view};
 ghost use Rattle.cad_commands.specs.Reading.{IsRead};
 ghost use Rattle.cad_commands.specs.Commands.{Says, SaysBeginning, SaysCommand, SaysEnd};

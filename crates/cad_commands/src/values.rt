@@ -4,7 +4,7 @@ ghost use Rattle.std.specs.Prelude.{◌≡◌, ◌≢◌, MatchOption};
 ghost use Rattle.serde_json.specs.Data.{Data, no_items, item};
 ghost use Rattle.serde_json.specs.View.{items_view, view};
 ghost use Rattle.cad_commands.specs.Reading.{IsRead, IsReadAs};
-ghost use Rattle.cad_commands.specs.Values.{IsPairOf, IsWholeOf, IsIntegerOf};
+ghost use Rattle.cad_commands.specs.Values.{IsPairOf, IsWholeOf};
 
 use crate::command_error::CommandError;
 use cad_day::Day;

@@ -4,7 +4,6 @@ ghost use Rattle.std.specs.Prelude.{◌≡◌, IfOk, string_bytes};
 ghost use Rattle.serde_json.specs.Data.{object as object_of};
 ghost use Rattle.serde_json.specs.View.{view};
 ghost use Rattle.cad_versions.specs.declared.command.Command.TheVariants.{Retire};
-ghost use Rattle.cad_versions.specs.Class.{class_of};
 ghost use Rattle.cad_commands.specs.Bodies.{class_name as named};
 ghost use Rattle.cad_commands.specs.Writing.{beginning_members, command_members, command_text};
 ghost use Rattle.cad_commands.specs.inner.Written.{beside_body, with_one};

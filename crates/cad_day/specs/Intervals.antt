@@ -1,6 +1,6 @@
 -- The days between two ends, and when these are turned round (ISO 8601-1:2019, 3.1.1.6: time interval; own profile: whole days, open ends).
 use Rattle.std.specs.Prelude.{◌≡◌, ℤ, int_lt, Bool, true, false, Option, Some, None, option_map, MatchOption, refl}
-use Rattle.std.proofs.Common.{arith, ap, subst, sym, ◌∙◌, true≢false}
+use Rattle.std.proofs.Common.{arith, ap, subst, sym, true≢false}
 use Rattle.std.proofs.lemmas.Int.{ints}
 use Rattle.cad_day.specs.declared.day.Day.{Day}
 use Rattle.cad_day.specs.declared.interval.Interval.{Interval}

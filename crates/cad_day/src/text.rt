@@ -1,6 +1,6 @@
 //! Days as text: ISO 8601's calendar date in extended format.
 
-ghost use Rattle.std.specs.Prelude.{◌≡◌, ◌+◌, ◌<◌, ◌≤◌, ◌++◌, false, length, pos, option_map, IfSome, MatchOption, OnOk, OnErr, string_bytes};
+ghost use Rattle.std.specs.Prelude.{◌≡◌, ◌+◌, ◌<◌, ◌++◌, false, length, pos, option_map, IfSome, MatchOption, OnOk, OnErr, string_bytes};
 ghost use Rattle.jiff_core.specs.Calendar.{IsCivilDate, days_from_civil};
 ghost use Rattle.cad_day.specs.Calendar.{is_date, IsDateOf};
 ghost use Rattle.cad_day.specs.Days.{number_of};

@@ -6,7 +6,6 @@ use Rattle.cad_desk.specs.declared.desk.Desk.{Desk}
 use Rattle.cad_desk.specs.declared.event.Event.{Event}
 use Rattle.cad_desk.specs.declared.event.Event.TheVariants.{Open, Bytes, Close, Office}
 use Rattle.cad_desk.specs.declared.event.Reply.{Reply}
-use Rattle.cad_desk.specs.declared.event.Reply.TheVariants.{Opened, Sent}
 use Rattle.cad_desk.specs.declared.fault.DeskFault.{DeskFault}
 use Rattle.cad_desk.specs.Desks.{responder_of}
 use Rattle.cad_network.specs.Deeds.{Deed, given_by, taken_by}

@@ -9,9 +9,9 @@ use Rattle.cad_clients.specs.declared.channel.Channel.{Channel}
 use Rattle.cad_clients.specs.Channels.{MayWait}
 use Rattle.cad_event_loop.specs.Replying.{is_leaving, RestsIn, EachIsServed}
 use Rattle.cad_event_loop.specs.Turns.{Standing, absent, waiting, ready, Standings, nobody, woken, is_among, stands_after, stands_in, all_after, is_wait_of, is_end_of, any_of, turns_of, Replies, HasEnough, GivesTurns, IsRound, AreRounds, all_works}
-use Rattle.cad_event_loop.specs.Works.{Held, Place, IsEmpty, Same, Puts, Work, wakes, opens, acts, waits, ends, office_comes, enters, office_leaves, aside, Works, Goes}
+use Rattle.cad_event_loop.specs.Works.{Held, Place, Same, Puts, Work, wakes, opens, acts, waits, ends, office_comes, enters, office_leaves, aside, Works, Goes}
 use Rattle.cad_event_loop.proofs.LifeLemmas.{none_some, one_some}
-use Rattle.cad_event_loop.proofs.StandingLemmas.{stands_in-append, office_in-append, none_ready, waiting_ready, enough_right, round_alike}
+use Rattle.cad_event_loop.proofs.StandingLemmas.{stands_in-append, office_in-append, enough_right, round_alike}
 
 -- how the connection stands, and what is held of it
 abbrev Fits : Standing → Option (ℕ × Channel) → Type 0

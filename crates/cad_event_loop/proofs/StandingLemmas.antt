@@ -11,7 +11,7 @@ use Rattle.cad_clients.specs.Slots.{client_in, client_at}
 use Rattle.cad_event_loop.specs.declared.peers.Peers.{Peers}
 use Rattle.cad_event_loop.specs.declared.stopped.Stopped.{Stopped}
 use Rattle.cad_event_loop.specs.inner.Standing.{standing_of, standing_at, standing_office, standings, IsAsked, IsPaced, IsAtDoors, LosesNobody, ServesOffice, GivesTurn, GivesTurnAlone, HasVisits, HearsBetween, VisitsClient, most_for_one, GivesTurnsBelow, IfWhole, ServesAll, ServesEach, MakesRound, MadeRounds}
-use Rattle.cad_event_loop.specs.Turns.{Standing, absent, waiting, ready, Standings, woken, is_among, office_place, stands_after, stands_in, office_after, office_in, all_after, is_turn_of, is_wait_of, is_end_of, is_office_turn, any_of, has_turn, turns_of, written_by, written_to, Replies, HasEnough, EachHasTurn, IsQuiet, HearsOffice, IsVisit, AreVisits, ComesByVisits, GivesTurns, most_in_round, IsRound, AreRounds, all_works, AreServed}
+use Rattle.cad_event_loop.specs.Turns.{Standing, absent, waiting, ready, Standings, woken, is_among, office_place, stands_after, stands_in, office_after, office_in, all_after, is_turn_of, is_wait_of, is_end_of, is_office_turn, any_of, turns_of, written_by, written_to, Replies, HasEnough, EachHasTurn, IsQuiet, HearsOffice, AreVisits, ComesByVisits, GivesTurns, most_in_round, IsRound, AreRounds, all_works, AreServed}
 use Rattle.cad_event_loop.specs.Works.{AtOffice, Work, wakes, opens, acts, waits, ends, office_comes, enters, office_leaves, aside}
 
 pub stands_in-append : (c : ℕ) (old : Standing) (xs ys : List Work) → stands_in c old (xs ++ ys) ≡ stands_in c (stands_in c old xs) ys

@@ -1,5 +1,5 @@
 -- Whose turn it is (own profile).
-use Rattle.std.specs.Prelude.{◌≡◌, ◌⊎◌, ⊤, ℕ, ◌+◌, ◌≤◌, nat_eq, Bool, true, false, ◌||◌, List, [], ◌∷◌, ◌++◌, length, Option, None, Some, if◌then◌else◌}
+use Rattle.std.specs.Prelude.{◌≡◌, ◌⊎◌, ⊤, ℕ, ◌+◌, ◌≤◌, nat_eq, Bool, true, false, ◌||◌, List, [], ◌∷◌, ◌++◌, length, Some, if◌then◌else◌}
 use Rattle.std.specs.Global.{Vec}
 use Rattle.cad_clients.specs.Channels.{fed, written_in}
 use Rattle.cad_office_socket.specs.declared.turned.EntryTurned.{EntryTurned}

@@ -13,7 +13,7 @@ use Rattle.cad_desk.specs.declared.fault.DeskFault.{DeskFault}
 use Rattle.cad_desk.specs.declared.fault.DeskFault.TheVariants.{Register}
 use Rattle.cad_desk.specs.Desks.{IsShutAtDesk, Steps}
 use Rattle.cad_desk.specs.Faults.{fault_of}
-use Rattle.cad_network.specs.Deeds.{Deed, came, office_came, woke, blocked, left, Adds}
+use Rattle.cad_network.specs.Deeds.{Deed, came, office_came, woke, blocked, left}
 use Rattle.cad_network.specs.Deeds as deed
 use Rattle.cad_clients.specs.declared.channel.Channel.{Channel}
 use Rattle.cad_clients.specs.declared.client.Client.{Client}

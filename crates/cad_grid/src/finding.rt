@@ -1,7 +1,7 @@
 //! The positions that a walk finds.
 
-ghost use Rattle.std.specs.Prelude.{◌≡◌, ◌+◌, IfOk, None, filter, get_or, length};
-ghost use Rattle.cad_grid.specs.Entries.{Ascends, counts, found_in, is_first_at};
+ghost use Rattle.std.specs.Prelude.{◌≡◌, ◌+◌, IfOk, None, get_or, length};
+ghost use Rattle.cad_grid.specs.Entries.{Ascends, found_in, is_first_at};
 
 use crate::Cells;
 use crate::entry::Entry;

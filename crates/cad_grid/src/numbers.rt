@@ -42,7 +42,7 @@ impl Cells {
     }
 
     /// How many they are.
-    pub fn count(self) -> u64
+    pub(crate) fn count(self) -> u64
         ensures { result ≡ (self.right + 1 - self.left) * (self.high + 1 - self.low) }
     {
         u64::from(self.right + 1 - self.left) * u64::from(self.high + 1 - self.low)

@@ -1,6 +1,6 @@
 //! The indexes of a collection's features.
 
-ghost use Rattle.std.specs.Prelude.{◌≡◌, ◌≤◌, IfOk, length, get_or};
+ghost use Rattle.std.specs.Prelude.{◌≡◌, ◌≤◌, IfOk, length};
 ghost use Rattle.std.specs.List.{All};
 ghost use Rattle.std.specs.Option.{option_copied};
 ghost use Rattle.cad_feature.specs.Features.{AreFeaturesOf};
@@ -121,7 +121,7 @@ impl Indexes {
     }
 
     /// How many positions have a value in the range. No memory is taken.
-    pub fn range_count(&self, range: &Range) -> u64
+    pub(crate) fn range_count(&self, range: &Range) -> u64
         ensures { (collection : CollectionOf) (xs : List Item) → AreFeaturesOf collection xs → AreIndexesOf collection xs self.now
             → result ≡ length (range_positions (column range.now.property xs) (limit_of range.now.low) (limit_of range.now.high)) }
     {
@@ -152,7 +152,7 @@ impl Indexes {
     }
 
     /// How many positions are near the box. No memory is taken.
-    pub fn near_count(&self, property: usize, bounds: Bounds) -> u64
+    pub(crate) fn near_count(&self, property: usize, bounds: Bounds) -> u64
         ensures { (collection : CollectionOf) (xs : List Item) → AreFeaturesOf collection xs → AreIndexesOf collection xs self.now
             → result ≡ length (near_positions (blocks_at property xs) (block_of bounds)) }
     {

@@ -1,6 +1,6 @@
 //! Readers that count how often they are read.
 
-ghost use Rattle.std.specs.Prelude.{◌≡◌, ◌≤◌, IsOk};
+ghost use Rattle.std.specs.Prelude.{◌≡◌, IsOk};
 ghost use Rattle.std.specs.Io.{ReadsAtMost};
 ghost use Rattle.std.specs.Io.KnownBytes.{ReadConsumes};
 ghost use Rattle.cad_io.specs.Counting.{CountsReads};

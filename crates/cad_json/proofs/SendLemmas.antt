@@ -1,5 +1,5 @@
 -- What is sent for lists, and their lengths; and that bytes which are UTF-8 are read as a text.
-use Rattle.std.proofs.Common.{◌≡◌, ℕ, suc, List, [], ◌∷◌, length, map, None, Result, Ok, Err, MatchResult, IsOk, refl, ap, slice_get}
+use Rattle.std.proofs.Common.{◌≡◌, suc, List, [], ◌∷◌, length, map, None, Result, Ok, Err, MatchResult, IsOk, refl, ap, slice_get}
 use Rattle.serde_json.specs.Data.{Data}
 use Rattle.serde_json.specs.View.{items_of}
 use Rattle.serde_json.specs.Events.{items_len}

@@ -1,5 +1,5 @@
 -- What is sent to a writer of JSON (own profile).
-use Rattle.std.specs.Prelude.{ℕ, ◌<◌, ◌^◌, pos, negsuc, ⊤}
+use Rattle.std.specs.Prelude.{◌<◌, ◌^◌, pos, negsuc, ⊤}
 use Rattle.serde.specs.Event.{Log}
 use Rattle.serde_json.specs.Data.{Num, unsigned, negative, float, Data, null, boolean, number, string, array, object, Items, no_items, item, Members, no_members, member}
 use Rattle.serde_json.specs.Events.{SendsValue}

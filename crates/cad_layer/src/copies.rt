@@ -46,7 +46,7 @@ fn copy_values(alloc: Global, values: &[Value]) -> Result<Vec<Value>, AllocError
 }
 
 /// The same feature once more.
-pub fn copy_feature(alloc: Global, feature: &Feature) -> Result<Feature, AllocError>
+pub(crate) fn copy_feature(alloc: Global, feature: &Feature) -> Result<Feature, AllocError>
     ensures { IfOk result (λ copy. copy ≡ feature.now) }
 {
     let values = copy_values(alloc, &feature.values)?;

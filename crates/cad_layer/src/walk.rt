@@ -53,7 +53,7 @@ impl<'a> Walk<'a> {
     }
 
     /// The walk through what is left of the features of that object.
-    pub fn of_object(&self, object: ObjectId) -> Walk<'a>
+    pub(crate) fn of_object(&self, object: ObjectId) -> Walk<'a>
         ensures { result ≡ of_object object self.now }
     {
         let indexed = Both {

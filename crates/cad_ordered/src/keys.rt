@@ -1,6 +1,6 @@
 //! Keys in their order.
 
-ghost use Rattle.std.specs.Prelude.{◌≡◌, ◌↔◌, ◌<◌, ◌≤◌, length, get_or, IsTrue, Some};
+ghost use Rattle.std.specs.Prelude.{◌≡◌, ◌↔◌, ◌<◌, length, get_or, IsTrue, Some};
 ghost use Rattle.cad_feature.specs.Values.{null};
 ghost use Rattle.cad_range.specs.Ranges.{compared};
 ghost use Rattle.cad_feature.specs.Limits.{scalar_datum};

@@ -1,16 +1,14 @@
 -- By each plan of the menu of what is asked the page is the same.
-use Rattle.std.proofs.Common.{◌≡◌, ◌∙◌, ap, refl, sym, subst, ℕ, zero, suc, ◌<◌, Bool, true, ◌&&◌, List, [], ◌∷◌, ◌++◌, length, get_or, IsTrue, arith}
+use Rattle.std.proofs.Common.{◌≡◌, ◌∙◌, ap, refl, sym, subst, ℕ, zero, suc, ◌<◌, Bool, true, List, [], ◌∷◌, ◌++◌, length, get_or, arith}
 use Rattle.std.specs.List.{Contains, list_all}
 use Rattle.std.proofs.lemmas.Bool.{and_parts}
 use Rattle.cad_schema.specs.declared.collection.Collection.{Collection}
-use Rattle.cad_feature.specs.Features.{Item, AreFeaturesOf}
+use Rattle.cad_feature.specs.Features.{AreFeaturesOf}
 use Rattle.cad_lookup.specs.declared.plan.Plan.{Plan}
-use Rattle.cad_lookup.specs.Candidates.{is_candidate}
 use Rattle.cad_lookup.specs.Laws.{WaysHaveTheCandidates}
 use Rattle.cad_lookup.specs.Ways.{Way, counts_of, is_found, way_of}
 use Rattle.cql_rewrite.specs.Laws.{ChoicesAreTheFirstOfLeast, FeaturesAreWritten, MenusCover}
-use Rattle.cql_rewrite.specs.Meets.{meets}
-use Rattle.cql_rewrite.specs.Menus.{IsFirstOfLeast, menu}
+use Rattle.cql_rewrite.specs.Menus.{menu}
 use Rattle.cad_answer.specs.Laws.{CoveringPlansHaveTheAnswer}
 use Rattle.cad_run.specs.Slices.{slice, is_more}
 use Rattle.cad_ask.specs.declared.ask.Ask.{Ask}

@@ -10,7 +10,7 @@ use Rattle.cad_json.specs.Paths.{items_path}
 use Rattle.cad_parameters.specs.Identifiers.{Numbers, IsVersionNumber, Identifies, identifier_text}
 use Rattle.cad_parameters.specs.Laws.{IsPairOfTexts, PairsAreTexts, NextIsReadBack, AsksToGoOn, path_of, target_pairs}
 use Rattle.cad_parameters.specs.Links.{continued}
-use Rattle.cad_parameters.specs.Pairs.{PairText, pair_text}
+use Rattle.cad_parameters.specs.Pairs.{PairText}
 use Rattle.cad_parameters.specs.Pairs as queries
 use Rattle.cad_ask.specs.declared.ask.Ask.{Ask}
 use Rattle.cad_ask.specs.Answers.{IsFilterGiven, IsAsk, AsksWell}

@@ -1,5 +1,5 @@
 -- Pages of what asks the same.
-use Rattle.std.proofs.Common.{◌≡◌, ℕ, ℤ, pos, ◌-◌, Bool, cond, ◌&&◌, List, [], ◌∷◌, map, length, slice_get, Option, Some, None, refl, sym, ap, ap₂, ◌∙◌}
+use Rattle.std.proofs.Common.{◌≡◌, ℕ, ℤ, pos, ◌-◌, Bool, cond, ◌&&◌, List, [], ◌∷◌, map, length, slice_get, Option, Some, None, refl, ap, ap₂, ◌∙◌}
 use Rattle.std.specs.Prelude.{codes, option_map}
 use Rattle.std.specs.List.{filter}
 use Rattle.serde_json.specs.Data.{Data, number, unsigned, string, array, object, item, no_members, member}
@@ -18,11 +18,11 @@ use Rattle.cad_parameters.specs.Pairs.{PairText}
 use Rattle.cad_ask.specs.declared.ask.Ask.{Ask}
 use Rattle.cad_ask.specs.Laws.{AskTheSame}
 use Rattle.cad_snapshot.specs.Snapshots.{RevisionFeatures, features_at}
-use Rattle.cad_answer.specs.Answers.{Restrictions, if_given, meets_days, meets_bounds, is_true_of, answers, answer}
+use Rattle.cad_answer.specs.Answers.{if_given, meets_days, meets_bounds, is_true_of, answers, answer}
 use Rattle.cad_answer.specs.Places.{lifespan_of, geometry_of}
 use Rattle.cad_run.specs.Slices.{identifier, slice, is_more}
 use Rattle.cad_page.specs.Pages.{restrictions, beginning, answer_in, rows_in, is_more_in}
-use Rattle.cad_page.specs.Bodies.{numbers_of, pairs_of, next_links, page_data}
+use Rattle.cad_page.specs.Bodies.{numbers_of, pairs_of, next_links}
 use Rattle.cad_page.specs.Laws.{TheSameIsAnswered, TheSameHasOneAnswer}
 
 -- ---- which features answer

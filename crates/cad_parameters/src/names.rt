@@ -3,7 +3,6 @@
 ghost use Rattle.std.specs.Prelude.{◌≡◌, [], ◌∷◌, map, codes, option_copied};
 ghost use Rattle.std.specs.Result.{result_err};
 ghost use Rattle.std.specs.List.{list_any};
-ghost use Rattle.std.specs.Str.{bytes_eq};
 ghost use Rattle.cad_parameters.specs.Pairs.{pair_text, given};
 ghost use Rattle.cad_parameters.specs.Parameters as spec;
 ghost use Rattle.cad_parameters.specs.Parameters.{first_of};

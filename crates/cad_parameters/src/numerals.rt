@@ -3,7 +3,6 @@
 ghost use Rattle.std.specs.Prelude.{◌≡◌, IfSome};
 ghost use Rattle.cad_versions.specs.Objects.{IsObjectNumber};
 ghost use Rattle.cad_parameters.specs.Numerals as spec;
-ghost use Rattle.cad_io.specs.Decimals.{number_in};
 ghost use Rattle.cad_parameters.specs.Numerals.{limit_of, revision_of};
 
 use cad_io::{number, short_number};

@@ -1,6 +1,6 @@
 //! The positions between two ranks.
 
-ghost use Rattle.std.specs.Prelude.{◌≡◌, ◌≤◌, ◌^◌, IfOk, length, slice_range, nat_le};
+ghost use Rattle.std.specs.Prelude.{◌≡◌, ◌≤◌, IfOk, length, slice_range};
 ghost use Rattle.std.specs.List.Sorted.{IsPermutation, IsNonDecreasing};
 ghost use Rattle.cad_positions.specs.Rankings.{positions_between, IsPart};
 ghost use Rattle.cad_positions.specs.PositionSets.{Keeps};

@@ -1,6 +1,6 @@
 //! Pages of features.
 
-ghost use Rattle.std.specs.Prelude.{◌≡◌, ◌≢◌, IfOk, string_bytes};
+ghost use Rattle.std.specs.Prelude.{IfOk};
 ghost use Rattle.cad_ask.specs.declared.fault.AskFault.TheVariants as ask_fault;
 ghost use Rattle.cad_parameters.specs.Pairs.{pairs_of};
 ghost use Rattle.cad_head.specs.declared.status.Status.TheVariants.{BadRequest};

@@ -1,7 +1,7 @@
 //! Replies that are told without the register.
 
 ghost use Rattle.std.specs.Prelude.{IfOk};
-ghost use Rattle.cad_request.specs.ParsedRequests.{IsResponse, IsRefusal};
+ghost use Rattle.cad_request.specs.ParsedRequests.{IsRefusal};
 
 use cad_head::Status;
 use cad_json::word_body;

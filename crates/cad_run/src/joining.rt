@@ -1,6 +1,6 @@
 //! Parts of a plan as one source.
 
-ghost use Rattle.std.specs.Prelude.{◌≡◌, ◌&&◌, ◌||◌, ◌<◌, ℕ, IfOk, nat_lt};
+ghost use Rattle.std.specs.Prelude.{◌≡◌, ◌&&◌, ◌<◌, ℕ, IfOk, nat_lt};
 ghost use Rattle.cad_positions.specs.Has.{has, has_any, has_all};
 ghost use Rattle.cad_run.specs.inner.Parts.{has_all_parts, has_any_part, has_all_wide};
 

@@ -3,7 +3,7 @@
 //! - `serve`: reads the connection's bytes in pieces, has the desk take each, and writes its replies
 //! - `Ending`: how serving ended
 //! - `ServeFault`: why it stopped before its end
-//! - `write_fixed_head`: writes the head that tells a fault of the desk, for which no memory is needed; `fixed_head`: that head
+//! - `fixed_head`: the head that reports a fault of the desk, for which no memory is needed
 //! - `listen`: takes so many connections, and answers the status of the process
 //! - `read_words`, `read_count`, `read_address`: the words of a command line, and what the arguments of a program ask for
 //! - `bound_for`, `tell_address`: whether the address that is bound is the one that was asked for, and the line that names it
@@ -41,4 +41,4 @@ pub use message::{ADDRESS, DESK, Fault, Message, REGISTER, SERVING};
 pub use serve_fault::ServeFault;
 pub use serving::serve;
 pub use telling::{bound_for, tell, tell_address};
-pub use writing::{fixed_head, write_fixed_head};
+pub use writing::fixed_head;

@@ -6,8 +6,7 @@ ghost use Rattle.cad_io.specs.Writing.{IsWritten};
 ghost use Rattle.cad_serve.specs.Writing.{fixed_head as fixed_head_of};
 
 use cad_desk::DeskFault;
-use cad_io::{CountedWrite, WriteFailed, write_counted, write_whole};
-use std::io::Write;
+use cad_io::{CountedWrite, WriteFailed, write_counted};
 
 /// The head that tells that a growth was refused.
 const NO_MEMORY_HEAD: &str =
@@ -29,14 +28,7 @@ pub fn fixed_head(fault: DeskFault) -> &'static str
     }
 }
 
-/// Writes the head that tells the fault. No memory is needed for it.
-pub fn write_fixed_head<W: Write>(writer: &mut W, fault: DeskFault) -> Result<(), WriteFailed>
-    ensures { IsWritten (W.contents writer.old) (W.contents writer.new) (fixed_head_of fault) result }
-{
-    write_whole(writer, fixed_head(fault).as_bytes())
-}
-
-/// The same by a writer that counts its failures.
+/// Writes the head that tells the fault, by a writer that counts its failures. No memory is needed for it.
 pub(crate) fn write_counted_head<W: CountedWrite>(
     writer: &mut W,
     fault: DeskFault,

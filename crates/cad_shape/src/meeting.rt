@@ -3,7 +3,7 @@
 ghost use Rattle.std.specs.Prelude.{◌↔◌, ◌<◌, IsTrue, length};
 ghost use Rattle.std.specs.List.{All};
 ghost use Rattle.cad_shape.specs.Segments.{Meet};
-ghost use Rattle.cad_shape.specs.Edges.{AnyOf, walk, edges_of};
+ghost use Rattle.cad_shape.specs.Edges.{walk, edges_of};
 ghost use Rattle.cad_shape.specs.Frames.{IsHeld};
 ghost use Rattle.cad_shape.specs.Polygons.{rings_edges};
 ghost use Rattle.cad_shape.specs.Regions.{MeetsSome, SomeMeet};

@@ -1,6 +1,6 @@
 //! Segments between two points.
 
-ghost use Rattle.std.specs.Prelude.{◌≡◌, ◌↔◌, IsTrue, ◌⊎◌, ◌*ℤ◌};
+ghost use Rattle.std.specs.Prelude.{◌≡◌, ◌↔◌, IsTrue, ◌*ℤ◌};
 ghost use Rattle.cad_shape.specs.Coordinates.{IsDifference, IsProduct};
 ghost use Rattle.cad_shape.specs.Frames.{IsHeld};
 ghost use Rattle.cad_shape.specs.Segments.{Meet, Straddle, AllBelow, Apart, IsOutOf, turn};

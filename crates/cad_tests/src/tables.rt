@@ -20,7 +20,6 @@ struct Unit {
 
 impl Stored for Unit {
     ghost use Rattle.std.specs.Prelude.{None};
-    ghost use Rattle.cad_tables.specs.VersionRow.{VersionRow};
 
     ghost line = { λ u. record {
       object = u.object;

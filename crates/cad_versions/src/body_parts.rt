@@ -1,6 +1,6 @@
 //! A body by its ten parts: taken apart in one place, and made again by its class in one other.
 
-ghost use Rattle.std.specs.Prelude.{◌≡◌, ◌↔◌, IsTrue, IfOk, MatchOption, Some};
+ghost use Rattle.std.specs.Prelude.{◌≡◌, ◌↔◌, IsTrue, MatchOption, Some};
 ghost use Rattle.std.specs.Option.{option_copied};
 ghost use Rattle.cad_versions.specs.declared.body.Body.{Body as BodyOfVersion};
 ghost use Rattle.cad_versions.specs.BodyParts.{IsMadeOf, IsNoParcel, IsNoRight, lent, no_parts, parts_of};

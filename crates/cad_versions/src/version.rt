@@ -1,6 +1,5 @@
 //! One version of an object.
 
-ghost use Rattle.std.specs.Prelude.{◌≡◌};
 ghost use Rattle.cad_versions.specs.VersionedObject.{VersionedObject, IsVersion};
 
 use crate::body::Body;

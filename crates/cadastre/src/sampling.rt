@@ -1,7 +1,6 @@
 //! The server over the sample register, which lies in a database in memory.
 
 ghost use Rattle.std.specs.Io.KnownBytes.{IsAtEnd};
-ghost use Rattle.std.specs.Prelude.{◌≡◌};
 ghost use Rattle.cad_register.specs.Opening.{Created};
 ghost use Rattle.cad_register.specs.Running.{RunsOver};
 ghost use Rattle.cadastre.specs.Sampling.{SamplesOver, RunsSample};

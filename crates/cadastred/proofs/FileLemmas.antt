@@ -16,7 +16,6 @@ use Rattle.cad_register.specs.Images.{FindsRegister, HoldsRegister, IsEmptyFile}
 use Rattle.cad_register.specs.Opening.{OpenedOrCreated}
 use Rattle.cad_register.specs.Running.{RunsOver, IsFoundOrMadeIn}
 use Rattle.cad_register.specs.lemmas.RunningLemmas.{runs_in_file_or_new}
-use Rattle.cad_network.specs.Deeds.{Deed}
 use Rattle.cadastred_run.specs.declared.outcome.Outcome.{Outcome}
 use Rattle.cadastred.specs.Hosting.{HostsFound, KeepsFound, HostsInFile}
 

@@ -16,7 +16,7 @@ use Rattle.cad_event_loop.specs.Hosting.{HostsBy}
 use Rattle.cad_event_loop.specs.Laws.{LedgerStands}
 use Rattle.cadastred_run.specs.declared.outcome.Outcome.{Outcome}
 use Rattle.cadastred_run.specs.declared.outcome.Outcome.TheVariants as outcome
-use Rattle.cadastred_run.specs.Hosting.{TellsAddress, IsUnhosted, EndsHosting, EndsHosted, HostsOver}
+use Rattle.cadastred_run.specs.Hosting.{EndsHosting, HostsOver}
 use Rattle.cadastred.proofs.CleanLemmas.{clean_same, clean_goes}
 use Rattle.cadastred.specs.Keeping.{KeepsHosted, KeepsEither, KeepsFailed, KeepsAfter, Keeps}
 

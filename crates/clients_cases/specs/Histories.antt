@@ -1,5 +1,5 @@
 -- What was done at the network of the cases (own profile).
-use Rattle.std.specs.Prelude.{ℕ, List, map, Option, None, Some, if◌then◌else◌}
+use Rattle.std.specs.Prelude.{List, map, Option, None, Some, if◌then◌else◌}
 use Rattle.cad_network.specs.Deeds as deed
 use Rattle.cad_network.specs.Deeds.{Deed}
 use Rattle.clients_cases.specs.declared.history.Done.{Done}

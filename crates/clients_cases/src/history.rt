@@ -36,7 +36,7 @@ pub(crate) struct History {
 }
 
 impl History {
-    ghost use Rattle.std.specs.Prelude.{ℕ, [], ◌∷◌, Some};
+    ghost use Rattle.std.specs.Prelude.{[], ◌∷◌, Some};
     ghost use Rattle.std.specs.Io.{ReadsAtMost, WritesAtMost};
     ghost use Rattle.cad_network.specs.Deeds.{gave, took, Adds, failing, reading, writing};
     ghost use Rattle.clients_cases.specs.Histories.{deed_of, known};

@@ -1,5 +1,5 @@
 -- The values of terms, step by step.
-use Rattle.std.proofs.Common.{◌≡◌, ℕ, ℤ, zero, suc, ◌+◌, ◌≤◌, List, [], ◌∷◌, map, length, get_or, drop, add-one, drop-cons, Option, sym, refl, arith}
+use Rattle.std.proofs.Common.{◌≡◌, ℕ, ℤ, zero, suc, ◌+◌, ◌≤◌, List, [], ◌∷◌, map, length, get_or, drop, add-one, drop-cons, Option, refl, arith}
 use Rattle.cad_feature.specs.Features.{Item}
 use Rattle.cql_types.specs.declared.filter.Step.{Step}
 use Rattle.cql_meaning.specs.Arithmetic.{made, stepped, whole_value}

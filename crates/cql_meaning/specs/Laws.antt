@@ -3,9 +3,7 @@ use Rattle.std.specs.Prelude.{◌≡◌, ◌⊎◌, false, not, [], ◌∷◌, m
 use Rattle.std.specs.List.{list_all, list_any}
 use Rattle.std.specs.declared.alloc.Global.{Global}
 use Rattle.cad_day.specs.declared.day.Day.{Day}
-use Rattle.cad_day.specs.declared.interval.Interval.{Interval}
 use Rattle.cad_day.specs.declared.relation.Relation.{Relation}
-use Rattle.cad_day.specs.Days.{IsTurned}
 use Rattle.cad_feature.specs.Features.{Item}
 use Rattle.cql_lexer.specs.declared.token.Comparison.{Comparison}
 use Rattle.cql_lexer.specs.declared.token.Comparison.TheVariants.{Equal, AtMost, AtLeast}

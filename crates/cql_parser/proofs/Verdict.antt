@@ -1,6 +1,6 @@
 -- What the run over all tokens says of them.
 use Rattle.std.proofs.Common.{◌≡◌, ℕ, ◌⊎◌, inl, inr, List, [], ◌∷◌, ◌++◌, refl, sym, ap, subst, ◌∙◌, append_assoc, append-nil}
-use Rattle.std.specs.Prelude.{Option, Some, None, Result, Ok, Err, IfOk, IsOk}
+use Rattle.std.specs.Prelude.{Option, Some, None, Result, Ok, Err, IsOk}
 use Rattle.cql_lexer.specs.Mark.{Sort, Mark, at}
 use Rattle.cql_tree.specs.Syntax.{Syntax}
 use Rattle.cql_parser.specs.Grammar.{Reads, IsViable, IsOr}

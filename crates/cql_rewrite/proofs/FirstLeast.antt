@@ -1,18 +1,15 @@
 -- The running minimum is the first way of least cost.
-use Rattle.std.proofs.Common.{◌≡◌, ◌∙◌, ap, refl, sym, ℕ, ◌<◌, ◌≤◌, Bool, true, false, List, [], ◌∷◌, ◌++◌, map, arith}
+use Rattle.std.proofs.Common.{◌≡◌, ◌∙◌, ap, refl, ◌<◌, ◌≤◌, Bool, true, false, List, [], ◌∷◌, ◌++◌, map, arith}
 use Rattle.std.specs.Prelude.{nat_lt, if◌then◌else◌}
 use Rattle.std.specs.List.{AllByRecursion}
 use Rattle.std.proofs.lemmas.List.Elements.{All-from_recursion}
-use Rattle.std.proofs.lemmas.Bool.{le-ltb}
-use Rattle.cad_grid.specs.Blocks.{block_around}
-use Rattle.cad_shape.specs.Shapes.{shape_corners}
-use Rattle.cad_lookup.specs.Ways.{Way, all_features, no_feature, near_block, join_of, ways_in, range_way, Counts, cost, min_of}
+use Rattle.cad_lookup.specs.Ways.{Way, all_features, Counts, cost, min_of}
 use Rattle.cql_rewrite.specs.declared.form.Normal.{Normal}
 use Rattle.cql_rewrite.specs.declared.form.Normal.TheOpen.{Normal-F}
 use Rattle.cql_rewrite.specs.declared.form.Normal.TheFolds.{fold_out-Normal, map-Normal}
 use Rattle.cql_rewrite.specs.declared.form.Normal.TheViews.{out-Normal}
-use Rattle.cql_rewrite.specs.inner.Choices.{cheaper_goes, cheaper_stays, first_cost, min_of_under}
-use Rattle.cql_rewrite.specs.Menus.{IsFirstOfLeast, cheaper, chosen, choice, first_least, menu, menu_step}
+use Rattle.cql_rewrite.specs.inner.Choices.{first_cost, min_of_under}
+use Rattle.cql_rewrite.specs.Menus.{IsFirstOfLeast, chosen, choice, first_least, menu, menu_step}
 
 -- the same, with lists that are walked
 record Found (counts : Counts) (w : Way) (ws : List Way) : Type 0 where

@@ -4,7 +4,6 @@ ghost use Rattle.std.specs.Prelude.{◌≡◌, ◌≤◌, List, true, IfOk, IfSo
 ghost use Rattle.std.specs.List.{list_all};
 ghost use Rattle.cad_feature.specs.Features.{Item};
 ghost use Rattle.cql_lexer.specs.declared.token.Comparison.TheVariants.{Equal};
-ghost use Rattle.cql_meaning.specs.Sides.{sides};
 ghost use Rattle.cql_rewrite.specs.Atoms.{HasPlainAtoms, IsAtom};
 ghost use Rattle.cql_rewrite.specs.Costs.{IsCounted, any_equal, count_in, least};
 ghost use Rattle.cql_rewrite.specs.Meets.{Written, in_side, meets};

@@ -4,7 +4,7 @@ ghost use Rattle.std.specs.Prelude.{◌≡◌, true, IfOk, Some};
 ghost use Rattle.cad_feature.specs.Features.{Item};
 ghost use Rattle.cql_meaning.specs.Arithmetic.{whole_value};
 ghost use Rattle.cql_meaning.specs.Sides.{compared, days, texts, wholes};
-ghost use Rattle.cql_meaning.specs.Values.{day_value, text_value};
+ghost use Rattle.cql_meaning.specs.Values.{text_value};
 ghost use Rattle.cql_text.specs.Fronts.{text_of};
 ghost use Rattle.cql_rewrite.specs.Terms.{day_sides, is_exact, is_plain_days, is_plain_texts, is_plain_wholes, plain_sides, text_sides, whole_sides};
 

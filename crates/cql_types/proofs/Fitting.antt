@@ -12,11 +12,11 @@ use Rattle.cql_tree.specs.declared.expression.Operation.{Operation}
 use Rattle.cql_types.specs.declared.filter.Step.{Step}
 use Rattle.cql_types.specs.declared.judged.Judged.{Judged}
 use Rattle.cql_types.specs.declared.judged.Node.{Node}
-use Rattle.cql_types.specs.Kinds.{Kind, Mark, whole, text, pattern, day, flag, truth, span, spot, area, frame, condition, open_end, line, is_whole, is_text, is_pattern, is_day, is_flag, is_time, is_end, is_shape, is_line, is_value, is_condition, is_equality, is_comparable, is_same, is_related, first_not, first_unlike, misfit, made, leaf_kind, kind_of_name, kind_of_property, kind_of_day, kind_of_number, IsSound, Has, Have, leaf_has, node_has}
+use Rattle.cql_types.specs.Kinds.{Kind, Mark, whole, text, pattern, day, flag, truth, span, spot, area, frame, condition, open_end, line, is_whole, is_text, is_pattern, is_day, is_flag, is_time, is_end, is_line, is_value, is_condition, is_equality, is_comparable, is_same, is_related, first_not, first_unlike, misfit, made, leaf_kind, kind_of_name, kind_of_property, kind_of_day, kind_of_number, IsSound, Has, Have, leaf_has, node_has}
 use Rattle.cql_types.specs.Kinds as kinds
 use Rattle.cql_types.specs.Fits.{whole_fits, text_fits, pattern_fits, day_fits, flag_fits, span_fits, shape_fits, any_fits, condition_fits}
 use Rattle.cql_types.specs.Literals.{AreNumbers, no_number, one_number, AreRings, no_ring, one_ring}
-use Rattle.cql_types.specs.Means.{kind_of, mark_of, marks_of, whole_of, Are, no_term, one_term, AreSteps, no_step, one_step, property_node, IsLeaf, property_name, number, literal, date, Makes, computed, casei, casei_pattern, like, between, date_node, compare_whole, compare_text, compare_day, compare_flag, in_whole, in_text, in_day, in_flag, is_null, negation, conjunction, disjunction, spatial, temporal, IsEnd, open_text, day_text, day_name, Draws, interval, point, region, box, Means, Mean, leaf_means, node_means, literal_means}
+use Rattle.cql_types.specs.Means.{kind_of, mark_of, marks_of, Are, no_term, one_term, AreSteps, no_step, one_step, property_node, IsLeaf, property_name, number, literal, date, Makes, computed, casei, casei_pattern, like, between, date_node, compare_whole, compare_text, compare_day, compare_flag, in_whole, in_text, in_day, in_flag, is_null, negation, conjunction, disjunction, spatial, temporal, IsEnd, open_text, day_text, day_name, Draws, interval, point, region, box, Means, Mean, leaf_means, node_means, literal_means}
 use Rattle.cql_types.specs.Means as means
 use Rattle.cql_types.proofs.Terms.{is_true}
 

@@ -1,6 +1,6 @@
 //! Judged parts as terms of one kind.
 
-ghost use Rattle.std.specs.Prelude.{◌≡◌, ℕ, Bool, false, Option, Some, is_some, List, ◌++◌, ◌∷◌, IfOk, IfErr};
+ghost use Rattle.std.specs.Prelude.{◌≡◌, Bool, false, Option, Some, is_some, List, ◌++◌, ◌∷◌, IfOk, IfErr};
 ghost use Rattle.cql_types.specs.Kinds.{Kind, is_whole, is_text, is_day, is_flag, is_time, is_shape, is_value, is_condition, first_not, wrong_kind};
 ghost use Rattle.cql_types.specs.Means.{kind_of, marks_of, whole_of, text_of, day_of, flag_of, span_of, shape_of, any_of, condition_of, Are, AreSteps};
 ghost use Rattle.cql_types.specs.Fits.{whole_fits, text_fits, day_fits, flag_fits, span_fits, shape_fits, any_fits, condition_fits};

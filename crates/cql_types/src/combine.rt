@@ -3,7 +3,7 @@
 //! A part is made a term, or dropped by a call, before a fault is told: where it is left to its scope it is taken apart
 //! there, variant by variant down to the least part, and proved so.
 
-ghost use Rattle.std.specs.Prelude.{◌≡◌, [], ◌∷◌, Some, Bool, IfOk, IfErr, IsTrue, ◌↔◌, true, false};
+ghost use Rattle.std.specs.Prelude.{◌≡◌, [], ◌∷◌, Some, Bool, IfOk, IfErr, false};
 ghost use Rattle.cql_tree.specs.Syntax.{or_op, and_op, not_op, compare_op, like_op, between_op, in_op, is_null_op, computed_op, casei_op, date_op, spatial_op, temporal_op};
 ghost use Rattle.cql_types.specs.Kinds as kinds;
 ghost use Rattle.cql_types.specs.Kinds.{is_equality, is_pattern, is_related, misfit};

@@ -1,6 +1,6 @@
 //! Why a tree is no filter.
 
-ghost use Rattle.std.specs.Prelude.{◌≡◌, Some, None, List, ℕ};
+ghost use Rattle.std.specs.Prelude.{◌≡◌, Some, None};
 ghost use Rattle.cql_types.specs.declared.fault.TypeFault.TheVariants.{Memory};
 ghost use Rattle.cql_types.specs.Faults.{fault_row, fault_place};
 

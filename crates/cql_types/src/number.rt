@@ -1,6 +1,6 @@
 //! Whole numbers as they are written.
 
-ghost use Rattle.std.specs.Prelude.{◌≡◌, ◌^◌, ℕ, nat_lt, true, if◌then◌else◌, Some, None, string_bytes};
+ghost use Rattle.std.specs.Prelude.{◌≡◌, nat_lt, true, if◌then◌else◌, Some, None, string_bytes};
 ghost use Rattle.std.specs.Char.{is_ascii_digit};
 ghost use Rattle.std.specs.List.{list_all, before_first, after_first};
 ghost use Rattle.std.specs.Str.Parse.{digits_value};

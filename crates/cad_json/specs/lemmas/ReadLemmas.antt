@@ -1,5 +1,5 @@
 -- The compact text of a tree in order, whose numbers are whole ones, is read as that tree.
-use Rattle.std.proofs.Common.{◌≡◌, ◌≤◌, ℕ, negsuc, pos, List, [], append-nil, Option, Some, option_map, Ordering, Less, Greater, refl, sym, ap, ◌∙◌, arith}
+use Rattle.std.proofs.Common.{◌≡◌, ◌≤◌, ℕ, negsuc, pos, List, [], append-nil, Option, Some, option_map, Less, Greater, refl, sym, ap, ◌∙◌, arith}
 use Rattle.std.specs.Prelude.{⊤, option_and_then}
 use Rattle.std.specs.Ordering.{nat_cmp, ordering_reverse}
 use Rattle.std.specs.Cmp.Lexicographic.{slice_cmp, nat_list_cmp_total}

@@ -1,4 +1,4 @@
-use Rattle.std.proofs.Common.{[], List, sym, subst, map}
+use Rattle.std.proofs.Common.{List, sym, subst, map}
 use Rattle.std.proofs.lemmas.Result.{on_ok_weaker}
 use Rattle.serde_json.specs.Data.{array}
 use Rattle.serde_json.specs.View.{items_of}

@@ -1,4 +1,4 @@
-use Rattle.std.proofs.Common.{◌∙◌, ap, length, subst, sym}
+use Rattle.std.proofs.Common.{◌∙◌, ap, subst, sym}
 use Rattle.cad_lookup.specs.Candidates.{candidates}
 use Rattle.cad_lookup.specs.Ways.{cost, counts_of, way_of}
 use Rattle.cad_run.specs.Slices.{later}

@@ -1,4 +1,4 @@
-use Rattle.std.proofs.Common.{◌∙◌, ap, sym, subst}
+use Rattle.std.proofs.Common.{◌∙◌, ap}
 use Rattle.cad_lookup.specs.Ways.{counts_of}
 use Rattle.cql_rewrite.specs.Menus.{choice}
 use Rattle.cad_page.proofs.PlanLemmas.{all_covered}

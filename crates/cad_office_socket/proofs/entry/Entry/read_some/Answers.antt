@@ -1,4 +1,4 @@
-use Rattle.std.proofs.Common.{◌<◌, [], length, take, refl, inr, arith, length-take}
+use Rattle.std.proofs.Common.{◌<◌, length, take, refl, inr, arith, length-take}
 use Rattle.cad_office_socket.proofs.TurnLemmas.{last_turn}
 use Rattle.cad_office_socket.proofs.entry.Entry.read_some.Goals as goal
 
