@@ -1,6 +1,7 @@
 -- Places ascend in the order of reading.
 use Rattle.std.specs.Prelude.{ℕ, ◌<◌, ◌≤◌}
-pubuse Rattle.cql_tree.specs.Syntax.{Syntax, Parts, none, part, leaf, node, Leaf, Op, keyed, place_in}
+pub use Rattle.cql_lexer.specs.Order.{Ascend}
+use Rattle.cql_tree.specs.Syntax.{Syntax, Parts, none, part, leaf, node, Leaf, Op, keyed, place_in}
 
 mutual
   -- the places of the tree are from one on and below another, in order: a keyword before its parts, and each part before
