@@ -37,8 +37,8 @@ pair_of n i j =
     if nat_eq i j then Same
     else (if nat_eq (i + 1) j then Next else (if nat_eq i 0 && nat_eq (j + 1) n then Round else Far))
 
--- the edge from p to q and the one from r to s, which may be one, share more than they may:
--- an edge has length, neighbours share their corner alone, and others share no point
+-- the edge from p to q and the one from r to s, which may be one, share more than they may: an edge has length, neighbours share only their
+-- corner, and others share no point
 abbrev pub Cross : Pair → Point → Point → Point → Point → Type 0
 Cross Same p q r s = (p.x ≡ q.x) × (p.y ≡ q.y)
 Cross Next p q r s = ShareMore p q s

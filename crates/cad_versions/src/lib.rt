@@ -13,7 +13,7 @@
 //! ObjectId::new(0)                                          // None: numbers begin at 1
 //! ObjectId::new(11)                                         // Some
 //! Words::new("Mill")                                        // Ok
-//! Words::new("")                                            // Err: a text has a byte at least
+//! Words::new("")                                            // Err: a text has at least one byte
 //! Share::new(1, 2)                                          // Some: a half
 //! Body::Unit { name: None }.class()                         // Class::Unit
 //! ```
