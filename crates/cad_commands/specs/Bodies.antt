@@ -33,7 +33,7 @@ members_of class.Responsibility = codes "unit" ∷ codes "party" ∷ codes "code
 abbrev pub SaysShape : Members → Option Region → Type 0
 SaysShape ms shape = IsShapeOf (member_in (codes "shape") ms) (member_in (codes "holes") ms) shape
 
--- each member says the part of its name, and `holes` what lies inside the shape; where it is missing or null, that part is not there
+-- each member says the part of its name, and `holes` what lies inside the shape; if a member is missing or null, that part is not there
 pub record SaysParts (ms : Members) (parts : BodyParts) : Type 0 where
   pub area : MayHave IsWholeOf (codes "area") ms parts.area
   pub unit : MayHave IsObjectOf (codes "unit") ms parts.unit
@@ -46,6 +46,6 @@ pub record SaysParts (ms : Members) (parts : BodyParts) : Type 0 where
   pub label : MayHave IsWordsOf (codes "label") ms parts.label
   pub shape : SaysShape ms parts.shape
 
--- the object says the parts of a body of the class, and has no members but those of the class
+-- the object says the parts of a body of the class, and has no members other than those of the class
 unfoldable pub SaysBody : Members → Class → Body → Type 0
 SaysBody ms class body = (class_of body ≡ class) × SaysParts ms (parts_of body) × AreOnly (members_of class) ms

@@ -25,11 +25,11 @@ operation_name Retire = codes "retire"
 abbrev pub IsOperationOf : Data → Operation → Type 0
 IsOperationOf d operation = as_str d ≡ Some (operation_name operation)
 
--- the members beside a body's
+-- the members that are not the body's
 abbrev pub names_beside : List (List ℕ)
 names_beside = codes "do" ∷ codes "object" ∷ codes "first" ∷ []
 
--- the one member beside those has the name of a class, and says a body of it
+-- the one other member has the name of a class, and says a body of it
 abbrev pub SaysOneBody : Members → Body → Type 0
 SaysOneBody ms body =
     (class : Class) × (inner : Members) × HasOneOther names_beside ms (class_name class) (json.object inner) × SaysBody inner class body

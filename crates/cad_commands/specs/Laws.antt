@@ -9,7 +9,7 @@ use Rattle.cad_commands.specs.Writing.{command_members, command_text, IsOneLine}
 abbrev pub TextSaysOneCommand : Type 0
 TextSaysOneCommand = (text : List ℕ) (a b : Command) → Says text a → Says text b → a ≡ b
 
--- a text whose members stand in another order says the same command
+-- a text whose members are in another order says the same command
 abbrev pub MembersInAnyOrder : Type 0
 MembersInAnyOrder = (text other : List ℕ) → DifferInOrder text other → IsUtf8 other → (command : Command) → Says text command → Says other command
 

@@ -3,12 +3,12 @@ use Rattle.std.specs.Prelude.{Result, Ok, Err}
 use Rattle.cad_commands.specs.declared.command_error.CommandError.{CommandError}
 use Rattle.cad_commands.specs.declared.command_error.CommandError.TheVariants.{NotACommand, Memory}
 
--- that it is no command is answered only where nothing is said
+-- the answer that it is no command is given only if nothing is said
 abbrev pub IsUnread : {X : Type 0} → (X → Type 0) → CommandError → Type 0
 IsUnread {X} Says NotACommand = (x : X) → ¬ Says x
 IsUnread Says Memory = Unit {0}
 
--- what is read, seen so, is what is said
+-- what is read, seen this way, is what is said
 abbrev pub IsReadAs : {T X : Type 0} → (T → X) → (X → Type 0) → Result T CommandError → Type 0
 IsReadAs see Says (Ok value) = Says (see value)
 IsReadAs see Says (Err error) = IsUnread Says error

@@ -18,11 +18,11 @@ use Rattle.cad_versions.specs.Objects.{object_number}
 use Rattle.cad_versions.specs.Texts.{bytes_of}
 use Rattle.cad_versions.specs.Fractions.{num_of, den_of}
 
--- a number from 0 on, written without fraction and exponent
+-- a number from 0 on, written without a fraction or an exponent
 abbrev pub natural_in : Data → Option ℕ
 natural_in d = option_and_then as_u64 (as_number d)
 
--- one of 32 bits
+-- a number of 32 bits
 abbrev pub IsWholeOf : Data → ℕ → Type 0
 IsWholeOf d n = (natural_in d ≡ Some n) × (n < 2 ^ 32)
 
@@ -47,7 +47,7 @@ abbrev pub IsShareOf : Data → Share → Type 0
 IsShareOf d share =
     (num : Data) × (den : Data) × IsPairOf d num den × IsWholeOf num (num_of share) × IsWholeOf den (den_of share)
 
--- a whole number, written without fraction and exponent
+-- a whole number, written without a fraction or an exponent
 abbrev pub IsIntegerOf : Data → ℤ → Type 0
 IsIntegerOf d n = option_and_then as_i64 (as_number d) ≡ Some n
 
@@ -76,7 +76,7 @@ AreRingsOf (item d ds) (ring ∷ rings) = IsRingOf d ring × AreRingsOf ds rings
 abbrev pub AreHolesOf : Data → List Ring → Type 0
 AreHolesOf d holes = (ds : Items) × (as_array d ≡ Some ds) × AreRingsOf ds holes
 
--- where no holes are told there are none
+-- if no holes are given, the shape has no holes
 abbrev pub MayHaveHoles : Option Data → List Ring → Type 0
 MayHaveHoles None holes = holes ≡ []
 MayHaveHoles (Some d) holes = AreHolesOf d holes
@@ -91,7 +91,7 @@ abbrev pub IsRegionOf : Data → Option Data → Region → Type 0
 IsRegionOf outline d region =
     (outer : Ring) × (holes : List Ring) × (rings_of region ≡ outer ∷ holes) × IsRingOf outline outer × MayHaveHoles d holes
 
--- a shape, where an outline is told; holes without one are no shape, and neither is none
+-- a shape, if an outline is given; holes without an outline are not a shape; if neither is given, there is no shape
 abbrev pub IsShapeOf : Option Data → Option Data → Option Region → Type 0
 IsShapeOf None None None = Unit {0}
 IsShapeOf (Some outline) holes (Some region) = IsRegionOf outline holes region

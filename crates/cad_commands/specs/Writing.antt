@@ -84,7 +84,7 @@ or_null json_of (Some x) = json_of x
 
 -- ---- objects
 
--- of a right and of a responsibility
+-- the members of a right and of a responsibility
 abbrev pub right_members : ObjectId → Option ObjectId → Words → Option Share → Members
 right_members unit party code share =
     member (codes "code") (words_json code) (member (codes "party") (or_null object_json party) (member (codes "share") (or_null share_json share) (member (codes "unit") (object_json unit) no_members)))
@@ -124,7 +124,7 @@ abbrev pub is_one_line : List ℕ → Bool
 is_one_line [] = true
 is_one_line (byte ∷ bytes) = not (byte == 10) && is_one_line bytes
 
--- no line ends in the command's text, which has at most 65,536 bytes
+-- the command's text has no line end in it and at most 65,536 bytes
 pub record IsOneLine (command : Command) : Type 0 where
   pub unbroken : is_one_line (command_text command) ≡ true
   pub short : length (command_text command) ≤ 65536

@@ -13,7 +13,7 @@ use crate::outline::shape;
 use cad_versions::{Body, BodyParts, Class};
 use std::alloc::Global;
 
-/// The body of the one class whose name stands beside the object and the first day.
+/// The body of the one class that is named next to the object and the first day.
 pub(crate) fn body(alloc: Global, members: Members) -> Result<Body, CommandError>
     ensures { IsRead (SaysOneBody (members_view members.map.entries)) result }
 {
@@ -79,7 +79,7 @@ fn parts(alloc: Global, members: &Members) -> Result<BodyParts, CommandError>
     })
 }
 
-/// The body of the class that the members say, which have to be those of the class alone.
+/// The body of the class that the members say. They must be members of this class only.
 #[tactic(auto, unfolding(crate::specs::Bodies::SaysBody))]
 fn body_of(alloc: Global, class: Class, members: Members) -> Result<Body, CommandError>
     ensures { IsRead (SaysBody (members_view members.map.entries) class) result }

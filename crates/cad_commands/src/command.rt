@@ -15,7 +15,7 @@ use serde_json::Value;
 use std::alloc::Global;
 use std::str;
 
-/// The command that the text says: where it says none, `NotACommand`.
+/// The command that the text says, or `NotACommand` if it says none.
 pub fn read_command(alloc: Global, text: &[u8]) -> Result<Command, CommandError>
     ensures { IsRead (Says text.now) result }
 {

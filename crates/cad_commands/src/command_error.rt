@@ -9,7 +9,7 @@ pub enum CommandError {
     /// It is not the JSON text of a command.
     #[error("the text is not the JSON of a command")]
     NotACommand,
-    /// A growth was refused.
+    /// Out of memory.
     #[error("out of memory")]
     Memory,
 }

@@ -1,4 +1,4 @@
-//! What holds of every text and of every command, whoever reads it. Each contract is a law; the functions do nothing.
+//! What holds of every text and of every command, no matter who reads it. Each contract is a law; the functions do nothing.
 
 ghost use Rattle.std.specs.Prelude.{◌<◌, ◌^◌};
 ghost use Rattle.std.specs.Option.{ForSome};
@@ -15,7 +15,7 @@ pub fn text_says_one_command()
     ensures { TextSaysOneCommand }
 {}
 
-/// A text whose members stand in another order says the same command.
+/// A text whose members are in another order says the same command.
 pub fn members_in_any_order()
     ensures { MembersInAnyOrder }
 {}

@@ -1,17 +1,17 @@
 //! What the land office asks for, as JSON: which object says which command, and how it is read and written.
 //!
 //! - `read_command`: the command that a text says.
-//! - `CommandError`: why a text gives none.
+//! - `CommandError`: why a text gives no command.
 //! - `write_command`: a text that says a command, in one line.
-//! - `laws`: what holds of every text, whoever reads it.
+//! - `laws`: what holds of every text, no matter who reads it.
 //!
-//! A command is a JSON object of the members `do`, `object` and a day, with one member named by the
-//! object's class where a version begins. The text
+//! A command is a JSON object of the members `do`, `object` and a day, with one member named by the object's class if a version begins. The
+//! text
 //!
 //!     {"do":"retire","object":3,"last":"2020-12-31"}
 //!
-//! gives `Command::Retire { object, last }` of object 3 and the last day of 2020, in whatever order
-//! its members stand. specs/Commands and specs/Bodies say which object says what.
+//! gives `Command::Retire { object, last }` of object 3 and the last day of 2020, with its members in any order. specs/Commands and
+//! specs/Bodies say which object says what.
 #![tactic(auto)]
 
 mod bodies_json;

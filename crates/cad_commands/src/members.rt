@@ -1,4 +1,4 @@
-//! Members of a JSON object: each is read by its name, and then that there are no others.
+//! Members of a JSON object: each is read by its name, and then it is checked that there are no others.
 
 ghost use Rattle.std.specs.Prelude.{◌≡◌, ℕ, List, MatchResult, Some, map, option_map, string_bytes};
 ghost use Rattle.serde_json.specs.Data.{Data};
@@ -19,7 +19,7 @@ pub struct Members {
 }
 
 impl Members {
-    /// The members of the value, which has to be an object.
+    /// The members of the value, which must be an object.
     pub(crate) fn of(value: Value) -> Result<Members, CommandError>
         ensures { IsReadAs (λ members. members_view members.map.entries) (λ ms. as_object (view value) ≡ Some ms) result }
     {
@@ -29,7 +29,7 @@ impl Members {
         }
     }
 
-    /// The member, where it is there and not null.
+    /// The member, if it is there and not null.
     fn get(&self, name: &str) -> Option<&Value>
         ensures { option_map (λ v. view v.now) result ≡ member_in name.now (members_view self.now.map.entries) }
     {
@@ -51,7 +51,7 @@ impl Members {
         }
     }
 
-    /// What the member says, which has to be there and not null.
+    /// What the member says, which must be there and not null.
     pub(crate) fn required<T: FromValue>(
         &self,
         alloc: Global,
@@ -65,7 +65,7 @@ impl Members {
         }
     }
 
-    /// That there are members of these names alone.
+    /// Checks that there are members of these names only.
     pub(crate) fn only(self, names: &[&str]) -> Result<(), CommandError>
         ensures { MatchResult result
             (λ _. AreOnly (map (λ name. name.now) names.now) (members_view self.map.entries))
@@ -78,7 +78,7 @@ impl Members {
         }
     }
 
-    /// The one member beside those of these names.
+    /// The one member that has none of these names.
     pub(crate) fn one_other(self, names: &[&str]) -> Result<(String, Value), CommandError>
         ensures { IsReadAs {X = List ℕ × Data} (λ other. (string_bytes other.0, view other.1))
             (λ other. HasOneOther (map (λ name. name.now) names.now) (members_view self.map.entries) other.0 other.1) result }

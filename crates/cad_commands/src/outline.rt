@@ -80,7 +80,7 @@ impl FromValue for Holes {
     }
 }
 
-/// The rings of the holes, where there are any.
+/// The rings of the holes, if there are any.
 fn listed(alloc: Global, holes: Option<Holes>) -> Vec<Ring>
     ensures { result.items ≡ holes_listed holes }
 {
@@ -90,7 +90,7 @@ fn listed(alloc: Global, holes: Option<Holes>) -> Vec<Ring>
     }
 }
 
-/// The region inside an outline, and outside holes where there are any.
+/// The region inside an outline, and outside holes if there are any.
 fn region(alloc: Global, outline: Ring, holes: Option<Holes>) -> Result<Region, CommandError>
     ensures { IsRead (λ region. rings_of region ≡ outline ∷ holes_listed holes) result }
 {

@@ -112,7 +112,7 @@ impl FromValue for Point {
     }
 }
 
-/// A whole number from 0 to 4,294,967,295. A number with a fraction or an exponent is none.
+/// A whole number from 0 to 4,294,967,295, written without a fraction or an exponent.
 fn whole(value: &Value) -> Result<u32, CommandError>
     ensures { IsRead (IsWholeOf (view value.now)) result }
 {

@@ -43,7 +43,7 @@ fn without_body(
     json!(in alloc; {"do": operation, "first": first, "object": object})
 }
 
-/// The object, with a member more.
+/// The object, with one more member.
 fn with_member(alloc: Global, json: Json, name: &str, value: Json) -> Result<Json, AllocError>
     ensures { IfOk result (λ more. view more ≡ with_one (view json) name.now (view value)) }
 {
@@ -101,7 +101,7 @@ fn command_json(alloc: Global, command: &Command) -> Result<Json, AllocError>
     }
 }
 
-/// The text of the object that says the command, with no space. No line ends in it.
+/// The text of the object that says the command, with no space and no line end in it.
 pub fn write_command(alloc: Global, command: &Command) -> Result<String, AllocError>
     ensures { IfOk result (λ text. string_bytes text ≡ command_text command.now) }
 {

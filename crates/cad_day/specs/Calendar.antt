@@ -13,7 +13,7 @@ abbrev pub IsDateOf : ℕ → ℕ → ℕ → Date → Type 0
 IsDateOf year month date d =
     (is_date year month date ≡ true) × (d.year ≡ pos year) × (d.month ≡ month) × (d.day ≡ date)
 
--- among the next years, from 1 January of `year` on: the year that holds the day so many days later, and the days left in it
+-- among the next years, from 1 January of `year` on: the year that holds the day this many days later, and the days left in it
 unfoldable pub year_from : ℕ → ℕ → ℕ → ℕ × ℕ
 year_from zero year days = (year, days)
 year_from (suc years) year days =

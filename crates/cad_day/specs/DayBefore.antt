@@ -7,7 +7,7 @@ use Rattle.cad_day.specs.declared.day.Day.{Day}
 use Rattle.cad_day.specs.DayNumbers.{IsDayNumber, first_number}
 use Rattle.cad_day.specs.Days.{number_of}
 
--- one less, and for the first day of all that day itself
+-- one less, or for the very first day that day itself
 abbrev pub number_before : Day → ℤ
 number_before day = int_max first_number (number_of day -ℤ pos 1)
 

@@ -26,7 +26,7 @@ pub record Names (text : List ℕ) (number : ℤ) : Type 0 where
 
 -- ---- the same as two functions
 
--- the date's text of the day with that number
+-- the text of the day with that number
 abbrev pub day_text : ℤ → List ℕ
 day_text number =
     let civil = civil_date number in date_text civil.year civil.month civil.date

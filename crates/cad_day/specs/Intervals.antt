@@ -1,4 +1,5 @@
--- The days between two ends, and when these are turned round (ISO 8601-1:2019, 3.1.1.6: time interval; own profile: whole days, open ends).
+-- The days between two ends, and when these are in the wrong order (ISO 8601-1:2019, 3.1.1.6: time interval; own profile: whole days, open
+-- ends).
 use Rattle.std.specs.Prelude.{◌≡◌, ℤ, int_lt, Bool, true, false, Option, Some, None, option_map, MatchOption, refl}
 use Rattle.std.proofs.Common.{arith, ap, subst, sym, true≢false}
 use Rattle.std.proofs.lemmas.Int.{ints}
@@ -24,7 +25,7 @@ abbrev pub where_turned : (from to : Option Day) (turned : Bool) → is_turned f
 where_turned from to true e = None
 where_turned from to false e = Some (record { from = from; to = to; in_order = not_turned from to e })
 
--- the interval with these ends; none where they are turned round
+-- the interval with these ends; None if they are in the wrong order
 unfoldable pub interval_of : Option Day → Option Day → Option Interval
 interval_of from to = where_turned from to (is_turned from to) refl
 
@@ -38,7 +39,7 @@ abbrev pub IsIntervalOf : Option Day → Option Day → Option Interval → Type
 IsIntervalOf from to None = IsTurned from to
 IsIntervalOf from to (Some days) = (days.from ≡ from) × (days.to ≡ to)
 
--- from one end to another there is an interval with these ends, or they are turned round
+-- from one end to another there is an interval with these ends, or they are in the wrong order
 abbrev pub IntervalsHaveTheirEnds : Type 0
 IntervalsHaveTheirEnds = (from to : Option Day) → IsIntervalOf from to (interval_of from to)
 
@@ -65,7 +66,7 @@ answered from to true e (Some days) h = absurd (days.in_order (rw (h.0, h.1) (tu
 answered from to false e None h = absurd (not_turned from to e h)
 answered from to false e (Some days) h = ap (λ (d : Interval). Some d) (same_interval days (record { from = from; to = to; in_order = not_turned from to e }) h.0 h.1)
 
--- what answers with these ends, or with none where they are turned round, is the interval
+-- a result with these ends, or None if they are in the wrong order, is the interval
 pub is_interval_of : (from to : Option Day) (r : Option Interval) → MatchOption r (IsTurned from to) (λ days. (days.from ≡ from) × (days.to ≡ to)) → r ≡ interval_of from to
 unfolding interval_of
 is_interval_of from to = answered from to (is_turned from to) refl

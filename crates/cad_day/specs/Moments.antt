@@ -13,18 +13,18 @@ use Rattle.cad_day.specs.DayNumbers.{first_number, last_number}
 use Rattle.cad_day.specs.Days.{number_of}
 use Rattle.cad_day.specs.DayTexts.{day_named}
 
--- the day in UTC of the instant so many nanoseconds after 1970-01-01T00:00:00Z, if it is one of the years 0000 to 9999
+-- the day in UTC of the instant this many nanoseconds after 1970-01-01T00:00:00Z, if it is in the years 0000 to 9999
 abbrev pub utc_day : ℤ → Option ℤ
 utc_day nanosecond =
     let number = int_div_euclid nanosecond (pos 86_400_000_000_000) in
     if int_lt number first_number || int_lt last_number number then None else Some number
 
--- the day of an instant's text that says nothing in brackets
+-- the day of an instant's text that has nothing in brackets
 abbrev pub instant_day : List ℕ → Option ℤ
 instant_day text =
     if list_any (λ c. c == 91) text then None else option_and_then utc_day (result_ok (parse_timestamp text))
 
--- the day of a moment: that it names, else that of its instant
+-- the day of a moment: the one that it names, else that of its instant
 abbrev pub moment_day : List ℕ → Option ℤ
 moment_day text = option_or (day_named text) (instant_day text)
 
@@ -35,14 +35,14 @@ moment_asked text = ok_or (moment_day text) NotADate
 abbrev pub is_open : List ℕ → Bool
 is_open text = (length text == 0) || bytes_eq text (codes "..")
 
--- one end of an interval: None where it is open
+-- one end of an interval: None if it is open
 abbrev pub end_asked : List ℕ → Result (Option ℤ) DatetimeFault
 end_asked text = if is_open text then Ok None else result_map_both Some (λ fault. fault) (moment_asked text)
 
 abbrev pub Ends : Type 0
 Ends = Option ℤ × Option ℤ
 
--- both ends, where the last day does not lie before the first
+-- both ends, if the last day does not lie before the first
 abbrev pub in_order : Option ℤ → Option ℤ → Result Ends DatetimeFault
 in_order None to = Ok (None, to)
 in_order (Some first) None = Ok (Some first, None)
@@ -56,7 +56,7 @@ between (Ok from) (Ok to) = in_order from to
 abbrev pub is_slash : ℕ → Bool
 is_slash c = c == 47
 
--- what stands before the first slash and what after it, where there is one
+-- the text before the first slash and the text after it, if there is a slash
 abbrev pub parted : List ℕ → Option (List ℕ × List ℕ)
 parted text =
     if nat_lt (position_or_len is_slash text) (length text)
@@ -70,7 +70,7 @@ abbrev pub asked_by : List ℕ → Option (List ℕ × List ℕ) → Result Ends
 asked_by text None = one_moment text
 asked_by text (Some parts) = between (end_asked parts.0) (end_asked parts.1)
 
--- the days that a text asks for: from one end to another where a slash parts it, else those of one moment
+-- the days that a text asks for: from one end to another if the text has a slash, else those of one moment
 abbrev pub asked : List ℕ → Result Ends DatetimeFault
 asked text = asked_by text (parted text)
 

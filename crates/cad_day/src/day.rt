@@ -38,7 +38,7 @@ impl Day {
     {
         self.number
     }
-    /// The day before, and for the first day of all that day itself.
+    /// The day before, or for the very first day that day itself.
     #[tactic(auto, using(crate::specs::lemmas::SameLemmas::same_day))]
     pub fn before(self) -> Day
         ensures { result ≡ day_before self }

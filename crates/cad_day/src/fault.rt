@@ -1,20 +1,20 @@
-//! Why a text asks for no days.
+//! Why a text does not ask for any days.
 
 ghost use Rattle.std.specs.Prelude.{◌≡◌};
 ghost use Rattle.cad_day.specs.Faults.{fault_number_and_name, fault_number, fault_name};
 
 use thiserror::Error;
 
-/// Why a text asks for no days.
+/// Why a text does not ask for any days.
 #[derive(Clone, Copy, PartialEq, Eq, Debug, Error)]
 pub enum DatetimeFault {
-    /// A moment that is asked is neither a day nor an instant.
+    /// A moment in the text is neither a day nor an instant.
     #[error("not a date")]
     NotADate,
     /// The last day lies before the first.
     #[error("the last day lies before the first")]
     EndsTurned,
-    /// A growth was refused. [`asked`](crate::asked) grows nothing; callers that do answer it.
+    /// Out of memory. [`asked`](crate::asked) never returns it; callers that allocate memory do.
     #[error("out of memory")]
     Memory,
 }
@@ -31,7 +31,7 @@ impl DatetimeFault {
         }
     }
 
-    /// The fault's number in the table of specs/Faults, from 1, by which programs may tell it.
+    /// The fault's number in the table of specs/Faults, from 1. Programs identify the fault by it.
     pub fn number(&self) -> u8
         ensures { result ≡ fault_number self.now }
     {

@@ -22,7 +22,7 @@ pub fn each_day_is_named(day: Day)
     let _ = day.civil_date();
 }
 
-/// A day has one text alone.
+/// A day has only one text.
 pub fn each_day_has_one_text()
     ensures { (text : List ℕ) (number : ℤ) → HasOneText text number }
 {}
@@ -34,7 +34,7 @@ pub fn written_days_are_read_back(day: Day)
     each_day_is_named(day);
 }
 
-/// From one end to another there is an interval with these ends, or they are turned round.
+/// From one end to another there is an interval with these ends, or they are in the wrong order.
 pub fn intervals_have_their_ends()
     ensures { IntervalsHaveTheirEnds }
 {}
@@ -46,17 +46,17 @@ pub fn each_relation_has_its_mirror(relation: Relation, a: Interval, b: Interval
     ensures { holds (mirror relation) a b ≡ holds relation b a }
 {}
 
-/// Two intervals are disjoint where one lies after the other, or before it.
+/// Two intervals are disjoint if and only if one lies after the other, or before it.
 pub fn disjoint_is_after_or_before(a: Interval, b: Interval)
     ensures { holds Disjoint a b ≡ (holds After a b || holds Before a b) }
 {}
 
-/// Two intervals intersect where they are not disjoint.
+/// Two intervals intersect if and only if they are not disjoint.
 pub fn intersecting_is_not_disjoint(a: Interval, b: Interval)
     ensures { holds Intersects a b ≡ not (holds Disjoint a b) }
 {}
 
-/// Two intervals intersect exactly where some day lies in both.
+/// Two intervals intersect if and only if some day lies in both.
 pub fn intersecting_is_sharing_a_day(a: Interval, b: Interval)
     ensures { IsTrue (holds Intersects a b) ↔ ShareDay a b }
 {}

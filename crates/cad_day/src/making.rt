@@ -11,7 +11,7 @@ impl Interval {
     ghost use Rattle.cad_day.specs.Days.{IsTurned};
     ghost use Rattle.cad_day.specs.Intervals.{interval_of};
 
-    /// The interval with these ends, if they stand in order.
+    /// The interval with these ends, if they are in order.
     pub fn new(from: Option<Day>, to: Option<Day>) -> Option<Interval>
         ensures ends { MatchOption result (IsTurned from to) (λ days. (days.from ≡ from) × (days.to ≡ to)) }
         ensures interval { result ≡ interval_of from to }

@@ -10,8 +10,8 @@ use crate::{DatetimeFault, Day, Interval};
 use jiff_core::Timestamp;
 use jiff_fmt::temporal;
 
-/// The days that a text asks for: those of one moment, or from one moment to another where the
-/// text is cut at its first `/`. There an empty part or `..` is an open end.
+/// The days that a text asks for: those of one moment, or from one moment to another if the text has a `/` (the first one separates them).
+/// In that case an empty part or `..` is an open end.
 ///
 /// A moment is a day `YYYY-MM-DD`, or a text without `[` that jiff reads as an instant; its day is
 /// that of UTC. So `2010-01-01T00:30:00+01:00` asks for 2009-12-31.

@@ -1,7 +1,7 @@
 -- How often a reader is read, and how often a write of a writer fails (own profile).
 use Rattle.std.specs.Prelude.{◌≡◌, ◌==◌, ℕ, ◌+◌, ◌≤◌, ◌<◌, Bool, true, false, Result, Ok, Err}
 
--- at most so many reads are made, and exactly so many where this holds
+-- at most this many reads are made, and exactly this many if this holds
 abbrev pub CountsReads : ℕ → Type 0 → ℕ → ℕ → Type 0
 CountsReads most IsSpent before after = (after ≤ before + most) × (IsSpent → after ≡ before + most)
 

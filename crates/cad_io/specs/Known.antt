@@ -1,4 +1,4 @@
--- What is read and written, where it is known (own profile).
+-- What is read and written, if it is known (own profile).
 use Rattle.std.specs.Prelude.{ℕ, List, Option}
 use Rattle.std.specs.Io.KnownBytes.{Consumes, Appends}
 

@@ -15,7 +15,7 @@ IsCutShort front whole = (n : ℕ) × (n < length whole) × (front ≡ take n wh
 abbrev pub WritesCut : Option (List ℕ) → Option (List ℕ) → List ℕ → Type 0
 WritesCut old new bytes = (front : List ℕ) × Appends old new front × IsCutShort front bytes
 
--- what a writer took of these bytes: all, or where it failed a part of them
+-- what a writer took of these bytes: all, or a part of them if it failed
 abbrev pub IsWritten : Option (List ℕ) → Option (List ℕ) → List ℕ → Result (Unit {0}) WriteFailed → Type 0
 IsWritten old new bytes (Ok done) = Appends old new bytes
 IsWritten old new bytes (Err failed) = WritesCut old new bytes

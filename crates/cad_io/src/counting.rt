@@ -20,7 +20,7 @@ pub trait CountedRead: Read {
         ensures counted { CountsReads 1 (IsOk result) (reads self.old) (reads self.new) };
 }
 
-/// A reader, and how often it was read, up to 2^64 - 1 times: it is read no more then, and each call fails.
+/// A reader, and how often it was read, up to 2^64 - 1 times: after that it is not read, and each call fails.
 #[derive(Debug, Drop)]
 pub struct Counted<R> {
     reader: R,

@@ -3,10 +3,10 @@
 ghost use Rattle.std.specs.Prelude.{◌≡◌, ◌≤◌, ◌+◌, ◌*◌, min, length, option_map, IfSome};
 ghost use Rattle.cad_io.specs.Decimals.{number_in};
 
-/// More than each number of 18 digits: 10^18.
+/// More than any number of 18 digits: 10^18.
 const MANY: u64 = 1_000_000_000_000_000_000;
 
-/// The number that decimal digits spell, or 10^18 where it is more.
+/// The number that decimal digits spell, or 10^18 if it is more.
 pub fn number(digits: &[u8]) -> Option<u64>
     ensures value { result ≡ option_map (min 1000000000000000000) (number_in digits.now) }
     ensures bound { IfSome result (λ n. n ≤ 1000000000000000000) }
@@ -24,7 +24,7 @@ pub fn number(digits: &[u8]) -> Option<u64>
     Some(number)
 }
 
-/// The number with one more digit, or 10^18 where it is more.
+/// The number with one more digit, or 10^18 if it is more.
 fn one_more(number: u64, digit: u8) -> u64
     requires number { number ≤ 1000000000000000000 }
     requires digit { digit ≤ 9 }

@@ -70,7 +70,7 @@ impl<W: Write> CountedWrite for CountedWriter<W> {
     }
 }
 
-/// Writes all the bytes by a writer that counts its failures. At a write that fails or takes nothing it stops, and that is counted.
+/// Writes all the bytes by a writer that counts its failures. It stops at a write that fails or takes nothing, and counts that failure.
 pub fn write_counted<W: CountedWrite>(
     writer: &mut W,
     bytes: &[u8],

@@ -1,9 +1,9 @@
-//! Reading by readers that count their reads, writing whole texts by writers that may take less of them, and that count
-//! their failures where that is asked for, and decimal numbers in texts.
+//! Reading by readers that count their reads, writing whole texts by writers that may take less of them and that can count their failures,
+//! and decimal numbers in texts.
 //!
 //! ```text
-//! write_whole(&mut writer, b"revision 1\n")    // Ok once all is written, whatever each write took
-//!                                              // Err(WriteFailed) where a write failed or took nothing: a front was written
+//! write_whole(&mut writer, b"revision 1\n")    // Ok once all is written, no matter how much each write took
+//!                                              // Err(WriteFailed) if a write failed or took nothing: only a prefix was written
 //! let mut reader = Counted::new(stdin);
 //! reader.read_once(&mut buffer)                // a read, and one more is counted
 //! let mut writer = CountedWriter::new(stdout);
@@ -11,7 +11,7 @@
 //! rest_from(b"revision 1\n", 9)                    // b"1\n"
 //! ```
 //!
-//! - [`number`]: the number that digits spell, or 10^18 where it is more
+//! - [`number`]: the number that digits spell, or 10^18 if it is more
 //! - [`short_number`]: the number that at most 18 digits spell
 //!
 //! `0042` spells 42 by both; the empty text, `+4` and `4.0` spell none.

@@ -2,10 +2,10 @@
 
 ghost use Rattle.std.specs.Prelude.{◌≡◌, ◌≤◌, drop, length};
 
-/// The most bytes of a read.
+/// The most bytes that one read takes.
 pub const PIECE_LEN: usize = 4096;
 
-/// What follows so many bytes.
+/// The bytes after the first `count`.
 pub fn rest_from(bytes: &[u8], count: usize) -> &[u8]
     requires { count ≤ length bytes.now }
     ensures { result.now ≡ drop count bytes.now }

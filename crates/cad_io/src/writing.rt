@@ -9,7 +9,7 @@ use std::io::Write;
 #[derive(Clone, Copy, Debug, PartialEq, Eq)]
 pub struct WriteFailed;
 
-/// Writes all the bytes. At a write that fails or takes nothing it stops: then a front of them was written.
+/// Writes all the bytes. It stops at a write that fails or takes nothing: then only a prefix of them was written.
 pub fn write_whole<W: Write>(writer: &mut W, bytes: &[u8]) -> Result<(), WriteFailed>
     ensures { IsWritten (W.contents writer.old) (W.contents writer.new) bytes.now result }
 {

@@ -76,7 +76,7 @@ impl Ledger for MemoryLedger {
         if let Some(fault) = self.versions.refusal(&command) {
             return Err(fault);
         }
-        // No count goes further.
+        // The count cannot go higher.
         let Some(revision) = self.revision.checked_add(1) else {
             return Err(RegisterFault::Memory);
         };

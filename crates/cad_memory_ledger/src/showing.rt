@@ -13,7 +13,7 @@ use crate::stored_version::StoredVersion;
 use cad_versions::Version;
 use std::alloc::{AllocError, Global};
 
-/// Adds the version as it stood at the revision, if that or one before it entered the version.
+/// Adds the version as it was at the revision, if that revision or one before it entered the version.
 #[tactic(auto, using(crate::proofs::ShowLemmas::all_pushed))]
 fn push_seen(
     alloc: Global,
@@ -32,7 +32,7 @@ fn push_seen(
     Ok(())
 }
 
-/// The versions that a revision entered or one before it, as they stood at it.
+/// The versions that this revision or one before it entered, as they were at this revision.
 pub(crate) fn seen_at(
     alloc: Global,
     kept: &[StoredVersion],
@@ -48,7 +48,7 @@ pub(crate) fn seen_at(
     Ok(found)
 }
 
-/// Puts versions of different identifiers in the order of these.
+/// Sorts versions with different identifiers by identifier.
 pub(crate) fn in_order(versions: &mut Vec<Version>) -> Result<(), AllocError>
     requires { AreApart versions.now.items }
     ensures sorted { OnOk result (versions.new.items ≡ sort_by by_identifier versions.old.items) }

@@ -1,4 +1,4 @@
-//! What stands of objects, and what it refuses.
+//! The current state of objects, and what it refuses.
 
 ghost use Rattle.std.specs.Prelude.{◌≡◌, ◌≤◌, length, map, Some};
 ghost use Rattle.cad_versions.specs.Versions.{history};
@@ -78,7 +78,7 @@ fn refusal_of_body(kept: &[StoredVersion], body: &Body) -> Option<RegisterFault>
     None
 }
 
-/// Why the command is refused where these stand.
+/// Why the command is refused, given the versions that are kept.
 pub(crate) fn refusal_of(kept: &[StoredVersion], command: &Command) -> Option<RegisterFault>
     ensures { result ≡ refusal (map version_in kept.now) command.now }
 {

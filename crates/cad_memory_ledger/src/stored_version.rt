@@ -80,7 +80,7 @@ impl StoredVersion {
         self.version.first
     }
 
-    /// Closes the version on the day, at this revision, where it is open and of the object.
+    /// Closes the version on the day, at this revision, if it is open and of the object.
     pub(crate) fn close_if_open(&mut self, object: ObjectId, day: Day, revision: u64)
         requires { open_of_object object (version_in self.now) ≡ true →
             number_of (version_in self.now).first ≤ℤ number_of day }
@@ -99,7 +99,7 @@ impl StoredVersion {
         self.entered <= revision
     }
 
-    /// The version as it stood at a revision, at which a later closing is not seen.
+    /// The version as it was at a revision: a later closing is not seen.
     pub(crate) fn seen_at(&self, alloc: Global, revision: u64) -> Result<Version, AllocError>
         ensures seen { IfOk result (λ version. version ≡ seen revision self.now) }
         ensures sound { IfOk result IsVersion }

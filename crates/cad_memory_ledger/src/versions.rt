@@ -12,7 +12,7 @@ use cad_versions::{Command, RegisterFault, Version};
 use std::alloc::{AllocError, Global};
 use std::marker::Model;
 
-/// Versions in the order of their entry. Those of each object are a history, and no more than there may be.
+/// Versions in the order of their entry. Those of each object are a history, and there are no more than allowed.
 #[derive(Debug, Drop)]
 pub(crate) struct StoredVersions {
     kept: Vec<StoredVersion>,
@@ -46,7 +46,7 @@ impl StoredVersions {
         }
     }
 
-    /// Why the command is refused where these stand.
+    /// Why the command is refused, given these versions.
     pub(crate) fn refusal(&self, command: &Command) -> Option<RegisterFault>
         ensures { result ≡ refusal (map version_in self.now) command.now }
     {
@@ -78,7 +78,7 @@ impl StoredVersions {
         Ok(())
     }
 
-    /// The versions as they stood at a revision, in the order of their identifiers.
+    /// The versions as they were at a revision, in the order of their identifiers.
     pub(crate) fn as_of(&self, alloc: Global, revision: u64) -> Result<Vec<Version>, AllocError>
         ensures shown { IfOk result (λ found. found.items ≡
             sort_by by_identifier (map (seen revision) (entries_at revision self.now))) }

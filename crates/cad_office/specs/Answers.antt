@@ -14,7 +14,7 @@ abbrev pub joined : List (List ℕ) → List ℕ
 joined [] = []
 joined (piece ∷ pieces) = piece ++ joined pieces
 
--- what a refusal tells beside its number and name: the day that stands, or the damaged version
+-- what a refusal reports in addition to its number and name: the first day of the open version, or the damaged version
 abbrev pub detail : RegisterFault → List (List ℕ)
 detail (fault.DayNotAfter day) = codes " " ∷ day_text (number_of day) ∷ []
 detail (fault.Damaged object number) = codes " " ∷ signed_decimal object ∷ codes "." ∷ signed_decimal number ∷ []

@@ -32,7 +32,7 @@ commands_left lines = drop lines.at lines.commands.items
 abbrev pub most_commands : ℕ
 most_commands = 16
 
--- the lines of the next commands, and behind the last one the end
+-- the lines of the next commands, and the end after the last one of all
 pub record WritesPiece (text : List ℕ) (old new : JournalLines) : Type 0 where
   pub front : List Command
   pub left : commands_left old ≡ front ++ commands_left new

@@ -19,7 +19,7 @@ use Rattle.cad_office.specs.Lines.{longest_line, lines_in, lines_ended, line_beg
 abbrev pub all_printed : List Answer → List ℕ
 all_printed answers = joined (map printed answers)
 
--- only a command that the ledger accepted is a line accepted
+-- a line is accepted only if the ledger accepted its command
 abbrev pub is_accepted : Answer → Bool
 is_accepted (Entered revision) = true
 is_accepted (Refused fault) = false
@@ -29,7 +29,7 @@ is_accepted NotACommand = false
 abbrev pub all_accepted : List Answer → Bool
 all_accepted answers = list_all is_accepted answers
 
--- whether the work goes on after the answer: only a refusal by the database ends it
+-- whether the work continues after the answer: only a refusal by the database ends it
 abbrev pub goes_on : Answer → Bool
 goes_on (Entered revision) = true
 goes_on (Refused Store) = false
@@ -44,7 +44,8 @@ AllGoOn answers = IsTrue (list_all goes_on answers)
 abbrev pub Asks : List ℕ → Command → Type 0
 Asks line command = (length line ≤ longest_line) × Says line command
 
--- what came of the line in the ledger: what the ledger answers to the command that the line asks for, or no change; a line that is too long is never told want of memory
+-- the result of the line in the ledger: what the ledger answers to the command that the line asks for, or no change; the answer for a line
+-- that is too long is never out of memory
 abbrev pub AnswersLine : {B : Type 0} → (B → Command → Result ℕ RegisterFault → B → Type 0) → List ℕ → B → Answer → B → Type 0
 AnswersLine applies line old (Entered revision) new =
     (command : Command) × Asks line command × applies old command (Ok revision) new
@@ -52,7 +53,7 @@ AnswersLine applies line old (Refused fault) new =
     ((command : Command) × Asks line command × applies old command (Err fault) new) ⊎ ((fault ≡ Memory) × (length line ≤ longest_line) × (new ≡ old))
 AnswersLine applies line old NotACommand new = ((command : Command) → ¬ Asks line command) × (new ≡ old)
 
--- what came of the lines in the ledger, one after the other, each with its answer
+-- the result of the lines in the ledger, one after the other, each with its answer
 abbrev pub AnswersLines : {B : Type 0} → (B → Command → Result ℕ RegisterFault → B → Type 0) → B → B → List (List ℕ) → List Answer → Type 0
 AnswersLines applies old new [] [] = new ≡ old
 AnswersLines applies old new [] (answer ∷ answers) = ⊥
@@ -64,12 +65,12 @@ AnswersLines {B} applies old new (line ∷ lines) (answer ∷ answers) =
 abbrev pub AreAnswered : (List (List ℕ) → List Answer → Type 0) → List (List ℕ) → List Answer → List ℕ → Type 0
 AreAnswered InLedger lines answers written = (written ≡ all_printed answers) × AllGoOn answers × InLedger lines answers
 
--- all answers before the last let the work go on, and the last is that the database refused
+-- after all answers before the last the work continues, and the last is that the database refused
 abbrev pub EndsRefused : (List (List ℕ) → List Answer → Type 0) → List (List ℕ) → List ℕ → Type 0
 EndsRefused InLedger lines written =
     (before : List Answer) × (written ≡ all_printed before ++ printed (Refused Store)) × AllGoOn before × InLedger (take (length before + 1) lines) (before ++ Refused Store ∷ [])
 
--- all answers before the last are whole and let the work go on, and the last is cut
+-- all answers before the last are whole and the work continues after them, and the last is cut short
 abbrev pub EndsCut : (List (List ℕ) → List Answer → Type 0) → List (List ℕ) → List ℕ → Type 0
 EndsCut InLedger lines written =
     (before : List Answer) × (last : Answer) × (front : List ℕ) × (written ≡ all_printed before ++ front) × IsCutShort front (printed last) × AllGoOn before × InLedger (take (length before + 1) lines) (before ++ last ∷ [])
@@ -95,12 +96,12 @@ LinesAreAnswered InLedger AtEnd (Err Write) read written =
 abbrev pub most_reads : ℕ
 most_reads = 1000000
 
--- so many reads that each gave a byte read so many bytes
+-- this many reads that each gave a byte read this many bytes
 pub record IsOfReads (count : ℕ) (read : List ℕ) : Type 0 where
   pub each_gave : count ≤ length read
   pub each_short : length read ≤ piece_len * count
 
--- no more is read than the reads may give, and they are spent only where each gave a byte
+-- no more is read than the reads may give, and they are used up only if each gave a byte
 pub record IsPaced (result : Result Bool OfficeFault) (read : List ℕ) : Type 0 where
   pub bounded : length read ≤ piece_len * most_reads
   pub spent : result ≡ Err TurnsSpent → most_reads ≤ length read
@@ -109,7 +110,7 @@ pub record IsPaced (result : Result Bool OfficeFault) (read : List ℕ) : Type 0
 abbrev pub EndIn : List ℕ → List ℕ → List (List ℕ) → Type 0
 EndIn read piece lines = lines_ended (read ++ piece) ≡ lines_ended read ++ lines
 
--- the same for a piece, where this was read before it
+-- the same for a piece, if this was read before it
 abbrev pub IsPiece : (List (List ℕ) → List Answer → Type 0) → List ℕ → Result Bool OfficeFault → Line → List ℕ → List ℕ → Type 0
 IsPiece InLedger read (Ok accepted) line piece written =
     (lines : List (List ℕ)) × EndIn read piece lines × ((answers : List Answer) × AreAnswered InLedger lines answers written × (accepted ≡ all_accepted answers)) × BuffersLine (line_begun (read ++ piece)) line

@@ -21,7 +21,7 @@ lines_in bytes = filter is_filled (slice_split is_lf bytes)
 unfoldable pub lines_ended : List ℕ → List (List ℕ)
 lines_ended bytes = lines_in (before_last is_lf bytes)
 
--- what stands after the last LF: the line that has begun
+-- the bytes after the last LF: the line that has begun
 unfoldable pub line_begun : List ℕ → List ℕ
 line_begun bytes = after_last is_lf bytes
 

@@ -1,4 +1,4 @@
--- How the end of the office's work is told (own profile).
+-- How the end of the office's work is reported (own profile).
 use Rattle.std.specs.Prelude.{ℕ, List, codes}
 use Rattle.cad_office.specs.declared.fault.OfficeFault.{OfficeFault}
 use Rattle.cad_office.specs.declared.fault.OfficeFault.TheVariants.{Read, Write, TurnsSpent, Register}

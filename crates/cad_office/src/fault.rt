@@ -12,10 +12,10 @@ pub enum OfficeFault {
     /// A write failed, or took nothing.
     #[error("a write failed")]
     Write,
-    /// As many reads were made as there may be, 1,000,000.
+    /// The maximum number of reads, 1,000,000, was made.
     #[error("too many reads")]
     TurnsSpent,
-    /// The database refused a command for another cause than memory.
+    /// The database refused a command, and not because it was out of memory.
     #[error("the database refused a command")]
     Register,
 }
@@ -47,7 +47,7 @@ impl OfficeFault {
         }
     }
 
-    /// The fault's number in the table of specs/OfficeFaults, from 1, by which programs may tell it.
+    /// The fault's number in the table of specs/OfficeFaults, from 1. Programs identify the fault by it.
     pub fn number(&self) -> u8
         ensures { result ≡ fault_number self.now }
     {

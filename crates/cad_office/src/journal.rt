@@ -9,7 +9,7 @@ use std::alloc::{AllocError, Global};
 /// The most commands of a piece.
 const MOST: usize = 16;
 
-/// The commands of a journal, of which some were written, and the revision that the last one made.
+/// The commands of a journal, some of which were written, and the revision that the last one made.
 #[derive(Drop)]
 pub struct JournalLines {
     commands: Vec<Command>,
@@ -23,7 +23,7 @@ impl JournalLines {
     ghost use Rattle.std.specs.Prelude.{◌≡◌, IfOk, OnErr, string_bytes};
     ghost use Rattle.cad_office.specs.JournalLines.{commands_left, WritesPiece};
 
-    /// None of these was written.
+    /// None of these commands was written yet.
     pub fn new(commands: Vec<Command>, newest: u64) -> JournalLines
         ensures left { commands_left result ≡ commands.items }
         ensures newest { result.newest ≡ newest }
@@ -35,9 +35,9 @@ impl JournalLines {
         }
     }
 
-    /// The lines of the next commands, of which there are at most 16. Behind the last one stands the line `end N`, N the revision that it made.
+    /// The lines of the next commands, at most 16. After the last command of all there is the line `end N`; N is the revision that it made.
     ///
-    /// An error is out of memory, and then nothing was written.
+    /// An error means out of memory, and then nothing was written.
     pub fn next_piece(&mut self, alloc: Global) -> Result<String, AllocError>
         ensures written { IfOk result (λ text. WritesPiece (string_bytes text) self.old self.new) }
         ensures refused { OnErr result (self.new ≡ self.old) }

@@ -31,7 +31,7 @@ fn put_end(newest: u64, text: &mut String) -> Result<(), AllocError>
     writeln!(text, "end {newest}")
 }
 
-/// The lines of these commands, and behind the last one of all the end.
+/// The lines of these commands, and the end line after the last command of all.
 pub(crate) fn piece_text(
     alloc: Global,
     front: &[Command],

@@ -5,7 +5,7 @@ ghost use Rattle.cad_office.specs.Lines.{longest_line};
 
 use std::alloc::Global;
 
-// Longer lines are no commands.
+// Longer lines are not commands.
 const LONGEST: usize = 65_536;
 
 /// How a line can be read.
@@ -15,11 +15,11 @@ pub enum LineState {
     Buffered,
     /// It has more than 65,536 bytes.
     TooLong,
-    /// A growth was refused, and the rest of the line is skipped. So many bytes were read of it, at most 65,536.
+    /// Out of memory: the rest of the line is skipped. This many bytes were read of it, at most 65,536.
     OutOfMemory(usize),
 }
 
-/// A line that cannot be held, with one byte more than so many.
+/// A line of `count` + 1 bytes that cannot be held.
 fn skipped(count: usize) -> LineState
     ensures { result ≡ (if nat_lt count longest_line then LineState.OutOfMemory (count + 1) else LineState.TooLong) }
 {
@@ -51,7 +51,7 @@ impl Line {
         }
     }
 
-    /// One byte more, which is no LF.
+    /// One more byte, which is not LF.
     pub fn add(&mut self, byte: u8)
         ensures { (text : List ℕ) → BuffersLine text self.old → BuffersLine (text ++ byte ∷ []) self.new }
     {
@@ -69,7 +69,7 @@ impl Line {
         }
     }
 
-    /// Whether no byte of the line was read, be it held or not.
+    /// Whether no byte of the line was read, held or not.
     pub fn is_empty(&self) -> bool
         ensures { (text : List ℕ) → BuffersLine text self.now → result ≡ (length text == 0) }
     {
@@ -83,14 +83,14 @@ impl Line {
         self.state
     }
 
-    /// The bytes that are held, at most 65,536: all of the line where its state says so.
+    /// The bytes that are held, at most 65,536: the whole line if its state says so.
     pub fn bytes(&self) -> &[u8]
         ensures { result.now ≡ self.now.bytes.items }
     {
         &self.bytes
     }
 
-    /// The next line begins.
+    /// Begins the next line.
     pub fn clear(&mut self)
         ensures { BuffersLine [] self.new }
     {

@@ -9,18 +9,18 @@ use cad_versions::RegisterFault;
 use itoa::Buffer;
 use std::io::Write;
 
-/// What came of a line.
+/// The result of a line.
 #[derive(Clone, Copy, Debug, PartialEq, Eq)]
 pub enum Answer {
-    /// The command was accepted, and this is the revision since.
+    /// The command was accepted, and made this revision.
     Entered(u64),
     /// The register refused the command.
     Refused(RegisterFault),
-    /// The line is no command.
+    /// The line is not a command.
     NotACommand,
 }
 
-/// Prints the answer as one line, or a front of it where a write fails.
+/// Prints the answer as one line, or a prefix of it if a write fails.
 pub fn print_answer<W: Write>(writer: &mut W, answer: Answer) -> Result<(), WriteFailed>
     ensures { IsWritten (W.contents writer.old) (W.contents writer.new) (printed answer) result }
 {

@@ -20,9 +20,10 @@ use std::io::Write;
 /// The most reads.
 const TURNS: u32 = 1_000_000;
 
-/// Reads lines to their end, applies each command and prints an answer for each line, and says whether no line was refused.
+/// Reads lines to their end, applies each command and prints an answer for each line. It returns whether no line was refused.
 ///
-/// Each read is of at most 4,096 bytes. It stops where a read or a write fails, after 1,000,000 reads, and where the database refuses a command for another cause than memory. The commands accepted so far stay.
+/// Each read takes at most 4,096 bytes. It stops if a read or a write fails, after 1,000,000 reads, and if the database refuses a command
+/// for another cause than memory. The commands accepted so far stay.
 pub fn office<R: CountedRead, W: Write, L: Ledger>(
     alloc: Global,
     reader: &mut R,

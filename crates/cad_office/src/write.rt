@@ -8,21 +8,21 @@ use arrayvec::ArrayVec;
 use cad_io::{WriteFailed, write_whole};
 use std::io::Write;
 
-// The most bytes that are put together for one write. No answer has so many.
+// The most bytes that are put together for one write. No answer has this many.
 const TOGETHER: usize = 96;
 
-/// Writes the pieces, or a front of them where a write fails or takes nothing.
+/// Writes the pieces, or a prefix of them if a write fails or takes nothing.
 pub(crate) fn write_pieces<W: Write>(writer: &mut W, pieces: &[&[u8]]) -> Result<(), WriteFailed>
     ensures { IsWritten (W.contents writer.old) (W.contents writer.new) (joined (map (λ p. p.now) pieces.now)) result }
 {
-    // One write, where the writer takes it whole.
+    // One write, if the writer takes it whole.
     match put_together(pieces) {
         Some(line) => write_whole(writer, line.as_slice()),
         None => write_each(writer, pieces),
     }
 }
 
-/// The pieces, one after the other, where they have few bytes.
+/// The pieces, one after the other, if they have few bytes.
 fn put_together(pieces: &[&[u8]]) -> Option<ArrayVec<u8, TOGETHER>>
     ensures { IfSome result (λ line. line.items ≡ joined (map (λ p. p.now) pieces.now)) }
 {

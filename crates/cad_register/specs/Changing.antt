@@ -18,11 +18,11 @@ use Rattle.cad_register.specs.declared.writing.NewEntry.{NewEntry}
 abbrev pub line_written : NewEntry → VersionRow
 line_written n = line_of (entered_at n.entered n.version)
 
--- the new entry is of this version and this revision, and the row that is written stands for it
+-- the new entry is of this version and this revision, and the row that is written represents it
 abbrev pub IsNew : VersionedObject → ℕ → NewEntry → Type 0
 IsNew v revision entry = (entry.version ≡ v) × (entry.entered ≡ revision) × IsRowOf (cells_of (line_written entry)) (entered_at revision v)
 
--- the change writes what the command makes at this revision, where the new version of an object that stands has this number
+-- the change writes what the command makes at this revision, if the new version of an existing object has this number
 abbrev pub IsChangeOf : Command → ℕ → ℕ → Change NewEntry → Type 0
 IsChangeOf (Enter object first body) number revision (change.Enter entry) = IsNew (begun object 1 first body) revision entry
 IsChangeOf (Amend object first body) number revision (change.Amend closing entry) =

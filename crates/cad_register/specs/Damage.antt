@@ -27,7 +27,7 @@ number_in other = pos 0
 abbrev pub identifier_in : Row → ℤ × ℤ
 identifier_in row = (number_in (column row 0), number_in (column row 1))
 
--- ---- one row behind another
+-- ---- one row after another
 
 -- which version it is: the number of its object, its own, and its class
 abbrev pub place_of : VersionedObject → Place
@@ -44,33 +44,33 @@ pub record IsFirstBehind (before : Place) (v : VersionedObject) : Type 0 where
   pub object : before.object < object_number v.object
   pub number : v.number ≡ 1
 
--- of each object the versions stand together, numbered 1, 2, and so on, all of one class
+-- the versions of each object are together, numbered 1, 2, and so on, all of one class
 abbrev pub Follows : Option Place → VersionedObject → Type 0
 Follows None v = v.number ≡ 1
 Follows (Some before) v = IsNextOf before v ⊎ IsFirstBehind before v
 
 -- ---- the revisions of a row
 
--- closed exactly where there is a last day, at the revision that entered the version or a later one, up to the newest
+-- there is a last day if and only if the version was closed, at the revision that entered it or a later one, up to the newest
 abbrev pub IsClosedBy : ℕ → ℕ → Option Day → Option ℕ → Type 0
 IsClosedBy newest entered None None = Unit {0}
 IsClosedBy newest entered (Some last) (Some closed) = (entered ≤ closed) × (closed ≤ newest)
 IsClosedBy newest entered last closed = ⊥
 
--- entered and closed at revisions of a register of which this is the newest
+-- entered and closed at revisions of a register with this newest revision
 pub record HasRevisions (newest : ℕ) (e : Entry) : Type 0 where
   pub entered : (1 ≤ e.entered) × (e.entered ≤ newest)
   pub closed : IsClosedBy newest e.entered e.version.last e.closed
 
--- ---- the rows of a revision, in a register of which another is the newest
+-- ---- the rows of a revision, in a register with a given newest revision
 
--- the entry may stand in the row behind so many others, the last of which has this place
+-- the entry is valid in the row after this many others, the last of which has this place
 pub record KeepsRules (newest : ℕ) (before : Option Place) (count : ℕ) (e : Entry) : Type 0 where
   pub follows : Follows before e.version
   pub revisions : HasRevisions newest e
   pub room : count < 2147483647
 
--- the row stands for the entry, which may stand there
+-- the row represents the entry, which is valid there
 pub record IsNext (newest : ℕ) (before : Option Place) (count : ℕ) (row : Row) (e : Entry) : Type 0 where
   pub shows : IsRowOf row e
   pub keeps : KeepsRules newest before count e
@@ -110,18 +110,20 @@ AreSeenAt revision [] [] = Unit {0}
 AreSeenAt revision (row ∷ rows) (v ∷ vs) = ((e : Entry) × IsRowOf row e × (v ≡ seen_at revision e)) × AreSeenAt revision rows vs
 AreSeenAt revision rows vs = ⊥
 
--- of the rows that are shown, in whichever order, versions are listed by identifier of sound rows alone, or the first that breaks a rule is named, or there was no memory
+-- of the rows that are shown, in any order, versions are listed by identifier and only from sound rows, or the first that breaks a rule is
+-- named, or memory ran out
 abbrev pub ListsRows : ℕ → ℕ → List Row → Result (Vec VersionedObject Global) RegisterFault → Type 0
 ListsRows revision newest shown (Ok found) = (rows : List Row) × AreInOrder shown rows × AreSound newest None 0 rows × AreSeenAt revision rows found.items
 ListsRows revision newest shown (Err (fault.Damaged object number)) = (rows : List Row) × AreInOrder shown rows × IsFirstDamaged newest (object, number) None 0 rows
 ListsRows revision newest shown (Err fault.Memory) = Unit {0}
 ListsRows revision newest shown (Err other) = ⊥
 
--- the database shows these rows for the revision, by its own account
+-- the database shows these rows for the revision, as the database itself reports
 abbrev pub AreShown : State → State → ℕ → List Row → Type 0
 AreShown old new revision rows = HasCleanDisk new → Shown listing_text (Int (pos revision) ∷ []) old new rows
 
--- whatever the disk returns, versions are listed of sound rows alone, and the damaged row is the first that breaks a rule, of the rows that the database shows for the revision, by object and number, in a register of this newest one
+-- no matter what the disk returns, versions are listed only from sound rows, and the damaged row is the first that breaks a rule, of the
+-- rows that the database shows for the revision, by object and number, in a register with this newest revision
 abbrev pub ReadsRows : State → State → ℕ → ℕ → Result (Vec VersionedObject Global) RegisterFault → Type 0
 ReadsRows old new revision newest (Ok found) =
     (shown : List Row) × (rows : List Row) × AreShown old new revision shown × AreInOrder shown rows × AreSound newest None 0 rows × AreSeenAt revision rows found.items

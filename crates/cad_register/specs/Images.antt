@@ -22,20 +22,20 @@ HoldsRegister image commands = (trees : Trees) × HoldsDatabase image trees × I
 abbrev pub IsEmptyFile : Image → Type 0
 IsEmptyFile image = length image.db ≡ 0
 
--- the connection is as an open gives it over that register, or over no table where the file was empty
+-- the connection is as an open gives it over that register, or over no table if the file was empty
 pub record FindsRegister (image : Image) (s : State) : Type 0 where
   pub held : HasCleanDisk s → (commands : List Command) → HoldsRegister image commands → IsOpenedOn commands s
   pub empty : HasCleanDisk s → IsEmptyFile image → s.now.schema ≡ no_schema
 
--- why the file of a register is not opened: want of memory, or the database (SQLite, Result and Error Codes, SQLITE_NOMEM)
+-- why the file of a register is not opened: out of memory, or the database (SQLite, Result and Error Codes, SQLITE_NOMEM)
 abbrev pub opening_fault : Error → RegisterFault
 opening_fault (SqliteFailure OutOfMemory) = register.Memory
 opening_fault other = register.Store
 
--- it is told of one of the errors that an open may have
+-- it reports one of the errors that an open may have
 abbrev pub IsOpeningFault : RegisterFault → Type 0
 IsOpeningFault fault = (e : Error) × IsTrue (is_open_error e) × (fault ≡ opening_fault e)
 
--- why the register of a file that has to stand is not found: there is none, or the file is not opened
+-- why the register of a file that must exist is not found: there is no register, or the file is not opened
 abbrev pub IsFindingFault : RegisterFault → Type 0
 IsFindingFault fault = (fault ≡ register.NotARegister) ⊎ IsOpeningFault fault

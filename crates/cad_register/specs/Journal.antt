@@ -5,11 +5,11 @@ use Rattle.cad_versions.specs.declared.command.Command.TheVariants.{Enter, Amend
 use Rattle.cad_versions.specs.VersionedObject.{VersionedObject}
 use Rattle.cad_versions.specs.Entries.{Entry}
 
--- with its first version an object is entered, with each later one it is amended
+-- its first version enters an object, each later one amends it
 abbrev pub beginning : VersionedObject → Command
 beginning v = if v.number == 1 then Enter v.object v.first v.body else Amend v.object v.first v.body
 
--- on a last day it is retired
+-- a last day retires it
 abbrev pub ending : VersionedObject → Option Command
 ending v = option_map (λ last. Retire v.object last) v.last
 
@@ -17,7 +17,7 @@ abbrev pub is_at : ℕ → Option ℕ → Bool
 is_at revision None = false
 is_at revision (Some other) = other == revision
 
--- the command of the revision, if that entered the entry
+-- the command of the revision, if that revision entered the entry
 abbrev pub begun_at : ℕ → Entry → Option Command
 begun_at revision e = if e.entered == revision then Some (beginning e.version) else None
 
@@ -38,7 +38,7 @@ first_given command_of (e ∷ es) = or_next (command_of e) (first_given command_
 abbrev pub command_at : ℕ → List Entry → Option Command
 command_at revision entries = or_next (first_given (begun_at revision) entries) (first_given (ended_at revision) entries)
 
--- those of so many revisions behind this one
+-- those of this many revisions after this one
 abbrev pub commands_behind : ℕ → ℕ → List Entry → List (Option Command)
 commands_behind revision zero entries = []
 commands_behind revision (suc count) entries = command_at (revision + 1) entries ∷ commands_behind (revision + 1) count entries

@@ -11,7 +11,8 @@ use Rattle.cad_register.specs.Journal.{commands_behind}
 use Rattle.cad_register.specs.Damage.{AreShown, AreInOrder, IsFirstDamaged}
 use Rattle.cad_register.specs.StoredVersions.{AreRowsOf}
 
--- each of the rows that are shown, in whichever order, stands for an entry, and these show the commands; or they show none of some revision; or the first row that breaks a rule is named; or there was no memory
+-- each of the rows that are shown, in any order, represents an entry, and these entries show the commands; or they show no command of some
+-- revision; or the first row that breaks a rule is named; or memory ran out
 abbrev pub GivesCommands : ℕ → ℕ → List Row → Result (Vec Command Global) RegisterFault → Type 0
 GivesCommands behind newest shown (Ok found) = (rows : List Row) × (es : List Entry) × AreInOrder shown rows × AreRowsOf rows es × (map Some found.items ≡ commands_behind behind (newest - behind) es)
 GivesCommands behind newest shown (Err (fault.Damaged object number)) = (rows : List Row) × AreInOrder shown rows × IsFirstDamaged newest (object, number) None 0 rows
@@ -19,13 +20,13 @@ GivesCommands behind newest shown (Err fault.NotARegister) = (rows : List Row) �
 GivesCommands behind newest shown (Err fault.Memory) = Unit {0}
 GivesCommands behind newest shown (Err other) = ⊥
 
--- the same of the rows that the database shows for the newest revision, whatever the disk returns
+-- the same of the rows that the database shows for the newest revision, no matter what the disk returns
 abbrev pub GivesJournal : State → State → ℕ → ℕ → Result (Vec Command Global) RegisterFault → Type 0
 GivesJournal old new behind newest (Err fault.Store) = Unit {0}
 GivesJournal old new behind newest (Err fault.Memory) = Unit {0}
 GivesJournal old new behind newest result = (shown : List Row) × AreShown old new newest shown × GivesCommands behind newest shown result
 
--- why a journal is not given, whatever the disk returns
+-- why a journal is not given, no matter what the disk returns
 abbrev pub IsJournalFault : RegisterFault → Type 0
 IsJournalFault (fault.Damaged object number) = Unit {0}
 IsJournalFault fault.NotARegister = Unit {0}

@@ -8,7 +8,8 @@ use Rattle.cad_register.specs.declared.register.Register.{Register}
 use Rattle.cad_register.specs.Leaving.{IsOfTheRegister}
 use Rattle.cad_register.specs.Registers.{state_of, IsRegisterOf, IsStill}
 
--- refused by neither the database nor want of memory, it shows what it showed; refused while the connection is open, it is the register of the same commands; at every exit an open after a crash may find this of them
+-- refused for another cause than the database or memory, it shows the same as before; refused while the connection is open, it is the
+-- register of the same commands; at every exit an open after a crash may find this of them
 pub record Keeps {S : Type 0} (g : Ghosts S) (MayFind : State → List Command → Type 0) (old new : Register S) {X : Type 0} (result : Result X RegisterFault) : Type 0 where
   pub same : HasCleanDisk (state_of g new) → IfErr result (λ fault. IsOfTheRegister fault → IsStill g old new)
   pub unchanged : HasCleanDisk (state_of g new) → IsTrue (state_of g new).is_open → OnErr result ((commands : List Command) → IsRegisterOf g old commands → IsRegisterOf g new commands)

@@ -18,7 +18,7 @@ use Rattle.cad_register.specs.StoredVersions.{IsRowOf}
 use Rattle.cad_register.specs.declared.register.Register.{Register}
 use Rattle.cad_register.specs.Registers.{state_of, IsRegisterOf}
 
--- a row stands for one entry at most, whatever the form of its shape (own profile)
+-- a row represents at most one entry, no matter which form its shape has (own profile)
 abbrev pub RowsAreOfOneEntry : Type 0
 RowsAreOfOneEntry = (row : Row) (one other : Entry) → IsRowOf row one → IsRowOf row other → one ≡ other
 
@@ -45,11 +45,11 @@ abbrev pub Enters : {L : Type 0} → LedgerGhosts L → L → List Command → L
 Enters g old [] new = new ≡ old
 Enters {L} g old (c ∷ cs) new = (mid : L) × (revision : ℕ) × Applies g old c (Ok revision) mid × g.counts mid × Enters g mid cs new
 
--- a ledger of some commands, into which those of a journal behind them are entered, stands for all
+-- a ledger of some commands, into which those of a journal after them are entered, holds all of them
 abbrev pub EnteredStandsForAll : {L : Type 0} → LedgerGhosts L → Type 0
 EnteredStandsForAll {L} g = (before later : List Command) (old new : L) → g.stands_for old before → Enters g old later new → g.stands_for new (before ++ later)
 
--- and what refuses one of these is what keeps the ledger, never the commands before it
+-- and if one of these is refused, the ledger's store refuses it, never the commands before it
 abbrev pub JournalsAreAccepted : {L : Type 0} → LedgerGhosts L → Type 0
 JournalsAreAccepted {L} g = (before : List Command) (c : Command) (later : List Command) (old new : L) (fault : RegisterFault)
     → AreAccepted [] (before ++ c ∷ later) → g.stands_for old before → Applies g old c (Err fault) new → g.counts new → g.fails_to_apply before c fault

@@ -23,7 +23,7 @@ use Rattle.cad_register.specs.Stands.{IsStoreFault}
 abbrev pub IsOpen : {S : Type 0} → Ghosts S → Register S → Type 0
 IsOpen g register = IsTrue (state_of g register).is_open
 
--- why a command is refused that the commands before it allow
+-- why a command is refused although the commands before it allow it
 abbrev pub IsCut : List Command → Command → RegisterFault → Type 0
 IsCut commands command fault.NotARegister = (refusal (versions commands) command ≡ None) × (4294967294 ≤ length commands)
 IsCut commands command other = IsStoreFault other
@@ -37,12 +37,12 @@ abbrev pub RefusesListing : {S : Type 0} → Ghosts S → Register S → Registe
 RefusesListing g old new revision =
     (e : Error) × IsNotForMemory e × FailsToQuery listing_text (Int (pos revision) ∷ []) (state_of g old) (state_of g new) e
 
--- asked for the command, the database shows this damaged row, the first of all that it shows
+-- when asked for the command, the database shows this damaged row, the first of all that it shows
 abbrev pub DamagedForCommand : {S : Type 0} → Ghosts S → Register S → Register S → Command → ℤ → ℤ → Type 0
 DamagedForCommand g old new command object number =
     FirstBreaks g (connection_of new) (command_questions command (revision_of old)) object number (connection_of old)
 
--- asked for the revision, it shows such a row
+-- when asked for the revision, it shows such a row
 abbrev pub DamagedForListing : {S : Type 0} → Ghosts S → Register S → Register S → ℕ → ℤ → ℤ → Type 0
 DamagedForListing g old new revision object number =
     ReadsRows (state_of g old) (state_of g new) revision (revision_of old) (Err (fault.Damaged object number))

@@ -40,7 +40,8 @@ module _ {S : Type 0} (g : Ghosts S) (lent : Held S) (result : Outcome S) where
   abbrev IsClean : Type 0
   IsClean = HasCleanDisk (state g (connection_in result))
 
-  -- where neither name was in use, an empty database is made the register of no commands; where one was, or the database refuses, all stays; a crash leaves the database as it was, or that register
+  -- if neither name was in use, an empty database becomes the register of no commands; if one was, or the database refuses, all stays as it
+  -- was; a crash leaves the database as it was, or that register
   pub record Created : Type 0 where
     pub made : IsClean → IfOk result (λ register. lent.schema ≡ no_schema → IsRegisterOf g register [])
     pub free : IsClean → IfOk result (λ register. is_standing lent.schema ≡ false)
@@ -51,7 +52,8 @@ module _ {S : Type 0} (g : Ghosts S) (lent : Held S) (result : Outcome S) where
     pub later : IsLater (state g lent) (state g (connection_in result))
     pub crash : IsClean → LeavesOrMakes (state g lent) (state g (connection_in result))
 
-  -- the register has the revision that the database tells; it is no register exactly where the database says that a table, a column or the row of `state` is missing, or the row tells another format or no revision; the database stays as it was lent
+  -- the register has the revision that the database reports; it is not a register if and only if the database says that a table, a column
+  -- or the row of `state` is missing, or the row has another format or no revision; the database stays as it was passed in
   pub record Opened : Type 0 where
     pub found : IsClean → IfOk result (λ register. TellsRegister g lent (connection_of register) (Some (revision_of register)))
     pub missing : IsClean → IfErr result (λ refused. refused.0 ≡ NotARegister → TellsRegister g lent refused.1 None)
@@ -66,7 +68,7 @@ module _ {S : Type 0} (g : Ghosts S) (lent : Held S) (result : Outcome S) where
   abbrev pub IsOpenedLater : (Held S → Type 0) → Type 0
   IsOpenedLater Tells = (is_standing lent.schema ≡ true) × (mid : Held S) × IsSettled g lent mid × Tells mid
 
-  -- the register that stands there, or where neither name was in use one that is made
+  -- the register that exists there, or a new one if neither name was in use
   pub record OpenedOrCreated : Type 0 where
     pub made : IsClean → IfOk result (λ register. lent.schema ≡ no_schema → IsRegisterOf g register [])
     pub found : IsClean → IfOk result (λ register. (is_standing lent.schema ≡ false) ⊎ IsOpenedLater (λ mid. TellsRegister g mid (connection_of register) (Some (revision_of register))))

@@ -30,7 +30,7 @@ if_open v = if is_none v.last then Some v.first else None
 abbrev pub opened_last : List VersionedObject → Option Day
 opened_last vs = option_and_then if_open (slice_get vs (length vs - 1))
 
--- what stands of an object
+-- the current state of an object
 pub record IsStanding (vs : List VersionedObject) (object : ObjectId) (s : ObjectState) : Type 0 where
   pub class : s.class ≡ class_at vs object
   pub open_since : s.open_since ≡ open_since vs object

@@ -13,7 +13,7 @@ use Rattle.cad_versions.specs.ShapeBytes.{IsShapeOf}
 use Rattle.cad_versions.specs.Fractions.{num_of, den_of}
 use Rattle.cad_register.specs.Rows.{flag_number, x_of, y_of}
 
--- NULL where there is no shape, else bytes that stand for it, in either form that shapes are stored in
+-- NULL if there is no shape, else bytes that encode it, in either form in which shapes are stored
 abbrev pub HasShape : Value → Option Region → Type 0
 HasShape cell None = cell ≡ Null
 HasShape cell (Some region) = (bytes : List ℕ) × (cell ≡ Blob bytes) × IsShapeOf bytes region

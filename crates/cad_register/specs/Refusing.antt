@@ -1,4 +1,4 @@
--- What the database refuses of a command, by its own account.
+-- What the database refuses of a command, as the database itself reports.
 use Rattle.std.specs.Prelude.{◌≡◌, ◌≢◌, ◌⊎◌, ◌≤◌, ℕ, ◌+◌, pos, nat_le, if◌then◌else◌, List, [], ◌∷◌, ◌++◌, Option, Some, None, Result, MatchResult}
 use Rattle.sqlite_value.specs.declared.value.Value.TheVariants.{Int}
 use Rattle.sqlite_trees.specs.declared.store.Store.{Ghosts}
@@ -25,12 +25,12 @@ use Rattle.cad_register.specs.declared.writing.NewEntry.{NewEntry}
 use Rattle.cad_register.specs.Changing.{IsChangeOf, line_written}
 use Rattle.cad_register.specs.Stands.{StandsFor}
 
--- want of memory is told as such, and every other refusal of the database as its own (own profile)
+-- running out of memory is reported as such, and every other refusal of the database as its own (own profile)
 abbrev pub register_fault_of : TableFault → RegisterFault
 register_fault_of Memory = fault.Memory
 register_fault_of (Store e) = fault.Store
 
--- SQLite, Result and Error Codes, SQLITE_NOMEM: the cause is another than want of memory
+-- SQLite, Result and Error Codes, SQLITE_NOMEM: the cause is not out of memory
 abbrev pub IsNotForMemory : Error → Type 0
 IsNotForMemory e = fault_of e ≢ Memory
 
@@ -56,11 +56,11 @@ IsForBody body question = IsForNamed (unit_named body) question ⊎ IsForNamed (
 abbrev pub IsForLines : ℕ → Statement → Type 0
 IsForLines revision question = question ≡ asking listing_text revision
 
--- for them, where as many commands were accepted as there may be versions
+-- for them, if at least `most_versions` commands were accepted
 abbrev pub IsForRoom : ℕ → Statement → Type 0
 IsForRoom revision question = (most_versions ≤ revision) × IsForLines revision question
 
--- what the body names, or whether there is room, where a version is added
+-- what the body names, or whether there is room, if a version is added
 abbrev pub IsForAddition : Option Body → ℕ → Statement → Type 0
 IsForAddition None revision question = ⊥
 IsForAddition (Some body) revision question = IsForBody body question ⊎ IsForRoom revision question
@@ -80,7 +80,7 @@ history_questions (Some object) = asking history_text (object_number object) ∷
 abbrev pub body_questions : Body → List Statement
 body_questions body = history_questions (unit_named body) ++ history_questions (party_named body)
 
--- for the lines of the revision, where as many commands were accepted as there may be versions
+-- for the lines of the revision, if at least `most_versions` commands were accepted
 abbrev pub room_questions : ℕ → List Statement
 room_questions revision = if nat_le most_versions revision then asking listing_text revision ∷ [] else []
 
@@ -96,7 +96,7 @@ command_questions command revision = history_questions (Some (object_named comma
 -- ---- what is refused (own profile)
 
 module _ {S : Type 0} (g : Ghosts S) (old new : Held S) where
-  -- with the database as it was, it refuses one of these questions, and not for want of memory
+  -- with the database as it was, it refuses one of these questions, and not because it is out of memory
   pub record RefusesQuestion (IsAsked : Statement → Type 0) : Type 0 where
     pub mid : Held S
     pub settled : IsSettled g old mid
@@ -106,7 +106,7 @@ module _ {S : Type 0} (g : Ghosts S) (old new : Held S) where
     pub told : IsNotForMemory cause
     pub fails : FailsToQuery question.text question.params (state g mid) (state g new) cause
 
-  -- it refuses a statement of what the command changes at this revision, or their commit, and not for want of memory
+  -- it refuses a statement of what the command changes at this revision, or their commit, and not because it is out of memory
   abbrev pub RefusesChange : Command → ℕ → Type 0
   RefusesChange command revision =
       (change : Change NewEntry) × (number : ℕ) × (e : Error) × IsChangeOf command number revision change × IsNotForMemory e × RefusesTransaction g (all_statements_of line_written change revision) e old new
@@ -116,7 +116,7 @@ module _ {S : Type 0} (g : Ghosts S) (old new : Held S) where
   Asks IsAsked result =
       (commands : List Command) → StandsFor (state g old) commands → MatchResult result (λ _. IsSettled g old new) (λ cause. cause ≡ fault.Store → RefusesQuestion IsAsked)
 
--- a question of the command at this revision is refused, or else the change that makes the next
+-- a question of the command at this revision is refused, or else the change that makes the next revision
 abbrev pub RefusesToApply : {S : Type 0} → Ghosts S → Held S → Held S → Command → ℕ → Type 0
 RefusesToApply g old new command revision =
     RefusesQuestion g old new (IsForCommand command revision) ⊎ ((mid : Held _) × IsSettled g old mid × RefusesChange g mid new command (revision + 1))

@@ -29,12 +29,12 @@ revision_of register = register.revision
 abbrev pub HasFailed : {S : Type 0} → Ghosts S → Register S → Register S → Type 0
 HasFailed g old new = MoreFaults (state_of g old).faults (state_of g new).faults
 
--- the register is that of the commands: its tables stand for them, and its revision counts them
+-- the register is that of the commands: its tables hold them, and its revision counts them
 pub record IsRegisterOf {S : Type 0} (g : Ghosts S) (register : Register S) (commands : List Command) : Type 0 where
   pub stands : StandsFor (state_of g register) commands
   pub counted : revision_of register ≡ length commands
 
--- it shows what it showed, and counts as many commands
+-- it shows the same as before, and counts as many commands
 abbrev pub IsStill : {S : Type 0} → Ghosts S → Register S → Register S → Type 0
 IsStill g old new = IsAsBefore (state_of g old) (state_of g new) × (revision_of new ≡ revision_of old)
 
@@ -46,7 +46,8 @@ IsStillSettled g old new = IsSettled g (connection_of old) (connection_of new) �
 abbrev pub Remains : {S : Type 0} → Ghosts S → Register S → Register S → Type 0
 Remains g old new = (new ≡ old) ⊎ IsStillSettled g old new
 
--- why apply refuses a command: the cause of the fold, a refusal by the database, or a revision beyond which none is stored, where the fold has no cause
+-- why apply refuses a command: the cause of the fold, a refusal by the database, or, if the fold has no cause, that the greatest revision
+-- that is ever stored was reached
 abbrev pub IsRefused : List Command → Command → RegisterFault → Type 0
 IsRefused commands command fault.NotARegister = (refusal (versions commands) command ≡ None) × (4294967294 ≤ length commands)
 IsRefused commands command other = IsRefusal (refusal (versions commands) command) other

@@ -22,7 +22,7 @@ x_of point = point.x
 abbrev pub y_of : Point → ℤ
 y_of point = point.y
 
--- the row that is written for an entry; rows of earlier forms may stand beside it
+-- the row that is written for an entry; the table may also have rows of earlier forms
 abbrev pub line_of : Entry → VersionRow
 line_of entry = record {
   object = object_number entry.version.object;

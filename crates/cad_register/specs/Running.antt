@@ -13,7 +13,7 @@ use Rattle.cad_register.specs.Images.{HoldsRegister, IsEmptyFile, FindsRegister}
 use Rattle.cad_register.specs.Opening.{Outcome, Opened, OpenedOrCreated, connection_in, IsFoundAs}
 use Rattle.cad_register.specs.Registers.{IsRegisterOf}
 
--- a run over a database: its register is had or refused, and the work is done over that
+-- a run over a database: its register is opened or refused, and the work is done over that result
 pub record RunsOver {S O : Type 0} (Opens : Held S → Outcome S → Type 0) (Works : Outcome S → O × Held S → Type 0) (lent : Held S) (ended : O × Held S) : Type 0 where
   pub found : Outcome S
   pub opened : Opens lent found
@@ -42,7 +42,7 @@ module _ {D O : Type 0} {d : disk.Ghosts D} (image : Image) (Works : Outcome (Fi
     pub runs : RunsOver (Opened over_files) Works lent ended
     pub begins : IsFoundIn over_files image runs.found
 
-  -- so, but where no register stands one is made
+  -- the same, but a register is made if none exists
   pub record RunsInFileOrNew : Type 0 where
     pub lent : Held (FileStore D d)
     pub finds : FindsRegister image (file_state lent)

@@ -11,7 +11,8 @@ use Rattle.cad_versions.specs.Refusals.{refusal, AreAccepted}
 use Rattle.cad_versions.specs.Entries.{entries_of}
 use Rattle.cad_register.specs.StoredVersions.{HoldsEntries}
 
--- the tables stand for the commands: these were accepted one after the other, and rows that stand for their entries are stored and committed in a database whose catalog lists its tables and whose rows keep their constraints, as each open connection's does (own profile)
+-- the tables hold the commands: these were accepted one after the other, and rows that represent their entries are stored and committed in
+-- a database whose catalog lists its tables and whose rows keep their constraints, as each open connection's does (own profile)
 pub record StandsFor (s : State) (commands : List Command) : Type 0 where
   pub accepted : AreAccepted [] commands
   pub holds : HoldsEntries (length commands) (entries_of commands) s.now
@@ -19,25 +20,26 @@ pub record StandsFor (s : State) (commands : List Command) : Type 0 where
   pub settled : s.committed ≡ s.now
   pub live : IsTrue s.is_open
 
--- a call on the tables of a register tells something, or why not; in both cases the tables stand for the same commands, as long as the connection is open
+-- a call on the tables of a register returns something, or why not; in both cases the tables hold the same commands, as long as the
+-- connection is open
 abbrev pub Tells : {X : Type 0} → State → State → Result X RegisterFault → (List Command → X → Type 0) → (List Command → RegisterFault → Type 0) → Type 0
 Tells old new result Told Refused =
     (commands : List Command) → StandsFor old commands → MatchResult result (λ x. Told commands x × StandsFor new commands) (λ fault. Refused commands fault × (IsTrue new.is_open → StandsFor new commands))
 
--- the database refused for another cause than memory, or for want of it
+-- the database refused for another cause than memory, or memory ran out
 abbrev pub IsStoreFault : RegisterFault → Type 0
 IsStoreFault fault.Store = Unit {0}
 IsStoreFault fault.Memory = Unit {0}
 IsStoreFault other = ⊥
 
--- why a revision that was made is not listed, whatever the disk returns
+-- why a revision that was made is not listed, no matter what the disk returns
 abbrev pub IsReadingFault : RegisterFault → Type 0
 IsReadingFault (fault.Damaged object number) = Unit {0}
 IsReadingFault fault.Store = Unit {0}
 IsReadingFault fault.Memory = Unit {0}
 IsReadingFault other = ⊥
 
--- why a command is refused: the cause of the fold, or the database refused; damage never comes to tables that stand for commands
+-- why a command is refused: the cause of the fold, or the database refused; tables that hold commands are never found damaged
 abbrev pub IsRefusal : Option RegisterFault → RegisterFault → Type 0
 IsRefusal cause fault = (cause ≡ Some fault) ⊎ IsStoreFault fault
 
@@ -46,7 +48,7 @@ abbrev pub IsNumbered : List Command → Command → ℕ → Type 0
 IsNumbered commands (Amend object first body) number = number ≡ length (history object (versions commands)) + 1
 IsNumbered commands command number = Unit {0}
 
--- tables that stood for the commands before stand for them with the new one, where it is accepted, its number is the next and the revision counts it
+-- tables that held the commands before hold them and the new one, if it is accepted, its number is the next and the revision counts it
 abbrev pub Enacts : State → State → Command → ℕ → ℕ → Type 0
 Enacts old new command number revision =
     (commands : List Command) → StandsFor old commands → refusal (versions commands) command ≡ None → IsNumbered commands command number → revision ≡ length commands + 1 → StandsFor new (commands ++ command ∷ [])

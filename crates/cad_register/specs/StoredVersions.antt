@@ -16,7 +16,7 @@ use Rattle.cad_register.specs.declared.stored_version.StoredVersion.{StoredVersi
 use Rattle.cad_versions.specs.BodyParts.{parts_of}
 use Rattle.cad_register.specs.Parts.{HasParts}
 
--- the row stands for the entry: it has it in its nineteen columns, and the entry is one that a register may hold
+-- the row represents the entry: it has it in its nineteen columns, and the entry is one that a register may hold
 pub record IsRowOf (row : Row) (e : Entry) : Type 0 where
   pub object : column row 0 ≡ Int (pos (object_number e.version.object))
   pub number : column row 1 ≡ Int (pos e.version.number)
@@ -31,13 +31,13 @@ pub record IsRowOf (row : Row) (e : Entry) : Type 0 where
 abbrev pub entry_of : StoredVersion → Entry
 entry_of kept = record { version = kept.version; entered = kept.entered; closed = kept.closed }
 
--- each row stands for the entry in its place
+-- each row represents the entry in its place
 abbrev pub AreRowsOf : List Row → List Entry → Type 0
 AreRowsOf [] [] = Unit {0}
 AreRowsOf (row ∷ rows) (e ∷ es) = IsRowOf row e × AreRowsOf rows es
 AreRowsOf rows es = ⊥
 
--- the two tables hold this revision, and rows that stand for these entries, the oldest first
+-- the two tables hold this revision, and rows that represent these entries, the oldest first
 pub record HoldsEntries (revision : ℕ) (entries : List Entry) (db : Database) : Type 0 where
   pub lines : List VersionRow
   pub holds : Holds revision lines db

@@ -1,4 +1,4 @@
-//! What the tables tell of a register.
+//! What the tables say of a register.
 
 ghost use Rattle.std.specs.Prelude.{◌≡◌, ◌≤◌, ◌∷◌, [], List, length, drop, pos, Some, IfOk, IfErr, OnOk};
 ghost use Rattle.sqlite.specs.State.{HasCleanDisk, FailsToQuery};
@@ -38,7 +38,7 @@ pub(crate) fn store_fault(fault: TableFault) -> RegisterFault
     }
 }
 
-/// What stands of an object, by its rows alone.
+/// The current state of an object, from its rows alone.
 pub(crate) fn standing_of<S: Alter>(
     connection: &mut Connection<S>,
     object: ObjectId,
@@ -55,7 +55,7 @@ pub(crate) fn standing_of<S: Alter>(
     }
 }
 
-/// The versions at a revision of a register, of which another is the newest, in the order of identifiers.
+/// The versions at a revision of a register, in the order of identifiers; `newest` is the newest revision.
 pub(crate) fn versions_of<S: Alter>(
     alloc: Global,
     connection: &mut Connection<S>,
@@ -84,7 +84,7 @@ pub(crate) fn versions_of<S: Alter>(
     }
 }
 
-/// The commands behind a revision, of a register of which another is the newest.
+/// The commands after the revision `behind` of a register; `newest` is the newest revision.
 pub(crate) fn commands_behind<S: Alter>(
     alloc: Global,
     connection: &mut Connection<S>,

@@ -19,7 +19,7 @@ use cad_versions::{Body, Command, MOST_NUMBER, ObjectId, RegisterFault, Version}
 use sqlite::{Alter, Connection};
 use std::alloc::{AllocError, Global};
 
-/// The number of the next version of an object that has so many.
+/// The number of the next version of an object that has this many.
 pub(crate) fn next_number(count: usize) -> u32
     ensures positive { 1 ≤ result }
     ensures small { result ≤ 2147483647 }
@@ -54,7 +54,7 @@ fn begin(
     NewEntry::new(alloc, version, revision)
 }
 
-/// What the command changes at this revision, where the next version of its object has this number.
+/// What the command changes at this revision, if the next version of its object has this number.
 pub(crate) fn change_of(
     alloc: Global,
     command: Command,

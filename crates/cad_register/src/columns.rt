@@ -27,9 +27,9 @@ use std::rc::Rc;
 /// Why a row is not read.
 #[derive(Clone, Copy, Debug, PartialEq, Eq)]
 pub(crate) enum ReadFault {
-    /// It is the row of no version.
+    /// The row is not the row of a version.
     Damaged,
-    /// There was no memory.
+    /// Out of memory.
     Memory,
 }
 
@@ -55,7 +55,7 @@ impl<T: Drop> From<AllocFailed<T>> for ReadFault {
     }
 }
 
-/// The value in a column, and NULL past the end.
+/// The value in a column, or NULL past the end.
 pub(crate) fn cell(row: &Row, at: usize) -> ValueRef<'_>
     ensures { owned result ≡ column row.now at }
 {
@@ -231,7 +231,7 @@ pub(crate) fn spot_at(row: &Row, at: usize) -> Result<Option<Point>, ReadFault>
     }
 }
 
-/// The number in a column, and 0 where there is none.
+/// The number in a column, or 0 if there is no number.
 pub(crate) fn number_or_zero(row: &Row, at: usize) -> i64
     ensures { result ≡ number_in (column row.now at) }
 {

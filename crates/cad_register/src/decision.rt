@@ -16,7 +16,7 @@ use cad_versions::{Body, Class, Command, MOST_VERSIONS, ObjectId, RegisterFault}
 use sqlite::{Alter, Connection};
 use std::alloc::Global;
 
-/// Whether what is named, if anything is, was entered with this class.
+/// Whether the object that is named, if one is, was entered with this class.
 fn is_entered<S: Alter>(
     connection: &mut Connection<S>,
     class: Class,
@@ -57,7 +57,8 @@ fn are_entered<S: Alter>(connection: &mut Connection<S>, body: &Body) -> Result<
     }
 }
 
-/// Whether there is no room for one version more. Each version came with a command, so rows are counted only past as many commands.
+/// Whether there is no room for one more version. Each version came with a command, so rows are counted only if at least `MOST_VERSIONS`
+/// commands were accepted.
 fn is_full<S: Alter>(
     alloc: Global,
     connection: &mut Connection<S>,
@@ -75,7 +76,7 @@ fn is_full<S: Alter>(
     Ok(MOST_VERSIONS as usize <= standing.as_slice().len())
 }
 
-/// Looks for what forbids to add a version with this body.
+/// Checks whether anything forbids adding a version with this body.
 fn check_addition<S: Alter>(
     alloc: Global,
     connection: &mut Connection<S>,
@@ -99,7 +100,7 @@ fn check_addition<S: Alter>(
     Ok(())
 }
 
-/// Looks for what refuses the command, and tells how many versions its object has.
+/// Checks whether anything refuses the command, and returns how many versions its object has.
 pub(crate) fn decide<S: Alter>(
     alloc: Global,
     connection: &mut Connection<S>,

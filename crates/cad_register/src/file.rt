@@ -20,7 +20,7 @@ fn open_fault(error: Error) -> RegisterFault
     }
 }
 
-/// Opens the database of a file, which held this at first. It is made where none stands.
+/// Opens the database of a file, which held this at first. If there is no file, it is made.
 pub fn open_file<S: Start>(
     rt: &HostRuntime,
     path: &str,
@@ -35,7 +35,8 @@ pub fn open_file<S: Start>(
     }
 }
 
-/// Whether there is no file, or one without a byte. A database's first page is written whole before its log counts, so such a file holds none.
+/// Whether there is no file, or one without a byte. A database's first page is written completely before its log counts, so such a file
+/// holds no database.
 fn is_nothing(rt: &HostRuntime, path: &str) -> bool {
     match fs::metadata(rt, path) {
         Ok(found) => found.is_file() && found.len() == 0,
@@ -43,7 +44,7 @@ fn is_nothing(rt: &HostRuntime, path: &str) -> bool {
     }
 }
 
-/// Opens the database of a file, which held this at first. Where there is no file none is made, and an empty one stays empty.
+/// Opens the database of a file, which held this at first. If there is no file none is made, and an empty one stays empty.
 pub fn open_standing_file<S: Start>(
     rt: &HostRuntime,
     path: &str,

@@ -15,9 +15,9 @@ use std::alloc::{AllocError, Global};
 /// What is read of a row as soon as the database comes to it, and kept in its place.
 #[derive(Debug, Drop)]
 pub(crate) enum FoundRow {
-    /// The version that it stands for.
+    /// The version that the row represents.
     Version(StoredVersion),
-    /// It stands for none.
+    /// The row represents no version.
     Damaged {
         /// The object, as it is stored.
         object: i64,
@@ -26,7 +26,7 @@ pub(crate) enum FoundRow {
     },
 }
 
-/// What is read of the row of no version.
+/// What is read of a row that represents no version.
 fn damaged(row: &Row) -> FoundRow
     ensures { result ≡ damaged_row row.now }
 {
@@ -67,7 +67,8 @@ impl FoundRow {
         RegisterFault::Damaged { object, number }
     }
 
-    /// The version of a row that may stand, in a register of this newest revision, behind so many others, the last of which has the place `before`. Another row is named as damaged.
+    /// The version of a row that is valid in its place, in a register with this newest revision, after `count` other rows, the last of
+    /// which has the place `before`. Any other row is named as damaged.
     pub(crate) fn next(
         self,
         before: Option<Place>,

@@ -12,7 +12,7 @@ use cad_day::Day;
 use cad_versions::{Body, Command, ObjectId, Version};
 use std::alloc::{AllocError, Global};
 
-/// The commands of some revisions, as far as the versions that were noted show them: a slot for each revision.
+/// The commands of some revisions, as far as the versions that were noted show them: one slot for each revision.
 #[derive(Drop)]
 pub(crate) struct Gathering {
     behind: u32,
@@ -38,7 +38,7 @@ fn beginning(object: ObjectId, number: u32, first: Day, body: Body) -> Command
     }
 }
 
-/// So many slots without a command.
+/// This many slots without a command.
 fn empty_slots(alloc: Global, behind: u32, count: u32) -> Result<Vec<Option<Command>>, AllocError>
     ensures { IfOk result (λ slots. slots.items ≡ commands_behind behind count []) }
 {
@@ -74,7 +74,7 @@ fn is_open_slot(slots: &Vec<Option<Command>>, at: usize) -> bool
     matches!(slots[at], None | Some(Command::Retire { .. }))
 }
 
-/// The commands, where each slot has one.
+/// The commands, if each slot has one.
 fn all_given(alloc: Global, slots: Vec<Option<Command>>) -> Result<Option<Vec<Command>>, AllocError>
     ensures { IfOk result (λ found. MatchOption found ((commands : List CommandOf) → map Some commands ≢ slots.items)
         (λ commands. map Some commands.items ≡ slots.items)) }
@@ -90,7 +90,7 @@ fn all_given(alloc: Global, slots: Vec<Option<Command>>) -> Result<Option<Vec<Co
 }
 
 impl Gathering {
-    /// Of so many revisions behind this one no version was noted.
+    /// No version was noted yet for the `count` revisions after `behind`.
     pub(crate) fn new(alloc: Global, behind: u32, count: u32) -> Result<Gathering, AllocError>
         ensures { IfOk result (Gathers behind count []) }
     {
@@ -127,7 +127,7 @@ impl Gathering {
         }
     }
 
-    /// The same, where the version was closed and has a last day.
+    /// The same, if the version was closed and has a last day.
     fn end_if_closed(&mut self, closed: Option<u32>, object: ObjectId, last: Option<Day>)
         ensures behind { self.new.behind ≡ self.old.behind }
         ensures slots { (v : VersionedObject) (entered : ℕ) → v.object ≡ object → v.last ≡ last →
@@ -158,7 +158,7 @@ impl Gathering {
         }
     }
 
-    /// One version more, with the revision that entered it and the one that closed it. They may come in any order.
+    /// One more version, with the revision that entered it and the one that closed it. They may come in any order.
     pub(crate) fn note(&mut self, version: Version, entered: u32, closed: Option<u32>)
         ensures { (behind count : ℕ) (entries : List Entry) → Gathers behind count entries self.old →
             Gathers behind count (entries ++ record { version = version; entered = entered; closed = closed } ∷ []) self.new }
@@ -174,7 +174,7 @@ impl Gathering {
         self.begin(entered, beginning(object, number, first, body));
     }
 
-    /// The commands, where there is one of each revision.
+    /// The commands, if there is one for each revision.
     pub(crate) fn commands(self, alloc: Global) -> Result<Option<Vec<Command>>, AllocError>
         ensures { IfOk result (λ found. (behind count : ℕ) (entries : List Entry) → Gathers behind count entries self →
             MatchOption found ((commands : List CommandOf) → map Some commands ≢ commands_behind behind count entries)

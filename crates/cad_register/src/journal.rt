@@ -15,7 +15,7 @@ use crate::listing::put_in_order;
 use cad_versions::{Command, RegisterFault};
 use std::alloc::Global;
 
-/// What the versions of rows that stand in this order show of the commands behind a revision, in a register of which another is the newest.
+/// What the versions of rows in this order show of the commands after a revision, in a register whose newest revision is `newest`.
 fn gathered(
     alloc: Global,
     found: Vec<FoundRow>,
@@ -39,7 +39,7 @@ fn gathered(
     Ok(gathering)
 }
 
-/// The commands, or that these rows are those of no register.
+/// The commands, or that these rows are not those of a register.
 fn commands_in(alloc: Global, gathering: Gathering) -> Result<Vec<Command>, RegisterFault>
     ensures { IsGivenBy gathering result }
 {
@@ -49,7 +49,8 @@ fn commands_in(alloc: Global, gathering: Gathering) -> Result<Vec<Command>, Regi
     }
 }
 
-/// The commands behind a revision, by all rows of a register, in whichever order these were read. The damaged row that is named is the first by its identifier, as it is stored.
+/// The commands after a revision, from all rows of a register, no matter in which order these were read. If a damaged row is named, it is
+/// the first one by its identifier, as it is stored.
 pub(crate) fn commands_given(
     alloc: Global,
     found: Vec<FoundRow>,

@@ -1,4 +1,4 @@
-//! What holds of every register, and of the rows that it is kept in. Each contract is a law; the functions do nothing.
+//! What holds of every register, and of the rows in which it is stored. Each contract is a law; the functions do nothing.
 
 ghost use Rattle.cad_register.specs.Laws.{RowsAreOfOneEntry, RegisterRowsAreSound, EntriesGiveTheirCommands, ListingsGiveTheirCommands, EnteredStandsForAll, JournalsAreAccepted};
 
@@ -9,7 +9,7 @@ pub use cad_versions::laws::{
 };
 use sqlite::Alter;
 
-/// A row stands for one entry at most.
+/// A row represents at most one entry.
 pub fn rows_are_of_one_entry()
     ensures { RowsAreOfOneEntry }
 {}
@@ -19,7 +19,7 @@ pub fn register_rows_are_sound<S: Alter>()
     ensures { RegisterRowsAreSound S.Store }
 {}
 
-/// Of the entries that accepted commands make, the revisions behind any one show the commands behind it, and no others.
+/// Of the entries that accepted commands make, the revisions after any one show the commands after it, and no others.
 pub fn entries_give_their_commands()
     ensures { EntriesGiveTheirCommands }
 {}
@@ -29,12 +29,12 @@ pub fn listings_give_their_commands()
     ensures { ListingsGiveTheirCommands }
 {}
 
-/// A ledger into which the commands of a journal were entered stands for them.
+/// A ledger into which the commands of a journal were entered holds them after those that it held before.
 pub fn entered_stands_for_all<L: Ledger>()
     ensures { EnteredStandsForAll L.Ledger }
 {}
 
-/// A command of a journal, in its place, is refused by what keeps the ledger alone.
+/// If a command of a journal, in its place, is refused, only the ledger's store refuses it.
 pub fn journals_are_accepted<L: Ledger>()
     ensures { JournalsAreAccepted L.Ledger }
 {}

@@ -11,7 +11,7 @@ use crate::found::FoundRow;
 use cad_versions::{RegisterFault, Version};
 use std::alloc::Global;
 
-/// Puts what was read of rows in the order of their identifiers, as these are stored, in place.
+/// Sorts what was read of rows by identifier, as the identifiers are stored, in place.
 pub(crate) fn put_in_order(found: &mut Vec<FoundRow>)
     ensures same { IsPermutation found.old.items found.new.items }
     ensures sorted { IsSorted by_identifier found.new.items }
@@ -19,7 +19,7 @@ pub(crate) fn put_in_order(found: &mut Vec<FoundRow>)
     found.sort_unstable_by_key(|row| row.identifier());
 }
 
-/// The versions of rows that stand in this order, at a revision of a register, of which another is the newest.
+/// The versions of rows in this order, at a revision of a register whose newest revision is `newest`.
 fn versions_at(
     alloc: Global,
     found: Vec<FoundRow>,
@@ -44,7 +44,8 @@ fn versions_at(
     Ok(versions)
 }
 
-/// The versions of the rows of a revision, in whichever order these were read. The damaged row that is named is the first by its identifier, as it is stored.
+/// The versions of the rows of a revision, no matter in which order these were read. If a damaged row is named, it is the first one by its
+/// identifier, as it is stored.
 pub(crate) fn listed(
     alloc: Global,
     found: Vec<FoundRow>,

@@ -10,7 +10,7 @@ use cad_versions::BodyParts;
 use sqlite::Row;
 use std::alloc::Global;
 
-/// What the row has in the columns of which each class has some.
+/// The parts of a body in the columns of the row. Each class has some of these parts.
 pub(crate) fn parts_at(alloc: Global, row: &Row) -> Result<BodyParts, ReadFault>
     ensures { Reads result (HasParts row.now) }
 {

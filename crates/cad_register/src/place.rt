@@ -1,4 +1,4 @@
-//! What the next row is judged by.
+//! What the next row is checked against.
 
 ghost use Rattle.std.specs.Prelude.{◌≡◌, ◌↔◌, IsTrue};
 ghost use Rattle.cad_register.specs.Damage.{place_of, IsNextOf, IsFirstBehind, Follows};
@@ -42,7 +42,7 @@ impl Place {
     }
 }
 
-/// Whether the version may stand in the row behind this place, and without one in the first row.
+/// Whether the version is valid in the row after this place, or without a place in the first row.
 pub(crate) fn follows(before: Option<Place>, version: &Version) -> bool
     ensures { IsTrue result ↔ Follows before version.now }
 {

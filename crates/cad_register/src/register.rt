@@ -69,7 +69,8 @@ impl<S: Alter> Register<S> {
         u64::from(self.revision)
     }
 
-    /// The register of no commands, in a database where neither a table `state` nor a table `version` stands. A refusal, as `NotARegister` where one stands, gives the connection back.
+    /// The register of no commands, in a database that has neither a table `state` nor a table `version`. A refusal, such as `NotARegister`
+    /// if it has one of them, gives the connection back.
     pub fn create(
         alloc: Global,
         connection: Connection<S>,
@@ -88,7 +89,8 @@ impl<S: Alter> Register<S> {
         }
     }
 
-    /// The register that the database holds. A refusal, as `NotARegister` where a table, a column or the row of `state` is missing or tells another format, gives the connection back.
+    /// The register that the database holds. A refusal, such as `NotARegister` if a table, a column or the row of `state` is missing or
+    /// that row has another format, gives the connection back.
     pub fn open(
         alloc: Global,
         connection: Connection<S>,
@@ -107,7 +109,8 @@ impl<S: Alter> Register<S> {
         }
     }
 
-    /// The register of a database, which is made where neither a table `state` nor a table `version` stands. A refusal gives the connection back.
+    /// The register of a database, which is made if the database has neither a table `state` nor a table `version`. A refusal gives the
+    /// connection back.
     pub fn open_or_create(
         alloc: Global,
         connection: Connection<S>,
@@ -128,7 +131,7 @@ impl<S: Alter> Register<S> {
         ensures shown { HasCleanDisk (state_of S.Store self.new) → IfOk result (λ versions.
             (commands : List CommandOf) → IsRegisterOf S.Store self.old commands →
             versions.items ≡ register_as_of revision commands) }
-        // Whatever the disk returns.
+        // No matter what the disk returns.
         ensures ascending { IfOk result (λ versions. IsListing versions.items) }
         ensures beyond { revision_of self.old < revision →
             result ≡ Err RegisterFault.UnknownRevision }
@@ -137,12 +140,12 @@ impl<S: Alter> Register<S> {
         ensures cause { HasCleanDisk (state_of S.Store self.new) → IfErr result (λ fault.
             (commands : List CommandOf) → IsRegisterOf S.Store self.old commands →
             revision ≤ length commands → IsStoreFault fault) }
-        // Whatever the disk returns.
+        // No matter what the disk returns.
         ensures named { IfErr result (λ fault. fault ≢ RegisterFault.UnknownRevision →
             IsReadingFault fault) }
-        // Whatever the disk returns, only sound rows are listed, and the damaged row is the first that breaks a rule.
+        // No matter what the disk returns, only sound rows are listed, and the damaged row is the first that breaks a rule.
         ensures read { ReadsRows (state_of S.Store self.old) (state_of S.Store self.new) revision (revision_of self.old) result }
-        // It shows what it showed, with the same limit of steps, and no fault of the disk forgotten.
+        // It shows the same as before, with the same limit of steps, and no fault of the disk is forgotten.
         ensures still { HasCleanDisk (state_of S.Store self.new) →
             OnOk result (Remains S.Store self.old self.new) }
         ensures store { HasCleanDisk (state_of S.Store self.new) →
@@ -152,7 +155,7 @@ impl<S: Alter> Register<S> {
             OnOk result ((commands : List CommandOf) → IsRegisterOf S.Store self.old commands →
             IsRegisterOf S.Store self.new commands) }
         ensures keeps { Keeps S.Store Leaves self.old self.new result }
-        // Whatever is answered, the limit of steps is the same, and no fault of the disk is forgotten.
+        // For any result, the limit of steps is the same, and no fault of the disk is forgotten.
         ensures later { IsLater (state_of S.Store self.old) (state_of S.Store self.new) }
     {
         if u64::from(self.revision) < revision {
@@ -162,9 +165,9 @@ impl<S: Alter> Register<S> {
         versions_of(self.alloc, &mut self.connection, revision as u32, newest)
     }
 
-    /// The commands behind a revision, in their order: those that were accepted since, and no others.
+    /// The commands after a revision, in their order: those that were accepted since, and no others.
     ///
-    /// Sound rows that show no command of some revision, as only a file that another program wrote has them, are answered by `NotARegister`.
+    /// If sound rows show no command of some revision, the result is `NotARegister`. Only a file that another program wrote has such rows.
     pub fn journal(&mut self, behind: Revision) -> Result<Vec<Command>, RegisterFault>
         ensures given { HasCleanDisk (state_of S.Store self.new) → IfOk result (λ journal.
             (commands : List CommandOf) → IsRegisterOf S.Store self.old commands →
@@ -176,13 +179,13 @@ impl<S: Alter> Register<S> {
         ensures cause { HasCleanDisk (state_of S.Store self.new) → IfErr result (λ fault.
             (commands : List CommandOf) → IsRegisterOf S.Store self.old commands →
             behind ≤ length commands → IsStoreFault fault) }
-        // Whatever the disk returns.
+        // No matter what the disk returns.
         ensures named { IfErr result (λ fault. fault ≢ RegisterFault.UnknownRevision →
             IsJournalFault fault) }
-        // Whatever the disk returns, the rows that were read show these commands, or one of them is named.
+        // No matter what the disk returns, the rows that were read show these commands, or one of them is named.
         ensures read { behind ≤ revision_of self.old →
             GivesJournal (state_of S.Store self.old) (state_of S.Store self.new) behind (revision_of self.old) result }
-        // It shows what it showed, with the same limit of steps, and no fault of the disk forgotten.
+        // It shows the same as before, with the same limit of steps, and no fault of the disk is forgotten.
         ensures still { HasCleanDisk (state_of S.Store self.new) →
             OnOk result (Remains S.Store self.old self.new) }
         ensures store { HasCleanDisk (state_of S.Store self.new) →
@@ -192,7 +195,7 @@ impl<S: Alter> Register<S> {
             OnOk result ((commands : List CommandOf) → IsRegisterOf S.Store self.old commands →
             IsRegisterOf S.Store self.new commands) }
         ensures keeps { Keeps S.Store Leaves self.old self.new result }
-        // Whatever is answered, the limit of steps is the same, and no fault of the disk is forgotten.
+        // For any result, the limit of steps is the same, and no fault of the disk is forgotten.
         ensures later { IsLater (state_of S.Store self.old) (state_of S.Store self.new) }
     {
         if u64::from(self.revision) < behind {
@@ -202,7 +205,7 @@ impl<S: Alter> Register<S> {
         commands_behind(self.alloc, &mut self.connection, behind as u32, last)
     }
 
-    /// Makes the next revision of the register, or changes nothing. After `Store` from a file it is to be opened again.
+    /// Makes the next revision of the register, or changes nothing. After `Store`, a register in a file is to be opened again.
     pub fn apply(&mut self, command: Command) -> Result<Revision, RegisterFault>
         ensures accepted { HasCleanDisk (state_of S.Store self.new) → IfOk result (λ revision.
             (commands : List CommandOf) → IsRegisterOf S.Store self.old commands →
@@ -211,22 +214,22 @@ impl<S: Alter> Register<S> {
         ensures refused { HasCleanDisk (state_of S.Store self.new) → IfErr result (λ fault.
             (commands : List CommandOf) → IsRegisterOf S.Store self.old commands →
             IsRefused commands command fault) }
-        // Whatever the disk returns.
+        // No matter what the disk returns.
         ensures named { result ≢ Err RegisterFault.UnknownRevision }
-        // Whatever the disk returns, a row that is named is the first of those asked for that breaks a rule.
+        // No matter what the disk returns, a row that is named is the first of those asked for that breaks a rule.
         ensures damaged { IfErr result
             (NamesFirst S.Store (connection_of self.old) (connection_of self.new) (command_questions command (revision_of self.old))) }
-        // What the database itself refused, a question for what stands, a statement of the change or its commit.
+        // What the database itself refused: a question for the current state, a statement of the change or its commit.
         ensures store { HasCleanDisk (state_of S.Store self.new) →
             result ≡ Err RegisterFault.Store → (commands : List CommandOf) →
             IsRegisterOf S.Store self.old commands →
             RefusesToApply S.Store (connection_of self.old) (connection_of self.new) command (length commands) }
         ensures keeps { Keeps S.Store (LeavesEither command) self.old self.new result }
-        // What an open after a crash may find once the revision is told.
+        // What an open after a crash may find once the revision is returned.
         ensures durable { HasCleanDisk (state_of S.Store self.new) →
             OnOk result ((commands : List CommandOf) → IsRegisterOf S.Store self.old commands →
             Leaves (state_of S.Store self.new) (commands ++ command ∷ [])) }
-        // Whatever is answered, the limit of steps is the same, and no fault of the disk is forgotten.
+        // For any result, the limit of steps is the same, and no fault of the disk is forgotten.
         ensures later { IsLater (state_of S.Store self.old) (state_of S.Store self.new) }
     {
         let decided = decide(self.alloc, &mut self.connection, self.revision, &command);

@@ -1,4 +1,4 @@
-//! What stands of an object.
+//! The current state of an object.
 
 ghost use Rattle.std.specs.Prelude.{◌≡◌, ◌≢◌, List, length, map, IfOk, IfErr};
 ghost use Rattle.cad_versions.specs.VersionedObject.{VersionedObject};
@@ -10,7 +10,8 @@ use cad_day::Day;
 use cad_versions::{Class, ObjectId, RegisterFault};
 use sqlite::Row;
 
-/// What stands of an object: its class, where it was entered, the first day of its open version, where one is open, and how many versions it has.
+/// The current state of an object: its class, if it was entered, the first day of its open version, if one is open, and how many versions
+/// it has.
 #[derive(Clone, Copy, Debug)]
 pub(crate) struct ObjectState {
     pub(crate) class: Option<Class>,
@@ -42,7 +43,7 @@ fn row_opened(row: &Row) -> Result<Option<Day>, ReadFault>
     }
 }
 
-/// Why this row of the object tells nothing.
+/// Why this row of the object gives no answer.
 fn row_fault(object: ObjectId, row: &Row, fault: ReadFault) -> RegisterFault
     ensures { result ≡ fault_of_row object row.now fault }
 {
@@ -86,7 +87,7 @@ fn last_opened(object: ObjectId, rows: &[Row]) -> Result<Option<Day>, RegisterFa
 }
 
 impl ObjectState {
-    /// What the rows of an object tell of it. The first or the last of them is named, where it tells nothing.
+    /// What the rows of an object say of it. The first or the last of them is named if it gives no answer.
     pub(crate) fn read(object: ObjectId, rows: &[Row]) -> Result<ObjectState, RegisterFault>
         ensures known { IfOk result (λ s. (vs : List VersionedObject) → rows.now ≡ map outline vs →
             (s.class ≡ class_of_first vs) × (s.open_since ≡ opened_last vs) ×

@@ -1,4 +1,4 @@
-//! Versions as they are kept.
+//! Versions as they are stored.
 
 ghost use Rattle.std.specs.Prelude.{◌≡◌, ◌<ℤ◌, ◌↔◌, ◌++◌, ◌∷◌, [], ℕ, List, IsTrue, MatchOption};
 ghost use Rattle.cad_day.specs.Days.{number_of};
@@ -40,7 +40,7 @@ fn is_before(day: Day, other: Day) -> bool
     day.number() < other.number()
 }
 
-/// The version of these parts, where its number and its last day may be so.
+/// The version with these parts, if its number and its last day are valid.
 fn version_of(
     object: ObjectId,
     number: u32,
@@ -114,7 +114,8 @@ impl StoredVersion {
         Place::of(&self.version)
     }
 
-    /// Whether it was closed exactly where it has a last day, at the revision that entered it or a later one, up to the newest.
+    /// Whether it has a last day if and only if it was closed, and was closed at the revision that entered it or a later one, up to the
+    /// newest.
     fn is_closed_by(&self, newest: u32) -> bool
         ensures { IsTrue result ↔ IsClosedBy newest self.now.entered self.now.version.last self.now.closed }
     {
@@ -125,14 +126,15 @@ impl StoredVersion {
         }
     }
 
-    /// Whether it was entered and closed at revisions of a register of which this is the newest.
+    /// Whether it was entered and closed at revisions of a register with this newest revision.
     fn has_revisions(&self, newest: u32) -> bool
         ensures { IsTrue result ↔ HasRevisions newest (entry_of self.now) }
     {
         1 <= self.entered && self.entered <= newest && self.is_closed_by(newest)
     }
 
-    /// Whether it may stand, in a register of this newest revision, in the row behind so many others, the last of which has the place `before`.
+    /// Whether it is valid, in a register with this newest revision, in the row after `count` others, the last of which has the place
+    /// `before`.
     pub(crate) fn keeps_rules(&self, before: Option<Place>, count: usize, newest: u32) -> bool
         ensures { IsTrue result ↔ KeepsRules newest before count (entry_of self.now) }
     {
@@ -154,7 +156,7 @@ impl StoredVersion {
         gathering.note(version, entered, closed);
     }
 
-    /// The version as it stood at a revision, at which a later closing is not seen.
+    /// The version as it was at a revision: a later closing is not seen.
     pub(crate) fn seen_at(self, revision: u32) -> Version
         ensures { result ≡ seen_at revision (entry_of self) }
     {

@@ -9,11 +9,11 @@ use Rattle.cad_sample.specs.Instructions.{Instruction, instruction_of}
 use Rattle.cad_sample.specs.Sample.{AreSample, sample_commands}
 
 module _ {B : Type 0} (applies : B → Command → Result ℕ RegisterFault → B → Type 0) where
-  -- the ledger answers this to a command that says so
+  -- the ledger answers this to the command with this content
   abbrev pub Answers : B → Instruction → Result ℕ RegisterFault → B → Type 0
   Answers old instruction result new = (command : Command) × (instruction_of command ≡ instruction) × applies old command result new
 
-  -- the ledger accepts these, one after the other, and answers the last revision; before them it had answered the first
+  -- the ledger accepts these, one after the other, and returns the last revision; before them it had returned the first
   abbrev pub Accepts : List Instruction → B → ℕ → ℕ → B → Type 0
   Accepts [] old first last new = (new ≡ old) × (last ≡ first)
   Accepts (instruction ∷ more) old first last new =
@@ -24,18 +24,18 @@ module _ {B : Type 0} (applies : B → Command → Result ℕ RegisterFault → 
   Refuses [] old fault new = ⊥
   Refuses (instruction ∷ more) old fault new = Answers old instruction (Err fault) new ⊎ ((fault ≡ Memory) × (new ≡ old))
 
-  -- all are accepted, or some and then one is refused
+  -- all are accepted, or some are and then one is refused
   abbrev pub Enters : List Instruction → B → Result ℕ RegisterFault → B → Type 0
   Enters all old (Ok revision) new = Accepts all old 0 revision new
   Enters all old (Err fault) new =
       (accepted : List Instruction) × (left : List Instruction) × (revision : ℕ) × (mid : B) × (all ≡ accepted ++ left) × Accepts accepted old 0 revision mid × Refuses left mid fault new
 
 module _ {L : Type 0} (g : Ghosts L) where
-  -- the ledger stands for the commands of the sample, each of which is accepted after those before it
+  -- the ledger holds the commands of the sample, each of which is accepted after those before it
   abbrev pub HoldsSample : L → Type 0
   HoldsSample ledger = (commands : List Command) × AreSample commands × AreAccepted [] commands × g.stands_for ledger commands
 
-  -- a ledger that stood for no commands holds the sample now, and the last revision counts its commands
+  -- a ledger that held no commands holds the sample now, and the last revision counts its commands
   abbrev pub IsFilled : L → Result ℕ RegisterFault → L → Type 0
   IsFilled old result new =
       g.counts new → g.stands_for old [] → IfOk result (λ revision. (revision ≡ length sample_commands) × HoldsSample new)

@@ -12,7 +12,7 @@ date year month day = days_from_civil (pos year) month day
 abbrev pub corner : ℕ → ℕ → ℤ × ℤ
 corner x y = (pos x, pos y)
 
--- the square of side 20 metres that lies so far to the right
+-- the square with sides of 20 metres whose left side is at this x, in millimetres
 abbrev pub square_at : ℕ → List (ℤ × ℤ)
 square_at x = corner x 0 ∷ corner (x + 20000) 0 ∷ corner (x + 20000) 20000 ∷ corner x 20000 ∷ []
 
@@ -53,6 +53,6 @@ sample_commands =
     ∷ to_enter 31 (date 2006 1 1) no_building
     ∷ []
 
--- commands that say so
+-- the commands with this content
 abbrev pub AreSample : List Command → Type 0
 AreSample commands = map instruction_of commands ≡ sample_commands

@@ -1,4 +1,4 @@
-//! The commands of the sample entered into a ledger.
+//! Entering the commands of the sample into a ledger.
 
 ghost use Rattle.std.specs.Prelude.{map};
 ghost use Rattle.cad_versions.specs.LedgerCalls.{Applies};
@@ -10,9 +10,10 @@ use crate::commands::sample;
 use cad_versions::{Command, Ledger, RegisterFault};
 use std::alloc::Global;
 
-/// Enters the ten commands of the sample register, in their order, and answers the last revision.
+/// Enters the ten commands of the sample register, in their order, and returns the last revision.
 ///
-/// It stops at the first refusal, and the commands before it stay. A ledger of no commands stands for the ten then.
+/// It stops at the first refusal, and the commands before it stay. An empty ledger that accepts all of them holds the ten commands
+/// afterwards.
 pub fn fill<L: Ledger>(alloc: Global, ledger: &mut L) -> Result<u64, RegisterFault>
     ensures enters { Enters (Applies L.Ledger) sample_commands ledger.old result ledger.new }
     ensures filled { IsFilled L.Ledger ledger.old result ledger.new }
@@ -23,7 +24,7 @@ pub fn fill<L: Ledger>(alloc: Global, ledger: &mut L) -> Result<u64, RegisterFau
     }
 }
 
-/// Enters the commands one after the other, up to the first that is refused, and answers the last revision.
+/// Enters the commands one after the other, up to the first that is refused, and returns the last revision.
 fn enter_all<L: Ledger>(ledger: &mut L, commands: Vec<Command>) -> Result<u64, RegisterFault>
     ensures { Enters (Applies L.Ledger) (map instruction_of commands.items) ledger.old result ledger.new }
 {

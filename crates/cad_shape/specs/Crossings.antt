@@ -31,14 +31,14 @@ ShareMore p c s = (x : ℤ) × (y : ℤ) × (w : ℤ) × IsMore p c s x y w
 abbrev pub along : Point → Point → Point → ℤ
 along p c s = (p.x -ℤ c.x) *ℤ (s.x -ℤ c.x) +ℤ (p.y -ℤ c.y) *ℤ (s.y -ℤ c.y)
 
--- how edge i and edge j, i at most j, stand to each other in a ring of n
+-- how edge i and edge j, i at most j, are related in a ring of n edges
 abbrev pub pair_of : ℕ → ℕ → ℕ → Pair
 pair_of n i j =
     if nat_eq i j then Same
     else (if nat_eq (i + 1) j then Next else (if nat_eq i 0 && nat_eq (j + 1) n then Round else Far))
 
--- the edge from p to q and the one from r to s, which may be one, share more than they may:
--- an edge has length, neighbours share their corner alone, and others share no point
+-- the edge from p to q and the one from r to s, which may be one, share more than they may: an edge has length, neighbours share only their
+-- corner, and others share no point
 abbrev pub Cross : Pair → Point → Point → Point → Point → Type 0
 Cross Same p q r s = (p.x ≡ q.x) × (p.y ≡ q.y)
 Cross Next p q r s = ShareMore p q s
@@ -49,7 +49,7 @@ Cross Far p q r s = Meet p q r s
 abbrev pub IsCrossing : List Edge → ℕ → ℕ → Type 0
 IsCrossing edges i j = Cross (pair_of (length edges) i j) (edge_at edges i).from (edge_at edges i).to (edge_at edges j).from (edge_at edges j).to
 
--- pair (k, l) stands before pair (i, j)
+-- pair (k, l) comes before pair (i, j)
 abbrev pub Before : ℕ → ℕ → ℕ → ℕ → Type 0
 Before k l i j = (k < i) ⊎ ((k ≡ i) × (l < j))
 

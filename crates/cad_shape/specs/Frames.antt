@@ -33,12 +33,12 @@ ShareHeight a b = (a.y_min ≤ℤ b.y_max) × (b.y_min ≤ℤ a.y_max)
 abbrev pub Overlap : Bounds → Bounds → Type 0
 Overlap a b = ShareWidth a b × ShareHeight a b
 
--- the box holds all these points, and each box that does holds all of it (OGC 06-103r4, 6.1.2.2, `Envelope`)
+-- the box holds all these points, and each box that holds them covers it (OGC 06-103r4, 6.1.2.2, `Envelope`)
 pub record IsLeastBounds (bounds : Bounds) (points : List Point) : Type 0 where
   pub holds : All (IsHeld bounds) points
   pub least : (other : Bounds) → All (IsHeld other) points → Covers other bounds
 
--- the corners of the box, round from the lower left one
+-- the corners of the box, counterclockwise from the lower left one
 abbrev pub frame_corners : Bounds → List Point
 frame_corners b =
     record { x = b.x_min; y = b.y_min; x_in_range = b.width.0; y_in_range = b.height.0 }
@@ -47,7 +47,7 @@ frame_corners b =
     ∷ record { x = b.x_min; y = b.y_max; x_in_range = b.width.0; y_in_range = b.height.1 }
     ∷ []
 
--- the new box holds the old one and the point, and is covered by each box that does
+-- the new box holds the old one and the point, and each box that holds both covers it
 pub record IsStretched (old : Bounds) (p : Point) (new : Bounds) : Type 0 where
   pub keeps : Covers new old
   pub holds : IsHeld new p

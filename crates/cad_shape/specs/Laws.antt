@@ -21,35 +21,35 @@ use Rattle.cad_shape.specs.Segments.{Meet}
 use Rattle.cad_shape.specs.Shapes.{shape_corners, IsIn, Meets, IsWithin}
 use Rattle.cad_shape.specs.Tests.{shapes_meet, shape_within}
 
--- segments that meet do so whichever is named first, and from whichever end
+-- whether segments meet does not depend on which is named first, nor on the end from which each is named
 abbrev pub SegmentsMeetEitherWay : Type 0
 SegmentsMeetEitherWay = (p q r s : Point) → Meet p q r s → Meet r s p q × Meet q p r s
 
--- an edge counts for a point exactly where it crosses the point's height right of it
+-- an edge counts for a point if and only if it crosses the point's height right of it
 abbrev pub CountedEdgesCross : Type 0
 CountedEdgesCross = (t p q : Point) → IsTrue (passes t p q) ↔ CrossesRight t p q
 
--- a region is the same if a ring of it, between other edges, begins with another of its corners
+-- a region stays the same if one of its rings, between other edges, begins with another of its corners
 abbrev pub TurningKeepsRegions : Type 0
 TurningKeepsRegions = (t p : Point) (qs : List Point) (before after : List Edge) → IsInRegion t (before ++ edges_of (p ∷ qs) ++ after) ↔ IsInRegion t (before ++ edges_of (qs ++ p ∷ []) ++ after)
 
--- and if the corners of a ring of it stand in the other order
+-- and if the corners of one of its rings are listed in the opposite order
 abbrev pub OrderKeepsRegions : Type 0
 OrderKeepsRegions = (t : Point) (corners : List Point) (before after : List Edge) → IsInRegion t (before ++ edges_of corners ++ after) ↔ IsInRegion t (before ++ edges_of (reverse corners) ++ after)
 
--- the edges of all rings cross as often as those of each together
+-- the number of edges of all rings that cross is the sum of those of each ring
 abbrev pub CrossingsAddUp : Type 0
 CrossingsAddUp = (t : Point) (ring : Ring) (rings : List Ring) → crossings t (rings_edges (ring ∷ rings)) ≡ crossings t (edges_of (corners_of ring)) + crossings t (rings_edges rings)
 
--- a region without holes is that of its ring
+-- a region without holes is the region of its ring
 abbrev pub OneRingIsTheRegion : Type 0
 OneRingIsTheRegion = (t : Point) (region : Region) (ring : Ring) → rings_of region ≡ ring ∷ [] → IsInRegion t (region_edges region) ↔ IsInRegion t (edges_of (corners_of ring))
 
--- a point on an edge of some ring lies in the region
+-- a point on an edge of any ring lies in the region
 abbrev pub EdgesAreTakenIn : Type 0
 EdgesAreTakenIn = (t : Point) (region : Region) → AnyOf (λ ring. IsOnSome t (edges_of (corners_of ring))) (rings_of region) → IsInRegion t (region_edges region)
 
--- a point on no edge lies in a region exactly where an odd number of the rings have it in their regions
+-- a point on no edge lies in a region if and only if an odd number of the rings have it in their regions
 abbrev pub OddlyManyRingsHold : Type 0
 OddlyManyRingsHold = (t : Point) (region : Region) → ¬ (IsOnSome t (region_edges region)) → IsInRegion t (region_edges region) ↔ (rings_around t (rings_of region) % 2 ≡ 1)
 
@@ -59,11 +59,11 @@ HolesAreLeftOut =
     (t : Point) (region : Region) (outer hole : Ring) (before after : List Ring) → rings_of region ≡ outer ∷ (before ++ hole ∷ after)
     → IsInsideRing t outer → IsInsideRing t hole → IsInNone t before → IsInNone t after → ¬ (IsInRegion t (region_edges region))
 
--- corners that the plain test takes are a ring: so a ring that is written out is made without a fault
+-- corners that pass the plain test are a ring: so a ring that is written out in code is made without a fault
 abbrev pub PlainRingsAreRings : Type 0
 PlainRingsAreRings = (corners : List Point) → IsTrue (is_plain_ring (map coordinates corners)) → IsRing corners
 
--- a list of corners has one fault alone, and with one it is no ring
+-- a list of corners has at most one fault, and with a fault it is no ring
 abbrev pub OneFaultAlone : Type 0
 OneFaultAlone = (corners : List Point) (fault : RingFault) → IsRingFault corners fault → ¬ (IsRing corners) × ((other : RingFault) → IsRingFault corners other → other ≡ fault)
 
@@ -71,7 +71,7 @@ OneFaultAlone = (corners : List Point) (fault : RingFault) → IsRingFault corne
 abbrev pub CornersMakeTheRing : Type 0
 CornersMakeTheRing = (a b : Ring) → corners_of a ≡ corners_of b → a ≡ b
 
--- a list of rings has one fault alone, and with one it is no region
+-- a list of rings has at most one fault, and with a fault it is no region
 abbrev pub OneRegionFaultAlone : Type 0
 OneRegionFaultAlone = (rings : List Ring) (fault : RegionFault) → IsRegionFault rings fault → ¬ (IsRegion rings) × ((other : RegionFault) → IsRegionFault rings other → other ≡ fault)
 
@@ -83,7 +83,7 @@ RingsMakeTheRegion = (a b : Region) → rings_of a ≡ rings_of b → a ≡ b
 abbrev pub OneLeastBox : Type 0
 OneLeastBox = (a b : Bounds) (corners : List Point) → IsLeastBounds a corners → IsLeastBounds b corners → a ≡ b
 
--- shapes that meet do so whichever is named first
+-- whether shapes meet does not depend on which is named first
 abbrev pub MeetingIsSymmetric : Type 0
 MeetingIsSymmetric = (a b : Shape) → Meets a b → Meets b a
 
@@ -103,6 +103,6 @@ BoundsOverlap = (a b : Shape) (f g : Bounds) → IsLeastBounds f (shape_corners 
 abbrev pub WithinMeets : Type 0
 WithinMeets = (a b : Shape) → IsWithin a b → Meets a b
 
--- the tests of shapes are true exactly where their relations hold
+-- the tests of shapes are true if and only if their relations hold
 abbrev pub TestsTell : Type 0
 TestsTell = (a b : Shape) → (IsTrue (shapes_meet a b) ↔ Meets a b) × (IsTrue (shape_within a b) ↔ IsWithin a b)

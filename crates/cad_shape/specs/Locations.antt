@@ -1,4 +1,4 @@
--- Where a point lies by the edges of a region (OGC 06-103r4, 6.1.15.1, interior, boundary and exterior).
+-- Where a point lies relative to the edges of a region (OGC 06-103r4, 6.1.15.1, interior, boundary and exterior).
 use Rattle.std.specs.Prelude.{ℕ, nat_eq, if◌then◌else◌, ◌%◌, ◌≡◌, Bool, true, false, List}
 use Rattle.cad_shape.specs.declared.point.Point.{Point}
 use Rattle.cad_shape.specs.declared.location.Location.{Location}

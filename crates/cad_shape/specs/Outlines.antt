@@ -9,7 +9,7 @@ use Rattle.cad_shape.specs.Crossings.{NoneCross}
 abbrev pub HasArea : List Edge → Type 0
 HasArea edges = ¬ (doubled_area edges ≡ pos 0)
 
--- as many corners as a ring may have (own profile)
+-- from 3 to 1,000 corners (own profile)
 abbrev pub IsCounted : List Point → Type 0
 IsCounted corners = (3 ≤ length corners) × (length corners ≤ 1000)
 

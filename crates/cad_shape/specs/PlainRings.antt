@@ -1,5 +1,5 @@
--- A test that computes, for rings that are written out: where it says yes, the corners are a ring. It asks for more than
--- it must, since it refuses corners on a straight line.
+-- A test that computes, for rings that are written out in code: if it says yes, the corners are a ring. It is stricter than necessary,
+-- since it refuses corners on a straight line.
 use Rattle.std.specs.Prelude.{ℕ, ◌+◌, ℤ, pos, ◌+ℤ◌, ◌-ℤ◌, ◌*ℤ◌, int_lt, nat_le, Bool, true, ◌&&◌, ◌||◌, List, [], ◌∷◌, ◌++◌, length}
 use Rattle.cad_shape.specs.declared.point.Point.{Point}
 use Rattle.cad_shape.specs.declared.crossing.Pair.{Pair}

@@ -16,7 +16,7 @@ abbrev pub rings_edges : List Ring → List Edge
 rings_edges [] = []
 rings_edges (r ∷ rs) = edges_of (corners_of r) ++ rings_edges rs
 
--- the corners of ring i, where the exterior boundary is ring 0
+-- the corners of ring i; ring 0 is the exterior boundary
 abbrev pub ring_at : List Ring → ℕ → List Point
 ring_at rings i = slice_index_or (map corners_of rings) i []
 
@@ -28,7 +28,7 @@ ReachesOut outer corners = AnyOf (λ c. ¬ (IsInRegion c (edges_of outer))) corn
 abbrev pub IsOutside : List Ring → ℕ → Type 0
 IsOutside rings i = ReachesOut (ring_at rings 0) (ring_at rings i)
 
--- as many rings, and corners together, as a region may have (own profile)
+-- at most 100 rings, and at most 1,000 corners together (own profile)
 abbrev pub AreFew : List Ring → Type 0
 AreFew rings = (length rings ≤ 100) × (length (rings_corners rings) ≤ 1000)
 

@@ -1,4 +1,4 @@
--- Regions, and why a list of rings is none.
+-- Regions, and why a list of rings is not a region.
 use Rattle.std.specs.Prelude.{◌≡◌, ℕ, ◌<◌, ◌≤◌, ◌⊎◌, List, length, codes}
 use Rattle.std.proofs.Common.{ap₂, ⊎_elim, subst, arith}
 use Rattle.std.specs.Coded.{le_prop}
@@ -26,7 +26,7 @@ region_corners region = rings_corners (rings_of region)
 abbrev pub region_edges : Region → List Edge
 region_edges region = rings_edges (rings_of region)
 
--- the first fault of a list of rings, in this order: none, too many, one that is not in the exterior boundary (own profile)
+-- the first fault of a list of rings, in this order: no ring, too many, one that is not in the exterior boundary (own profile)
 abbrev pub IsRegionFault : List Ring → RegionFault → Type 0
 IsRegionFault rings NoRing = length rings ≡ 0
 IsRegionFault rings TooMany = (100 < length rings) ⊎ (1000 < length (rings_corners rings))

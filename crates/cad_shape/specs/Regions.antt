@@ -22,11 +22,11 @@ pub record IsRight (t p q : Point) (x w : ℤ) : Type 0 where
 abbrev pub CrossesRight : Point → Point → Point → Type 0
 CrossesRight t p q = (x : ℤ) × (w : ℤ) × IsRight t p q x w
 
--- the height of t lies from that of p up to below that of q
+-- t is at least as high as p, and lower than q
 abbrev pub rises : Point → Point → Point → Bool
 rises t p q = int_le p.y t.y && int_lt t.y q.y
 
--- whether an edge crosses right of t, by the side on which t lies; it does exactly where `CrossesRight`
+-- whether an edge crosses right of t, by the side on which t lies; it does if and only if `CrossesRight` holds
 abbrev pub passes : Point → Point → Point → Bool
 passes t p q =
     if rises t p q then int_lt (pos 0) (turn p q t)

@@ -1,4 +1,4 @@
--- Rings, and why a list of corners is none.
+-- Rings, and why a list of corners is not a ring.
 use Rattle.std.specs.Prelude.{◌≡◌, ℕ, ◌<◌, ◌≤◌, pos, List, length, codes}
 use Rattle.std.proofs.Common.{ap₂, subst, arith}
 use Rattle.std.specs.Coded.{le_prop}

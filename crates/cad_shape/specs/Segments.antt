@@ -2,7 +2,7 @@
 use Rattle.std.specs.Prelude.{ℤ, pos, ◌-ℤ◌, ◌*ℤ◌, ◌≡◌, ◌≤ℤ◌, ◌<ℤ◌, ◌⊎◌}
 use Rattle.cad_shape.specs.declared.point.Point.{Point}
 
--- n lies between a and b, which may stand in either order
+-- n lies between a and b, in either order
 abbrev pub IsBetween : ℤ → ℤ → ℤ → Type 0
 IsBetween a b n = ((a ≤ℤ n) × (n ≤ℤ b)) ⊎ ((b ≤ℤ n) × (n ≤ℤ a))
 
@@ -22,11 +22,11 @@ pub record IsShared (p q r s : Point) (x y w : ℤ) : Type 0 where
 abbrev pub Meet : Point → Point → Point → Point → Type 0
 Meet p q r s = (x : ℤ) × (y : ℤ) × (w : ℤ) × IsShared p q r s x y w
 
--- above 0 where r lies left of the line from p to q, below 0 on its right, 0 on the line
+-- above 0 if r lies left of the line from p to q, below 0 if on its right, 0 if on the line
 abbrev pub turn : Point → Point → Point → ℤ
 turn p q r = (q.x -ℤ p.x) *ℤ (r.y -ℤ p.y) -ℤ (q.y -ℤ p.y) *ℤ (r.x -ℤ p.x)
 
--- two numbers that are not both above 0 or both below it
+-- two numbers that are not both above 0 and not both below 0
 abbrev pub Straddle : ℤ → ℤ → Type 0
 Straddle f g = ((f ≤ℤ pos 0) × (pos 0 ≤ℤ g)) ⊎ ((g ≤ℤ pos 0) × (pos 0 ≤ℤ f))
 
@@ -34,7 +34,7 @@ Straddle f g = ((f ≤ℤ pos 0) × (pos 0 ≤ℤ g)) ⊎ ((g ≤ℤ pos 0) × (
 abbrev pub AllBelow : ℤ → ℤ → ℤ → ℤ → Type 0
 AllBelow a b c d = (a <ℤ c) × (a <ℤ d) × (b <ℤ c) × (b <ℤ d)
 
--- in one coordinate the segments lie apart: both ends of one below both of the other
+-- in one coordinate the segments are apart: both ends of one are below both ends of the other
 abbrev pub Apart : ℤ → ℤ → ℤ → ℤ → Type 0
 Apart p q r s = AllBelow p q r s ⊎ AllBelow r s p q
 

@@ -10,7 +10,7 @@ use Rattle.cad_shape.specs.Frames.{IsHeld, frame_corners}
 use Rattle.cad_shape.specs.Regions.{IsOnSome, IsInRegion, SomeMeet}
 use Rattle.cad_shape.specs.RegionRings.{region_corners, region_edges}
 
--- the shape that is lent
+-- the shape whose region is borrowed
 abbrev pub lent_shape : ShapeRef → Shape
 lent_shape (lent.Spot p) = Spot p
 lent_shape (lent.Frame bounds) = Frame bounds
@@ -31,7 +31,7 @@ shape_edges (Area region) = region_edges region
 abbrev pub IsSamePoint : Point → Point → Type 0
 IsSamePoint p q = (p.x ≡ q.x) × (p.y ≡ q.y)
 
--- t lies in the shape, its boundary taken in
+-- t lies in the shape, including its boundary
 abbrev pub IsIn : Point → Shape → Type 0
 IsIn t (Spot p) = IsSamePoint t p
 IsIn t (Frame bounds) = IsHeld bounds t
@@ -51,7 +51,7 @@ RegionMeets a (Spot q) = IsIn q a
 RegionMeets a (Frame g) = RegionsMeet a (Frame g)
 RegionMeets a (Area s) = RegionsMeet a (Area s)
 
--- the two shapes meet: a point lies in the other shape, or of two regions some edges share a point, or a corner of one lies in the other
+-- the two shapes meet: a point lies in the other shape; or of two regions some edges share a point, or a corner of one lies in the other
 abbrev pub Meets : Shape → Shape → Type 0
 Meets (Spot p) b = IsIn p b
 Meets (Frame f) b = RegionMeets (Frame f) b
@@ -78,7 +78,7 @@ is_frame (Spot p) = false
 is_frame (Frame bounds) = true
 is_frame (Area region) = false
 
--- whether it is asked for one shape to lie within another: a point in any, a region in a frame alone
+-- whether the question of one shape within another is answered: for a point in any shape, for a region in a frame only
 abbrev pub is_judged : Shape → Shape → Bool
 is_judged (Spot p) b = true
 is_judged (Frame f) b = is_frame b

@@ -1,4 +1,5 @@
--- Whether shapes meet and whether one lies within another, as tests by signs of whole numbers. Laws say that each test is true exactly where its relation holds.
+-- Whether shapes meet and whether one lies within another, as tests by signs of whole numbers. Laws say that each test is true if and only
+-- if its relation holds.
 use Rattle.std.specs.Prelude.{◌%◌, ◌==◌, ℤ, pos, ◌-ℤ◌, ◌*ℤ◌, int_lt, int_le, Bool, false, ◌&&◌, ◌||◌, not, if◌then◌else◌, List, Option, Some, None}
 use Rattle.std.specs.List.{list_all, list_any}
 use Rattle.std.specs.Ordering.{int_eq}
@@ -26,7 +27,7 @@ apart p q r s = all_below p q r s || all_below r s p q
 abbrev pub straddle : ℤ → ℤ → Bool
 straddle f g = (int_le f (pos 0) && int_le (pos 0) g) || (int_le g (pos 0) && int_le (pos 0) f)
 
--- `Meet`: the segments lie apart in no coordinate, and neither lies on one side of the other's line
+-- `Meet`: the segments are apart in no coordinate, and neither lies on one side of the other's line
 abbrev pub segments_meet : Point → Point → Point → Point → Bool
 segments_meet p q r s =
     (not (apart p.x q.x r.x s.x) && not (apart p.y q.y r.y s.y))
@@ -97,6 +98,6 @@ shape_within (Spot p) b = is_in p b && not (is_on_some p (shape_edges b))
 shape_within (Frame f) b = are_framed (shape_corners (Frame f)) b
 shape_within (Area r) b = are_framed (shape_corners (Area r)) b
 
--- the same where it is judged: a point in any shape, a region in a frame alone
+-- the same if it is judged: for a point in any shape, for a region in a frame only
 abbrev pub within : Shape → Shape → Option Bool
 within a b = if is_judged a b then Some (shape_within a b) else None

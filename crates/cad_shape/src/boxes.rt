@@ -48,7 +48,7 @@ impl Bounds {
     ghost use Rattle.cad_shape.specs.Frames.{IsWithinWidth, IsWithinHeight, IsHeld, CoversWidth, CoversHeight, Covers, ShareWidth, ShareHeight, Overlap};
     ghost use Rattle.cad_shape.specs.Frames.{IsLeastBounds, IsStretched, frame_corners};
 
-    /// The box between these edges, if its corners are points and stand in order.
+    /// The box between these edges, if its corners are points and the edges are in order.
     pub fn new(x_min: i64, y_min: i64, x_max: i64, y_max: i64) -> Option<Bounds>
         ensures { MatchOption result (¬ (IsExtent x_min x_max × IsExtent y_min y_max))
             (λ bounds. (bounds.x_min ≡ x_min) × (bounds.y_min ≡ y_min) × (bounds.x_max ≡ x_max) × (bounds.y_max ≡ y_max)) }
@@ -122,7 +122,7 @@ impl Bounds {
         self.shares_width(other) && self.shares_height(other)
     }
 
-    /// The corners, round from the one with the least coordinates; some are equal where the box is flat.
+    /// The corners, counterclockwise from the one with the least coordinates; some are equal if the box is flat.
     pub fn corners(self) -> [Point; 4]
         ensures { result ≡ frame_corners self }
     {

@@ -9,7 +9,7 @@ ghost use Rattle.cad_shape.specs.Crossings.{edge_at, ShareMore, along, pair_of, 
 use crate::segment::{meets_in_box, product, turn_at};
 use crate::{Bounds, Point};
 
-// How two edges of a ring stand to each other.
+// How two edges of a ring are related.
 #[derive(Clone, Copy, Debug, PartialEq, Eq)]
 enum Pair {
     // One edge.
@@ -43,7 +43,7 @@ fn along_at(p: Point, c: Point, s: Point) -> i128
     product(p.x - c.x, s.x - c.x) + product(p.y - c.y, s.y - c.y)
 }
 
-// Whether the way from `p` over `c` to `s` goes back on itself.
+// Whether the way from `p` through `c` to `s` turns back on itself.
 fn doubles_back(p: Point, c: Point, s: Point) -> bool
     ensures { IsTrue result ↔ ShareMore p c s }
 {

@@ -15,7 +15,7 @@ enum Way {
     North,
 }
 
-// The places of four of at most 1,000 points, the farthest to each side: the least box, in eight bytes.
+// Four indices into a list of at most 1,000 points, of a farthest point on each side. They give the least box in eight bytes.
 #[derive(Clone, Copy, Debug)]
 pub(crate) struct Extremes {
     west: u16,
@@ -35,7 +35,7 @@ fn is_farther(way: Way, p: Point, q: Point) -> bool
     }
 }
 
-// The place of the first point than which none is farther that way.
+// The index of the first of the points that are farthest in this direction.
 fn farthest(way: Way, points: &[Point]) -> u16
     requires some { 0 < length points.now }
     requires few { length points.now ≤ 1000 }

@@ -5,42 +5,42 @@ ghost use Rattle.cad_shape.specs.Laws.{CrossingsAddUp, OneRingIsTheRegion, Edges
 ghost use Rattle.cad_shape.specs.Laws.{OneFaultAlone, CornersMakeTheRing, OneRegionFaultAlone, RingsMakeTheRegion, OneLeastBox, MeetingIsSymmetric, CornersLieInside};
 ghost use Rattle.cad_shape.specs.Laws.{BoundsHoldTheShape, BoundsOverlap, PlainRingsAreRings, WithinMeets, TestsTell};
 
-/// Segments that meet do so whichever is named first, and from whichever end.
+/// Whether segments meet does not depend on which is named first, nor on the end from which each is named.
 pub fn segments_meet_either_way()
     ensures { SegmentsMeetEitherWay }
 {}
 
-/// An edge counts for a point exactly where it crosses the point's height right of it.
+/// An edge counts for a point if and only if it crosses the point's height right of it.
 pub fn counted_edges_cross()
     ensures { CountedEdgesCross }
 {}
 
-/// A region is the same if a ring of it begins with another of its corners.
+/// A region stays the same if one of its rings begins with another of its corners.
 pub fn turning_keeps_regions()
     ensures { TurningKeepsRegions }
 {}
 
-/// A region is the same if the corners of a ring of it stand in the other order.
+/// A region stays the same if the corners of one of its rings are listed in the opposite order.
 pub fn order_keeps_regions()
     ensures { OrderKeepsRegions }
 {}
 
-/// The edges of all rings cross a point's height as often as those of each together.
+/// The number of edges of all rings that cross a point's height is the sum of those of each ring.
 pub fn crossings_add_up()
     ensures { CrossingsAddUp }
 {}
 
-/// A region without holes is that of its ring.
+/// A region without holes is the region of its ring.
 pub fn one_ring_is_the_region()
     ensures { OneRingIsTheRegion }
 {}
 
-/// A point on an edge of some ring, that of a hole too, lies in the region.
+/// A point on an edge of any ring, including a hole, lies in the region.
 pub fn edges_are_taken_in()
     ensures { EdgesAreTakenIn }
 {}
 
-/// A point on no edge lies in a region exactly where an odd number of the rings have it in their regions.
+/// A point on no edge lies in a region if and only if an odd number of the rings have it in their regions.
 pub fn oddly_many_rings_hold()
     ensures { OddlyManyRingsHold }
 {}
@@ -50,12 +50,12 @@ pub fn holes_are_left_out()
     ensures { HolesAreLeftOut }
 {}
 
-/// Corners that the plain test takes are a ring, so that a ring which is written out is made without a fault.
+/// Corners that pass the plain test are a ring, so a ring that is written out in code is made without a fault.
 pub fn plain_rings_are_rings()
     ensures { PlainRingsAreRings }
 {}
 
-/// A list of corners has one fault alone, and with one it is no ring.
+/// A list of corners has at most one fault, and with a fault it is no ring.
 pub fn one_fault_alone()
     ensures { OneFaultAlone }
 {}
@@ -65,7 +65,7 @@ pub fn corners_make_the_ring()
     ensures { CornersMakeTheRing }
 {}
 
-/// A list of rings has one fault alone, and with one it is no region.
+/// A list of rings has at most one fault, and with a fault it is no region.
 pub fn one_region_fault_alone()
     ensures { OneRegionFaultAlone }
 {}
@@ -80,7 +80,7 @@ pub fn one_least_box()
     ensures { OneLeastBox }
 {}
 
-/// Shapes that meet do so whichever is named first.
+/// Whether shapes meet does not depend on which is named first.
 pub fn meeting_is_symmetric()
     ensures { MeetingIsSymmetric }
 {}
@@ -105,7 +105,7 @@ pub fn within_meets()
     ensures { WithinMeets }
 {}
 
-/// The tests of shapes, by signs of whole numbers, are true exactly where their relations hold.
+/// The tests of shapes, by signs of whole numbers, are true if and only if their relations hold.
 pub fn tests_tell()
     ensures { TestsTell }
 {}

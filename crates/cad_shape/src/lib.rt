@@ -2,9 +2,9 @@
 //!
 //! - `Point`: a point no coordinate of which is farther from 0 than `FARTHEST`, 100,000 kilometres.
 //! - `Bounds`: a closed box with sides along the axes.
-//! - `Ring`: a simple closed line with area through 3 to 1,000 corners; `RingFault` says why a list of corners is none.
-//! - `Region`: an outer ring and the holes in it, at most 100 rings; `RegionFault` says why a list of rings is none.
-//! - `Shape`: a point, a box or a region; `ShapeRef`: the same with the region lent.
+//! - `Ring`: a simple closed line with area through 3 to 1,000 corners; `RingFault` says why a list of corners is not a ring.
+//! - `Region`: an outer ring and the holes in it, at most 100 rings; `RegionFault` says why a list of rings is not a region.
+//! - `Shape`: a point, a box or a region; `ShapeRef`: the same with the region borrowed.
 //! - `segments_meet`: whether two segments share a point.
 //! - `in_region`: whether a point lies in a region.
 //! - `meets`, `within`, `bounds`: whether two shapes share a point, whether one lies within another, and the least box

@@ -1,4 +1,4 @@
-//! Where a point lies by a region.
+//! Where a point lies relative to a region.
 
 ghost use Rattle.std.specs.Prelude.{◌≡◌, ◌↔◌, IsTrue};
 ghost use Rattle.cad_shape.specs.Edges.{edges_of};
@@ -22,7 +22,7 @@ pub(crate) enum Location {
 impl Location {
     ghost use Rattle.cad_shape.specs.Locations.{location_of};
 
-    // Of a point on no edge, by how many edges cross its height right of it.
+    // The location of a point on no edge, by how many edges cross its height right of it.
     pub(crate) fn of_crossings(crossed: usize) -> Location
         ensures { result ≡ location_of crossed }
     {
@@ -98,7 +98,7 @@ pub(crate) fn in_ring(point: Point, ring: &Ring) -> bool
     location_by_ring(point, ring).is_taken_in()
 }
 
-/// Whether the point lies in the region, the edges of all its rings taken in.
+/// Whether the point lies in the region, including the edges of all its rings.
 pub fn in_region(point: Point, region: &Region) -> bool
     ensures { IsTrue result ↔ IsInRegion point (region_edges region.now) }
 {

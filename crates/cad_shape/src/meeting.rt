@@ -34,7 +34,7 @@ fn meets_ring(p: Point, q: Point, corners: &[Point]) -> bool
     meets_walk(p, q, corners[corners.len() - 1], corners)
 }
 
-// The same, where a box that holds the ring is looked at first.
+// The same, but a box that holds the ring is checked first.
 fn meets_ring_within(p: Point, q: Point, bounds: Bounds, corners: &[Point]) -> bool
     requires some { 0 < length corners.now }
     requires held { All (IsHeld bounds) corners.now }

@@ -11,7 +11,7 @@ use std::marker::Model;
 use std::rc::Rc;
 use thiserror::Error;
 
-// The list of rings, which copies share. Two regions of one list of rings are one value.
+// The list of rings, which copies share. Two regions with the same list of rings are one value.
 #[derive(Debug, Drop)]
 struct Rings {
     list: Rc<Vec<Ring>>,
@@ -26,9 +26,8 @@ impl Model for Rings {
     ghost view = { λ rings. rings.list.value.items };
 }
 
-/// A part of the plane inside an exterior boundary, which is the first of its rings, and outside all others, which are
-/// its holes. Edges are taken in, those of holes too. Holes lie in the region of the exterior boundary; they may touch it
-/// and each other.
+/// A part of the plane inside an exterior boundary, which is the first of its rings, and outside all others, which are its holes. Edges are
+/// included, those of holes too. Holes lie in the region of the exterior boundary; they may touch it and each other.
 #[derive(Debug, Drop)]
 pub struct Region {
     rings: Rings,
@@ -51,7 +50,7 @@ pub enum RegionFault {
     /// More than 100 rings, or more than 1,000 corners together.
     #[error("a region has at most 100 rings, and at most 1,000 corners together")]
     TooMany,
-    /// The first ring, where the exterior boundary is ring 0, with a corner that does not lie in the exterior boundary.
+    /// The first ring with a corner that does not lie in the exterior boundary, which is ring 0.
     #[error("ring {ring} does not lie in the first one")]
     Outside { ring: u32 },
 }
@@ -85,7 +84,7 @@ impl Region {
     ghost use Rattle.cad_shape.specs.Frames.{IsLeastBounds};
     ghost use Rattle.cad_shape.specs.RegionRings.{rings_of, outer_corners, region_corners, IsRegionFault};
 
-    /// The region of these rings, the exterior boundary first, or its first fault and the rings again. It takes no memory.
+    /// The region of these rings, the exterior boundary first, or its first fault and the rings again. It allocates no memory.
     pub fn new(rings: Rc<Vec<Ring>>) -> Result<Region, (RegionFault, Rc<Vec<Ring>>)>
         ensures { MatchResult result
             (λ region. rings_of region ≡ rings.value.items)
@@ -131,7 +130,7 @@ impl Region {
         self.outer().bounds()
     }
 
-    /// The same region once more, of the same rings: none is copied. An error says that too many share them.
+    /// A second value for the same region. It shares the rings, and none is copied. An error means that too many share them.
     pub fn copy(&self) -> Result<Region, AllocError>
         ensures { IfOk result (λ copy. copy ≡ self.now) }
     {

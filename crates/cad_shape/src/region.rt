@@ -74,7 +74,7 @@ pub(crate) fn is_on_ring(point: Point, corners: &[Point]) -> bool
     is_on_walk(point, corners[corners.len() - 1], corners)
 }
 
-// Where the point lies by the edges of the walk from `start` through the corners in order.
+// Where the point lies relative to the edges of the walk from `start` through the corners in order.
 fn location_by_walk(point: Point, start: Point, corners: &[Point]) -> Location
     ensures { IsLocation point (walk start corners.now) result }
 {
@@ -92,7 +92,7 @@ fn location_by_walk(point: Point, start: Point, corners: &[Point]) -> Location
     Location::of_crossings(crossed)
 }
 
-// Where the point lies by the ring through these corners.
+// Where the point lies relative to the ring through these corners.
 pub(crate) fn location_by_corners(point: Point, corners: &[Point]) -> Location
     requires { 0 < length corners.now }
     ensures { IsLocation point (edges_of corners.now) result }

@@ -18,7 +18,7 @@ fn is_same_point(p: Point, q: Point) -> bool
     p.x == q.x && p.y == q.y
 }
 
-// Whether the point lies in the shape, its boundary taken in.
+// Whether the point lies in the shape, including its boundary.
 fn is_in(point: Point, shape: ShapeRef) -> bool
     ensures { IsTrue result ↔ IsIn point (lent_shape shape.entry) }
 {
@@ -79,7 +79,7 @@ fn region_meets(a: ShapeRef, b: ShapeRef) -> bool
     }
 }
 
-// Whether the two share a point, without a look at the bounds of both.
+// Whether the two share a point, without comparing their bounds first.
 fn meets_closely(a: ShapeRef, b: ShapeRef) -> bool
     ensures { IsTrue result ↔ Meets (lent_shape a.entry) (lent_shape b.entry) }
 {
@@ -101,7 +101,7 @@ fn is_inside(point: Point, shape: ShapeRef) -> bool
     }
 }
 
-// Whether the second shape is a frame that holds all corners of the first; None where it is no frame.
+// Whether the second shape is a frame that holds all corners of the first; None if it is not a frame.
 fn is_framed(a: ShapeRef, b: ShapeRef) -> Option<bool>
     ensures judged { is_some result ≡ is_frame (lent_shape b.entry) }
     ensures answer { IfSome result (λ framed. IsTrue framed ↔ AreFramed (shape_corners (lent_shape a.entry)) (lent_shape b.entry)) }
@@ -113,7 +113,7 @@ fn is_framed(a: ShapeRef, b: ShapeRef) -> Option<bool>
     }
 }
 
-// Whether the two share a point, by a look at the bounds of both first.
+// Whether the two share a point; their bounds are compared first.
 fn lent_meet(a: ShapeRef, b: ShapeRef) -> bool
     ensures { IsTrue result ↔ Meets (lent_shape a.entry) (lent_shape b.entry) }
 {
@@ -133,7 +133,7 @@ fn lent_within(a: ShapeRef, b: ShapeRef) -> Option<bool>
 }
 
 impl ShapeRef<'_> {
-    /// The least box that holds the shape: that of a region's exterior boundary, of a point alone.
+    /// The least box that holds the shape: for a region that of its exterior boundary, for a point that of the point alone.
     pub fn bounds(self) -> Bounds
         ensures { IsLeastBounds result (shape_corners (lent_shape self.entry)) }
     {
@@ -162,7 +162,7 @@ impl ShapeRef<'_> {
     }
 }
 
-/// The least box that holds the shape: that of a region's exterior boundary, of a point alone.
+/// The least box that holds the shape: for a region that of its exterior boundary, for a point that of the point alone.
 pub fn bounds(shape: &Shape) -> Bounds
     ensures { IsLeastBounds result (shape_corners shape.now) }
 {
@@ -177,9 +177,8 @@ pub fn meets(a: &Shape, b: &Shape) -> bool
     a.lent().meets(b.lent())
 }
 
-/// Whether the first shape lies within the second: a point in a point where they are equal, a point in a region where it
-/// lies in it and on no edge, a region in a frame where the closed frame holds all its corners. None for a region in
-/// anything but a frame.
+/// Whether the first shape lies within the second: for a point in a point, if they are equal; for a point in a region, if it lies in it and
+/// on no edge; for a region in a frame, if the closed frame holds all its corners. None for a region in anything but a frame.
 pub fn within(a: &Shape, b: &Shape) -> Option<bool>
     ensures judged { is_some result ≡ is_judged a.now b.now }
     ensures answer { IfSome result (λ inside. IsTrue inside ↔ IsWithin a.now b.now) }

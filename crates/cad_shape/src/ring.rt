@@ -13,8 +13,7 @@ use std::alloc::{AllocError, Global};
 use std::marker::Model;
 use thiserror::Error;
 
-// The list of points, so that two rings of one list of corners are one value; where the least box touches it is kept
-// beside it.
+// The list of points, so that two rings with the same list of corners are one value, and the places where the least box touches it.
 #[derive(Debug, Drop)]
 struct Corners {
     points: Vec<Point>,
@@ -33,8 +32,8 @@ impl Model for Corners {
     ghost invariant = { λ corners. AreExtremes corners.points.items corners.extremes };
 }
 
-/// A closed line through 3 to 1,000 corners, the first of which is not repeated at the end. It holds an area, and no
-/// two of its edges share more than the corner of neighbours.
+/// A closed line through 3 to 1,000 corners, the first of which is not repeated at the end. It encloses an area, and no two of its edges
+/// share more than the corner of neighbours.
 #[derive(Debug, Drop)]
 pub struct Ring {
     corners: Corners,
@@ -57,7 +56,7 @@ pub enum RingFault {
     /// More than 1,000 corners.
     #[error("a ring has at most 1,000 corners")]
     TooMany,
-    /// The two edges, from 0, share more than the corner of neighbours; where it is one edge twice, it has no length.
+    /// The two edges, counted from 0, share more than the corner of neighbours; if it is one edge twice, it has no length.
     #[error("edges {first} and {second} share more than they may")]
     Crosses { first: u32, second: u32 },
     /// Its signed area is zero.
@@ -131,7 +130,7 @@ impl Ring {
         self.corners.bounds()
     }
 
-    /// The same ring once more.
+    /// A copy of the ring.
     pub fn copy(&self, alloc: Global) -> Result<Ring, AllocError>
         ensures { IfOk result (λ copy. copy ≡ self.now) }
     {

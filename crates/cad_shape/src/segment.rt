@@ -16,7 +16,7 @@ pub(crate) fn product(a: i64, b: i64) -> i128
     i128::from(a) * i128::from(b)
 }
 
-// Above 0 where `r` lies left of the line from `p` to `q`, below 0 on its right.
+// Above 0 if `r` lies left of the line from `p` to `q`, below 0 if on its right.
 pub(crate) fn turn_at(p: Point, q: Point, r: Point) -> i128
     ensures { result ≡ turn p q r }
 {

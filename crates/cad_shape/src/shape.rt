@@ -5,7 +5,7 @@ ghost use Rattle.cad_shape.specs.Shapes.{lent_shape};
 
 use crate::{Bounds, Point, Region};
 
-/// A point, a closed box or a region, its boundary taken in.
+/// A point, a closed box or a region, including its boundary.
 #[derive(Debug, Drop)]
 pub enum Shape {
     /// A point alone.
@@ -16,7 +16,7 @@ pub enum Shape {
     Area(Region),
 }
 
-/// A shape whose region, where it has one, is lent: so a region that stands elsewhere is judged without a copy.
+/// A shape that borrows its region, if it has one: so a region that is kept elsewhere is judged without a copy.
 #[derive(Clone, Copy, Debug)]
 pub enum ShapeRef<'a> {
     /// A point alone.
@@ -28,7 +28,7 @@ pub enum ShapeRef<'a> {
 }
 
 impl Shape {
-    /// The shape, lent.
+    /// The shape with its region borrowed.
     pub fn lent(&self) -> ShapeRef<'_>
         ensures { lent_shape result ≡ self.now }
     {

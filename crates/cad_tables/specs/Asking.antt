@@ -1,4 +1,4 @@
--- What a question to the database leaves behind (SQLite, SELECT).
+-- What a question to the database leaves as it was (SQLite, SELECT).
 use Rattle.std.specs.Prelude.{◌≡◌, Bool, true, false, Result, Ok, Err, IsTrue, OnOk}
 use Rattle.sqlite_ast.specs.declared.Statement.{Statement}
 use Rattle.sqlite_ast.specs.declared.Statement.TheVariants as written
@@ -16,7 +16,8 @@ abbrev pub IsQuery : Checked Parsed → Type 0
 IsQuery (Ok p) = asks p.statement ≡ true
 IsQuery (Err e) = ⊥
 
--- answered, it leaves all as it was; refused, what is seen and committed, while the connection is open and no transaction had changed it; and a crash after it leaves nothing that it did not leave before
+-- answered, it leaves all as it was; refused, it leaves what is seen and committed as it was, while the connection is open and no
+-- transaction had changed it; and a crash after it leaves nothing that it could not leave before
 pub record OnlyReads {X F : Type 0} (old new : State) (result : Result X F) : Type 0 where
   pub same : HasCleanDisk new → OnOk result (IsUnchanged old new)
   pub kept : HasCleanDisk new → IsTrue new.is_open → old.committed ≡ old.now → KeepsAll old new

@@ -7,7 +7,7 @@ use Rattle.sqlite.specs.Effect.{Database}
 use Rattle.cad_tables.specs.VersionRow.{VersionRow, cells_of}
 use Rattle.cad_tables.specs.Tables.{register_schema}
 
--- SQLite, Rowid Tables: a row under its rowid; no row is ever taken out, so the rowids count up from 1
+-- SQLite, Rowid Tables: a row under its rowid; no row is ever removed, so the rowids count up from 1
 abbrev pub row_of : ℕ × VersionRow → Row
 row_of line = Int (pos line.0) ∷ cells_of line.1
 
@@ -18,7 +18,7 @@ rows_of lines = map row_of (enumerate_from 1 lines)
 abbrev pub state_row : ℕ → Row
 state_row revision = Int (pos 1) ∷ Null ∷ Int (pos 1) ∷ Int (pos revision) ∷ []
 
--- own profile: the database has the two tables alone, with this revision and these lines, the oldest first
+-- own profile: the database has only the two tables, with this revision and these lines, the oldest first
 pub record Holds (revision : ℕ) (lines : List VersionRow) (db : Database) : Type 0 where
   pub schema : db.schema ≡ register_schema
   pub state : db.trees 0 ≡ state_row revision ∷ []

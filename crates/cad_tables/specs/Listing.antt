@@ -16,7 +16,7 @@ identifier_order a b = ordering_then (int_cmp (pos a.object) (pos b.object)) (in
 abbrev pub number_order : VersionRow → VersionRow → Ordering
 number_order a b = int_cmp (pos a.number) (pos b.number)
 
--- SQLite, SELECT, section 4: where no two rows compare equal, ORDER BY leaves no choice
+-- SQLite, SELECT, section 4: if no two rows compare equal, ORDER BY leaves no choice
 abbrev pub HaveNoTies : (VersionRow → VersionRow → Ordering) → List VersionRow → Type 0
 HaveNoTies order = IsAscending (λ a b. is_eq (order a b) ≡ false)
 

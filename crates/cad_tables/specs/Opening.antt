@@ -41,7 +41,7 @@ abbrev pub is_format : Option ℕ → Bool
 is_format (Some n) = n == 1
 is_format None = false
 
--- own profile: the revision in a row of format and revision, where the format is 1
+-- own profile: the revision in a row of format and revision, if the format is 1
 abbrev pub revision_in : Row → Option ℕ
 revision_in row = if is_format (count_in (column row 0)) then option_and_then if_stored (count_in (column row 1)) else None
 
@@ -52,13 +52,13 @@ is_lacking (SqlInputError NoSuchColumn) = true
 is_lacking QueryReturnedNoRows = true
 is_lacking _ = false
 
--- own profile: the row of `state` tells the revision, or the database says that the table, a column or the row is missing
+-- own profile: the row of `state` has the revision, or the database says that the table, a column or the row is missing
 abbrev pub TellsRevision : State → State → Option ℕ → Type 0
 TellsRevision old new found =
     ((row : Row) × QueriesRow revision_text [] old new (Ok row) × (found ≡ revision_in row))
     ⊎ ((e : Error) × QueriesRow revision_text [] old new (Err e) × (is_lacking e ≡ true) × (found ≡ None))
 
--- own profile: `version` is missing, or one of its columns, by the text that names them all
+-- own profile: `version` or one of its columns is missing, by the text that names them all
 abbrev pub LacksColumns : Schema → Type 0
 LacksColumns schema = (fault : CompileError) × (understood schema listing_text ≡ Err fault) × (is_lacking (SqlInputError fault) ≡ true)
 
@@ -68,18 +68,18 @@ pub record IsSettled {S : Type 0} (g : Ghosts S) (old mid : Held S) : Type 0 whe
   pub limit : mid.step_limit ≡ old.step_limit
   pub faults : (state g old).faults ≤ (state g mid).faults
 
--- own profile: `version` lacks a column and nothing is told, or it has them all and `state` tells the revision
+-- own profile: `version` lacks a column and no revision is found, or it has them all and `state` has the revision
 abbrev pub TellsRegister : {S : Type 0} → Ghosts S → Held S → Held S → Option ℕ → Type 0
 TellsRegister g old new found =
     (LacksColumns old.schema × (found ≡ None)) ⊎ ((mid : Held _) × ¬ LacksColumns old.schema × IsSettled g old mid × TellsRevision (state g mid) (state g new) found)
 
--- own profile: no memory for what the row says, or what the database says of the question for it
+-- own profile: no memory for the content of the row, or the database's answer to the question for it
 abbrev pub RefusesToTell : State → State → TableFault → Type 0
 RefusesToTell old new fault =
     ((row : Row) × QueriesRow revision_text [] old new (Ok row) × (fault ≡ Memory))
     ⊎ ((e : Error) × (fault ≡ fault_of e) × (is_lacking e ≡ false) × QueriesRow revision_text [] old new (Err e))
 
--- own profile: what the database says of the text that names the columns of `version`
+-- own profile: the database's answer to the text that names the columns of `version`
 abbrev pub RefusesColumns : State → State → TableFault → Type 0
 RefusesColumns old new fault = (e : Error) × (fault ≡ fault_of e) × (is_lacking e ≡ false) × ((params : Row) → IsNotRun old new listing_text params e)
 
@@ -94,13 +94,14 @@ abbrev pub Finds : Result Compiled CompileError → Bool → Type 0
 Finds (Ok c) used = used ≡ false
 Finds (Err fault) used = (fault ≡ Exists) × (used ≡ true)
 
--- own profile: what the database says of one of the texts that make the tables, other than that its name is in use
+-- own profile: the database's answer to one of the texts that make the tables, other than that its name is in use
 abbrev pub RefusesNames : {S : Type 0} → Ghosts S → Held S → Held S → Error → Type 0
 RefusesNames g old new e =
     (is_name_taken e ≡ false)
     × (IsNotRun (state g old) (state g new) state_text [] e ⊎ ((mid : Held _) × IsSettled g old mid × IsNotRun (state g mid) (state g new) version_text [] e))
 
--- own profile: a transaction was open already, or the database refuses a text that makes the tables, or, since neither name is in use, a statement that makes them or the commit
+-- own profile: a transaction was already open, or the database refuses a text that makes the tables, or, if neither name is in use, a
+-- statement that makes them or the commit
 abbrev pub RefusesTables : {S : Type 0} → Ghosts S → Error → Held S → Held S → Type 0
 RefusesTables g e old new =
     (IsTrue old.in_transaction × (e ≡ SqliteFailure TransactionState))

@@ -19,19 +19,19 @@ use Rattle.cad_tables.specs.VersionRow.{VersionRow, cells_of}
 use Rattle.cad_tables.specs.declared.faults.TableFault.{TableFault}
 use Rattle.cad_tables.specs.declared.faults.TableFault.TheVariants.{Memory}
 
--- of these rows each was read, in its place
+-- each of these was read of the row in its place
 abbrev pub AreRead : {X : Type 0} → (Row → X → Type 0) → (List Row → Type 0) → List X → Type 0
 AreRead Fits Are found = (rows : List Row) × Are rows × AllZip Fits rows found
 
--- the rows, the fault or whatever else comes of the query that the connection is at the start of
+-- the predicate holds of the query that the connection is at the start of
 abbrev OfQuery : {S : Type 0} → Ghosts S → Held S → (List ℕ → Row → Type 0) → Type 0
 OfQuery g start Comes = (sql : List ℕ) (params : Row) → IsQuery (first sql) → HasGiven g sql params start [] → Comes sql params
 
--- a query that was at its start has given these rows, by the database's own account
+-- a query that was at its start has given these rows, as the database itself reports
 abbrev pub AreGiven : {S : Type 0} → Ghosts S → Held S → Held S → List Row → Type 0
 AreGiven g start new rows = HasCleanDisk (state g new) → OfQuery g start (λ sql params. Shown sql params (state g start) (state g new) rows)
 
--- the database shows these rows for the question, by its own account
+-- the database shows these rows for the question, as the database itself reports
 abbrev pub AreShown : List ℕ → Row → State → State → List Row → Type 0
 AreShown sql params old new rows = HasCleanDisk new → Shown sql params old new rows
 
@@ -39,15 +39,16 @@ AreShown sql params old new rows = HasCleanDisk new → Shown sql params old new
 abbrev pub AreLines : State → ℕ → List Row → Type 0
 AreLines old revision rows = (n : ℕ) (lines : List VersionRow) → Holds n lines old.now → IsPermutation (map cells_of (lines_at revision lines)) rows
 
--- the rows that the database shows for a revision, by its own account, which are the lines that were entered up to it
+-- the rows that the database shows for a revision, as the database itself reports, which are the lines that were entered up to it
 abbrev pub AreListed : State → State → ℕ → List Row → Type 0
 AreListed old new revision rows = HasCleanDisk new → Shown listing_text (Int (pos revision) ∷ []) old new rows × AreLines old revision rows
 
--- own profile: there was no memory for what the rows say, and all is as it was, or this is what the database says of the question for them
+-- own profile: there was no memory for the content of the rows, and all is as it was, or this is the database's answer to the question for
+-- them
 abbrev pub RefusesRows : List ℕ → Row → State → State → TableFault → Type 0
 RefusesRows sql params old new fault =
     ((fault ≡ Memory) × IsUnchanged old new) ⊎ ((e : Error) × (fault ≡ fault_of e) × FailsToQuery sql params old new e)
 
--- the same of a query that was at its start
+-- the same for a query that was at its start
 abbrev pub RefusesRest : {S : Type 0} → Ghosts S → Held S → Held S → TableFault → Type 0
 RefusesRest g start new fault = OfQuery g start (λ sql params. RefusesRows sql params (state g start) (state g new) fault)

@@ -1,4 +1,4 @@
--- Which refusal of the database a call tells.
+-- Which refusal of the database a call reports.
 use Rattle.std.specs.Prelude.{◌≡◌, ◌⊎◌, ◌≤◌, ℕ, pos, List, [], ◌∷◌, ◌++◌, true, Ok, Err, IsTrue}
 use Rattle.sqlite_value.specs.declared.value.Value.TheVariants.{Int}
 use Rattle.sqlite_value.specs.Order.{Row}
@@ -35,7 +35,7 @@ statements_of line_of (Enter line) revision = entering (line_of line) ∷ []
 statements_of line_of (Amend c line) revision = closing c revision ∷ entering (line_of line) ∷ []
 statements_of line_of (Retire c) revision = closing c revision ∷ []
 
--- own profile: those, and then the one that counts: at most three
+-- own profile: those, and then the one that sets the revision: at most three
 abbrev pub all_statements_of : {L : Type 0} → (L → VersionRow) → Change L → ℕ → List Statement
 all_statements_of line_of change revision = statements_of line_of change revision ++ counting revision ∷ []
 
@@ -60,18 +60,18 @@ module _ {S : Type 0} (g : Ghosts S) where
     pub limit : new.step_limit ≡ old.step_limit
     pub faults : (state g old).faults ≤ (state g new).faults
 
-  -- own profile: the statements are run in turn
+  -- own profile: the statements are run one after the other
   abbrev pub RanAll : List Statement → Held S → Held S → Type 0
   RanAll [] old new = old ≡ new
   RanAll (statement ∷ more) old new = (mid : Held S) × Ran statement old mid × RanAll more mid new
 
-  -- own profile: the database refuses the statement for this cause, by its own account
+  -- own profile: the database refuses the statement for this cause, as the database itself reports
   pub record IsRefused (statement : Statement) (e : Error) (old new : Held S) : Type 0 where
     pub after : Held S
     pub refuses : ExecutesInside 0 statement.text statement.params (state g old) (state g after) (Err e)
     pub ended : (state g after).faults ≤ (state g new).faults
 
-  -- own profile: the statements are run in turn up to one that is refused
+  -- own profile: the statements are run one after the other up to one that is refused
   abbrev pub OneIsRefused : List Statement → Error → Held S → Held S → Type 0
   OneIsRefused [] e old new = ⊥
   OneIsRefused (statement ∷ more) e old new = IsRefused statement e old new ⊎ ((mid : Held S) × Ran statement old mid × OneIsRefused more e mid new)
@@ -79,7 +79,7 @@ module _ {S : Type 0} (g : Ghosts S) where
   abbrev pub begun : Held S → Held S
   begun old = record old { in_transaction = true }
 
-  -- own profile: a transaction was open already, or one of the statements is refused, or the commit after them all
+  -- own profile: a transaction was already open, or one of the statements is refused, or the commit after them all
   abbrev pub RefusesTransaction : List Statement → Error → Held S → Held S → Type 0
   RefusesTransaction statements e old new =
       (IsTrue old.in_transaction × (e ≡ SqliteFailure TransactionState))

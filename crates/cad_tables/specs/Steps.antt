@@ -49,12 +49,12 @@ module _ {L : Type 0} (line_of : L → VersionRow) (change : Change L) (revision
   abbrev pub IsWrittenTo : Database → Type 0
   IsWrittenTo db = (n : ℕ) (lines : List VersionRow) → Fits change lines → Holds n lines old.now → Holds revision (changed line_of change revision lines) db × IsDatabase db
 
-  -- own profile: so it is inside the transaction
+  -- own profile: the same inside the transaction
   pub record Commands (new : State) : Type 0 where
     pub written : IsWrittenTo new.now
     pub inside : IsInside old new
 
-  -- own profile: so it is, and it is the last commit
+  -- own profile: the same, and it is the last commit
   pub record Commits (new : State) : Type 0 where
     pub written : IsWrittenTo new.now
     pub committed : new.committed ≡ new.now

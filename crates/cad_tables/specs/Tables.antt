@@ -14,7 +14,7 @@ use Rattle.sqlite_catalog.specs.Change.{is_used}
 use Rattle.sqlite_schema.specs.declared.schema.Kind.{Kind}
 use Rattle.sqlite_schema.specs.declared.schema.Kind.TheVariants.{Integer, Text, Blob}
 
--- SQLite, STRICT Tables: a column that takes values of its own type alone
+-- SQLite, STRICT Tables: a column that takes only values of its own type
 abbrev pub strict : List ℕ → Kind → Bool → Column
 strict name kind not_null = record { name = name; kind = kind; is_strict = true; not_null = not_null; default = Null; collation = Binary }
 

@@ -4,7 +4,8 @@ use Rattle.sqlite_value.specs.declared.value.Value.TheVariants.{Int, Text, Blob}
 use Rattle.sqlite_value.specs.Order.{Row}
 use Rattle.sqlite_typed.specs.Columns.{or_null}
 
--- own profile: one version of an object (ISO 19152, VersionedObject), with the revision that entered it and the one that closed it; a field that the class of the object has not is absent
+-- own profile: one version of an object (ISO 19152, VersionedObject), with the revision that entered it and the one that closed it; a field
+-- that the object's class does not have is absent
 pub record VersionRow : Type 0 where
   pub object : ℕ
   pub number : ℕ

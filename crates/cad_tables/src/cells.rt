@@ -29,7 +29,7 @@ pub(crate) fn closing_cells(closing: Closing, revision: u32) -> [ValueRef<'stati
     ]
 }
 
-/// A number as the one parameter.
+/// A number as the only parameter.
 pub(crate) fn one_cell(n: u32) -> [ValueRef<'static>; 1]
     ensures { bound result ≡ Int (pos n) ∷ [] }
 {

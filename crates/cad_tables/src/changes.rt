@@ -18,7 +18,7 @@ pub enum Change<L> {
     Amend {
         /// Which version is closed, on which day.
         closing: Closing,
-        /// The row of the next one.
+        /// The row of the next version.
         line: L,
     },
     /// The open version is closed.

@@ -7,10 +7,10 @@ use std::alloc::{AllocError, AllocFailed};
 /// Why a call fails.
 #[derive(Clone, Copy, Debug, PartialEq, Eq, thiserror::Error)]
 pub enum TableFault {
-    /// There was no memory.
+    /// Out of memory.
     #[error("out of memory")]
     Memory,
-    /// The database refused, for this cause, which is never want of memory.
+    /// The database refused, for this cause, which is never out of memory.
     #[error("the database refused")]
     Store(Error),
 }

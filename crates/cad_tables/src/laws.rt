@@ -4,7 +4,7 @@ ghost use Rattle.cad_tables.specs.Laws.{KeepsLines};
 
 use crate::cells::Stored;
 
-/// A change takes no line out and moves none; of the lines that were there it alters the closing alone.
+/// A change removes no line and moves none; of the lines that were there it changes nothing but their closing.
 pub fn a_change_keeps_lines<L: Stored>()
     ensures { KeepsLines L.line }
 {}

@@ -1,11 +1,10 @@
 //! The two tables in which a register of versions is kept, and all that SQL does to them.
 //!
-//! `state` has one row, with the format and the revision; `version` has a row for each version of an object,
-//! with the revision that entered it and the one that closed it. `create` makes both, `open` looks whether they
-//! are there, `write` makes the one change of a command, `history` reads the rows of an object back, and
-//! `listing` those of a revision, in the order in which the database comes to them. What a row means is left to
-//! the caller's types: the trait `Stored` makes it of one, and the trait `Reader` makes one of it, so that a
-//! listing holds what was read and no row.
+//! `state` has one row, with the format and the revision; `version` has a row for each version of an object, with the revision that entered
+//! it and the one that closed it. `create` makes both, `open` checks whether they are there, `write` makes the one change of a command,
+//! `history` reads the rows of an object back, and `listing` those of a revision, in the order in which the database comes to them. The
+//! caller's types say what a row means: the trait `Stored` turns a version into a row, and the trait `Reader` turns a row into a value, so
+//! that a listing holds the values and no rows.
 //!
 //! ```text
 //! create(&mut connection)?;                                 // Made

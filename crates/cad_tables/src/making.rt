@@ -17,7 +17,7 @@ use crate::faults::TableFault;
 use crate::taken::is_name_taken;
 use sqlite::{Alter, Connection, Error, ErrorCode, Transaction};
 
-/// What came of a call to make the tables.
+/// The result of a call to make the tables.
 #[derive(Clone, Copy, Debug, PartialEq, Eq)]
 pub enum Creation {
     /// The tables were made, and are empty.
@@ -45,7 +45,7 @@ fn version_table() -> &'static str
         spot_x INTEGER, spot_y INTEGER, shape BLOB, PRIMARY KEY (object, number)) STRICT"
 }
 
-/// Whether the name of the table that a text makes is in use, as the database says where it compiles the text.
+/// Whether the name of the table that a text makes is in use, as the database says when it compiles the text.
 fn is_in_use<S: Alter>(conn: &mut Connection<S>, sql: &str) -> Result<bool, Error>
     ensures known { HasCleanDisk (state S.Store conn.new)
         → IfOk result (Finds (understood (state S.Store conn.old).now.schema sql.now)) }
@@ -63,7 +63,7 @@ fn is_in_use<S: Alter>(conn: &mut Connection<S>, sql: &str) -> Result<bool, Erro
     }
 }
 
-/// Whether one of the tables stands, or an index or a view of its name.
+/// Whether one of the tables exists, or an index or a view of its name.
 fn is_standing<S: Alter>(conn: &mut Connection<S>) -> Result<bool, Error>
     ensures known { HasCleanDisk (state S.Store conn.new)
         → IfOk result (λ standing. standing ≡ stands (state S.Store conn.old).now.schema) }

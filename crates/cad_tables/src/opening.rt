@@ -18,7 +18,7 @@ use sqlite_resolve::CompileError;
 /// The greatest revision that a register may store.
 pub const MOST_REVISION: u32 = 4_294_967_294;
 
-/// Whether a statement was refused since a table, a column or the row that it asks for is missing.
+/// Whether a statement was refused because a table, a column or the row that it asks for is missing.
 fn is_lacking(error: Error) -> bool
     ensures { result ≡ lacks error }
 {
@@ -54,7 +54,7 @@ fn stored_revision(row: &Row) -> Result<Option<u32>, TableFault>
     }
 }
 
-/// The revision that the table `state` tells; none where it is not a register's.
+/// The revision in the table `state`; none if the table is not a register's.
 pub fn revision<S: Alter>(conn: &mut Connection<S>) -> Result<Option<u32>, TableFault>
     ensures stands { HasCleanDisk (state S.Store conn.new) → IfOk result (λ found. (n : ℕ) (lines : List VersionRow)
         → Holds n lines (state S.Store conn.old).now → n ≤ most_revision → found ≡ Some n) }
@@ -100,8 +100,8 @@ fn has_columns<S: Alter>(conn: &mut Connection<S>) -> Result<bool, TableFault>
     }
 }
 
-/// The revision of the register that the database holds; none where it lacks one of the tables, a column or
-/// the row of `state`, or tells another format or a revision that is never stored.
+/// The revision of the register that the database holds; none if it lacks one of the tables, a column or the row of `state`, or if that row
+/// has another format or a revision that is never stored.
 pub fn open<S: Alter>(conn: &mut Connection<S>) -> Result<Option<u32>, TableFault>
     ensures stands { HasCleanDisk (state S.Store conn.new) → IfOk result (λ found. (n : ℕ) (lines : List VersionRow)
         → Holds n lines (state S.Store conn.old).now → n ≤ most_revision → found ≡ Some n) }

@@ -39,7 +39,7 @@ fn selected<S: Alter>(
 
 /// Number, class, first day and last day of each version of an object, by number.
 ///
-/// They are found by the table's key.
+/// The database finds them by the table's key.
 pub fn history<S: Alter>(conn: &mut Connection<S>, object: u32) -> Result<Vec<Row>, TableFault>
     ensures rows { HasCleanDisk (state S.Store conn.new) → IfOk result (λ rows. (n : ℕ) (lines : List VersionRow)
         → Holds n lines (state S.Store conn.old).now → HaveNoTies number_order (lines_of_object object lines)
@@ -66,7 +66,7 @@ pub trait Reader: Sized {
         ensures { IfOk result (reads row.now) };
 }
 
-/// What is read of each row that the query under way still gives. No row is kept.
+/// What is read of each row that the current query still gives. No row is kept.
 fn read_rest<S: Alter, R: Reader + Drop>(
     alloc: Global,
     rows: &mut Rows<'_, S>,
@@ -110,7 +110,7 @@ fn read_each<S: Alter, R: Reader + Drop>(
 
 /// What is read of each row that was entered up to a revision, with all nineteen columns, in the order in which the database comes to them.
 ///
-/// No order is asked for, so the database holds none of them back to sort them.
+/// The query asks for no order, so the database holds back no row to sort it.
 pub fn listing<S: Alter, R: Reader + Drop>(
     alloc: Global,
     conn: &mut Connection<S>,

@@ -1,4 +1,4 @@
--- The ten parts of a body, each where the class has it (ISO 19152:2012, attributes of the classes).
+-- The ten parts of a body, each there only if the class has it (ISO 19152:2012, attributes of the classes).
 use Rattle.std.specs.Prelude.{◌≡◌, ℕ, Bool, Option, Some, None}
 use Rattle.std.specs.Option.{option_copied}
 use Rattle.cad_shape.specs.declared.point.Point.{Point}
@@ -28,7 +28,7 @@ parts_of (body.Responsibility u p c s) = record no_parts { unit = Some u; party 
 abbrev pub IsMadeOf : Class → BodyParts → Body → Type 0
 IsMadeOf class parts b = (class_of b ≡ class) × (parts_of b ≡ parts)
 
--- the parts that are lent
+-- the parts that are borrowed
 abbrev pub lent : LentParts → BodyParts
 lent p = record {
   name = option_copied p.name;
@@ -43,14 +43,14 @@ lent p = record {
   shape = option_copied p.shape;
 }
 
--- none of the parts that parcels alone have
+-- none of the parts that only parcels have
 pub record IsNoParcel (parts : BodyParts) : Type 0 where
   pub label : parts.label ≡ None
   pub area : parts.area ≡ None
   pub spot : parts.spot ≡ None
   pub shape : parts.shape ≡ None
 
--- none of the parts that rights, restrictions and responsibilities alone have
+-- none of the parts that only rights, restrictions and responsibilities have
 pub record IsNoRight (parts : BodyParts) : Type 0 where
   pub party : parts.party ≡ None
   pub share : parts.share ≡ None

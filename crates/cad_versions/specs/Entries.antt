@@ -1,4 +1,4 @@
--- The versions as they are kept: with the revision that entered each, and the one that closed it (own profile).
+-- The versions as they are stored: each with the revision that entered it and the one that closed it (own profile).
 use Rattle.std.specs.Prelude.{ℕ, ◌≡◌, ◌+◌, ◌≤ℤ◌, pos, int_le, nat_le, Bool, true, false, if◌then◌else◌, List, [], ◌∷◌, ◌++◌, map, filter, Option, Some, None}
 use Rattle.cad_day.specs.declared.day.Day.{Day}
 use Rattle.cad_day.specs.Days.{number_of}
@@ -24,7 +24,7 @@ abbrev pub close_entry : ObjectId → Day → ℕ → Entry → Entry
 close_entry object day revision entry =
     if is_open_of object entry.version then record { version = closed_on day entry.version; entered = entry.entered; closed = Some revision } else entry
 
--- it may be closed on this day, if it is an open version of the object
+-- it can be closed on this day, if it is an open version of the object
 abbrev pub ClosesInTime : ObjectId → Day → Entry → Type 0
 ClosesInTime object day entry = is_open_of object (version_in entry) ≡ true → number_of entry.version.first ≤ℤ number_of day
 
@@ -51,6 +51,6 @@ abbrev pub is_closed_by : ℕ → Option ℕ → Bool
 is_closed_by revision None = false
 is_closed_by revision (Some closed) = nat_le closed revision
 
--- the version as it stood at a revision: a closing of a later one is not seen
+-- the version as it was at a revision: a closing of a later one is not seen
 abbrev pub seen_at : ℕ → Entry → VersionedObject
 seen_at revision entry = record entry.version { last = if is_closed_by revision entry.closed then entry.version.last else None }

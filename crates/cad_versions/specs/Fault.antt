@@ -1,9 +1,9 @@
--- How a refusal is told (own profile).
+-- How a refusal is reported (own profile).
 use Rattle.std.specs.Prelude.{ℕ, List, codes}
 use Rattle.cad_versions.specs.declared.fault.RegisterFault.{RegisterFault}
 use Rattle.cad_versions.specs.declared.fault.RegisterFault.TheVariants.{KnownObject, UnknownObject, OtherClass, DayNotAfter, Retired, UnknownReference, Full, Damaged, NotARegister, Store, Memory, UnknownRevision}
 
--- the number by which programs tell the fault, and the name that they print
+-- the number by which programs identify the fault, and the name that they print
 abbrev pub number_and_name : RegisterFault → ℕ × List ℕ
 number_and_name KnownObject = (1, codes "KnownObject")
 number_and_name UnknownObject = (2, codes "UnknownObject")

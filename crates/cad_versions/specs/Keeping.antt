@@ -1,4 +1,4 @@
--- Faults of what keeps a ledger, and not of its commands (own profile).
+-- Faults of a ledger's store, and not of its commands (own profile).
 use Rattle.std.specs.Prelude.{ℤ}
 use Rattle.cad_versions.specs.declared.fault.RegisterFault.{RegisterFault}
 use Rattle.cad_versions.specs.declared.fault.RegisterFault.TheVariants.{Damaged, NotARegister, Store, Memory}
@@ -10,17 +10,17 @@ IsOfKeeping Store = Unit {0}
 IsOfKeeping Memory = Unit {0}
 IsOfKeeping other = ⊥
 
--- what keeps a ledger may be closed after this fault: it refused, or memory was wanting
+-- a ledger's store may be closed after this fault: it refused, or it was out of memory
 abbrev pub MayClose : RegisterFault → Type 0
 MayClose Store = Unit {0}
 MayClose Memory = Unit {0}
 MayClose other = ⊥
 
--- what keeps a ledger is closed after this fault, since it failed meanwhile
+-- a ledger's store is closed after this fault, since it failed in between
 abbrev pub IsShut : {L : Type 0} → (L → Type 0) → (L → L → Type 0) → L → RegisterFault → L → Type 0
 IsShut Lives Fails old fault new = MayClose fault × ¬ Lives new × Fails old new
 
--- the row that is named as damaged, by its object and its number as they are stored, is such a one
+-- the predicate holds of the row that is named as damaged, by its object and its number as they are stored
 abbrev pub NamesDamage : (ℤ → ℤ → Type 0) → RegisterFault → Type 0
 NamesDamage IsDamaged (Damaged object number) = IsDamaged object number
 NamesDamage IsDamaged other = Unit {0}

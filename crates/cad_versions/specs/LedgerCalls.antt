@@ -1,4 +1,4 @@
--- The calls of a ledger, by what it says of itself.
+-- The calls of a ledger, as its own contract describes them.
 use Rattle.std.specs.Prelude.{ℕ, Result}
 use Rattle.cad_versions.specs.declared.command.Command.{Command}
 use Rattle.cad_versions.specs.declared.fault.RegisterFault.{RegisterFault}

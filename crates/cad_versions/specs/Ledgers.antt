@@ -12,7 +12,9 @@ use Rattle.cad_versions.specs.AsOf.{as_of}
 use Rattle.cad_versions.specs.Listing.{IsListing}
 
 module _ {L : Type 0} (StandsFor : L → List Command → Type 0) (Counts Lives : L → Type 0) (Fails : L → L → Type 0) where
-  -- an accepted command is added to those before it, and the revision counts it; a refused one is refused for its cause, or for one of what keeps the ledger, and changes nothing, or what keeps it failed and is closed; a row that is named as damaged is such a one, whatever the ledger stands for
+  -- an accepted command is added to those before it, and the revision counts it; a refused command is refused for its own cause, or for one
+  -- of the ledger's store; it changes nothing, unless the store failed and is closed; a row that is named as damaged is damaged, no matter
+  -- which commands the ledger holds
   pub record Applied (FailsToApply : List Command → Command → RegisterFault → Type 0) (Refuses : L → L → Command → ℕ → Type 0) (IsDamaged : L → L → Command → ℤ → ℤ → Type 0) (old : L) (command : Command) (result : Result ℕ RegisterFault) (new : L) : Type 0 where
     pub accepted : Counts new → IfOk result (λ revision. (commands : List Command) → StandsFor old commands → (refusal (versions commands) command ≡ None) × (revision ≡ length commands + 1) × StandsFor new (commands ++ command ∷ []))
     pub refused : Counts new → IfErr result (λ fault. (commands : List Command) → StandsFor old commands → (refusal (versions commands) command ≡ Some fault) ⊎ FailsToApply commands command fault)
@@ -21,7 +23,9 @@ module _ {L : Type 0} (StandsFor : L → List Command → Type 0) (Counts Lives 
     pub unchanged : Counts new → IfErr result (λ fault. (commands : List Command) → StandsFor old commands → StandsFor new commands ⊎ IsShut Lives Fails old fault new)
     pub clean : Counts new → Counts old
 
-  -- the versions of a revision that was made are shown, in the order of identifiers, and the ledger remains what it was; a revision is not shown for its cause, or for one of what keeps the ledger; nothing changes, or what keeps it failed and is closed; a row that is named as damaged is such a one, whatever the ledger stands for
+  -- the versions of a revision that was made are shown, in the order of identifiers, and the ledger remains what it was; a revision is not
+  -- shown for its own cause, or for one of the ledger's store; nothing changes then, unless the store failed and is closed; a row that is
+  -- named as damaged is damaged, no matter which commands the ledger holds
   pub record Listed (FailsToList : ℕ → List Command → RegisterFault → Type 0) (Refuses : L → L → ℕ → Type 0) (IsDamaged : L → L → ℕ → ℤ → ℤ → Type 0) (Remains : L → L → Type 0) (old : L) (revision : ℕ) (result : Result (Vec VersionedObject Global) RegisterFault) (new : L) : Type 0 where
     pub shown : Counts new → IfOk result (λ found. (commands : List Command) → StandsFor old commands → (revision ≤ length commands) × (found.items ≡ as_of revision commands))
     pub ascending : IfOk result (λ found. IsListing found.items)

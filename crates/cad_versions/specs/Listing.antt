@@ -1,4 +1,4 @@
--- What every list of versions keeps that a ledger shows.
+-- What holds of every list of versions that a ledger shows.
 use Rattle.std.specs.Prelude.{◌≤◌, List, length}
 use Rattle.std.specs.List.{All}
 use Rattle.std.specs.List.Sorted.{IsStrictlySortedBy}

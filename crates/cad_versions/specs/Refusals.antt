@@ -16,11 +16,11 @@ use Rattle.cad_versions.specs.VersionedObject.{VersionedObject}
 use Rattle.cad_versions.specs.Versions.{is_of, is_open_of, versions_after}
 use Rattle.cad_day.specs.declared.day.Day.{Day}
 
--- the class of an object, where it was entered
+-- the class of an object, if it was entered
 abbrev pub class_at : List VersionedObject → ObjectId → Option Class
 class_at vs object = option_map (λ v. class_of v.body) (find (is_of object) vs)
 
--- the first day of the object's open version, where it has one
+-- the first day of the object's open version, if it has one
 abbrev pub open_since : List VersionedObject → ObjectId → Option Day
 open_since vs object = option_map (λ v. v.first) (find (is_open_of object) vs)
 
@@ -28,7 +28,7 @@ abbrev pub is_class : Class → Option Class → Bool
 is_class class None = false
 is_class class (Some other) = class_number class == class_number other
 
--- what is named, if anything is, was entered with this class
+-- the object that is named, if one is, was entered with this class
 abbrev pub is_entered : List VersionedObject → Class → Option ObjectId → Bool
 is_entered vs class None = true
 is_entered vs class (Some object) = is_class class (class_at vs object)
@@ -51,12 +51,12 @@ abbrev pub or_else : Option RegisterFault → Option RegisterFault → Option Re
 or_else None next = next
 or_else (Some fault) next = Some fault
 
--- the open version cannot be closed: there is none, or it begins too late
+-- the open version cannot be closed: there is no open version, or it begins too late
 abbrev pub refuses_closing : (Day → Bool) → Option Day → Option RegisterFault
 refuses_closing is_late None = Some fault.Retired
 refuses_closing is_late (Some first) = refuse_if (is_late first) (fault.DayNotAfter first)
 
--- what stands of the object, its class and the first day of its open version, refuses the command
+-- the current state of the object, its class and the first day of its open version, refuses the command
 abbrev pub refuses_object : Option Class → Option Day → Command → Option RegisterFault
 refuses_object None open_since (Enter object first body) = None
 refuses_object (Some class) open_since (Enter object first body) = Some fault.KnownObject
@@ -67,7 +67,7 @@ refuses_object (Some class) open_since (Amend object first body) =
 refuses_object None open_since (Retire object last) = Some fault.UnknownObject
 refuses_object (Some class) open_since (Retire object last) = refuses_closing (λ begun. int_lt (number_of last) (number_of begun)) open_since
 
--- the version that the command adds names what was not entered, or has no room
+-- the version that the command adds names an object that was not entered, or has no room
 abbrev pub refuses_addition : Bool → Bool → Option RegisterFault
 refuses_addition are_known is_full = or_else (refuse_if (not are_known) fault.UnknownReference) (refuse_if is_full fault.Full)
 
@@ -75,12 +75,12 @@ abbrev pub refuses_body : List VersionedObject → Option Body → Option Regist
 refuses_body vs None = None
 refuses_body vs (Some body) = refuses_addition (are_entered vs body) (is_full vs)
 
--- the first cause for which the command is refused, in the order of looking
+-- the first cause for which the command is refused, in the order of the checks
 abbrev pub refusal : List VersionedObject → Command → Option RegisterFault
 refusal vs command =
     or_else (refuses_object (class_at vs (object_named command)) (open_since vs (object_named command)) command) (refuses_body vs (body_added command))
 
--- each command is accepted where it stands
+-- each command is accepted after those before it
 abbrev pub AreAccepted : List VersionedObject → List Command → Type 0
 AreAccepted vs [] = Unit {0}
 AreAccepted vs (c ∷ cs) = (refusal vs c ≡ None) × AreAccepted (versions_after vs c) cs

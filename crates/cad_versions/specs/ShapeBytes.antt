@@ -41,7 +41,8 @@ IsOneRingOf bytes region = (ring : Ring) × (rings_of region ≡ ring ∷ []) ×
 abbrev pub AreRingsOf : List ℕ → Region → Type 0
 AreRingsOf bytes region = bytes ≡ counted_rings_bytes (rings_of region)
 
--- the bytes stand for the shape: the first of them names the form of the others, and shapes of both forms may stand side by side; that of one ring is read, and is written no more
+-- the bytes encode the shape: the first of them names the form of the others. Both forms may be stored in one register; the form with one
+-- ring is only read, and no longer written
 abbrev pub IsShapeOf : List ℕ → Region → Type 0
 IsShapeOf [] region = ⊥
 IsShapeOf (form ∷ bytes) region = ((form ≡ 1) × IsOneRingOf bytes region) ⊎ ((form ≡ 2) × AreRingsOf bytes region)

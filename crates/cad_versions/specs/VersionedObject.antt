@@ -7,7 +7,7 @@ use Rattle.cad_versions.specs.declared.object_id.ObjectId.{ObjectId}
 use Rattle.cad_versions.specs.declared.body.Body.{Body}
 use Rattle.cad_versions.specs.Limits.{most_number}
 
--- what the register says of an object from a first day on, and to a last one where there is one
+-- what the register says of an object from a first day on, and up to a last day if there is one
 pub record VersionedObject : Type 0 where
   pub object : ObjectId
   pub number : ℕ

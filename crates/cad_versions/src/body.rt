@@ -13,14 +13,14 @@ use cad_shape::{Point, Region};
 pub enum Body {
     /// LA_Party. The code says what kind of party it is.
     Party {
-        /// What it is called, where that is told.
+        /// Its name, if given.
         name: Option<Words>,
         /// Which type of party it is, as `naturalPerson`.
         code: Words,
     },
     /// LA_BAUnit.
     Unit {
-        /// What it is called, where that is told.
+        /// Its name, if given.
         name: Option<Words>,
     },
     /// LA_SpatialUnit, of one unit.
@@ -29,46 +29,46 @@ pub enum Body {
         unit: ObjectId,
         /// Its name on maps.
         label: Words,
-        /// In whole square metres. It is told with the parcel, and not worked out from the shape.
+        /// In whole square metres. It is stated with the parcel, not computed from the shape.
         area: Option<u32>,
         /// The region inside an outline and outside holes.
         shape: Option<Region>,
-        /// A reference point. It may stand without a shape, and may lie anywhere.
+        /// A reference point. There may be one without a shape, and it may lie anywhere.
         spot: Option<Point>,
     },
     /// LA_Right on a unit. The code says what kind of right it is.
     Right {
-        /// The unit that it is of.
+        /// The unit that the right is on.
         unit: ObjectId,
-        /// Who has it, where that is told.
+        /// Who holds it, if given.
         party: Option<ObjectId>,
         /// Which type of right it is, as `ownership`.
         code: Words,
-        /// The share in it, where that is told.
+        /// The share in it, if given.
         share: Option<Share>,
     },
     /// LA_Restriction on a unit, and whether a party is required for what it restricts.
     Restriction {
-        /// The unit that it is of.
+        /// The unit that the restriction is on.
         unit: ObjectId,
-        /// Whom it serves, where that is told.
+        /// Whom it serves, if given.
         party: Option<ObjectId>,
         /// Which type of restriction it is, as `noBuilding`.
         code: Words,
-        /// The share in it, where that is told.
+        /// The share in it, if given.
         share: Option<Share>,
-        /// Whether a party is needed, where that is told.
+        /// Whether a party is needed, if given.
         required: Option<bool>,
     },
     /// LA_Responsibility for a unit. The code says what is to be done.
     Responsibility {
-        /// The unit that it is of.
+        /// The unit that the responsibility is for.
         unit: ObjectId,
-        /// Who has it, where that is told.
+        /// Who holds it, if given.
         party: Option<ObjectId>,
         /// Which type of responsibility it is.
         code: Words,
-        /// The share in it, where that is told.
+        /// The share in it, if given.
         share: Option<Share>,
     },
 }

@@ -1,4 +1,4 @@
-//! A body by its ten parts: taken apart in one place, and made again by its class in one other.
+//! A body by its ten parts: taken apart in one place, and put together again by its class in another.
 
 ghost use Rattle.std.specs.Prelude.{◌≡◌, ◌↔◌, IsTrue, MatchOption, Some};
 ghost use Rattle.std.specs.Option.{option_copied};
@@ -12,7 +12,7 @@ use crate::share::Share;
 use crate::words::Words;
 use cad_shape::{Point, Region};
 
-/// The parts of a body, each where its class has it.
+/// The parts of a body. Each is there only if its class has it.
 #[derive(Debug, Drop)]
 pub struct BodyParts {
     /// The name of a party or a unit.
@@ -37,7 +37,7 @@ pub struct BodyParts {
     pub shape: Option<Region>,
 }
 
-/// The same parts, lent by a body.
+/// The same parts, borrowed from a body.
 #[derive(Clone, Copy, Debug)]
 pub struct LentParts<'a> {
     /// The name of a party or a unit.
@@ -62,7 +62,7 @@ pub struct LentParts<'a> {
     pub shape: Option<&'a Region>,
 }
 
-/// A body that has none.
+/// A body without any parts.
 const NO_PARTS: LentParts<'static> = LentParts {
     name: None,
     code: None,
@@ -76,7 +76,7 @@ const NO_PARTS: LentParts<'static> = LentParts {
     shape: None,
 };
 
-/// The parts that a right has, and with it a restriction and a responsibility.
+/// The parts that a right has, and that a restriction and a responsibility have too.
 fn right_parts(
     unit: ObjectId,
     party: Option<ObjectId>,
@@ -234,14 +234,14 @@ impl Body {
 }
 
 impl BodyParts {
-    /// Whether there is none of a parcel's own parts.
+    /// Whether the parts that only parcels have are all missing.
     fn is_no_parcel(&self) -> bool
         ensures { IsTrue result ↔ IsNoParcel self.now }
     {
         self.label.is_none() && self.area.is_none() && self.spot.is_none() && self.shape.is_none()
     }
 
-    /// Whether there is none of a right's own parts.
+    /// Whether the parts that only rights, restrictions and responsibilities have are all missing.
     fn is_no_right(&self) -> bool
         ensures { IsTrue result ↔ IsNoRight self.now }
     {
@@ -307,7 +307,7 @@ impl BodyParts {
     }
 }
 
-/// A party of these parts, where those that it has to have are there.
+/// A party of these parts, if those that it must have are there.
 fn party(name: Option<Words>, code: Option<Words>) -> Option<Body>
     ensures { MatchOption result ((b : BodyOfVersion) → ¬ IsMadeOf Class.Party (record no_parts { name = name; code = code }) b) (IsMadeOf Class.Party (record no_parts { name = name; code = code })) }
 {
@@ -315,7 +315,7 @@ fn party(name: Option<Words>, code: Option<Words>) -> Option<Body>
     Some(Body::Party { name, code })
 }
 
-/// A parcel of these parts, where those that it has to have are there.
+/// A parcel of these parts, if those that it must have are there.
 fn parcel(
     unit: Option<ObjectId>,
     label: Option<Words>,
@@ -336,7 +336,7 @@ fn parcel(
     })
 }
 
-/// A right of these parts, where those that it has to have are there.
+/// A right of these parts, if those that it must have are there.
 fn right(
     unit: Option<ObjectId>,
     party: Option<ObjectId>,
@@ -355,7 +355,7 @@ fn right(
     })
 }
 
-/// A restriction of these parts, where those that it has to have are there.
+/// A restriction of these parts, if those that it must have are there.
 fn restriction(
     unit: Option<ObjectId>,
     party: Option<ObjectId>,
@@ -376,7 +376,7 @@ fn restriction(
     })
 }
 
-/// A responsibility of these parts, where those that it has to have are there.
+/// A responsibility of these parts, if those that it must have are there.
 fn responsibility(
     unit: Option<ObjectId>,
     party: Option<ObjectId>,

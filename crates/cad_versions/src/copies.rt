@@ -56,7 +56,7 @@ fn copy_parts(parts: LentParts<'_>) -> Result<BodyParts, AllocError>
 }
 
 impl Body {
-    /// The same body once more.
+    /// A copy of the body.
     pub fn copy(&self) -> Result<Body, AllocError>
         ensures { IfOk result (λ copy. copy ≡ self.now) }
     {

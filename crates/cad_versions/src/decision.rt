@@ -11,7 +11,7 @@ use crate::fault::RegisterFault;
 use cad_day::Day;
 
 impl Command {
-    /// What the new version says, where the command adds one.
+    /// What the new version says, if the command adds one.
     pub fn body(&self) -> Option<&Body>
         ensures { option_copied result ≡ body_added self.now }
     {
@@ -22,7 +22,8 @@ impl Command {
         }
     }
 
-    /// Why an object refuses the command: one of this class, where it was entered, with a version open since this day, where one is.
+    /// Why an object refuses the command. `class` is its class, if it was entered, and `open_since` the first day of its open version, if
+    /// it has one.
     pub fn refused_by_object(
         &self,
         class: Option<Class>,

@@ -19,7 +19,8 @@ pub enum RegisterFault {
     /// Amend: the body is of another class than the object.
     #[error("the body is of another class than the object")]
     OtherClass,
-    /// Amend from a day that is not after the first day of the open version, or Retire on a day before it. The day is that first day.
+    /// Amend from a day that is not after the first day of the open version, or Retire on a day before it. The fault carries that first
+    /// day.
     #[error("the day comes too early for the open version")]
     DayNotAfter(Day),
     /// Amend, Retire: no version of the object is open.
@@ -28,27 +29,27 @@ pub enum RegisterFault {
     /// The body names a unit or a party that was never entered, or an object of another class.
     #[error("the body names what was not entered")]
     UnknownReference,
-    /// As many versions stand as there may be, 2,147,483,647.
+    /// The register has the maximum number of versions, 2,147,483,647.
     #[error("there is no room for one version more")]
     Full,
     /// A stored row breaks a rule of its type.
     #[error("a stored row is no version of the register")]
     Damaged {
-        /// The object, as the row has it.
+        /// The object, as it is stored in the row.
         object: i64,
-        /// The number, as the row has it.
+        /// The number, as it is stored in the row.
         number: i64,
     },
-    /// The database is no register of this form.
+    /// The database is not a register of this format.
     #[error("the database is no register of this form")]
     NotARegister,
-    /// The database refused a statement for another cause than memory.
+    /// The database refused a statement, and not because it was out of memory.
     #[error("the database refused a statement")]
     Store,
-    /// A growth was refused.
+    /// Out of memory.
     #[error("out of memory")]
     Memory,
-    /// The revision is above the one in force.
+    /// The revision is above the current one.
     #[error("the revision is above the one in force")]
     UnknownRevision,
 }
@@ -95,7 +96,7 @@ impl RegisterFault {
         }
     }
 
-    /// The fault's number in the table of specs/Fault, from 1, by which programs may tell it.
+    /// The fault's number in the table of specs/Fault, from 1. Programs identify the fault by it.
     pub fn number(&self) -> u8
         ensures { result ≡ fault_number self.now }
     {

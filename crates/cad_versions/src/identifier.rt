@@ -25,7 +25,7 @@ impl Identifier {
     ghost use Rattle.cad_versions.specs.Objects.{object_number};
     ghost use Rattle.cad_versions.specs.Identifiers.{IsVersionNumber, identifier_text, numbers_of};
 
-    /// The identifier of the version with this number, where there can be one.
+    /// The identifier of the version with this number, if there can be one.
     pub fn new(object: ObjectId, number: u32) -> Option<Identifier>
         ensures { MatchOption result (¬ IsVersionNumber number)
             (λ identifier. numbers_of identifier ≡ (object_number object, number)) }

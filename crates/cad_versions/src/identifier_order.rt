@@ -6,7 +6,8 @@ ghost use Rattle.cad_versions.specs.Identifiers.{identifier, identifier_cmp};
 use crate::object_id::ObjectId;
 use std::cmp::Ordering;
 
-/// How two versions stand, each by its object and its number: by object, and then by number. No version needs to have the numbers.
+/// How two versions compare, each given by its object and its number: by object, then by number. The numbers need not be those of versions
+/// that exist.
 pub fn compare_identifiers(one: (ObjectId, u32), other: (ObjectId, u32)) -> Ordering
     ensures { result ≡ identifier_cmp (identifier one.0 one.1) (identifier other.0 other.1) }
 {

@@ -1,4 +1,4 @@
-//! What holds of every register, whatever commands made it. Each contract is a law; the functions do nothing.
+//! What holds of every register, no matter which commands made it. Each contract is a law; the functions do nothing.
 
 ghost use Rattle.cad_versions.specs.Laws.{VersionsAreHistories, ObjectsEndWhenRetired, RevisionsStay, RevisionsAreSeen, BytesAreOfOneShape};
 
@@ -7,22 +7,22 @@ pub fn versions_are_histories()
     ensures { VersionsAreHistories }
 {}
 
-/// The last version of an object ends on the day on which a command retired the object, and is open where none did.
+/// The last version of an object ends on the day on which a command retired the object, and is open if no command did.
 pub fn objects_end_when_retired()
     ensures { ObjectsEndWhenRetired }
 {}
 
-/// What a revision was stays the same, whatever commands come later.
+/// A past revision stays the same, no matter which commands come later.
 pub fn revisions_stay()
     ensures { RevisionsStay }
 {}
 
-/// The entries up to a revision, with closings of later revisions left out, are the register at that revision.
+/// The entries up to a revision, without the closings of later revisions, are the register at that revision.
 pub fn revisions_are_seen()
     ensures { RevisionsAreSeen }
 {}
 
-/// Bytes stand for one shape at most, whatever the form that the first of them names.
+/// Bytes encode at most one shape, no matter which form the first of them names.
 pub fn bytes_are_of_one_shape()
     ensures { BytesAreOfOneShape }
 {}

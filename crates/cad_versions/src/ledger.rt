@@ -1,4 +1,4 @@
-//! What commands are entered into, and what tells the versions at a revision.
+//! A ledger accepts commands, and gives the versions at a revision.
 
 use crate::command::Command;
 use crate::fault::RegisterFault;
@@ -13,41 +13,41 @@ pub trait Ledger {
     ghost use Rattle.cad_versions.specs.Ledgers.{Applied, Listed};
     ghost use Rattle.cad_versions.specs.Refusals.{AreAccepted};
 
-    // It stands for these commands.
+    // It holds these commands.
     ghost stands_for: { Self → List CommandOf → Type 0 };
 
-    // What it answered counts, as that of a database whose disk is clean.
+    // Its answers count, as those of a database whose disk is clean.
     ghost counts: { Self → Type 0 };
 
-    // It may be asked again, as a database that is open.
+    // It can be asked again, as a database that is open.
     ghost lives: { Self → Type 0 };
 
-    // What keeps it failed in between, as the disk of a database.
+    // The store of the ledger failed in between, as the disk of a database can.
     ghost fails: { Self → Self → Type 0 };
 
-    // The revision that it tells, whatever it stands for.
+    // The revision that it reports, no matter which commands it holds.
     ghost newest: { Self → ℕ };
 
-    // Why a command is refused that the commands before it allow.
+    // Why a command is refused although the commands before it allow it.
     ghost fails_to_apply: { List CommandOf → CommandOf → Fault → Type 0 };
 
-    // Why a revision is not listed that was made.
+    // Why a revision is not listed although it was made.
     ghost fails_to_list: { ℕ → List CommandOf → Fault → Type 0 };
 
-    // What keeps the ledger itself refuses the command, asked at this revision.
+    // The ledger's store itself refuses the command, when asked at this revision.
     ghost refuses_command: { Self → Self → CommandOf → ℕ → Type 0 };
 
-    // What keeps the ledger itself refuses to list the revision.
+    // The ledger's store itself refuses to list the revision.
     ghost refuses_listing: { Self → Self → ℕ → Type 0 };
 
-    // Asked for the command, what keeps it shows a damaged row of this object and this number, as they are stored.
+    // When asked for the command, the store shows a damaged row with this object and this number, as they are stored.
     ghost damaged_for_command: { Self → Self → CommandOf → ℤ → ℤ → Type 0 };
 
-    // So it shows such a row, asked for the revision.
+    // When asked for the revision, the store shows such a row.
     ghost damaged_for_listing: { Self → Self → ℕ → ℤ → ℤ → Type 0 };
 
-    // Where the ledger was this one before revisions were listed, it is that one since: what it shows is the same, and
-    // what decides whether it is refused a call.
+    // If the ledger was the first one before revisions were listed, it is the second one afterwards: it shows the same, and what decides
+    // whether it refuses a call is the same.
     ghost remains: { Self → Self → Type 0 };
 
     /// How many commands were accepted.
@@ -56,7 +56,7 @@ pub trait Ledger {
             result ≡ length commands }
         ensures told { result ≡ newest self.now };
 
-    /// Applies the command, and answers the revision since, or refuses it and stays as it was.
+    /// Applies the command and returns the revision that it made, or refuses it and stays as it was.
     fn apply(&mut self, command: Command) -> Result<u64, RegisterFault>
         ensures { Applied stands_for counts lives fails fails_to_apply refuses_command damaged_for_command self.old command result self.new };
 
@@ -64,22 +64,22 @@ pub trait Ledger {
     fn as_of(&mut self, revision: u64) -> Result<Vec<Version>, RegisterFault>
         ensures { Listed stands_for counts lives fails fails_to_list refuses_listing damaged_for_listing remains self.old revision result self.new };
 
-    // What it fails for beside the commands is a fault of what keeps them.
+    // A fault other than one of the commands is a fault of the ledger's store.
     ghost apply_keeps: { (commands : List CommandOf) (command : CommandOf) (fault : Fault) →
         fails_to_apply commands command fault → IsOfKeeping fault };
 
     ghost list_keeps: { (revision : ℕ) (commands : List CommandOf) (fault : Fault) →
         fails_to_list revision commands fault → IsOfKeeping fault };
 
-    // The commands that it stands for were accepted one after the other.
+    // The commands that it holds were accepted one after the other.
     ghost were_accepted: { (ledger : Self) (commands : List CommandOf) →
         stands_for ledger commands → AreAccepted [] commands };
 
-    // It remains what it was where nothing was listed, and over one listing after the other.
+    // It remains what it was if nothing was listed, and over one listing after the other.
     ghost remains_here: { (ledger : Self) → remains ledger ledger };
 
     ghost remains_then: { (old mid new : Self) → remains old mid → remains mid new → remains old new };
 
-    // What failed since it remained what it was, failed since before.
+    // If it remained what it was and failed afterwards, then it failed since the earlier moment.
     ghost fails_before: { (old mid new : Self) → remains old mid → fails mid new → fails old new };
 }

@@ -3,17 +3,17 @@
 //! - `ObjectId`, `Words`, `Share`: values that cannot hold what the register must not.
 //! - `Identifier`: the object and the number of a version, as the text `3.1`; `compare_identifiers` is their order.
 //! - `Body`, `Class`, `Version`: one version of an object, what it says, and the class of the object.
-//! - `BodyParts`, `LentParts`: what a body says, part by part, whatever its class.
+//! - `BodyParts`, `LentParts`: what a body says, part by part, for any class.
 //! - `Command`, `RegisterFault`: what the land office asks for, and why it is refused.
 //! - `MOST_NUMBER`, `MOST_VERSIONS`: how large numbers may be, and how many versions there may be.
-//! - `Ledger`: what commands are entered into, and what tells the versions at a revision.
-//! - `laws`: what holds of every register, whatever commands made it.
+//! - `Ledger`: accepts commands, and gives the versions at a revision.
+//! - `laws`: what holds of every register, no matter which commands made it.
 //!
 //! ```text
 //! ObjectId::new(0)                                          // None: numbers begin at 1
 //! ObjectId::new(11)                                         // Some
 //! Words::new("Mill")                                        // Ok
-//! Words::new("")                                            // Err: a text has a byte at least
+//! Words::new("")                                            // Err: a text has at least one byte
 //! Share::new(1, 2)                                          // Some: a half
 //! Body::Unit { name: None }.class()                         // Class::Unit
 //! ```

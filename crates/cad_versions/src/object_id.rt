@@ -5,7 +5,7 @@ ghost use Rattle.cad_versions.specs.Limits.{most_number};
 
 use crate::limits::MOST_NUMBER;
 
-/// The number of an object, from 1 to 2,147,483,647. It names the object for good.
+/// The number of an object, from 1 to 2,147,483,647. It names the object permanently.
 #[derive(Clone, Copy, Debug, PartialEq, Eq, PartialOrd, Ord)]
 pub struct ObjectId {
     number: u32,
@@ -19,7 +19,7 @@ impl ObjectId {
     ghost use Rattle.std.specs.Prelude.{◌≡◌, ◌≤◌, MatchOption};
     ghost use Rattle.cad_versions.specs.Objects.{IsObjectNumber, object_number};
 
-    /// The object of this number, where there can be one.
+    /// The object with this number, if there can be one.
     pub fn new(number: u32) -> Option<ObjectId>
         ensures { MatchOption result (¬ IsObjectNumber number)
             (λ object. object_number object ≡ number) }

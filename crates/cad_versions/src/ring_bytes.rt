@@ -14,7 +14,7 @@ use std::alloc::{AllocError, Global};
 // How many bytes a corner takes.
 const CORNER_BYTES: usize = 16;
 
-/// Writes a number behind the others.
+/// Appends a number to the bytes.
 #[tactic(auto, unfolding(crate::specs::ShapeBytes::coordinate_bytes))]
 fn push_coordinate(bytes: &mut Vec<u8>, coordinate: i64) -> Result<(), AllocError>
     ensures { OnOk result (bytes.new.items ≡ bytes.old.items ++ coordinate_bytes coordinate) }
@@ -30,7 +30,7 @@ fn push_corner(bytes: &mut Vec<u8>, corner: Point) -> Result<(), AllocError>
     Ok(())
 }
 
-/// Writes the number of the ring's corners and the corners behind the others.
+/// Appends the number of the ring's corners and the corners to the bytes.
 pub(crate) fn push_ring(bytes: &mut Vec<u8>, ring: &Ring) -> Result<(), AllocError>
     ensures { OnOk result (bytes.new.items ≡ bytes.old.items ++ ring_bytes ring.now) }
 {
@@ -43,7 +43,7 @@ pub(crate) fn push_ring(bytes: &mut Vec<u8>, ring: &Ring) -> Result<(), AllocErr
     Ok(())
 }
 
-/// The number at the front, and the bytes behind it.
+/// The number at the front, and the bytes after it.
 fn first_coordinate(bytes: &[u8]) -> Option<(i64, &[u8])>
     ensures { MatchOption result (length bytes.now < 8) (λ found.
         (bytes.now ≡ coordinate_bytes found.0 ++ found.1.now) × FitsSigned w64 found.0) }
@@ -53,7 +53,7 @@ fn first_coordinate(bytes: &[u8]) -> Option<(i64, &[u8])>
     Some((bits.cast_signed(), rest))
 }
 
-/// The corner at the front, and the bytes behind it.
+/// The corner at the front, and the bytes after it.
 fn first_corner(bytes: &[u8]) -> Option<(Point, &[u8])>
     ensures { MatchOption result ((corner : Corner) (rest : List ℕ) →
         bytes.now ≢ corner_bytes corner ++ rest)
@@ -82,7 +82,7 @@ fn all_corners(alloc: Global, bytes: &[u8]) -> Result<Option<Vec<Point>>, AllocE
     Ok(Some(corners))
 }
 
-/// The ring through these corners, if they are those of one.
+/// The ring through these corners, if they are the corners of a ring.
 fn ring_through(corners: Vec<Point>) -> Option<Ring>
     ensures { MatchOption result (¬ (IsRing corners.items)) (λ ring. corners_of ring ≡ corners.items) }
 {
@@ -92,7 +92,7 @@ fn ring_through(corners: Vec<Point>) -> Option<Ring>
     }
 }
 
-/// A number of two bytes, and the bytes behind it.
+/// A number of two bytes, and the bytes after it.
 pub(crate) fn first_count(bytes: &[u8]) -> Option<(usize, &[u8])>
     ensures { MatchOption result (length bytes.now < 2) (λ found.
         (bytes.now ≡ to_be_bytes w16 found.0 ++ found.1.now) × (found.0 < 2 ^ 16)) }
@@ -104,7 +104,7 @@ pub(crate) fn first_count(bytes: &[u8]) -> Option<(usize, &[u8])>
     Some((usize::from(count), rest))
 }
 
-/// The ring at the front, and the bytes behind it.
+/// The ring at the front, and the bytes after it.
 pub(crate) fn first_ring(alloc: Global, bytes: &[u8]) -> Result<Option<(Ring, &[u8])>, AllocError>
     ensures { IfOk result (λ found. MatchOption found ((ring : RingOfCorners) (rest : List ℕ) →
         bytes.now ≢ ring_bytes ring ++ rest) (λ found. bytes.now ≡ ring_bytes found.0 ++ found.1.now)) }

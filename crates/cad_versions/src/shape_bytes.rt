@@ -13,7 +13,7 @@ use cad_shape::{Region, Ring};
 use std::alloc::{AllocError, Global};
 use std::rc::Rc;
 
-// The form of one ring, which is read alone.
+// The form with one ring, which is only read.
 const ONE_RING: u8 = 1;
 
 // The form of an outer ring and holes.
@@ -29,7 +29,8 @@ fn shape_front(alloc: Global, count: u16) -> Result<Vec<u8>, AllocError>
     Ok(bytes)
 }
 
-/// The bytes under which a shape is stored: 2, the number of rings in two bytes, then each ring as the number of its corners in two bytes and x and y of each corner in eight bytes of two's complement, all big-endian.
+/// The bytes in which a shape is stored: 2, the number of rings in two bytes, then each ring as the number of its corners in two bytes and
+/// x and y of each corner in eight bytes of two's complement, all big-endian.
 pub fn write_shape(alloc: Global, region: &Region) -> Result<Vec<u8>, AllocError>
     ensures { IfOk result (λ bytes. bytes.items ≡ shape_bytes region.now) }
 {
@@ -59,7 +60,7 @@ fn all_rings(alloc: Global, bytes: &[u8]) -> Result<Option<Vec<Ring>>, AllocErro
     Ok(Some(rings))
 }
 
-/// The region of these rings, if they are those of one.
+/// The region of these rings, if they are the rings of a region.
 fn region_of(alloc: Global, rings: Vec<Ring>) -> Result<Option<Region>, AllocError>
     ensures { IfOk result (λ found. MatchOption found (¬ (IsRegion rings.items)) (λ region. rings_of region ≡ rings.items)) }
 {
@@ -70,7 +71,7 @@ fn region_of(alloc: Global, rings: Vec<Ring>) -> Result<Option<Region>, AllocErr
     }
 }
 
-/// The region of one ring, with nothing behind the ring.
+/// The region of one ring, with nothing after the ring.
 fn read_one_ring(alloc: Global, bytes: &[u8]) -> Result<Option<Region>, AllocError>
     ensures { IfOk result (λ found. MatchOption found ((region : RegionOfRings) →
         ¬ IsOneRingOf bytes.now region) (IsOneRingOf bytes.now)) }
@@ -85,7 +86,7 @@ fn read_one_ring(alloc: Global, bytes: &[u8]) -> Result<Option<Region>, AllocErr
     Ok(Some(region))
 }
 
-/// The region of as many rings as are counted, with nothing behind them.
+/// The region of the rings, if there are as many as are counted and nothing after them.
 fn read_rings(alloc: Global, bytes: &[u8]) -> Result<Option<Region>, AllocError>
     ensures { IfOk result (λ found. MatchOption found ((region : RegionOfRings) →
         ¬ AreRingsOf bytes.now region) (AreRingsOf bytes.now)) }
@@ -102,7 +103,7 @@ fn read_rings(alloc: Global, bytes: &[u8]) -> Result<Option<Region>, AllocError>
     region_of(alloc, rings)
 }
 
-/// The shape that is stored under these bytes, in the form of today or in that of one ring; `Ok(None)` where none is.
+/// The shape that is stored in these bytes, in the current form or in that of one ring; `Ok(None)` if they store none.
 pub fn read_shape(alloc: Global, bytes: &[u8]) -> Result<Option<Region>, AllocError>
     ensures { IfOk result (λ found. MatchOption found ((region : RegionOfRings) →
         ¬ IsShapeOf bytes.now region) (IsShapeOf bytes.now)) }

@@ -11,7 +11,7 @@ pub struct Share {
     pub ghost some: { 1 ≤ num },
     /// It is at most the whole.
     pub ghost within: { num ≤ den },
-    /// The whole is divided into so many parts at most.
+    /// The whole is divided into at most this many parts.
     pub ghost small: { den ≤ 1000000000 },
 }
 

@@ -7,7 +7,7 @@ use std::alloc::AllocError;
 use std::marker::Model;
 use std::rc::Rc;
 
-// The bytes alone, so that two words of one spelling are one value. Copies share the text.
+// The bytes alone, so that two words with the same spelling are one value. Copies share the text.
 #[derive(Debug, Drop)]
 struct Spelling {
     text: Rc<String>,
@@ -39,7 +39,7 @@ impl Words {
     ghost use Rattle.std.specs.Prelude.{◌≡◌, string_bytes, MatchResult, IfOk, IsUtf8};
     ghost use Rattle.cad_versions.specs.Texts.{AreWords, bytes_of};
 
-    /// The text as words, or the text back where it is none.
+    /// The text as words, or the text back if it is not words.
     pub fn new(text: Rc<String>) -> Result<Words, Rc<String>>
         ensures { MatchResult result (λ words. bytes_of words ≡ string_bytes text.value) (λ back.
             (back ≡ text) × ¬ AreWords (string_bytes text.value)) }
@@ -62,7 +62,7 @@ impl Words {
         self.spelling.text.as_ref().as_str()
     }
 
-    /// The text, which is shared and not copied. An error says that too many share it.
+    /// The text, which is shared and not copied. An error means that too many share it.
     pub fn text(&self) -> Result<Rc<String>, AllocError>
         ensures { IfOk result (λ text. string_bytes text.value ≡ bytes_of self.now) }
     {
@@ -70,7 +70,7 @@ impl Words {
         Ok(text)
     }
 
-    /// The same words once more, of the same text. They are not judged again.
+    /// A copy of the words, which shares the text. They are not checked again.
     pub fn copy(&self) -> Result<Words, AllocError>
         ensures { IfOk result (λ copy. copy ≡ self.now) }
     {

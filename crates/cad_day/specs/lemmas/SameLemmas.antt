@@ -1,4 +1,4 @@
--- Days of one number are one day, since that the number is a day's has one proof.
+-- Days of one number are one day, since there is only one proof that the number is a day's.
 use Rattle.std.proofs.Common.{◌≡◌, ℤ, ap, subst}
 use lib.Dec.{T_prop}
 use Rattle.cad_day.specs.declared.day.Day.{Day}

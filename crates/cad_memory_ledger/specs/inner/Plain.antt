@@ -8,7 +8,7 @@ use Rattle.cad_versions.specs.lemmas.HistoryLemmas.{HasHistories}
 use Rattle.cad_versions.specs.Entries.{Entry, version_in}
 use Rattle.cad_versions.specs.Identifiers.{by_identifier}
 
--- ISO 19152:2012, VersionedObject: the versions of each object follow one another; there are no more than there may be (own profile)
+-- ISO 19152:2012, VersionedObject: the versions of each object follow one another; there are no more than allowed (own profile)
 pub record AreHistories (entries : List Entry) : Type 0 where
   pub histories : HasHistories (map version_in entries)
   pub few : length entries ≤ most_versions

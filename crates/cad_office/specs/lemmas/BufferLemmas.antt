@@ -1,4 +1,4 @@
--- What a line holds that is kept whole.
+-- What a line holds if all its bytes are held.
 use Rattle.std.proofs.Common.{◌≡◌, ℕ, List, subst}
 use Rattle.cad_office.specs.declared.line.LineState.{LineState}
 use Rattle.cad_office.specs.declared.line.LineState.TheVariants.{Buffered}

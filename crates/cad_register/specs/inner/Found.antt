@@ -15,7 +15,7 @@ use Rattle.cad_register.specs.declared.place.Place.{Place}
 use Rattle.cad_register.specs.Damage.{number_in, identifier_in, damage_of, IsNext}
 use Rattle.cad_register.specs.StoredVersions.{IsRowOf, entry_of}
 
--- it is the version that the row stands for, or tells the row's object and number, where it stands for none
+-- it is the version that the row represents, or has the row's object and number, if it represents no version
 abbrev pub IsReadOf : Row → FoundRow → Type 0
 IsReadOf row (Version kept) = IsRowOf row (entry_of kept)
 IsReadOf row (Damaged object number) = (identifier_in row ≡ (object, number)) × ((e : Entry) → ¬ IsRowOf row e)
@@ -24,7 +24,7 @@ abbrev pub identifier_of : FoundRow → ℤ × ℤ
 identifier_of (Version kept) = identifier_of_version kept.version
 identifier_of (Damaged object number) = (object, number)
 
--- what is read of the row of no version
+-- what is read of a row that represents no version
 abbrev pub damaged_row : Row → FoundRow
 damaged_row row = Damaged (number_in (column row 0)) (number_in (column row 1))
 
@@ -41,7 +41,7 @@ by_identifier a b = identifier_cmp (identifier_of a) (identifier_of b)
 abbrev pub AreReadOf : List Row → List FoundRow → Type 0
 AreReadOf = AllZip IsReadOf
 
--- the row may stand there, or is named
+-- the row is valid there, or is named
 abbrev pub IsJudged : ℕ → Option Place → ℕ → Row → Result StoredVersion RegisterFault → Type 0
 IsJudged newest before count row result =
     MatchResult result (λ kept. IsNext newest before count row (entry_of kept)) (λ fault. (fault ≡ damage_of row) × ((e : Entry) → ¬ IsNext newest before count row e))

@@ -35,12 +35,12 @@ takes_beginning None = true
 takes_beginning (Some (Retire object last)) = true
 takes_beginning (Some other) = false
 
--- its slots are the commands of so many revisions behind this one, as these entries show them
+-- its slots are the commands of this many revisions after this one, as these entries show them
 pub record Gathers (behind count : ℕ) (entries : List Entry) (gathering : Gathering) : Type 0 where
   pub behind_is : gathering.behind ≡ behind
   pub commands_are : gathering.slots.items ≡ commands_behind behind count entries
 
--- the commands that were gathered, where there is one of each revision
+-- the commands that were gathered, if there is one for each revision
 abbrev pub IsGivenBy : Gathering → Result (Vec Command Global) RegisterFault → Type 0
 IsGivenBy gathering (Ok found) = (behind count : ℕ) (es : List Entry) → Gathers behind count es gathering → map Some found.items ≡ commands_behind behind count es
 IsGivenBy gathering (Err fault.NotARegister) = (behind count : ℕ) (es : List Entry) → Gathers behind count es gathering → (cs : List Command) → map Some cs ≢ commands_behind behind count es

@@ -11,7 +11,8 @@ use Rattle.cad_register.specs.Leaving.{AsksOnly}
 use Rattle.cad_register.specs.Refusing.{Asks}
 use Rattle.cad_register.specs.Stands.{Tells}
 
--- the tables are asked these questions and no other; answered, this is told of the commands for which they stand, and refused, that; what the database refuses is one of the questions; all else is as it was
+-- the tables are asked these questions and no others; if answered, `Told` holds of the commands that the tables hold, and if refused,
+-- `Refused` does; what the database refuses is one of the questions; all else is as it was
 pub record Inquires {S : Type 0} (g : Ghosts S) (old new : Held S) (IsAsked : Statement → Type 0) {X : Type 0} (Told : List Command → X → Type 0) (Refused : List Command → RegisterFault → Type 0) (result : Result X RegisterFault) : Type 0 where
   pub told : HasCleanDisk (state g new) → Tells (state g old) (state g new) result Told Refused
   pub asked : HasCleanDisk (state g new) → Asks g old new IsAsked result

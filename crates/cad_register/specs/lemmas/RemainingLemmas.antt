@@ -1,4 +1,4 @@
--- A register that remains as it was, one question after another, and what fails behind them.
+-- A register that remains as it was, one question after another, and what fails after them.
 use Rattle.std.proofs.Common.{ℕ, ◌≤◌, refl, ◌∙◌, sym, subst, inl, inr, arith}
 use Rattle.sqlite_disk.specs.Disk.{MoreFaults}
 use Rattle.sqlite_trees.specs.declared.store.Store.{Ghosts}

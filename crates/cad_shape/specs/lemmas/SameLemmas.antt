@@ -1,4 +1,4 @@
--- Points and boxes of the same coordinates are one value, since what is kept of these has one proof each.
+-- Points and boxes with the same coordinates are one value, since each fact that is kept of them has only one proof.
 use Rattle.std.proofs.Common.{◌≡◌, ℤ, FitsSigned, w64, ap₂, subst, arith}
 use Rattle.std.proofs.lemmas.Int.{ints}
 use lib.Dec.{T_prop}

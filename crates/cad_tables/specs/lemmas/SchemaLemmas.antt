@@ -1,4 +1,4 @@
--- One list of objects is that of one schema, where it lists no view.
+-- A list of objects is that of only one schema, if it lists no view.
 use Rattle.std.proofs.Common.{◌≡◌, ℕ, ◌+◌, pos, true, false, List, [], ◌∷◌, Option, Some, slice_get, filter, Result, Ok, refl, sym, ap, ap₂, ◌∙◌, subst, arith}
 use Rattle.std.specs.List.{AllZip}
 use Rattle.sqlite_value.specs.declared.value.Value.{Value}
@@ -91,7 +91,7 @@ register_schema_only db schema p q = schema_same (db catalog_tree) register_sche
 pub no_schema_only : (db : Trees) (schema : Schema) → db catalog_tree ≡ [] → IsSound schema db → schema ≡ no_schema
 no_schema_only db schema none q = schema_same (db catalog_tree) no_schema schema refl (empty_is_sound db none).lists.listed q.lists.listed
 
--- without a table no column of `version` stands
+-- without a table there is no column of `version`
 pub no_schema_lacks : LacksColumns no_schema
 unfolding understood listing_schema everything
 no_schema_lacks = (NoSuchTable, refl, refl)

@@ -1,4 +1,4 @@
--- Commands that were accepted one after the other, and one command more.
+-- Commands that were accepted one after the other, and one more command.
 use Rattle.std.proofs.Common.{◌≡◌, ◌+◌, List, [], ◌∷◌, ◌++◌, length, fold, None, ap, ◌∙◌, zero-add}
 use Rattle.cad_versions.specs.declared.command.Command.{Command}
 use Rattle.cad_versions.specs.VersionedObject.{VersionedObject}
@@ -17,6 +17,6 @@ pub accepted_front : (vs : List VersionedObject) (cs more : List Command) → Ar
 accepted_front vs [] more all = tt
 accepted_front vs (c ∷ cs) more all = (all.0, accepted_front (versions_after vs c) cs more all.1)
 
--- what one command more makes of the entries
+-- what one more command does to the entries
 pub entries_then : (cs : List Command) (c : Command) → entries_of (cs ++ c ∷ []) ≡ entries_after (length cs + 1) (entries_of cs) c
 entries_then cs c = entries_append 0 [] cs (c ∷ []) ∙ ap (λ m. entries_after (m + 1) (entries_of cs) c) (zero-add (length cs))

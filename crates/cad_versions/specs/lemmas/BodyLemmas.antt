@@ -1,4 +1,4 @@
--- A body is told by its class and its parts.
+-- A body is determined by its class and its parts.
 use Rattle.std.proofs.Common.{◌≡◌, Some, refl, ap, arith}
 use Rattle.cad_versions.specs.declared.body.Body.{Body}
 use Rattle.cad_versions.specs.declared.body.Body.TheVariants as body

@@ -90,7 +90,7 @@ all_later_unseen n r h ls (c ∷ cs) = all_later_unseen (n + 1) r (omega arith) 
 
 -- ---- what is seen now is all
 
--- an entry is entered and closed by now, and open while it is not closed
+-- an entry was entered and closed by now, and is open if it is not closed
 pub record IsDated (n : ℕ) (l : Entry) : Type 0 where
   pub entered : l.entered ≤ n
   pub closed : IfNone l.closed (l.version.last ≡ None)
@@ -152,7 +152,7 @@ pub entries_append : (n : ℕ) (ls : List Entry) (cs ds : List Command) → entr
 entries_append n ls [] ds = ap (λ m. entries_from m ls ds) (omega arith)
 entries_append n ls (c ∷ cs) ds = entries_append (n + 1) _ cs ds ∙ ap (λ m. entries_from m (entries_from (n + 1) (entries_after (n + 1) ls c) cs) ds) (omega arith)
 
--- A revision sees the fold of its commands, whatever commands came later.
+-- A revision sees the fold of its commands, no matter which commands came later.
 pub revision_is_fold : (cs ds : List Command) → seen (length cs) (entries_of (cs ++ ds)) ≡ versions cs
 revision_is_fold cs ds =
     let n = length cs in

@@ -1,4 +1,4 @@
--- Each object's versions are a history, whatever commands were accepted.
+-- Each object's versions are a history, no matter which commands were accepted.
 use Rattle.std.proofs.Common.{◌≡◌, ℕ, ◌+◌, ℤ, pos, ◌≤ℤ◌, ◌<ℤ◌, ◌-ℤ◌, Bool, true, false, cond, ◌&&◌, List, [], ◌∷◌, ◌++◌, length, map, filter, find, fold, Option, Some, None, refl, sym, ap, ap₂, ◌∙◌, subst, arith, int_le, int_lt, is_none, append-nil, int_eq, option_map, true≢false}
 use Rattle.std.specs.List.{AllByRecursion}
 use Rattle.std.proofs.lemmas.Int.{ints}
@@ -41,7 +41,7 @@ closing_keeps object closing day v = elim (is_open_of closing v) as (λ t. is_of
 pub history-closed : (object closing : ObjectId) (day : Day) (vs : List VersionedObject) → history object (map (closed_if_open closing day) vs) ≡ map (closed_if_open closing day) (history object vs)
 history-closed object closing day vs = filter-map _ _ vs ∙ ap (map (closed_if_open closing day)) (filter_same _ _ (closing_keeps object closing day) vs)
 
--- a closing leaves the versions of other objects
+-- a closing leaves the versions of other objects unchanged
 others_stay : (object closing : ObjectId) (day : Day) → int_eq (pos (object_number closing)) (pos (object_number object)) ≡ false → (vs : List VersionedObject) → map (closed_if_open closing day) (history object vs) ≡ history object vs
 others_stay object closing day e [] = refl
 others_stay object closing day e (v ∷ vs) = go (is_of object v) refl (others_stay object closing day e vs)
@@ -76,7 +76,7 @@ none_found object (v ∷ vs) e = go (is_of object v) e (none_found object vs)
 pub closed_is_not_open : (object : ObjectId) (v : VersionedObject) (day : Day) → v.last ≡ Some day → is_open_of object v ≡ false
 closed_is_not_open object v day e = ap (λ l. is_of object v && is_none l) e ∙ elim (is_of object v) as (λ t. (t && false) ≡ false) [ true ↦ refl | false ↦ refl ]
 
--- what is closed on a day is followed by what begins on the next
+-- if a version follows one that is closed on this day, it begins on the next day
 abbrev pub BeginsAfter : Day → List VersionedObject → Type 0
 BeginsAfter day [] = Unit {0}
 BeginsAfter day (v ∷ vs) = number_of day ≡ number_of v.first -ℤ pos 1
@@ -107,7 +107,7 @@ closed_history n object found day v (w ∷ vs) tail h f forward later rest =
         subst (λ t. IsHistory n (cond t (closed_on day v) v ∷ (map (closed_if_open object day) (w ∷ vs) ++ tail))) (sym shut)
         (h.0, h.1, ends_same object day v.last w h.2, more)
 
--- ---- why a command that is accepted may be
+-- ---- why an accepted command may be accepted
 
 pub unrefused : (t : Bool) (f : RegisterFault) → refuse_if t f ≡ None → t ≡ false
 unrefused true f e = absurd cc
@@ -151,7 +151,7 @@ enters object first body vs e = none_found object vs (go (find (is_of object) vs
     go None h = refl
     go (Some v) h = absurd cc
 
--- ---- one command more
+-- ---- one more command
 
 pub le_fails : (a b : ℤ) → int_le a b ≡ false → b <ℤ a
 le_fails a b h = grind (arith, ints)
@@ -221,7 +221,7 @@ histories cs all = histories_from [] cs all (λ object. tt)
 
 -- ---- the open version of an object
 
--- of a history the last alone may be open
+-- in a history only the last version may be open
 only_last_open : (object : ObjectId) (found : VersionedObject) (n : ℕ) (vs : List VersionedObject) → IsHistory n vs → find (is_open_of object) vs ≡ Some found → AllByRecursion (λ v. is_open_of object v ≡ true → v ≡ found) vs
 only_last_open object found n [] h f = tt
 only_last_open object found n (v ∷ []) h f = (λ opened. some_same v found (ap (λ t. cond t (Some v) None) (sym opened) ∙ f), tt)

@@ -64,7 +64,7 @@ pub all_push : {X : Type 0} (P : X → Type 0) (xs : List X) (y : X) → AllByRe
 all_push P [] y all one = (one, tt)
 all_push P (x ∷ xs) y all one = (all.0, all_push P xs y all.1 one)
 
--- what comes last of all behind a list in order
+-- an element that comes after a whole sorted list is added at its end
 pub sorted_push : {K : Type 0} (c : K → K → Ordering) (xs : List K) (y : K) → IsStrictlySortedBy c xs → AllByRecursion (λ x. c x y ≡ Less) xs → IsStrictlySortedBy c (xs ++ y ∷ [])
 unfolding IsStrictlySortedBy
 sorted_push c [] y h below = (tt, tt)

@@ -12,13 +12,13 @@ pub length-corners_bytes : (ps : List Point) → length (corners_bytes ps) ≡ 1
 length-corners_bytes [] = refl
 length-corners_bytes (p ∷ ps) = omega (arith, length-append (corner_bytes p) (corners_bytes ps), length-corner_bytes p, length-corners_bytes ps)
 
--- the number of corners and their bytes, of what begins with a ring
+-- the number of corners and their bytes, at the front of bytes that begin with a ring
 pub ring_at_front : (count : ℕ) (rest : List ℕ) (ring : Ring) (more : List ℕ) → count < 2 ^ 16 → to_be_bytes w16 count ++ rest ≡ ring_bytes ring ++ more → (count ≡ length (corners_of ring)) × (rest ≡ corners_bytes (corners_of ring) ++ more)
 ring_at_front count rest ring more small e =
     let few = ring.not_too_many in
     count_same count (length (corners_of ring)) rest (corners_bytes (corners_of ring) ++ more) small (omega arith) (e ∙ append_assoc (to_be_bytes w16 (length (corners_of ring))) (corners_bytes (corners_of ring)) more)
 
--- what begins with a ring begins with no other
+-- bytes that begin with a ring begin with no other ring
 pub same_front_ring : (a b : Ring) (us vs : List ℕ) → ring_bytes a ++ us ≡ ring_bytes b ++ vs → (a ≡ b) × (us ≡ vs)
 same_front_ring a b us vs e =
     let few = a.not_too_many in
@@ -26,7 +26,7 @@ same_front_ring a b us vs e =
     let long : length (corners_bytes (corners_of a)) ≡ length (corners_bytes (corners_of b)) = length-corners_bytes (corners_of a) ∙ ap (λ n. 16 * n) parts.0 ∙ sym (length-corners_bytes (corners_of b)) in
     (same_ring a b (corners_same (corners_of a) (corners_of b) (front_same _ _ us vs long parts.1)), back_same _ _ us vs long parts.1)
 
--- a ring takes two bytes at least
+-- a ring takes at least two bytes
 pub ring_is_long : (ring : Ring) (more : List ℕ) → 2 + length more ≤ length (ring_bytes ring ++ more)
 ring_is_long ring more =
     let count = to_be_bytes w16 (length (corners_of ring)) in
@@ -41,7 +41,7 @@ pub rings_bytes-append : (xs ys : List Ring) → rings_bytes (xs ++ ys) ≡ ring
 rings_bytes-append [] ys = refl
 rings_bytes-append (x ∷ xs) ys = ap (λ l. ring_bytes x ++ l) (rings_bytes-append xs ys) ∙ sym (append_assoc (ring_bytes x) (rings_bytes xs) (rings_bytes ys))
 
--- rings that begin with others go on behind them
+-- if the bytes of a list of rings begin with those of another list, so does the list, and the rest of the bytes are those of its rest
 pub rings_left : (xs rs : List Ring) (rest : List ℕ) → rings_bytes xs ++ rest ≡ rings_bytes rs → (qs : List Ring) × (rest ≡ rings_bytes qs) × (rs ≡ xs ++ qs)
 rings_left [] rs rest e = (rs, e, refl)
 rings_left (x ∷ xs) [] rest e = absurd (not_empty x (rings_bytes xs ++ rest) (sym (append_assoc (ring_bytes x) (rings_bytes xs) rest) ∙ e))
@@ -59,7 +59,7 @@ rings_same xs rs e =
     none_left [] e = refl
     none_left (q ∷ qs) e = absurd (not_empty q (rings_bytes qs) (sym e))
 
--- where no ring begins, no rings stand
+-- if no ring begins at the rest, the bytes are not those of rings
 pub no_rings : (xs : List Ring) (bytes rest : List ℕ) → rest ≢ [] → ((ring : Ring) (more : List ℕ) → rest ≢ ring_bytes ring ++ more) → bytes ≡ rings_bytes xs ++ rest → (rs : List Ring) → bytes ≢ rings_bytes rs
 no_rings xs bytes rest some none is rs e = let left = rings_left xs rs rest (sym is ∙ e) in go left.0 left.1
   where
@@ -67,7 +67,7 @@ no_rings xs bytes rest some none is rs e = let left = rings_left xs rs rest (sym
     go [] e = some e
     go (q ∷ qs) e = none q (rings_bytes qs) e
 
--- one ring more
+-- one more ring
 pub ring_taken : (xs : List Ring) (ring : Ring) (bytes rest more : List ℕ) → bytes ≡ rings_bytes xs ++ rest → rest ≡ ring_bytes ring ++ more → bytes ≡ rings_bytes (xs ++ ring ∷ []) ++ more
 ring_taken xs ring bytes rest more is here =
     is ∙ ap (λ l. rings_bytes xs ++ l) here ∙ sym (append_assoc (rings_bytes xs) (ring_bytes ring) more)
@@ -79,13 +79,13 @@ rings_counted count rest rings small few e = count_same count (length rings) res
 
 -- ---- a ring by the number of its corners
 
--- bytes that begin with a ring are as long as its corners
+-- the bytes after the count are at least as long as the corners
 pub corners_fit : (count : ℕ) (rest : List ℕ) (ring : Ring) (more : List ℕ) → count < 2 ^ 16 → to_be_bytes w16 count ++ rest ≡ ring_bytes ring ++ more → 16 * count ≤ length rest
 corners_fit count rest ring more small e =
     let at = ring_at_front count rest ring more small e in
     omega (arith, at.0, ap length at.1, length-append (corners_bytes (corners_of ring)) more, length-corners_bytes (corners_of ring))
 
--- and what is taken for them is their bytes
+-- and the bytes that are taken for them are theirs
 pub corners_taken : (count : ℕ) (rest : List ℕ) (ring : Ring) (more : List ℕ) → count < 2 ^ 16 → to_be_bytes w16 count ++ rest ≡ ring_bytes ring ++ more → take (16 * count) rest ≡ corners_bytes (corners_of ring)
 corners_taken count rest ring more small e =
     let at = ring_at_front count rest ring more small e in

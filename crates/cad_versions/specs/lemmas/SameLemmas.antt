@@ -1,4 +1,4 @@
--- Values of the same ordinary fields are one value, since their facts have one proof each.
+-- Values with the same ordinary fields are one value, since each of their facts has only one proof.
 use Rattle.std.proofs.Common.{◌≡◌, ℕ, ◌≤◌, false, ◌==◌, List, [], ◌∷◌, ◌++◌, length, inl, inr, refl, sym, ap, ap₂, ◌∙◌, subst, arith}
 use Rattle.std.specs.Int.{to_be_bytes, w16}
 use Rattle.std.specs.Coded.{le_prop, Coded-set, coded_bool}
@@ -56,6 +56,6 @@ one_shape (form ∷ bytes) a b (inr s) (inr t) = counted_same a b (sym s.1 ∙ t
 one_shape (form ∷ bytes) a b (inl s) (inr t) = absurd (omega (arith, s.0, t.0))
 one_shape (form ∷ bytes) a b (inr s) (inl t) = absurd (omega (arith, s.0, t.0))
 
--- what is written stands for the shape
+-- the written bytes encode the shape
 pub written_shape : (region : Region) → IsShapeOf (shape_bytes region) region
 written_shape region = inr (refl, refl)

@@ -26,14 +26,14 @@ coordinate_same m n hm hn e =
     let same : cast_unsigned w64 m ≡ cast_unsigned w64 n = sym (from_be_bytes-to_be_bytes_8 _ (unsigned_fits m hm)) ∙ ap (from_be_bytes w64) e ∙ from_be_bytes-to_be_bytes_8 _ (unsigned_fits n hn) in
     sym (to_z-of_z hm) ∙ ap (cast_signed w64) same ∙ to_z-of_z hn
 
--- what two lists begin with is the same where it is as long
+-- the fronts of two equal lists are equal if they are equally long
 pub front_same : (xs ys us vs : List ℕ) → length xs ≡ length ys → xs ++ us ≡ ys ++ vs → xs ≡ ys
 front_same xs ys us vs n e = sym (take-append_seam xs us) ∙ ap (take (length xs)) e ∙ ap (λ k. take k (ys ++ vs)) n ∙ take-append_seam ys vs
 
 pub back_same : (xs ys us vs : List ℕ) → length xs ≡ length ys → xs ++ us ≡ ys ++ vs → us ≡ vs
 back_same xs ys us vs n e = sym (drop-append_seam xs us) ∙ ap (drop (length xs)) e ∙ ap (λ k. drop k (ys ++ vs)) n ∙ drop-append_seam ys vs
 
--- a corner at the front has its first number there, and its second one behind it
+-- a corner at the front has its first number there, and its second one after it
 pub x_at_front : (bytes rest : List ℕ) (x : ℤ) (corner : Point) (more : List ℕ) → FitsSigned w64 x → bytes ≡ coordinate_bytes x ++ rest → bytes ≡ corner_bytes corner ++ more → (x ≡ corner.x) × (rest ≡ coordinate_bytes corner.y ++ more)
 x_at_front bytes rest x corner more fits is held =
     let both : coordinate_bytes x ++ rest ≡ coordinate_bytes corner.x ++ (coordinate_bytes corner.y ++ more) = sym is ∙ held ∙ append_assoc (coordinate_bytes corner.x) (coordinate_bytes corner.y) more in
@@ -79,7 +79,7 @@ same_corner p q us vs e =
 not_empty : (p : Point) (us : List ℕ) → corner_bytes p ++ us ≡ [] → ⊥
 not_empty p us e = absurd (omega (arith, length-append (corner_bytes p) us, length-corner_bytes p, ap length e))
 
--- corners that begin with others go on behind them
+-- if the bytes of a list of corners begin with those of another list, so does the list, and the rest of the bytes are those of its rest
 pub corners_left : (xs ps : List Point) (rest : List ℕ) → corners_bytes xs ++ rest ≡ corners_bytes ps → (qs : List Point) × (rest ≡ corners_bytes qs) × (ps ≡ xs ++ qs)
 corners_left [] ps rest e = (ps, e, refl)
 corners_left (x ∷ xs) [] rest e = absurd (not_empty x (corners_bytes xs ++ rest) (sym (append_assoc (corner_bytes x) (corners_bytes xs) rest) ∙ e))
@@ -97,7 +97,7 @@ corners_same xs ps e =
     none_left [] e = refl
     none_left (q ∷ qs) e = absurd (not_empty q (corners_bytes qs) (sym e))
 
--- where no corner begins, no corners stand
+-- if no corner begins at the rest, the bytes are not those of corners
 pub no_corners : (xs : List Point) (bytes rest : List ℕ) → rest ≢ [] → ((corner : Point) (more : List ℕ) → rest ≢ corner_bytes corner ++ more) → bytes ≡ corners_bytes xs ++ rest → (ps : List Point) → bytes ≢ corners_bytes ps
 no_corners xs bytes rest some none is ps e = let left = corners_left xs ps rest (sym is ∙ e) in go left.0 left.1
   where
@@ -105,7 +105,7 @@ no_corners xs bytes rest some none is ps e = let left = corners_left xs ps rest 
     go [] e = some e
     go (q ∷ qs) e = none q (corners_bytes qs) e
 
--- one corner more
+-- one more corner
 pub corner_taken : (xs : List Point) (corner : Point) (bytes rest more : List ℕ) → bytes ≡ corners_bytes xs ++ rest → rest ≡ corner_bytes corner ++ more → bytes ≡ corners_bytes (xs ++ corner ∷ []) ++ more
 corner_taken xs corner bytes rest more is here =
     is ∙ ap (λ l. corners_bytes xs ++ l) here ∙ sym (append_assoc (corners_bytes xs) (corner_bytes corner) more)
