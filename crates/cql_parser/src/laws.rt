@@ -28,7 +28,7 @@ pub fn open_parentheses_are_counted()
     ensures { CountsOpen }
 {}
 
-/// The places of a tree's nodes ascend in the order of reading where those of its tokens do.
+/// The places of a tree's nodes ascend in the order of reading if those of its tokens do.
 pub fn places_are_in_order()
     ensures { HasPlacesInOrder }
 {}

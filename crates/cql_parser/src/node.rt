@@ -80,7 +80,7 @@ pub(crate) fn compare_tree(
     Ok(Box::new(alloc, Expression::Compare { by, left, right })?)
 }
 
-/// A value held against a pattern.
+/// A value compared with a pattern.
 #[tactic(auto, unfolding(cql_tree::specs::Views::syntax_of))]
 pub(crate) fn like_tree(
     alloc: Global,
@@ -139,7 +139,7 @@ pub(crate) fn in_tree(
     Ok(Box::new(alloc, tree)?)
 }
 
-/// A value that is asked for.
+/// A value that is tested for null.
 #[tactic(auto, unfolding(cql_tree::specs::Views::syntax_of))]
 pub(crate) fn null_tree(
     alloc: Global,

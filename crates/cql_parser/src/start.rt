@@ -12,15 +12,15 @@ use cql_lexer::{Comparison, Keyword, Kind, SpatialRelation, Token};
 pub enum TailStart<'a> {
     /// A comparison by this sign.
     Compared(Comparison, &'a [Token]),
-    /// LIKE, and whether a NOT stands before it.
+    /// LIKE, and whether a NOT comes before it.
     Liked(bool, &'a [Token]),
-    /// BETWEEN, and whether a NOT stands before it.
+    /// BETWEEN, and whether a NOT comes before it.
     Ranged(bool, &'a [Token]),
-    /// IN, and whether a NOT stands before it.
+    /// IN, and whether a NOT comes before it.
     Listed(bool, &'a [Token]),
     /// IS.
     Tested(&'a [Token]),
-    /// A NOT, and nothing that may follow it; the tokens are those behind it.
+    /// A NOT that is followed by nothing that may follow it; the tokens are those behind it.
     Broken(&'a [Token]),
     /// None of these.
     NoTail,

@@ -1,4 +1,4 @@
--- Where versions stand by the numbers of their objects (own profile).
+-- The positions of versions, by the numbers of their objects (own profile).
 use Rattle.std.specs.Prelude.{ℕ, ◌<◌, ◌≤◌, ◌/◌, List, length, slice_index_or}
 use Rattle.std.specs.List.{AllWithin}
 use Rattle.cad_versions.specs.Objects.{object_number}
