@@ -19,7 +19,7 @@ struct FixedFront {
 pub struct LikeRange {
     /// The front of the pattern, which is the first text of the range.
     pub low: String,
-    /// The first text behind the range; if there is none, the range has no end.
+    /// The first text behind the range; without such a text the range has no end.
     pub end: Option<String>,
     /// Each of them is like the pattern.
     pub is_exact: bool,

@@ -1,5 +1,5 @@
--- The points, boxes, regions and days that the numbers and texts of literals spell (OGC 21-065r2, requirements classes Basic Spatial Functions: spatial literals, and
--- Temporal Functions: INTERVAL; the limits: own profile).
+-- The points, boxes, regions and days that the numbers and texts of literals spell (OGC 21-065r2, requirements classes Basic Spatial
+-- Functions: spatial literals, and Temporal Functions: INTERVAL; the limits: own profile).
 use Rattle.std.specs.Prelude.{◌≡◌, ℕ, ℤ, ◌<ℤ◌, Bool, false, List, [], ◌∷◌, ◌++◌, Option, None, Ok}
 use Rattle.cad_day.specs.DayTexts.{day_named}
 use Rattle.cad_day.specs.Intervals.{are_turned as is_turned}

@@ -73,7 +73,7 @@ impl TypeFault {
         }
     }
 
-    /// The fault's number in the table of specs/Faults, from 1, by which programs may tell it.
+    /// The fault's number in the table of specs/Faults, from 1, by which programs can distinguish faults.
     pub fn number(&self) -> u8
         ensures { result ≡ (fault_row self.now).0 }
     {
