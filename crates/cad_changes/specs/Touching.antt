@@ -178,7 +178,7 @@ name_among xs day object = name_of (find (has_day day) (of_object object xs))
 abbrev pub count_of : ObjectId → List Item → ℕ
 count_of object xs = length (of_object object xs)
 
--- the number of the version after so many, if it may have one
+-- the number of the version after so many versions, if it may have one
 abbrev pub number_after : ℕ → Option ℕ
 number_after count = if nat_lt count most_versions then Some (count + 1) else None
 

@@ -47,7 +47,7 @@ impl Extents {
     ghost use Rattle.cad_range.specs.Ranges.{lies_in};
     ghost use Rattle.cad_extents.specs.Extents.{IsWithin};
 
-    /// The extents of these features, which have so many properties. An error means out of memory.
+    /// The extents of these features, for the given number of properties. An error means out of memory.
     pub fn of(alloc: Global, features: &[Feature], properties: usize) -> Result<Extents, AllocError>
         ensures { IfOk result (λ extents. AllByRecursion (IsWithin extents) features.now) }
     {

@@ -5,7 +5,7 @@
 //! - [`Grid`]: built once over a property; gives the positions near a box, or counts them
 //! - [`laws`]: that cells are squares of 65,536 mm, and that the numbers of columns and rows say which cells a box touches
 //!
-//! The box from (-1, -1) to (1, 1) touches the four cells round the origin. It shares a cell with the point (65535, 65535)
+//! The box from (-1, -1) to (1, 1) touches the four cells around the origin. It shares a cell with the point (65535, 65535)
 //! and none with (65536, 0), which lies on the left edge of the next cell.
 //!
 //! Of the squares from (0, 0) to (65535, 65535) and from (0, 0) to (65536, 65536), at the positions 0 and 1, both are near

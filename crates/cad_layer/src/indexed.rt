@@ -176,7 +176,7 @@ impl Indexed {
         base.len() + older.len() - replaced.len()
     }
 
-    /// How many features meet the criterion, by indexes alone. No memory is taken.
+    /// How many features meet the criterion, only by indexes. No memory is taken.
     pub(crate) fn count_meeting<T: Criterion>(&self, criterion: &T) -> u64
         ensures passing { result ≡ how_many (T.passes criterion.now) self.now.features }
         ensures few { result ≤ 8589934590 }

@@ -17,7 +17,7 @@ pub fn filter_or_fault()
     types::condition_or_fault();
 }
 
-/// A text with a fault is no filter.
+/// A text with a fault is not a filter.
 pub fn fault_or_filter()
     ensures { HasFaultOrFilter }
 {

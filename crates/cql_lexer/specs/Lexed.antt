@@ -35,7 +35,7 @@ pub data IsUnclosed : List ℕ → Type 0 where
 abbrev pub is_quote : ℕ → Bool
 is_quote x = (x == byte "'") || (x == byte "\"")
 
--- a character comes first that is no blank and no quote, and no token begins with it
+-- a character comes first that is neither a blank nor a quote, and no token begins with it
 pub data IsStrange : List ℕ → Type 0 where
   strange : {x : ℕ} {xs : List ℕ} → is_blank x ≡ false → is_quote x ≡ false → IsNoToken (x ∷ xs) → IsStrange (x ∷ xs)
 

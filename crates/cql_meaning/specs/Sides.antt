@@ -58,7 +58,7 @@ texts by a b = stands by (text_cmp a b)
 abbrev pub days : Comparison → Day → Day → Bool
 days by a b = stands by (int_cmp (number_of a) (number_of b))
 
--- accepted filters compare flags by equality alone
+-- accepted filters compare flags only by equality
 abbrev pub flags : Comparison → Bool → Bool → Bool
 flags by a b = stands by (bool_cmp a b)
 

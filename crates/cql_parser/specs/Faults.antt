@@ -1,4 +1,4 @@
--- What is wrong with tokens that are no filter.
+-- What is wrong with tokens that are not a filter.
 use Rattle.std.specs.Prelude.{◌≡◌, ℕ, ◌+◌, ◌-◌, ◌≤◌, List, [], ◌∷◌, ◌++◌, Option, Some, None, if◌then◌else◌, ◌==◌, codes}
 use Rattle.cql_lexer.specs.Mark.{Sort, Mark, at, opening, closing}
 use Rattle.cql_tree.specs.Syntax.{Syntax}
@@ -41,7 +41,7 @@ pub record IsUnexpected (tokens : List Mark) (place : ℕ) : Type 0 where
   pub viable : IsViable before
   pub dead : IsViable (before ++ at place sort ∷ []) → ⊥
 
--- the tokens begin a filter and are no filter
+-- the tokens begin a filter, and are not a filter themselves
 pub record IsUnfinished (tokens : List Mark) : Type 0 where
   pub viable : IsViable tokens
   pub unread : (tree : Syntax) → Reads tokens tree → ⊥

@@ -18,7 +18,7 @@ HasTreeOrFault =
     (tokens : List Mark) (end : ℕ) →
     ((tree : Syntax) × IsParsed tokens tree) ⊎ ((fault : GrammarFault) × HasFault tokens end fault)
 
--- tokens with a fault are no filter
+-- tokens with a fault are not a filter
 abbrev pub HasFaultOrTree : Type 0
 HasFaultOrTree =
     (tokens : List Mark) (end : ℕ) (fault : GrammarFault) (tree : Syntax) → HasFault tokens end fault → ¬ IsParsed tokens tree

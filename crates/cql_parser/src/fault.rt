@@ -22,7 +22,7 @@ pub enum GrammarFault {
 /// Why tokens gave no tree.
 #[derive(Clone, Copy, PartialEq, Eq, Debug, Error)]
 pub enum ParseFault {
-    /// The tokens are no filter.
+    /// The tokens are not a filter.
     #[error(transparent)]
     At(GrammarFault),
     /// Memory ran out. This says nothing of the tokens.

@@ -12,7 +12,7 @@ pub fn tree_or_fault()
     ensures { HasTreeOrFault }
 {}
 
-/// Tokens with a fault are no filter.
+/// Tokens with a fault are not a filter.
 pub fn fault_or_tree()
     ensures { HasFaultOrTree }
 {}

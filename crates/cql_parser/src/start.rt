@@ -35,7 +35,7 @@ pub enum Pairing {
     Temporal(Relation),
 }
 
-/// What opens a parenthesis round other expressions, and the tokens behind its word.
+/// What opens a parenthesis around other expressions, and the tokens behind its word.
 #[derive(Clone, Copy)]
 pub enum CallStart<'a> {
     /// The parenthesis itself, without a word.
@@ -110,7 +110,7 @@ fn negated_start(tokens: &[Token]) -> TailStart<'_>
     }
 }
 
-/// What opens a parenthesis round other expressions.
+/// What opens a parenthesis around other expressions.
 pub(crate) fn call_start(tokens: &[Token]) -> CallStart<'_>
     ensures starts { StartsCall result (marks tokens.now) }
     ensures shorter { IsShorterCall (length tokens.now) result }

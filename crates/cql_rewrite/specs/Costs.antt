@@ -173,7 +173,7 @@ IsCounted n = (t : List Written) → least t n ≡ how_many (λ x. meets x.item 
 abbrev pub range_count : List Written → Option Range → ℕ
 range_count t r = how_many (λ x. lies_in_if_any x.item r) t
 
--- an AND with one more part costs no more than the AND before, nor than the part
+-- an AND with one more part costs no more than the AND before, and no more than the part
 abbrev pub CostsPart : List Normal → List Normal → Normal → Type 0
 CostsPart old new part = (t : List Written) → least_of_all t new ≤ min (least_of_all t old) (least t part)
 
@@ -185,7 +185,7 @@ abbrev pub least_or : List Written → Option Normal → ℕ
 least_or t None = every t
 least_or t (Some n) = least t n
 
--- an AND with more parts costs no more than the AND before, nor than each of the parts
+-- an AND with more parts costs no more than the AND before, and no more than any of the parts
 abbrev pub CostsAll : List Normal → List Normal → List Normal → Type 0
 CostsAll old new parts = (t : List Written) → least_of_all t new ≤ min (least_of_all t old) (least_of_all t parts)
 

@@ -235,6 +235,6 @@ pub struct Corner {
 /// A closed line through its corners.
 #[derive(Drop)]
 pub struct Ring {
-    /// The corners as they are written, the first once more at the end.
+    /// The corners as they are written, the first one repeated at the end.
     pub corners: Vec<Corner>,
 }

@@ -93,7 +93,7 @@ abbrev pub is_line : Kind → Bool
 is_line line = true
 is_line _ = false
 
--- any kind but Condition alone
+-- any kind except Condition
 abbrev pub is_value : Kind → Bool
 is_value condition = false
 is_value open_end = false
@@ -155,7 +155,7 @@ is_equality by.Equal = true
 is_equality by.Unequal = true
 is_equality _ = false
 
--- flags are compared by equality alone
+-- flags are compared only by equality
 abbrev pub is_comparable : Bool → Kind → Bool
 is_comparable equality whole = true
 is_comparable equality text = true

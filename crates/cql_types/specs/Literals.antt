@@ -42,7 +42,7 @@ abbrev pub coordinates_of : List Point → List ℤ
 coordinates_of [] = []
 coordinates_of (p ∷ ps) = p.x ∷ p.y ∷ coordinates_of ps
 
--- with the first point once more at the end
+-- with the first point repeated at the end
 abbrev pub closed : List Point → List Point
 closed [] = []
 closed (p ∷ ps) = (p ∷ ps) ++ (p ∷ [])

@@ -139,9 +139,9 @@ pub enum Filter {
         /// The side behind it.
         right: DayTerm,
     },
-    /// By equality alone.
+    /// Two flags, only by equality.
     CompareFlag {
-        /// How the sides are compared, by equality alone.
+        /// How the sides are compared: only by equality.
         by: Comparison,
         /// The side before the sign.
         left: FlagTerm,
