@@ -93,7 +93,7 @@ abbrev pub is_line : Kind → Bool
 is_line line = true
 is_line _ = false
 
--- any kind except Condition
+-- any kind except `condition`, `open_end` and `line`; TRUE and FALSE are values too
 abbrev pub is_value : Kind → Bool
 is_value condition = false
 is_value open_end = false

@@ -105,7 +105,7 @@ condition_of (n.Condition f) = Some f
 condition_of (n.Truth b) = Some (filter.Truth b)
 condition_of _ = None
 
--- any kind except Condition
+-- any kind except Condition; TRUE and FALSE are flags here
 abbrev pub any_of : Node → Option AnyTerm
 any_of (n.Whole a) = Some (any.Whole a)
 any_of (n.Text a) = Some (any.Text a)
