@@ -44,7 +44,7 @@ is_closed_by (Enter object first body) v = false
 is_closed_by (Amend object first body) v = is_open_of object v
 is_closed_by (Retire object last) v = is_open_of object v
 
--- the command may change what its object is called on this day
+-- the command may change the name of its object on this day
 abbrev pub renames_on : Command → Day → Bool
 renames_on (Enter object first body) day = int_le (number_of first) (number_of day)
 renames_on (Amend object first body) day = int_le (number_of first) (number_of day)
@@ -58,7 +58,7 @@ is_object object (Some other) = int_eq (pos (object_number other)) (pos (object_
 abbrev pub names : ObjectId → VersionedObject → Bool
 names object v = is_object object (unit_named v.body) || is_object object (party_named v.body)
 
--- closed, or joined with a name that may be another one now
+-- closed, or joined with a name that may be different now
 abbrev pub is_touched_by : Command → VersionedObject → Bool
 is_touched_by c v = is_closed_by c v || (renames_on c v.first && names (object_named c) v)
 
@@ -76,6 +76,6 @@ features_left vs c collection = map (λ v. feature_in (next vs c) collection (le
 abbrev pub feature_added : List VersionedObject → Command → Collection → Option Item
 feature_added vs c collection = option_and_then (feature_if_in (next vs c) collection) (version_added vs c)
 
--- the features that are new after the command, or may be others than before
+-- the features that are new after the command, or may be different from before
 abbrev pub touched : List VersionedObject → Command → Collection → List Item
 touched vs c collection = put_if by_identifier (feature_added vs c collection) (features_left vs c collection)

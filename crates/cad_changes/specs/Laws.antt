@@ -18,7 +18,7 @@ abbrev pub NextRevision : Type 0
 NextRevision = (commands : List Command) (c : Command) → AreAccepted [] (commands ++ c ∷ [])
     → as_of (length commands + 1) (commands ++ c ∷ []) ≡ next (as_of (length commands) commands) c
 
--- the features at the next revision are those at the last one, with those merged that the command touches
+-- the features at the next revision are those at the last one, merged with those that the command touches
 abbrev pub NextFeatures : Type 0
 NextFeatures = (commands : List Command) (c : Command) → AreAccepted [] (commands ++ c ∷ []) → (collection : Collection)
     → features_in (as_of (length commands + 1) (commands ++ c ∷ [])) collection
@@ -29,12 +29,12 @@ abbrev pub TouchedAscends : Type 0
 TouchedAscends = (commands : List Command) (c : Command) → AreAccepted [] (commands ++ c ∷ []) → (collection : Collection)
     → IsStrictlySortedBy by_identifier (touched (as_of (length commands) commands) c collection)
 
--- and each of it is a feature of the next revision
+-- and each feature that it touches is one of the next revision
 abbrev pub TouchedStands : Type 0
 TouchedStands = (commands : List Command) (c : Command) → AreAccepted [] (commands ++ c ∷ []) → (collection : Collection)
     → All (Contains (features_in (as_of (length commands + 1) (commands ++ c ∷ [])) collection)) (touched (as_of (length commands) commands) c collection)
 
--- the features of the collection, the units and the parties before the command tell what it touches
+-- the features of the collection, the units and the parties before the command determine what it touches
 abbrev pub FeaturesTellTouched : Type 0
 FeaturesTellTouched = (commands : List Command) (c : Command) → AreAccepted [] (commands ++ c ∷ []) → (collection : Collection)
     → (let vs = as_of (length commands) commands in

@@ -1,4 +1,4 @@
--- What a command changes, told from the features of the revision before it alone (ISO 19152:2012, VersionedObject; OGC 17-069r4, 7.15: items).
+-- What a command changes, from the features of the revision before it alone (ISO 19152:2012, VersionedObject; OGC 17-069r4, 7.15: items).
 use Rattle.std.specs.Prelude.{ℕ, ◌+◌, ℤ, pos, Bool, true, false, ◌&&◌, ◌||◌, if◌then◌else◌, int_le, nat_lt, List, [], ◌∷◌, length, map, filter, find, codes, Option, Some, None, is_none, option_map, option_and_then}
 use Rattle.std.specs.Ordering.{int_eq}
 use Rattle.cad_day.specs.declared.day.Day.{Day}
@@ -38,15 +38,15 @@ first_of x = day_in (datum_at x 2)
 abbrev pub last_of : Item → Option Day
 last_of x = day_in (datum_at x 3)
 
--- where a feature of the collection says what has this name
+-- the place of the property with this name in a feature of the collection
 abbrev pub place_named : Collection → List ℕ → Option ℕ
 place_named collection name = option_map (λ (p : ℕ × PropertyKind). p.0) (find_property (schema_of collection) name)
 
--- where it says the number of its unit
+-- the place of the number of its unit
 abbrev pub unit_place : Collection → Option ℕ
 unit_place collection = place_named collection (codes "unit")
 
--- and that of its party
+-- and of the number of its party
 abbrev pub party_place : Collection → Option ℕ
 party_place collection = place_named collection (codes "party")
 
@@ -58,9 +58,9 @@ abbrev pub is_numbered : ObjectId → Option ℤ → Bool
 is_numbered object None = false
 is_numbered object (Some n) = int_eq n (pos (object_number object))
 
--- ---- values that are others than before
+-- ---- values that are different from before
 
--- the last day, and the names that are joined, where they are new
+-- the last day, and the names that are joined, if they are new
 pub record Edits : Type 0 where
   pub closing : Option Day
   pub unit_name : Option Datum
@@ -93,7 +93,7 @@ edited_datum e first attribute.ShareNum d = d
 edited_datum e first attribute.ShareDen d = d
 edited_datum e first attribute.PartyRequired d = d
 
--- what has no value has null
+-- a property without a value has null
 abbrev pub edited_data : Edits → Option Day → List Attribute → List Datum → List Datum
 edited_data e first [] ds = []
 edited_data e first (a ∷ rest) [] = edited_datum e first a null ∷ edited_data e first rest []
@@ -135,11 +135,11 @@ names_party c collection x = is_numbered (object_named c) (number_at x (party_pl
 abbrev pub names_object : Command → Collection → Item → Bool
 names_object c collection x = names_unit c collection x || names_party c collection x
 
--- it is closed, or joined with a name that may be another one now
+-- it is closed, or joined with a name that may be different now
 abbrev pub touches : Command → Collection → Item → Bool
 touches c collection x = closes c x || (renames c x && names_object c collection x)
 
--- what the object is called on the days on which the command may change it
+-- the name of the object on the days on which the command may change it
 abbrev pub name_after : Command → Datum
 name_after c = or_null as_text (option_and_then name_in (body_added c))
 
@@ -165,7 +165,7 @@ begins_by (Some first) day = int_le (number_of first) (number_of day)
 abbrev pub has_day : Day → Item → Bool
 has_day day x = begins_by (first_of x) day && is_up_to (last_of x) day
 
--- what a unit or a party is called
+-- the name of a unit or a party
 abbrev pub name_of : Option Item → Datum
 name_of None = null
 name_of (Some x) = datum_at x 5
@@ -178,7 +178,7 @@ name_among xs day object = name_of (find (has_day day) (of_object object xs))
 abbrev pub count_of : ObjectId → List Item → ℕ
 count_of object xs = length (of_object object xs)
 
--- the number of the version after so many, if it may have one
+-- the number of the version after so many versions, if it may have one
 abbrev pub number_after : ℕ → Option ℕ
 number_after count = if nat_lt count most_versions then Some (count + 1) else None
 
@@ -207,6 +207,7 @@ item_added xs units parties c collection = option_and_then (item_of units partie
 
 -- ---- all of them
 
--- the features of the collection that are new after the command, or may be others than before: by those of the collection, the units and the parties before it
+-- the features of the collection that are new after the command, or may be different from before: by those of the collection, the units and
+-- the parties before it
 abbrev pub items_touched : List Item → List Item → List Item → Command → Collection → List Item
 items_touched xs units parties c collection = put_if by_identifier (item_added xs units parties c collection) (items_left c collection xs)

@@ -20,10 +20,10 @@ use cad_versions::{Body, Command, MOST_NUMBER, ObjectId, Version};
 use std::alloc::{AllocError, Global};
 use std::slice::from_ref;
 
-/// Where a unit and a party say their names.
+/// The place of the name of a unit or a party.
 const NAME: usize = 5;
 
-/// The number of the object's next version, where it may have one more.
+/// The number of the object's next version, if it may have one more.
 fn next_number(features: &Layer, object: ObjectId) -> Option<u32>
     ensures number { result ≡ spec.number_after (spec.count_of object features.now.features) }
     ensures in_range { IfSome result (λ number. (1 ≤ number) × (number ≤ 2147483647)) }
@@ -63,7 +63,7 @@ fn has_day(feature: &Feature, day: Day) -> bool
     begins_by(first_of(feature), day) && lasts_to(last_of(feature), day)
 }
 
-/// What the unit or the party is called.
+/// The name of the unit or the party.
 fn name_in(alloc: Global, feature: &Feature) -> Result<Value, AllocError>
     ensures { IfOk result (λ name. datum_of name ≡ datum_at feature.now 5) }
 {
@@ -73,7 +73,7 @@ fn name_in(alloc: Global, feature: &Feature) -> Result<Value, AllocError>
     }
 }
 
-/// What the object is called on the day, among units or parties.
+/// The name of the object on the day, among units or parties.
 fn name_among(
     alloc: Global,
     features: &Layer,
@@ -108,7 +108,7 @@ fn name_if_any(
     }
 }
 
-/// The object's next version, where it may have one more.
+/// The object's next version, if it may have one more.
 fn begun(
     features: &Layer,
     object: ObjectId,
@@ -151,7 +151,7 @@ fn version_begun(command: &Command, features: &Layer) -> Result<Option<Version>,
     }
 }
 
-/// The feature of the version, if it is of the collection. No names are joined with it, for no other version stands beside it.
+/// The feature of the version, if it is of the collection. No names are joined with it, since it is built from this version alone.
 fn alone(
     alloc: Global,
     version: &Version,
@@ -165,7 +165,7 @@ fn alone(
     Ok(features)
 }
 
-/// The feature of the version that stands alone, with the names of what it names.
+/// The feature that was built from the version alone, with the names of the objects that it names.
 fn joined(
     alloc: Global,
     version: &Version,
@@ -187,7 +187,7 @@ fn joined(
     Ok(feature)
 }
 
-/// What it lists are features of its collection.
+/// The features of the layer are features of its collection.
 pub(crate) fn are_listed(features: &Layer)
     ensures { AreFeaturesOf features.now.collection features.now.features }
 {

@@ -33,7 +33,7 @@ fn numbered(object: ObjectId, place: usize) -> Plan
     })
 }
 
-/// The same, and none where features have no such place.
+/// The same; without such a place, no features.
 fn numbered_if_any(object: ObjectId, place: Option<usize>) -> Plan
     ensures { (x : Item) → is_candidate result x ≡ spec.is_numbered object (spec.number_at x place) }
 {

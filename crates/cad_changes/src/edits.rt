@@ -1,4 +1,4 @@
-//! Features with some values that are new.
+//! Features with some new values.
 
 ghost use Rattle.std.specs.Prelude.{◌≡◌, IfOk, map, option_map, get_or};
 ghost use Rattle.std.specs.Option.{option_copied};
@@ -15,7 +15,7 @@ use cad_layer::copy_value;
 use cad_schema::{Attribute, Collection, Property, schema};
 use std::alloc::{AllocError, Global};
 
-/// The last day, and the names that are joined, each where it is new.
+/// The last day, and the names that are joined, each only if it is new.
 #[derive(Debug, Clone, Copy)]
 pub(crate) struct NewValues<'a> {
     /// The version ends on this day.
@@ -74,7 +74,7 @@ fn edited_value(
     }
 }
 
-/// What the attribute says that has its value at that place, if there is one.
+/// The edited value of the attribute; its old value is the one at that place, or null if there is no such place.
 fn edited_at(
     alloc: Global,
     new: NewValues<'_>,

@@ -12,8 +12,8 @@ use cad_layer::Layer;
 use cad_versions::Command;
 use std::alloc::{AllocError, Global};
 
-/// The features of a collection after the command, told by those of the collection, the units and the parties before it, over the
-/// same base. An error means out of memory.
+/// The features of a collection after the command, determined by those of the collection, the units and the parties before it, over
+/// the same base. An error means out of memory.
 pub(crate) fn features_after(
     alloc: Global,
     command: &Command,

@@ -1,4 +1,4 @@
-//! The features that a command leaves.
+//! The features as a command leaves them.
 
 ghost use Rattle.std.specs.Prelude.{◌≡◌, ◌&&◌, is_none, ◌∷◌, [], ◌++◌, filter, Some, None, IfOk, OnOk, if◌then◌else◌};
 ghost use Rattle.std.specs.Option.{option_copied};
@@ -72,7 +72,7 @@ fn closing_of(command: &Command, feature: &Feature) -> Option<Day>
     }
 }
 
-/// Whether the command may change what its object is called on the day.
+/// Whether the command may change the name of its object on the day.
 fn renames_on(command: &Command, day: Day) -> bool
     ensures { result ≡ changes.renames_on command.now day }
 {
@@ -137,14 +137,14 @@ fn may_rename(command: &Command, collection: Collection, feature: &Feature) -> b
     renames(command, feature) && names(command, collection, feature)
 }
 
-/// Whether the feature is closed, or joined with a name that may be another one after the command.
+/// Whether the feature is closed, or joined with a name that may be different after the command.
 fn touches(command: &Command, collection: Collection, feature: &Feature) -> bool
     ensures { result ≡ spec.touches command.now collection feature.now }
 {
     closes(command, feature) || may_rename(command, collection, feature)
 }
 
-/// What the command's object is called on the days on which the command may change it.
+/// The name of the command's object on the days on which the command may change it.
 fn name_after(command: &Command) -> Result<Value, AllocError>
     ensures { IfOk result (λ name. datum_of name ≡ spec.name_after command.now) }
 {
@@ -164,7 +164,7 @@ fn name_if(test: bool, name: &Value) -> Option<&Value>
     if test { Some(name) } else { None }
 }
 
-/// The feature as the command leaves it; its object is called so from then on.
+/// The feature as the command leaves it; its object has this name from then on.
 fn left(
     alloc: Global,
     command: &Command,
@@ -259,8 +259,8 @@ fn named_left(
 
 /// The features that the command touches, as it leaves them.
 ///
-/// It closes features of its own object alone, and renames those alone that name the object: both are searched for, so that what it
-/// takes does not grow with the features that it leaves as they are.
+/// It closes only features of its own object, and renames only those that name the object. Both are searched for, so the cost does not
+/// grow with the features that it leaves as they are.
 pub(crate) fn features_left(
     alloc: Global,
     command: &Command,

@@ -9,10 +9,10 @@ use cad_day::Day;
 use cad_feature::Feature;
 use cad_schema::{Collection, find_property};
 
-/// Where each feature says its first day.
+/// The place of the first day in each feature.
 const BEGIN: usize = 2;
 
-/// Where each feature says its last day.
+/// The place of the last day in each feature.
 const END: usize = 3;
 
 fn day_at(feature: &Feature, place: usize) -> Option<Day>
@@ -34,14 +34,14 @@ pub(crate) fn first_of(feature: &Feature) -> Option<Day>
     day_at(feature, BEGIN)
 }
 
-/// The last day of the feature's version, where it has one.
+/// The last day of the feature's version, if it has one.
 pub(crate) fn last_of(feature: &Feature) -> Option<Day>
     ensures { result ≡ spec.last_of feature.now }
 {
     day_at(feature, END)
 }
 
-/// Where a feature of the collection says what has this name, if it says such a thing.
+/// The place of the property with this name in a feature of the collection, if it has such a property.
 fn place_named(collection: Collection, name: &str) -> Option<usize>
     ensures { result ≡ spec.place_named collection name.now }
 {
@@ -49,14 +49,14 @@ fn place_named(collection: Collection, name: &str) -> Option<usize>
     Some(place)
 }
 
-/// Where it says the number of its unit.
+/// The place of the number of its unit.
 pub(crate) fn unit_place(collection: Collection) -> Option<usize>
     ensures { result ≡ spec.unit_place collection }
 {
     place_named(collection, "unit")
 }
 
-/// And where that of its party.
+/// The place of the number of its party.
 pub(crate) fn party_place(collection: Collection) -> Option<usize>
     ensures { result ≡ spec.party_place collection }
 {

@@ -19,7 +19,7 @@ use cad_layer::{Layer, as_changes, merge};
 use cad_versions::Command;
 use std::alloc::{AllocError, Global};
 
-/// The features, and in its place the one that is added.
+/// The features, with the added one in its place.
 fn with_added(
     alloc: Global,
     features: Vec<Feature>,
@@ -37,10 +37,10 @@ fn with_added(
     merge(alloc, &features, &change)
 }
 
-/// The features of a collection that are new after the command, or may be others than before: told by the features of the
-/// collection, the units and the parties at the revision before it. An error means out of memory.
+/// The features of a collection that are new after the command, or may be different from before. They are determined by the features of
+/// the collection, the units and the parties at the revision before it. An error means out of memory.
 ///
-/// Merged into the features of the revision before the command, they are those of the revision after it, where it is accepted.
+/// If the command is accepted, merging them into the features of the revision before it gives those of the revision after it.
 pub fn touched(
     alloc: Global,
     command: &Command,

@@ -13,7 +13,7 @@ use Rattle.cad_extents.specs.declared.cells.CellExtent.TheVariants as cells
 use Rattle.cad_extents.specs.declared.extent.Extent.{Extent}
 use Rattle.cad_extents.specs.declared.extents.Extents.{Extents}
 
--- a whole number from one to another, or what has no order
+-- a whole number from one to another, or a value that has no order
 abbrev pub is_whole_in : ℤ → ℤ → Datum → Bool
 is_whole_in low high (a_whole n) = int_le low n && int_le n high
 is_whole_in low high d = not (has_order d)
@@ -24,7 +24,7 @@ holds_value values.Empty d = not (has_order d)
 holds_value (values.Wholes low high) d = is_whole_in low high d
 holds_value values.Any d = true
 
--- the numbers from one to another are some of those from one to another
+-- the numbers from first to last are all from `from` to `to`
 abbrev pub is_part : ℤ → ℤ → ℤ → ℤ → Bool
 is_part first last from to = int_le from first && int_le last to
 
@@ -32,7 +32,7 @@ is_part first last from to = int_le from first && int_le last to
 abbrev pub is_inside : Block → Block → Bool
 is_inside a b = is_part a.left a.right b.left b.right && is_part a.low a.high b.low b.high
 
--- no more than 64 cells, of these
+-- at most 64 cells, all of this block
 abbrev pub is_small_in : Block → Block → Bool
 is_small_in all own = not (is_wide own) && is_inside own all
 
@@ -52,7 +52,7 @@ holds e d = holds_value e.values d && holds_cells e.cells (block_in d)
 abbrev pub any : Extent
 any = record { values = values.Any; cells = cells.Any }
 
--- that of the property at a place; past the last there are any values
+-- the extent of the property at a place; past the last property any value is allowed
 abbrev pub extent_at : List Extent → ℕ → Extent
 extent_at es place = get_or es place any
 

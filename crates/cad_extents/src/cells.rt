@@ -1,4 +1,4 @@
-//! Round which cells the shapes of a property lie.
+//! Around which cells the shapes of a property lie.
 
 ghost use Rattle.std.specs.Prelude.{◌≡◌, Option, Some, true, false};
 ghost use Rattle.cad_grid.specs.Blocks.{Block};
@@ -10,18 +10,18 @@ ghost use Rattle.cad_feature.specs.Values.{datum_of};
 use cad_feature::Value;
 use cad_grid::{Cells, bounds_of};
 
-/// Round which cells the shapes of a property lie.
+/// Around which cells the shapes of a property lie.
 #[derive(Clone, Copy, Debug)]
 pub(crate) enum CellExtent {
-    /// There are none.
+    /// There is no shape.
     Empty,
-    /// None touches more than 64 cells, and they touch none but these.
+    /// No shape touches more than 64 cells, and they touch only these.
     Within(Cells),
-    /// They are any.
+    /// The shapes may be any.
     Any,
 }
 
-/// The least block of cells that has both.
+/// The least block of cells that contains both.
 fn around(one: Cells, other: Cells) -> Cells
     ensures one { is_inside (block_at one) (block_at result) ≡ true }
     ensures other { is_inside (block_at other) (block_at result) ≡ true }
@@ -35,7 +35,7 @@ fn around(one: Cells, other: Cells) -> Cells
 }
 
 impl CellExtent {
-    /// The extent of these and a shape with these cells.
+    /// The extent of these shapes and one with these cells.
     fn with_cells(self, cells: Cells) -> CellExtent
         ensures own { (b : Option Block) → holds_cells self b ≡ true → holds_cells result b ≡ true }
         ensures more { holds_cells result (Some (block_at cells)) ≡ true }
@@ -50,7 +50,7 @@ impl CellExtent {
         }
     }
 
-    /// The extent of these and one more value, which may be a shape.
+    /// The extent of these shapes and one more value, which may be a shape.
     pub(crate) fn with(self, value: &Value) -> CellExtent
         ensures own { (b : Option Block) → holds_cells self b ≡ true → holds_cells result b ≡ true }
         ensures more { holds_cells result (block_in (datum_of value.now)) ≡ true }

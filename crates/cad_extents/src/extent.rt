@@ -14,21 +14,21 @@ use crate::values::ValueExtent;
 use cad_feature::{Feature, Range, Value};
 use cad_grid::Cells;
 
-/// Between which values those of a property lie, and round which cells its shapes.
+/// Between which values those of a property lie, and around which cells its shapes lie.
 #[derive(Clone, Copy, Debug)]
 pub(crate) struct Extent {
     values: ValueExtent,
     cells: CellExtent,
 }
 
-/// Of a property that no feature has.
+/// The extent of a property for which no feature has a value.
 pub(crate) const EMPTY: Extent = Extent {
     values: ValueExtent::Empty,
     cells: CellExtent::Empty,
 };
 
 impl Extent {
-    /// The extent of these and one more.
+    /// The extent of these values and one more.
     fn with(self, value: &Value) -> Extent
         ensures own { (d : Datum) → holds self d ≡ true → holds result d ≡ true }
         ensures more { holds result (datum_of value.now) ≡ true }
@@ -39,7 +39,7 @@ impl Extent {
         }
     }
 
-    /// The extent of these and the feature's value at the place, if it has one.
+    /// The extent of these values and the feature's value at the place, if it has one.
     pub(crate) fn with_value(self, feature: &Feature, place: usize) -> Extent
         ensures own { (d : Datum) → holds self d ≡ true → holds result d ≡ true }
         ensures more { holds result (datum_at feature.now place) ≡ true }

@@ -16,7 +16,7 @@ pub struct Extents {
     all: Vec<Extent>,
 }
 
-/// The extents of these features and one more.
+/// Widens the extents to those of these features and one more.
 fn widen(extents: &mut Vec<Extent>, feature: &Feature)
     ensures own { (x : Item) → AreHeld extents.old.items x → AreHeld extents.new.items x }
     ensures more { AreHeld extents.new.items feature.now }
@@ -26,7 +26,7 @@ fn widen(extents: &mut Vec<Extent>, feature: &Feature)
     }
 }
 
-/// The extents of these features and of others.
+/// Widens the extents to those of these features and of others.
 fn widen_by_all(extents: &mut Vec<Extent>, features: &[Feature])
     ensures own { (x : Item) → AreHeld extents.old.items x → AreHeld extents.new.items x }
     ensures more { AllByRecursion (AreHeld extents.new.items) features.now }
@@ -47,7 +47,7 @@ impl Extents {
     ghost use Rattle.cad_range.specs.Ranges.{lies_in};
     ghost use Rattle.cad_extents.specs.Extents.{IsWithin};
 
-    /// Those of these features, which have so many properties. An error means out of memory.
+    /// The extents of these features, for the given number of properties. An error means out of memory.
     pub fn of(alloc: Global, features: &[Feature], properties: usize) -> Result<Extents, AllocError>
         ensures { IfOk result (λ extents. AllByRecursion (IsWithin extents) features.now) }
     {
@@ -56,7 +56,7 @@ impl Extents {
         Ok(Extents { all })
     }
 
-    /// Those of the same features and of these. An error means out of memory.
+    /// The extents of the same features and of the given ones. An error means out of memory.
     pub fn with(&self, alloc: Global, features: &[Feature]) -> Result<Extents, AllocError>
         ensures own { IfOk result (λ extents. (x : Item) → IsWithin self.now x → IsWithin extents x) }
         ensures more { IfOk result (λ extents. AllByRecursion (IsWithin extents) features.now) }

@@ -17,7 +17,7 @@ pub record Item : Type 0 where
   pub number : ℕ
   pub values : List Datum
 
--- the value of the property at that place of the schema; past the last property there is none
+-- the value of the property at that place of the schema; null past the last property
 abbrev pub datum_at : Item → ℕ → Datum
 datum_at x i = slice_index_or x.values i null
 

@@ -24,7 +24,7 @@ abbrev pub EachVersionIsOneFeature : Collection → Type 0
 EachVersionIsOneFeature collection = (vs : List VersionedObject)
     → map identifier_of (features_in vs collection) ≡ map identifier_of_version (filter (is_in collection) vs)
 
--- the lifespan runs from the first day to the last one, and is open where there is none
+-- the lifespan runs from the first day to the last one, and is open if there is no last day
 abbrev pub LifespansAreThoseOfVersions : Type 0
 LifespansAreThoseOfVersions = (vs : List VersionedObject) (v : VersionedObject) → IsVersion v
     → (days : Interval) × (value_in vs v attribute.Lifespan ≡ a_span days) × (days.from ≡ Some v.first) × (days.to ≡ v.last)
@@ -47,7 +47,7 @@ abbrev pub NamesAreOfTheFirstDay : (Body → Option ObjectId) → Attribute → 
 NamesAreOfTheFirstDay named_by a = (vs : List VersionedObject) (v : VersionedObject) (characters : List ℕ) → value_in vs v a ≡ a_text characters
     → (object : ObjectId) × (words : Words) × (named_by v.body ≡ Some object) × (characters ≡ chars (bytes_of words)) × WasNamed vs v.first object words
 
--- and there is none where no version of the named object holds that day
+-- and no name is joined if no version of the named object holds that day
 abbrev pub NoneIsJoinedWithoutVersion : (Body → Option ObjectId) → Attribute → Type 0
 NoneIsJoinedWithoutVersion named_by a = (vs : List VersionedObject) (v : VersionedObject) (object : ObjectId) → named_by v.body ≡ Some object
     → All (λ w. w.object ≡ object → ¬ HoldsDay v.first w) vs → value_in vs v a ≡ null

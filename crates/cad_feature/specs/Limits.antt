@@ -6,7 +6,7 @@ use Rattle.cad_feature.specs.declared.range.Edge.TheVariants as edge
 use Rattle.cad_feature.specs.declared.range.Scalar.{Scalar}
 use Rattle.cad_feature.specs.declared.range.Scalar.TheVariants as scalar
 
--- an end without where it lies in memory: none, or a value that is the last one inside, or the first one outside
+-- an end without its place in memory: no end, or a value that is the last one inside, or the first one outside
 pub data Limit : Type 0 where
   free : Limit
   with_value : Datum → Limit

@@ -52,7 +52,7 @@ shape_in (a_spot p) = Some (shape.Spot p)
 shape_in (an_area region) = Some (shape.Area region)
 shape_in _ = None
 
--- of the kind, or no value; texts hold characters alone (Unicode scalar values), and whole numbers have 64 bits
+-- of the kind, or no value; texts hold only characters (Unicode scalar values), and whole numbers have 64 bits
 abbrev pub IsOfKind : PropertyKind → Datum → Type 0
 IsOfKind k null = ⊤
 IsOfKind k (a_text characters) = (k ≡ kind.Text) × (all_scalars characters ≡ true)

@@ -5,7 +5,7 @@ use cad_versions::{Identifier, ObjectId, compare_identifiers};
 use std::cmp::Ordering;
 use std::marker::Model;
 
-/// One version of an object as a feature of a collection: its values stand in the order of the collection's schema.
+/// One version of an object as a feature of a collection: its values are in the order of the collection's schema.
 ///
 /// `object` and `number` identify it; the number is from 1 to 2,147,483,647. Contracts see it as an `Item`.
 #[derive(Debug, Drop)]
@@ -48,7 +48,7 @@ impl Feature {
         }
     }
 
-    /// How it stands to another by their identifiers.
+    /// How it compares with another, by their identifiers.
     pub fn compare(&self, other: &Feature) -> Ordering
         ensures { result ≡ by_identifier self.now other.now }
     {

@@ -79,7 +79,7 @@ fn count(versions: &[Version], collection: Collection) -> usize {
         .count()
 }
 
-/// Whether it says the name of another object.
+/// Whether the attribute is the name of another object.
 fn is_joined(attribute: Attribute) -> bool
     ensures { result ≡ is_joined_of attribute }
 {
@@ -96,7 +96,7 @@ fn joins_names(collection: Collection) -> bool
         .any(|property| is_joined(property.attribute))
 }
 
-/// All versions, as the features of some find names among them: with starts, unless there is no name to find.
+/// All versions, for the features of some of them: with starts, unless no name is to be found.
 fn objects<'a>(
     alloc: Global,
     versions: &'a [Version],

@@ -10,7 +10,7 @@ use crate::objects::Objects;
 use cad_day::Day;
 use cad_versions::{ObjectId, Version, Words};
 
-/// The versions from the object's first on: those near it are searched by halves.
+/// The versions from the first version of the object on, by a binary search among those near it.
 fn from_object<'a>(objects: &Objects<'a>, object: ObjectId) -> &'a [Version]
     ensures { take_while (is_of object) result.now ≡ history object objects.now.versions.now }
 {

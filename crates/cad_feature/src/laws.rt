@@ -6,12 +6,12 @@ ghost use Rattle.cad_feature.specs.Laws.{EachVersionIsOneFeature, LifespansAreTh
 
 use cad_schema::Collection;
 
-/// Each version of the collection's class gives one feature, with its identifier, and nothing else does.
+/// Each version of the collection's class gives one feature, with its identifier, and there are no other features.
 pub fn each_version_is_one_feature(collection: Collection)
     ensures { EachVersionIsOneFeature collection }
 {}
 
-/// A lifespan runs from its version's first day to its last, and is open where there is none.
+/// A lifespan runs from its version's first day to its last, and is open if there is no last day.
 pub fn lifespans_are_those_of_versions()
     ensures { LifespansAreThoseOfVersions }
 {}
@@ -22,7 +22,7 @@ pub fn names_are_of_the_first_day()
     ensures party { NamesAreOfTheFirstDay party_named attribute.PartyName }
 {}
 
-/// Where the named object had no version on that day, no name is joined.
+/// If the named object had no version on that day, no name is joined.
 pub fn no_name_is_joined_without_a_version()
     ensures unit { NoneIsJoinedWithoutVersion unit_named attribute.UnitName }
     ensures party { NoneIsJoinedWithoutVersion party_named attribute.PartyName }

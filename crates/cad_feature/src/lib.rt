@@ -1,6 +1,6 @@
 //! The features of a register.
 //!
-//! - [`Feature`], [`Value`]: one version of an object, with its values in that order.
+//! - [`Feature`], [`Value`]: one version of an object, with its values in the order of the schema.
 //! - [`flatten`]: the features of a collection, from the versions of a register.
 //! - [`Collection`], [`schema`], [`find_property`]: the collections and their properties, of `cad_schema`.
 //! - [`Range`], [`Edge`], [`Scalar`]: the values of one property from one end to another.

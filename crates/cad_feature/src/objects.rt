@@ -10,9 +10,10 @@ ghost use Rattle.cad_feature.specs.inner.Stretches.{number_in, stretch_in, AreSt
 use cad_versions::{ObjectId, Version};
 use std::alloc::{AllocError, Global};
 
-/// Versions by their objects, and where those of the first stretches begin.
+/// Versions by their objects, and where those of the first stretches of object numbers begin.
 ///
-/// Where starts are kept, there are no more stretches than versions. So a search looks at a few versions where numbers lie about evenly, and at worst by halves at all.
+/// If starts are kept, there are at most as many stretches as versions. So if the numbers are about evenly spread, a search looks at a few
+/// versions; at worst it is a binary search in all of them.
 #[derive(Drop)]
 pub(crate) struct Objects<'a> {
     pub(crate) versions: &'a [Version],
@@ -23,7 +24,7 @@ pub(crate) struct Objects<'a> {
     ghost marked: { AreStarts width versions.now (length versions.now) starts.items },
 }
 
-/// The width of stretches of which there are no more than versions.
+/// A width of stretches, chosen so that there are at most as many stretches as versions.
 fn width(versions: &[Version]) -> u32
     requires { IsListing versions.now }
     ensures { 1 ≤ result }
@@ -34,7 +35,7 @@ fn width(versions: &[Version]) -> u32
     }
 }
 
-/// Has the stretch start at the position, and those before it that start nowhere yet.
+/// Makes the stretch start at the position, and with it the stretches before it that have no start yet.
 fn mark(starts: &mut Vec<u32>, stretch: u32, position: u32) -> Result<(), AllocError>
     ensures { OnOk result (starts.new.items ≡ starts.old.items ++ replicate (stretch + 1 - length starts.old.items) position) }
 {
@@ -111,7 +112,7 @@ impl<'a> Objects<'a> {
         }
     }
 
-    /// Versions beside one another, all those of the object among them.
+    /// Consecutive versions, among them all those of the object.
     pub(crate) fn near(&self, object: ObjectId) -> &'a [Version]
         ensures rising { IsNonDecreasingBy number_in result.now }
         ensures all { history object result.now ≡ history object self.now.versions.now }

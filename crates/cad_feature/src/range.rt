@@ -40,7 +40,7 @@ impl Scalar {
     ghost use Rattle.std.specs.Prelude.{◌≡◌, IfOk};
     ghost use Rattle.cad_feature.specs.Limits.{scalar_datum};
 
-    /// The same value once more.
+    /// A copy of the value.
     pub fn copy(&self, alloc: Global) -> Result<Scalar, AllocError>
         ensures { IfOk result (λ scalar. scalar_datum scalar ≡ scalar_datum self.now) }
     {
@@ -59,7 +59,7 @@ impl Edge {
     ghost use Rattle.std.specs.Prelude.{◌≡◌, IfOk};
     ghost use Rattle.cad_feature.specs.Limits.{limit_of};
 
-    /// The same end once more.
+    /// A copy of the end.
     pub fn copy(&self, alloc: Global) -> Result<Edge, AllocError>
         ensures { IfOk result (λ edge. limit_of edge ≡ limit_of self.now) }
     {

@@ -4,7 +4,7 @@ use cad_day::{Day, Interval};
 use cad_shape::{Point, Region, ShapeRef};
 use std::rc::Rc;
 
-/// A value of one property, which takes 16 bytes: what needs more lies beside it.
+/// A value of one property. It takes 16 bytes: what needs more is stored outside it.
 #[derive(Debug, Drop)]
 pub enum Value {
     /// There is no value.
@@ -30,7 +30,7 @@ impl Value {
     ghost use Rattle.cad_shape.specs.Shapes.{lent_shape};
     ghost use Rattle.cad_feature.specs.Values.{datum_of, whole_in, day_in, span_in, shape_in};
 
-    /// The whole number, where it is one.
+    /// The whole number, if it is one.
     pub fn as_whole(&self) -> Option<i64>
         ensures { result ≡ whole_in (datum_of self.now) }
     {
@@ -40,7 +40,7 @@ impl Value {
         }
     }
 
-    /// The day, where it is one.
+    /// The day, if it is one.
     pub fn as_day(&self) -> Option<Day>
         ensures { result ≡ day_in (datum_of self.now) }
     {
@@ -50,7 +50,7 @@ impl Value {
         }
     }
 
-    /// The days from one to another, where it is such.
+    /// The days from one to another, if it is an interval.
     pub fn as_span(&self) -> Option<Interval>
         ensures { result ≡ span_in (datum_of self.now) }
     {
@@ -60,7 +60,7 @@ impl Value {
         }
     }
 
-    /// The point or the region, where it is one. It is lent.
+    /// The point or the region, if it is one. It is lent.
     pub fn as_shape(&self) -> Option<ShapeRef<'_>>
         ensures { option_map lent_shape result ≡ shape_in (datum_of self.now) }
     {

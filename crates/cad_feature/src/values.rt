@@ -92,7 +92,7 @@ fn region(region: Option<&Region>) -> Result<Value, AllocError>
     }
 }
 
-/// What the version says, one of these. Names are joined on its first day.
+/// What the version says for this attribute. Names are joined on its first day.
 pub(crate) fn value(
     alloc: Global,
     objects: &Objects<'_>,

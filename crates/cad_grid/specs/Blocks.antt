@@ -31,7 +31,7 @@ is_wide b = int_lt (pos 64) (from_to b.left b.right *ℤ from_to b.low b.high)
 abbrev pub share_a_cell : Block → Block → Bool
 share_a_cell a b = (int_le a.left b.right && int_le b.left a.right) && (int_le a.low b.high && int_le b.low a.high)
 
--- ---- the block round corners
+-- ---- the block around corners
 
 -- the least of the first number and the others
 abbrev pub least : ℤ → List ℤ → ℤ
@@ -49,7 +49,7 @@ all_x ps = map (λ p. p.x) ps
 abbrev pub all_y : List Point → List ℤ
 all_y ps = map (λ p. p.y) ps
 
--- the cells that the least box round these corners touches (OGC 06-103r4, 6.1.2.2, `Envelope`)
+-- the cells that the least box around these corners touches (OGC 06-103r4, 6.1.2.2, `Envelope`)
 abbrev pub block_around : List Point → Block
 block_around [] = record { left = pos 0; right = pos 0; low = pos 0; high = pos 0 }
 block_around (p ∷ ps) = record {

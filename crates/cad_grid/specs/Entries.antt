@@ -6,7 +6,7 @@ use Rattle.cad_grid.specs.Counted.{block_at}
 use Rattle.cad_positions.specs.Hits.{hits, once, picks}
 use Rattle.cad_grid.specs.declared.entry.Entry.{Entry}
 
--- the entry at a place, and past the end one that is nowhere asked for
+-- the entry at a place, and past the end one that no request asks for
 abbrev pub entry_at : List Entry → ℕ → Entry
 entry_at es k = get_or es k (record { row = 0; column = 0; position = 0 })
 
@@ -14,7 +14,7 @@ entry_at es k = get_or es k (record { row = 0; column = 0; position = 0 })
 abbrev pub entered : (ℕ → ℕ → Bool) → ℕ → List Entry → ℕ
 entered q v es = picks (λ e. q e.row e.column) (λ e. e.position) v es
 
--- the count where the position is this one, else none
+-- the count if the position is this one, else 0
 abbrev pub for_position : ℕ → ℕ → ℕ → ℕ
 for_position position v count = cond (position == v) count 0
 
@@ -76,7 +76,7 @@ counts asked cells e = inside asked e && is_first_at asked (get_or cells e.posit
 abbrev pub found_in : Cells → List (Option Cells) → List ℕ → List Entry → List ℕ
 found_in asked cells wide es = wide ++ map (λ e. e.position) (filter (counts asked cells) es)
 
--- each shape is in the wide list where it is wide, and else once in each of its cells, and nothing else is entered
+-- each shape is in the wide list if it is wide, and else once in each of its cells, and nothing else is entered
 pub record IsGrid (cells : List (Option Cells)) (wide : List ℕ) (entries : List Entry) : Type 0 where
   pub small : length cells ≤ 4294967295
   pub listed : (v : ℕ) → hits v wide ≡ once (is_wide_at (get_or cells v None))

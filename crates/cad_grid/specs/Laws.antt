@@ -24,10 +24,10 @@ IsAmong b column row = (b.left ≤ℤ column) × (column ≤ℤ b.right) × (b.l
 abbrev pub BlocksAreTouched : Type 0
 BlocksAreTouched = (b : Bounds) (column row : ℤ) → Touches b column row ↔ IsAmong (block_of b) column row
 
--- two boxes share a cell where both touch one
+-- two boxes share a cell exactly if both touch one cell
 abbrev pub SharedCellsAreTouched : Type 0
 SharedCellsAreTouched = (a b : Bounds) → IsTrue (share_a_cell (block_of a) (block_of b)) ↔ ((column : ℤ) × (row : ℤ) × (Touches a column row × Touches b column row))
 
--- the block of corners is that of the least box round them
+-- the block of corners is that of the least box around them
 abbrev pub BlocksAreOfCorners : Type 0
 BlocksAreOfCorners = (b : Bounds) (points : List Point) → IsLeastBounds b points → block_around points ≡ block_of b

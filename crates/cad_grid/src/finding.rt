@@ -8,7 +8,7 @@ use crate::entry::Entry;
 use crate::walking::next_inside;
 use std::alloc::{AllocError, Global};
 
-// Whether the entry stands in the first cell, by rows, that its shape's cells and the asked ones share.
+// Whether the entry is in the first cell, by rows, that its shape's cells and the asked ones share.
 fn is_first(cells: &[Option<Cells>], entry: Entry, asked: Cells) -> bool
     ensures { result ≡ is_first_at asked (get_or cells.now entry.position None) entry.row entry.column }
 {

@@ -59,7 +59,7 @@ impl Grid {
         })
     }
 
-    // Whether the asked cells are many beside all shapes, so that a look at each shape is cheaper than a walk.
+    // Whether the asked cells are many compared with all shapes, so that a look at each shape is cheaper than a walk.
     fn are_many(&self, asked: Cells) -> bool {
         asked.is_wide() && asked.count() > self.cells.len() as u64 / 64
     }
@@ -76,7 +76,7 @@ impl Grid {
         }
     }
 
-    /// The positions near the box, as they ascend. An error means out of memory.
+    /// The positions near the box, in ascending order. An error means out of memory.
     pub fn near(&self, alloc: Global, bounds: Bounds) -> Result<Vec<u32>, AllocError>
         ensures { IfOk result (λ found. found.items ≡ near_positions self.now (block_of bounds)) }
     {

@@ -12,7 +12,7 @@ pub fn blocks_are_touched()
     ensures { BlocksAreTouched }
 {}
 
-/// Two boxes are told to share a cell exactly where both share a point with one.
+/// The test says that two boxes share a cell exactly if both share a point with one cell.
 pub fn shared_cells_are_touched()
     ensures { SharedCellsAreTouched }
 {}

@@ -17,7 +17,7 @@ fn cell_of(coordinate: i64) -> u32
     ((coordinate + 100_000_006_144) / 65_536) as u32
 }
 
-// Whether some number is among both, those from one to another.
+// Whether two ranges of numbers, each from one number to another, have a number in common.
 fn overlap(first: u32, last: u32, from: u32, to: u32) -> bool
     ensures { result ≡ (nat_le first to && nat_le from last) }
 {
@@ -41,14 +41,14 @@ impl Cells {
         }
     }
 
-    /// How many they are.
+    /// How many cells there are.
     pub(crate) fn count(self) -> u64
         ensures { result ≡ (self.right + 1 - self.left) * (self.high + 1 - self.low) }
     {
         u64::from(self.right + 1 - self.left) * u64::from(self.high + 1 - self.low)
     }
 
-    /// Whether they are more than 64.
+    /// Whether there are more than 64 cells.
     #[tactic(auto, using(crate::proofs::CountedTests::wide_by_numbers))]
     pub fn is_wide(self) -> bool
         ensures { result ≡ is_wide (block_at self) }
@@ -56,7 +56,7 @@ impl Cells {
         self.count() > 64
     }
 
-    /// Whether some cell is among both.
+    /// Whether the two have a cell in common.
     #[tactic(auto, using(crate::proofs::CountedTests::shared_by_numbers))]
     pub fn share_a_cell(self, other: Cells) -> bool
         ensures { result ≡ share_a_cell (block_at self) (block_at other) }

@@ -30,7 +30,7 @@ pub(crate) fn count_passing(cells: &[Option<Cells>], asked: Cells) -> u64
     found
 }
 
-/// The positions near the asked cells, as they ascend.
+/// The positions near the asked cells, in ascending order.
 pub(crate) fn list_passing(
     alloc: Global,
     cells: &[Option<Cells>],

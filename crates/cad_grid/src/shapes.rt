@@ -8,7 +8,7 @@ ghost use Rattle.cad_grid.specs.Near.{block_in};
 use cad_feature::Value;
 use cad_shape::Bounds;
 
-/// The least box round the value, if it is a shape.
+/// The least box around the value, if it is a shape.
 #[tactic(auto, using(crate::specs::lemmas::CornerLemmas::same_block))]
 pub fn bounds_of(value: &Value) -> Option<Bounds>
     ensures { option_map block_of result ≡ block_in (datum_of value.now) }

@@ -33,7 +33,7 @@ fn first_at(entries: &[Entry], from: usize, row: u32, column: u32) -> usize
     low
 }
 
-// The place itself where its entry lies in the asked cells, else one after it: none between lies there.
+// The place itself if its entry lies in the asked cells, else a later one: no entry between them lies there.
 fn jump(entries: &[Entry], at: usize, asked: Cells) -> usize
     requires within { at < length entries.now }
     requires ascends { Ascends entries.now }
@@ -56,8 +56,8 @@ fn jump(entries: &[Entry], at: usize, asked: Cells) -> usize
     }
 }
 
-/// The first place from one on whose entry lies in the asked cells, or the end. No more entries are looked at than lie
-/// there, but for a search in each row.
+/// The first place from one on whose entry lies in the asked cells, or the end. It looks at no more entries than lie there, apart from
+/// a search in each row.
 pub(crate) fn next_inside(entries: &[Entry], from: usize, asked: Cells) -> usize
     requires within { from ≤ length entries.now }
     requires ascends { Ascends entries.now }

@@ -12,7 +12,7 @@ use cad_shape::Bounds;
 use std::alloc::{AllocError, Global};
 use std::marker::Model;
 
-/// Features of a collection, by identifier, with their indexes, which never change. Contracts see the collection and the features.
+/// Features of a collection, by identifier, with their indexes. They never change. Contracts see the collection and the features.
 #[derive(Drop)]
 pub struct Base {
     collection: Collection,

@@ -102,8 +102,8 @@ impl Indexes {
         }
     }
 
-    /// The positions whose value lies in the range; none where the property has no ordered index, or an end is no value of its
-    /// kind, for then nothing lies in it. No memory is taken.
+    /// The positions whose value lies in the range; `None` if the property has no ordered index, or an end is not a value of its
+    /// kind, since then no value lies in it. No memory is taken.
     pub fn range(&self, range: &Range) -> Option<Found<'_>>
         ensures { (collection : CollectionOf) (xs : List Item) → AreFeaturesOf collection xs → AreIndexesOf collection xs self.now
             → positions_if_any result ≡ range_positions (column range.now.property xs) (limit_of range.now.low) (limit_of range.now.high) }
@@ -131,8 +131,8 @@ impl Indexes {
         }
     }
 
-    /// The positions near the box, as they ascend; none where the property has no grid, for then nothing is near. An error is
-    /// want of memory.
+    /// The positions near the box, in ascending order; none if the property has no grid, since then nothing is near. An error means
+    /// out of memory.
     pub fn near(
         &self,
         alloc: Global,

@@ -1,8 +1,8 @@
-//! Which features the positions that an index gives are of. Each contract is a law; the functions do nothing.
+//! Of which features an index gives the positions. Each contract is a law; the functions do nothing.
 
 ghost use Rattle.cad_index.specs.Laws.{RangesHoldFeatures, RangesCountFeatures, GridsHoldFeatures, GridsCountFeatures, PropertiesAreIndexed};
 
-/// A position is in a range exactly where the feature at it has a value inside.
+/// A position is in a range exactly if the feature at it has a value inside.
 pub fn ranges_hold_features()
     ensures { RangesHoldFeatures }
 {}
@@ -12,7 +12,7 @@ pub fn ranges_count_features()
     ensures { RangesCountFeatures }
 {}
 
-/// A position is near a box exactly where the feature at it is.
+/// A position is near a box exactly if the feature at it is.
 pub fn grids_hold_features()
     ensures { GridsHoldFeatures }
 {}

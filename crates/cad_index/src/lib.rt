@@ -5,7 +5,7 @@
 //! - [`Indexes`]: an ordered index for each property of kind text, whole number or day, and a grid for each of kind spot or
 //!   area.
 //! - [`Base`]: features of a collection with their indexes.
-//! - [`laws`]: which features the positions of a range, or near a box, are of.
+//! - [`laws`]: of which features the positions in a range, or near a box, are.
 //!
 //! Of the parcels 1 to 5, `object` is the property at place 0: its index gives the position 2 for the range from 3 to 3.
 #![tactic(auto)]

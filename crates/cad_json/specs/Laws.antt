@@ -23,14 +23,15 @@ PropertiesHoldTheValues =
     → get name (properties_data (schema_of c) x.values)
     ≡ (if is_property name then option_map value_data (value_named name (named_values (schema_of c) x.values)) else None)
 
--- of a feature of the collection every property of the schema is written under its name, but for the geometry and the lifespan (OGC 17-069r4, section 7.15: features)
+-- every property of the schema of a feature of the collection is written under its name, except the geometry and the lifespan (OGC
+-- 17-069r4, section 7.15: features)
 abbrev pub EveryPropertyIsWritten : Type 0
 EveryPropertyIsWritten =
     (c : Collection) (x : Item) (i : ℕ) (p : Named)
     → IsFeatureOf c x → slice_get (schema_of c) i ≡ Some p → IsTrue (is_property p.0)
     → (d : Datum) × (slice_get x.values i ≡ Some d) × (get p.0 (properties_data (schema_of c) x.values) ≡ Some (value_data d))
 
--- two features are written under one identifier only where they have one (OGC 17-069r4, section 7.16: feature)
+-- two features are written under one identifier only if they have the same identifier (OGC 17-069r4, section 7.16: feature)
 abbrev pub IdentifiersAreUnique : Type 0
 IdentifiersAreUnique =
     (x y : Item) → IsNumbered x → IsNumbered y → identifier_text (numbers_of x) ≡ identifier_text (numbers_of y) → identifier_of x ≡ identifier_of y

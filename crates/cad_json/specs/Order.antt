@@ -13,7 +13,7 @@ abbrev pub IsBeforeFirst : List ℕ → Members → Type 0
 IsBeforeFirst name no_members = ⊤
 IsBeforeFirst name (member next d ms) = slice_cmp nat_cmp name next ≡ Less
 
--- in each object of the tree the members stand in byte order of their names, none twice (RFC 8259, section 4: objects; order: own profile)
+-- in each object of the tree the members are in byte order of their names, no name twice (RFC 8259, section 4: objects; order: own profile)
 abbrev mutual
   pub IsInOrder : Data → Type 0
   IsInOrder null = ⊤

@@ -16,7 +16,7 @@ type_data name = object (member (codes "type") (string name) no_members)
 abbrev pub format_data : List ℕ → Data
 format_data name = object (member (codes "format") (string name) no_members)
 
--- what a value of the kind is
+-- the schema of a value of the kind
 abbrev pub kind_data : PropertyKind → Data
 kind_data Text = type_data (codes "string")
 kind_data Whole = type_data (codes "integer")

@@ -11,7 +11,7 @@ IsWhole (negative (pos n)) = ⊥
 IsWhole (negative (negsuc n)) = n < 2 ^ 63
 IsWhole (float x) = ⊥
 
--- each number in the tree is one
+-- each number in the tree is such a number
 abbrev mutual
   pub IsOfWholes : Data → Type 0
   IsOfWholes null = ⊤

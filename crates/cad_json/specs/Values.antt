@@ -9,7 +9,7 @@ use Rattle.cad_schema.specs.Attributes.{Named}
 use Rattle.cad_feature.specs.Values.{Datum, null, a_text, a_whole, a_flag, a_day, a_span, a_spot, an_area}
 use Rattle.cad_json.specs.Shapes.{polygon_data, spot_data}
 
--- a value; a day as its text, and an interval as nothing (own profile)
+-- a value; a day as its text, and an interval as null (own profile)
 abbrev pub value_data : Datum → Data
 value_data null = nothing
 value_data (a_text characters) = string (encode_utf8_all characters)
@@ -40,6 +40,6 @@ properties_data schema values = object (fold with_property no_members (filter (�
 abbrev pub value_named : List ℕ → List (List ℕ × Datum) → Option Datum
 value_named name named = option_map (λ (n : List ℕ × Datum). n.1) (find (λ n. bytes_eq n.0 name) named)
 
--- the geometry, which is null where there is none (RFC 7946, section 3.2)
+-- the geometry, or null if there is no geometry (RFC 7946, section 3.2)
 abbrev pub geometry_data : List Named → List Datum → Data
 geometry_data schema values = value_data (unwrap_or (value_named (codes "geometry") (named_values schema values)) null)

@@ -13,7 +13,7 @@ pub fn properties_hold_the_values()
     ensures { PropertiesHoldTheValues }
 {}
 
-/// Of a feature of the collection every property is written, also where it has no value.
+/// Every property of a feature of the collection is written, even if it has no value.
 pub fn every_property_is_written()
     ensures { EveryPropertyIsWritten }
 {}
@@ -23,7 +23,7 @@ pub fn identifiers_are_unique()
     ensures { IdentifiersAreUnique }
 {}
 
-/// In each object of a list of features the members stand in byte order of their names, none twice.
+/// In each object of a list of features the members are in byte order of their names, and no name occurs twice.
 pub fn features_are_in_order()
     ensures { FeaturesAreInOrder }
 {}

@@ -1,6 +1,6 @@
 //! JSON bodies: features, what the server offers, and why a request is refused.
 //!
-//! What a body holds is said as a tree of JSON, with the members of each object in byte order of their names; its text is the compact
+//! The contracts describe a body as a tree of JSON, with the members of each object in byte order of their names. Its text is the compact
 //! one that `serde_json` writes for it. Features are sent to its writer part by part, and no tree is made of them.
 //!
 //! - [`send_features`], [`send_linked_feature`]: the features of a list, and one with its links
@@ -15,7 +15,7 @@
 //!
 //! Version 1 of unit 10, which is named Mill and open since 2000-01-01, is
 //! `{"geometry":null,"id":"10.1","properties":{"begin":"2000-01-01","end":null,"name":"Mill","number":1,"object":10},"type":"Feature"}`.
-//! Of the fault `bad-head` the body is `{"fault":"bad-head"}`, of a part of a wrong kind at place 8 it is
+//! The body of the fault `bad-head` is `{"fault":"bad-head"}`; that of a part of a wrong kind at place 8 is
 //! `{"cause":"WrongKind","fault":"filter","place":8}`.
 #![tactic(auto)]
 

@@ -18,7 +18,7 @@ use serde::Serializer;
 /// The place of a parcel's geometry among its values.
 const GEOMETRY: usize = 7;
 
-/// The geometry, or null where there is none.
+/// The geometry, or null if there is no geometry.
 pub(crate) fn send_geometry<S: Serializer>(
     collection: Collection,
     feature: &Feature,
@@ -32,7 +32,7 @@ pub(crate) fn send_geometry<S: Serializer>(
     }
 }
 
-/// The values under the names of the schema, but for the geometry and the lifespan.
+/// The values under the names of the schema, except the geometry and the lifespan.
 pub(crate) fn send_properties<S: Serializer>(
     collection: Collection,
     feature: &Feature,

@@ -20,7 +20,7 @@ fn send_day<S: Serializer>(day: Day, out: &mut S) -> Result<(), S::Error>
     out.str(str::from_utf8(&bytes).unwrap())
 }
 
-// an interval is null, since the lifespan alone is one and is not written
+// an interval is null, since only the lifespan is an interval, and it is not written
 pub(crate) fn send_value<S: Serializer>(value: &Value, out: &mut S) -> Result<(), S::Error>
     ensures { OnOk result (Sends (value_data (datum_of value.now)) (S.written out.old) (S.written out.new)) }
 {

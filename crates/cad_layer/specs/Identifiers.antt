@@ -9,11 +9,11 @@ use Rattle.cad_versions.specs.Identifiers.{identifier_cmp}
 pub use Rattle.cad_versions.specs.Identifiers.{identifier}
 use Rattle.cad_feature.specs.Features.{Item, identifier_of}
 
--- how the feature stands to the one that is identified
+-- how the feature compares with the one that is identified
 abbrev pub compared : ℤ × ℤ → Item → Ordering
 compared wanted x = identifier_cmp (identifier_of x) wanted
 
--- a feature of the list with that identifier, or nothing where the list has none
+-- a feature of the list with that identifier, or nothing if the list has none
 abbrev pub IsTheOne : ℤ × ℤ → List Item → Option Item → Type 0
 IsTheOne wanted xs None = All (λ x. ¬ (identifier_of x ≡ wanted)) xs
 IsTheOne wanted xs (Some x) = Contains xs x × (identifier_of x ≡ wanted)

@@ -10,7 +10,7 @@ abbrev pub ChangesAdd : Type 0
 ChangesAdd = (base changes more : List Item)
     → merged by_identifier base (merged by_identifier changes more) ≡ merged by_identifier (merged by_identifier base changes) more
 
--- in a list that ascends one feature alone has an identifier
+-- in a list that ascends at most one feature has a given identifier
 abbrev pub IdentifiersAreUnique : Type 0
 IdentifiersAreUnique =
     (wanted : ℤ × ℤ) (xs : List Item) (one other : Option Item) → IsStrictlySortedBy by_identifier xs

@@ -12,16 +12,16 @@ pub record SegmentFeatures : Type 0 where
   pub collection : Collection
   pub features : List Item
 
--- the features of one after the other
+-- the features of the segments, one after the other
 abbrev pub joined : List SegmentFeatures → List Item
 joined [] = []
 joined (s ∷ ss) = s.features ++ joined ss
 
--- it is of this object or of one behind it
+-- it is of this object or of a later one
 abbrev pub is_from : ℕ → Item → Bool
 is_from start x = nat_le start (object_number x.object)
 
--- nothing of the segment is of an object with which the next one starts or behind it, and all that is left is
+-- no feature of the segment is of the object with which the next one starts or of a later one, and all features of the others are
 abbrev pub AreApart : SegmentFeatures → List SegmentFeatures → Type 0
 AreApart s [] = Unit {0}
 AreApart s (t ∷ ts) = AllByRecursion (λ x. is_from t.start x ≡ false) s.features × AllByRecursion (λ x. is_from t.start x ≡ true) (joined (t ∷ ts))
@@ -33,7 +33,7 @@ AreSegments (s ∷ ss) = AreApart s ss × AreSegments ss
 
 -- ---- with changes
 
--- of changes those before where the next segment starts
+-- the changes before the start of the next segment
 abbrev pub own_of : List SegmentFeatures → List Item → List Item
 own_of [] cs = cs
 own_of (t ∷ ts) cs = filter (λ x. not (is_from t.start x)) cs
@@ -43,7 +43,7 @@ abbrev pub left_of : List SegmentFeatures → List Item → List Item
 left_of [] cs = []
 left_of (t ∷ ts) cs = filter (is_from t.start) cs
 
--- each with those of the changes that lie in it
+-- each segment with the changes that lie in it
 abbrev pub with_in : List SegmentFeatures → List Item → List SegmentFeatures
 with_in [] cs = []
 with_in (s ∷ ss) cs = (record { start = s.start; collection = s.collection; features = all_in s.features (own_of ss cs) }) ∷ with_in ss (left_of ss cs)

@@ -1,4 +1,4 @@
-//! Changes, with later ones put into them.
+//! Changes with later changes put into them.
 
 ghost use Rattle.std.specs.Prelude.{◌≡◌, IfOk};
 ghost use Rattle.cad_layer.specs.Walks.{all_in, IsInOrder};

@@ -1,9 +1,9 @@
-//! Two lists that ascend, the later of which is put into the earlier.
+//! Two lists that ascend. The later one is put into the earlier one.
 
 use crate::placed::Placed;
 use std::cmp::Ordering;
 
-/// What is left of two lists that ascend.
+/// The rest of two lists that ascend.
 #[derive(Debug, Drop)]
 pub(crate) struct Both<'a, T> {
     pub(crate) earlier: &'a [T],
@@ -15,7 +15,7 @@ impl<'a, T: Placed> Both<'a, T> {
     ghost use Rattle.std.specs.List.Sorted.{IsStrictlySortedBy};
     ghost use Rattle.cad_layer.specs.Merging.{merged};
 
-    /// The same once more.
+    /// A copy.
     pub(crate) fn again(&self) -> Both<'a, T>
         ensures earlier { result.earlier.now ≡ self.now.earlier.now }
         ensures later { result.later.now ≡ self.now.later.now }
@@ -26,7 +26,7 @@ impl<'a, T: Placed> Both<'a, T> {
         }
     }
 
-    /// The next of both, a later one in place of an earlier one that is equal to it.
+    /// The next of both; a later one replaces an earlier one that is equal to it.
     pub(crate) fn next(&mut self) -> Option<&'a T>
         requires earlier { IsStrictlySortedBy T.order self.now.earlier.now }
         requires later { IsStrictlySortedBy T.order self.now.later.now }

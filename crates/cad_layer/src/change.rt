@@ -7,7 +7,7 @@ use std::alloc::{AllocError, Global};
 use std::marker::Model;
 use std::rc::Rc;
 
-/// A feature that stands in the place of one of a base, or that the base has not. Copies share it.
+/// A feature that replaces one of a base, or is new to the base. Copies share it.
 ///
 /// Contracts see the feature.
 #[derive(Debug, Drop)]
@@ -41,7 +41,7 @@ impl Change {
         self.feature.as_ref()
     }
 
-    /// The same once more. An error says that too many share it.
+    /// A copy. An error means that too many share it.
     pub(crate) fn copy(&self) -> Result<Change, AllocError>
         ensures { IfOk result (λ copy. copy ≡ self.now) }
     {

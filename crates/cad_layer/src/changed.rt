@@ -31,7 +31,7 @@ fn comes_after(change: &Change, object: ObjectId, number: u32) -> bool
     compare_change(change, object, number).is_gt()
 }
 
-/// The changes after the one that is named.
+/// The changes after the one with that identifier.
 pub fn changes_after(changes: &[Change], object: ObjectId, number: u32) -> &[Change]
     requires { IsStrictlySortedBy by_identifier changes.now }
     ensures { result.now ≡ items_after (identifier object number) changes.now }

@@ -6,7 +6,7 @@ ghost use Rattle.cad_feature.specs.Values.{datum_of};
 use cad_feature::{Feature, Value};
 use std::alloc::{AllocError, Global};
 
-/// The same value once more; a text or a region is shared.
+/// A copy of the value; a text or a region is shared.
 pub fn copy_value(alloc: Global, value: &Value) -> Result<Value, AllocError>
     ensures { IfOk result (λ copy. datum_of copy ≡ datum_of value.now) }
 {
@@ -45,7 +45,7 @@ fn copy_values(alloc: Global, values: &[Value]) -> Result<Vec<Value>, AllocError
     Ok(copies)
 }
 
-/// The same feature once more.
+/// A copy of the feature.
 pub(crate) fn copy_feature(alloc: Global, feature: &Feature) -> Result<Feature, AllocError>
     ensures { IfOk result (λ copy. copy ≡ feature.now) }
 {

@@ -22,7 +22,7 @@ pub(crate) fn count_indexed<T: Criterion>(base: &Base, criterion: &T) -> u64
     ensures passing { result ≡ how_many (T.passes criterion.now) base.now.features }
     ensures few { result ≤ 4294967295 }
 {
-    // They are no more than a base holds.
+    // There are at most as many as a base holds.
     let _features = base.features();
     criterion.count_in(base)
 }

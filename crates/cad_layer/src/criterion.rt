@@ -1,4 +1,4 @@
-//! What features are counted by.
+//! Criteria by which features are counted.
 
 ghost use Rattle.std.specs.Prelude.{◌≡◌, Bool, false, filter, length, option_map};
 ghost use Rattle.cad_feature.specs.Features.{Item};
@@ -14,7 +14,7 @@ use cad_index::Base;
 use cad_range::lies_in;
 use cad_shape::Bounds;
 
-/// What a feature meets or not.
+/// A criterion that a feature meets or does not meet.
 pub(crate) trait Criterion {
     /// Whether a feature meets it.
     ghost passes: { Self → Item → Bool };
@@ -70,7 +70,7 @@ impl NearCells {
     ghost use Rattle.cad_grid.specs.Blocks.{block_of};
     ghost use Rattle.cad_grid.specs.Counted.{block_at};
 
-    /// Near the box.
+    /// The criterion of being near the box.
     pub(crate) fn to(property: usize, bounds: Bounds) -> NearCells
         ensures property { result.property ≡ property }
         ensures bounds { result.bounds ≡ bounds }

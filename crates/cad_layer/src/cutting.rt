@@ -11,8 +11,8 @@ use cad_feature::Feature;
 use cad_schema::Collection;
 use std::alloc::{AllocError, Global};
 
-/// The features in segments of at least so many, and of more where an object has many versions; the first has what is left. An error
-/// is want of memory.
+/// The features in segments of at least `least` features, and of more if an object has many versions. The first segment has the rest.
+/// An error means out of memory.
 pub(crate) fn cut(
     alloc: Global,
     features: Vec<Feature>,

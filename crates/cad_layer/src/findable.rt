@@ -1,4 +1,4 @@
-//! What one feature can be found in.
+//! Collections of features in which one can be found.
 
 use crate::Indexed;
 use crate::finding::found;

@@ -10,7 +10,7 @@ use cad_feature::Feature;
 use cad_versions::{ObjectId, compare_identifiers};
 use std::cmp::Ordering;
 
-/// How the feature stands to the one with that identifier.
+/// How the feature compares with the one with that identifier.
 pub(crate) fn compare(feature: &Feature, object: ObjectId, number: u32) -> Ordering
     ensures { result ≡ compared (identifier object number) feature.now }
 {

@@ -1,4 +1,4 @@
-//! Features that stand in indexes: those of a base, and the older changes to it.
+//! Features that are in indexes: those of a base, and the older changes to it.
 
 ghost use Rattle.std.specs.Prelude.{◌≡◌, IfOk};
 ghost use Rattle.cad_feature.specs.Features.{AreFeaturesOf};
@@ -20,8 +20,8 @@ use std::rc::Rc;
 /// The most features that a base holds: their positions are numbers of 32 bits.
 pub(crate) const MOST_FEATURES: usize = 4_294_967_295;
 
-/// Features of a collection with indexes: a base, which others share, older changes to it, and the features of the base in whose place
-/// these stand. Each has indexes of its own, so that what is counted of the one is added and of the other taken away.
+/// Features of a collection with indexes: a base, which others share, older changes to it, and the features of the base that these
+/// replace. Each of the three has its own indexes: a count adds those of the base and of the changes, and subtracts that of the replaced.
 ///
 /// Contracts see the collection and the features, with the older changes merged.
 #[derive(Drop)]
@@ -31,7 +31,7 @@ pub struct Indexed {
     replaced: Base,
 }
 
-/// What is shared.
+/// The base that is shared.
 fn shared(base: &Rc<Base>) -> &Base
     ensures { result.now ≡ base.now.value }
 {
@@ -114,8 +114,8 @@ impl Indexed {
         shared(&self.base).collection()
     }
 
-    /// The same features with these changes merged into them, which get indexes with the older ones, over the same base. An error is
-    /// want of memory.
+    /// The same features with these changes merged into them, over the same base. The changes get indexes together with the older ones.
+    /// An error means out of memory.
     pub(crate) fn with(&self, alloc: Global, changes: &[Change]) -> Result<Indexed, AllocError>
         requires { AreFeaturesOf self.now.collection changes.now }
         ensures { IfOk result (λ indexed. indexed ≡ record { collection = self.now.collection; features = all_in self.now.features changes.now }) }
@@ -176,7 +176,7 @@ impl Indexed {
         base.len() + older.len() - replaced.len()
     }
 
-    /// How many features meet the criterion, by indexes alone. No memory is taken.
+    /// How many features meet the criterion, only by indexes. No memory is taken.
     pub(crate) fn count_meeting<T: Criterion>(&self, criterion: &T) -> u64
         ensures passing { result ≡ how_many (T.passes criterion.now) self.now.features }
         ensures few { result ≤ 8589934590 }

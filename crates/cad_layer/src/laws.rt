@@ -7,7 +7,7 @@ pub fn changes_add()
     ensures { ChangesAdd }
 {}
 
-/// In a list that ascends one feature alone has an identifier.
+/// In a list that ascends at most one feature has a given identifier.
 pub fn identifiers_are_unique()
     ensures { IdentifiersAreUnique }
 {}

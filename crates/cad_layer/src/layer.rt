@@ -1,4 +1,4 @@
-//! The features of one collection at one revision of several.
+//! The features of one collection at one of several revisions.
 
 ghost use Rattle.std.specs.Prelude.{◌≡◌, IfOk};
 
@@ -21,19 +21,19 @@ use std::alloc::{AllocError, Global};
 use std::marker::Model;
 use std::rc::Rc;
 
-/// Of how many features a segment is cut, where nothing else is asked for.
+/// The number of features of which a segment is cut, unless another number is asked for.
 pub const OF_A_SEGMENT: usize = 8192;
 
-/// A layer with a segment that has more than so many times as many features as it was cut of is cut anew.
+/// If a segment has more than this many times the number of features of which it was cut, the layer is cut anew.
 const MOST_GROWN: usize = 4;
 
-/// A segment with more than this part of the changes that all may have gets a new base, too.
+/// A segment with more than this part of the changes that all segments may have gets a new base, too.
 const MANY_OF_MOST: usize = 4;
 
-/// A segment has no more recent changes than one for so many of the features of which it is cut.
+/// A segment has at most one recent change for this many of the features of which it is cut.
 const FEATURES_FOR_A_RECENT: usize = 4;
 
-/// Nor more than these: they are looked at one by one where features are counted, and a list of them is written anew with each change.
+/// And at most this many: counting looks at them one by one, and each change writes their list anew.
 const MOST_RECENT: usize = 64;
 
 /// The features of a collection at a revision, in segments by object, which other revisions share.
@@ -45,9 +45,9 @@ pub struct Layer {
     segments: Rc<Vec<Segment>>,
     /// How many features there are.
     count: u64,
-    /// Of how many a segment is cut.
+    /// The number of features of which a segment is cut.
     of_a_segment: usize,
-    /// What was spent on it since it was built, but for what its segments tell.
+    /// What was spent on it since it was built, except what its segments report.
     spent: usize,
 }
 
@@ -102,7 +102,7 @@ impl Layer {
         Layer::in_segments(alloc, features, collection, OF_A_SEGMENT)
     }
 
-    /// The same in segments of so many features. An error means out of memory.
+    /// The same, in segments of the given number of features. An error means out of memory.
     pub fn in_segments(
         alloc: Global,
         features: Vec<Feature>,
@@ -147,8 +147,8 @@ impl Layer {
         all_features(alloc, listed(&self.segments))
     }
 
-    /// The same features with these merged into them, over the same bases. Where there are none of these, all is shared; else the
-    /// segments are, but for those in which these lie. An error means out of memory.
+    /// The same features with these merged into them, over the same bases. Without features to merge, all is shared; otherwise all segments
+    /// are shared except those in which these lie. An error means out of memory.
     pub fn with(&self, alloc: Global, touched: Vec<Feature>) -> Result<Layer, AllocError>
         requires { AreFeaturesOf self.now.collection touched.items }
         ensures { IfOk result (λ layer. layer ≡ record { collection = self.now.collection; features = all_in self.now.features touched.items }) }
@@ -173,7 +173,7 @@ impl Layer {
         })
     }
 
-    /// The same features: segments are shared. An error says that too many share them.
+    /// The same features: segments are shared. An error means that too many share them.
     pub fn copy(&self) -> Result<Layer, AllocError>
         ensures { IfOk result (λ layer. layer ≡ self.now) }
     {
@@ -192,13 +192,13 @@ impl Layer {
         change_count(listed(&self.segments)) <= most
     }
 
-    /// How many features were put into indexes since it was built, and what takes as much: so much may revisions keep that it follows.
+    /// How many features were put into indexes since it was built, and work of the same cost: revisions that it follows may keep as much.
     pub fn spent(&self) -> usize {
         self.spent.saturating_add(spent_on(listed(&self.segments)))
     }
 
     /// The same features, with new bases for the segment that has the most changes, and for those that have more than a quarter of
-    /// `most`. Where a segment has grown far, all is cut anew, if it can be. An error means out of memory.
+    /// `most`. If a segment has grown far, all is cut anew, if that is possible. An error means out of memory.
     pub fn rebased(&self, alloc: Global, most: usize) -> Result<Layer, AllocError>
         ensures { IfOk result (λ layer. layer ≡ self.now) }
     {
@@ -221,7 +221,7 @@ impl Layer {
         })
     }
 
-    /// The same features in new segments, where their positions are numbers that a base holds. An error means out of memory.
+    /// The same features in new segments, if a base can hold their positions. An error means out of memory.
     fn cut_anew(&self, alloc: Global) -> Result<Layer, AllocError>
         ensures { IfOk result (λ layer. layer ≡ self.now) }
     {

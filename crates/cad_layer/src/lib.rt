@@ -1,16 +1,16 @@
-//! The features of one collection at one revision of several: segments, each a base with its indexes, which revisions share, and the
+//! The features of one collection at one of several revisions: segments, each a base with its indexes, which revisions share, and the
 //! changes to it.
 //!
 //! - [`Layer`]: all segments, seen as their features with the changes merged, which it counts by the bases' indexes
-//! - [`Segment`]: the features of the objects between two numbers: [`Indexed`] ones, and recent changes to them
+//! - [`Segment`]: the features of the objects between two numbers: [`Indexed`] features, and recent changes to them
 //! - [`Indexed`]: a base, and older changes to it, each with indexes
-//! - [`Change`]: a feature that changes a base, which lists of changes share; [`as_changes`], [`changes_after`]: of these features, and
-//!   those after one of them
+//! - [`Change`]: a feature that changes a base, which lists of changes share; [`as_changes`], [`changes_after`]: these features as changes,
+//!   and the changes after one of them
 //! - [`Walk`]: a walk through both, in the order of identifiers
 //! - [`merge`], [`found`]: all of a list and the changes to it, and one of a list
 //! - `laws`: that changes may be merged with one another first, and that identifiers are unique
 //!
-//! A base of the parcels 1.1 and 2.1 with the changes 1.1, which is closed, and 1.2, has the features 1.1 as it was changed, 1.2 and
+//! A base of the parcels 1.1 and 2.1 with the changes 1.1, which is now closed, and 1.2, has the features 1.1 as changed, 1.2 and
 //! 2.1.
 #![tactic(auto)]
 

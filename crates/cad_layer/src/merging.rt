@@ -8,7 +8,7 @@ use crate::{Change, Walk};
 use cad_feature::Feature;
 use std::alloc::{AllocError, Global};
 
-/// Puts copies of what is left of a walk behind the others. An error means out of memory.
+/// Puts copies of the rest of a walk behind the others. An error means out of memory.
 pub(crate) fn push_all(
     alloc: Global,
     all: &mut Vec<Feature>,

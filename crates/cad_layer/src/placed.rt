@@ -1,10 +1,10 @@
-//! What stands in the order of identifiers.
+//! Elements that have a place in the order of identifiers.
 
 use crate::Change;
 use cad_feature::Feature;
 use std::cmp::Ordering;
 
-/// What has a place in an order.
+/// An element that has a place in an order.
 pub(crate) trait Placed: Drop {
     ghost use Rattle.std.specs.Prelude.{◌≡◌};
     ghost use Rattle.std.specs.Cmp.{IsTotalOrder};
@@ -12,7 +12,7 @@ pub(crate) trait Placed: Drop {
 
     ghost order: { Self → Self → OrderingOf };
 
-    /// How it stands to another.
+    /// How it compares with another.
     fn stands_to(&self, other: &Self) -> Ordering
         ensures { result ≡ order self.now other.now };
 

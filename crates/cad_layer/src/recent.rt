@@ -1,4 +1,4 @@
-//! The changes that stand in no index yet.
+//! The changes that are in no index yet.
 
 ghost use Rattle.std.specs.Prelude.{◌≡◌, [], IfOk};
 ghost use Rattle.cad_feature.specs.Features.{AreFeaturesOf};
@@ -13,7 +13,7 @@ use cad_extents::Extents;
 use cad_feature::Feature;
 use std::alloc::{AllocError, Global};
 
-/// Recent changes to indexed features, the features in whose place they stand, and the extents of all.
+/// Recent changes to indexed features, the features that they replace, and the extents of all.
 #[derive(Drop)]
 pub(crate) struct Recent {
     pub(crate) changes: Vec<Change>,

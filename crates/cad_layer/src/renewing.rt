@@ -20,13 +20,13 @@ pub(crate) fn change_count(segments: &[Segment]) -> usize {
 /// The segment with the most changes.
 #[derive(Clone, Copy)]
 pub(crate) struct Fullest {
-    /// Where it stands.
+    /// Its place among the segments.
     pub(crate) at: usize,
     /// How many changes it has.
     pub(crate) changes: usize,
 }
 
-/// The first of the segments that have more changes than the others.
+/// The first of the segments that have the most changes.
 pub(crate) fn fullest_of(segments: &[Segment]) -> Fullest {
     let mut fullest = Fullest { at: 0, changes: 0 };
     for (at, segment) in segments.iter().enumerate() {
@@ -38,7 +38,7 @@ pub(crate) fn fullest_of(segments: &[Segment]) -> Fullest {
     fullest
 }
 
-/// How many features the greatest base has.
+/// How many features the largest base has.
 pub(crate) fn greatest_base(segments: &[Segment]) -> usize {
     let mut greatest = 0;
     for segment in segments {
@@ -51,7 +51,7 @@ pub(crate) fn greatest_base(segments: &[Segment]) -> usize {
 #[derive(Clone, Copy)]
 pub(crate) struct Due {
     pub(crate) at: usize,
-    /// More changes than these are many.
+    /// More changes than this are many.
     pub(crate) many: usize,
 }
 
@@ -62,7 +62,7 @@ impl Due {
     }
 }
 
-/// The same segments, and those that are due over new bases. An error means out of memory.
+/// The same segments, with new bases for those that are due. An error means out of memory.
 pub(crate) fn renewed(
     alloc: Global,
     segments: &[Segment],
@@ -95,7 +95,7 @@ pub(crate) fn all_features(alloc: Global, segments: &[Segment]) -> Result<Vec<Fe
     Ok(all)
 }
 
-/// How many features they have put into indexes, and what takes as much.
+/// How many features they have put into indexes, and work of the same cost.
 pub(crate) fn spent_on(segments: &[Segment]) -> usize {
     let mut spent: usize = 0;
     for segment in segments {

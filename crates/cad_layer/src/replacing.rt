@@ -1,4 +1,4 @@
-//! The features in whose place changes stand.
+//! The features that changes replace.
 
 ghost use Rattle.std.specs.Prelude.{◌≡◌, ◌++◌, IfOk, OnOk};
 ghost use Rattle.cad_feature.specs.Features.{by_identifier};
@@ -11,7 +11,7 @@ use crate::findable::Findable;
 use cad_feature::Feature;
 use std::alloc::{AllocError, Global};
 
-/// Puts the feature behind the others in whose place the change stands, if there is one.
+/// Puts the feature that the change replaces behind the others, if there is one.
 fn push_replaced<T: Findable>(
     alloc: Global,
     features: &T,
@@ -29,7 +29,7 @@ fn push_replaced<T: Findable>(
     Ok(())
 }
 
-/// The features in whose place the changes stand, by copies: each is searched for. An error means out of memory.
+/// Copies of the features that the changes replace: each is searched for. An error means out of memory.
 pub(crate) fn replaced_by<T: Findable>(
     alloc: Global,
     features: &T,

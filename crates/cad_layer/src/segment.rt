@@ -20,11 +20,11 @@ use std::alloc::{AllocError, Global};
 use std::marker::Model;
 use std::rc::Rc;
 
-/// So many entries of lists that are written anew take as much as a feature that is put into an index.
+/// This many entries of lists that are written anew cost as much as one feature that is put into an index.
 pub(crate) const ENTRIES_FOR_A_FEATURE: usize = 16;
 
 /// The features of a collection at a revision that are of the objects from a number on, up to where the next segment starts: those that
-/// stand in indexes, which other revisions share, and recent changes to them.
+/// are in indexes, which other revisions share, and recent changes to them.
 ///
 /// Contracts see the number, the collection and the features, with the changes merged.
 #[derive(Drop)]
@@ -32,18 +32,18 @@ pub struct Segment {
     start: u32,
     indexed: Rc<Indexed>,
     recent: Rc<Recent>,
-    /// How many features it has put into indexes, and what takes as much.
+    /// How many features it has put into indexes, and work of the same cost.
     spent: usize,
 }
 
-/// What is shared.
+/// The indexed features that are shared.
 fn shared(indexed: &Rc<Indexed>) -> &Indexed
     ensures { result.now ≡ indexed.now.value }
 {
     indexed
 }
 
-/// The same of recent changes.
+/// The recent changes that are shared.
 fn recent_of(recent: &Rc<Recent>) -> &Recent
     ensures { result.now ≡ recent.now.value }
 {
@@ -122,7 +122,7 @@ impl Segment {
         ensures { IfOk result (λ segment. segment ≡ record { start = start; collection = indexed.now.collection; features = all_in indexed.now.features recent.changes.items }) }
     {
         let indexed = indexed.with(alloc, &recent.changes)?;
-        // The older changes have new indexes, and so may have what they stand in the place of.
+        // The older changes have new indexes, and so may have the features that they replace.
         let spent = spent.saturating_add(indexed.older_count().saturating_mul(2));
         Segment::without_changes(alloc, start, indexed, recent.extents, spent)
     }
@@ -141,7 +141,7 @@ impl Segment {
         Segment::over(alloc, features, collection, start, 0)
     }
 
-    /// The same, where so much was spent.
+    /// The same, with the cost that was spent before.
     fn over(
         alloc: Global,
         features: Vec<Feature>,
@@ -158,14 +158,14 @@ impl Segment {
         Segment::without_changes(alloc, start, indexed, extents, spent)
     }
 
-    /// The number from which on its objects are.
+    /// The number from which on it has objects.
     pub(crate) fn start(&self) -> u32
         ensures { result ≡ self.now.start }
     {
         self.start
     }
 
-    /// The features that stand in indexes, and the recent changes to them by object and number.
+    /// The features that are in indexes, and the recent changes to them by object and number.
     pub fn parts(&self) -> (&Indexed, &[Change])
         ensures collection { result.0.now.collection ≡ self.now.collection }
         ensures all { all_in result.0.now.features result.1.now ≡ self.now.features }
@@ -174,8 +174,8 @@ impl Segment {
         (shared(&self.indexed), &recent_of(&self.recent).changes)
     }
 
-    /// The same features with these merged into them. Where there are none of these, all is shared; where there are no more than so many
-    /// recent changes then, the indexes are; else these get indexes too. An error means out of memory.
+    /// The same features with these merged into them. Without features to merge, all is shared. If there are then at most `most_recent`
+    /// recent changes, the indexes are shared; otherwise the changes get indexes too. An error means out of memory.
     pub(crate) fn with(
         &self,
         alloc: Global,
@@ -201,7 +201,7 @@ impl Segment {
         Segment::of(alloc, self.start, indexed, recent, spent)
     }
 
-    /// The same features: all is shared. An error says that too many share it.
+    /// The same features: all is shared. An error means that too many share it.
     pub(crate) fn copy(&self) -> Result<Segment, AllocError>
         ensures { IfOk result (λ segment. segment ≡ self.now) }
     {
@@ -226,12 +226,12 @@ impl Segment {
         shared(&self.indexed).base_count()
     }
 
-    /// How many features it has put into indexes, and what takes as much.
+    /// How many features it has put into indexes, and work of the same cost.
     pub(crate) fn spent(&self) -> usize {
         self.spent
     }
 
-    /// The same features over a base of their own, where a base can hold them. An error means out of memory.
+    /// The same features over a base of their own, if a base can hold them. An error means out of memory.
     pub(crate) fn rebased(&self, alloc: Global) -> Result<Segment, AllocError>
         ensures { IfOk result (λ segment. segment ≡ self.now) }
     {
@@ -280,7 +280,7 @@ impl Segment {
         &recent_of(&self.recent).extents
     }
 
-    /// How many features meet the criterion: none where none may, and else by indexes and a look at each recent change. No memory is
+    /// How many features meet the criterion: 0 if none may, else counted by indexes and a look at each recent change. No memory is
     /// taken.
     pub(crate) fn count_meeting<T: Criterion>(&self, criterion: &T) -> u64
         ensures { result ≡ how_many (T.passes criterion.now) self.now.features }

@@ -19,14 +19,14 @@ pub(crate) fn object_of(feature: &Feature) -> u32
     feature.object.number()
 }
 
-/// Whether the feature is of the object or of one behind it.
+/// Whether the feature is of the object or of a later one.
 pub(crate) fn is_from(feature: &Feature, object: u32) -> bool
     ensures { result ≡ is_from_of object feature.now }
 {
     object <= object_of(feature)
 }
 
-/// Those from where the next segment starts; `touched` keeps the others. An error means out of memory.
+/// The features from the start of the next segment on; `touched` keeps the others. An error means out of memory.
 fn cut_off(
     alloc: Global,
     touched: &mut Vec<Feature>,
@@ -45,7 +45,7 @@ fn cut_off(
     Ok(left)
 }
 
-/// The segments, each with those of the features that lie in it, and no more recent changes than so many. An error means out of memory.
+/// The segments, each with the given features that lie in it, and no more recent changes than the limit. An error means out of memory.
 pub(crate) fn spread(
     alloc: Global,
     segments: &[Segment],

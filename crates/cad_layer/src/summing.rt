@@ -7,7 +7,7 @@ ghost use Rattle.cad_layer.specs.Segments.{joined};
 use crate::Segment;
 use crate::criterion::Criterion;
 
-/// How many features of all segments meet the criterion, which have no more than `most`. No memory is taken.
+/// How many features of all segments meet the criterion; the segments have at most `most` features. No memory is taken.
 pub(crate) fn count_all<T: Criterion>(segments: &[Segment], criterion: &T, most: u64) -> u64
     requires { length (joined segments.now) ≤ most }
     ensures { result ≡ how_many (T.passes criterion.now) (joined segments.now) }

@@ -11,7 +11,7 @@ use cad_versions::ObjectId;
 use std::cmp::Ordering;
 use std::marker::Model;
 
-/// What is left of a walk: features of a base, older changes and recent ones, each by identifier.
+/// The rest of a walk: features of a base, older changes and recent ones, each by identifier.
 ///
 /// Contracts see the features that are left, with the changes merged.
 #[derive(Debug, Drop)]
@@ -52,7 +52,7 @@ impl<'a> Walk<'a> {
         Walk { indexed, changes }
     }
 
-    /// The walk through what is left of the features of that object.
+    /// The walk through those features of the rest that are of that object.
     pub(crate) fn of_object(&self, object: ObjectId) -> Walk<'a>
         ensures { result ≡ of_object object self.now }
     {
@@ -64,7 +64,7 @@ impl<'a> Walk<'a> {
         Walk { indexed, changes }
     }
 
-    /// The next feature, a change in place of the one that it changes.
+    /// The next feature; a change comes in place of the feature that it changes.
     pub fn next(&mut self) -> Option<&'a Feature>
         ensures { MatchOption result (self.old ≡ []) (λ x. self.old ≡ x.now ∷ self.new) }
     {

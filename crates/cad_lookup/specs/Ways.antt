@@ -1,4 +1,4 @@
--- Plans without where they lie in memory: their candidates, and what it costs to look at these (own profile).
+-- Plans without their places in memory: their candidates, and what it costs to look at these (own profile).
 use Rattle.std.specs.Prelude.{ℕ, suc, ◌+◌, min, Bool, true, false, ◌&&◌, ◌||◌, if◌then◌else◌, List, [], ◌∷◌, length}
 use Rattle.cad_grid.specs.Blocks.{Block, block_of}
 use Rattle.cad_grid.specs.Near.{is_near}
@@ -81,7 +81,7 @@ abbrev pub min_of : ℕ → List ℕ → ℕ
 min_of n [] = n
 min_of n (c ∷ cs) = min c (min_of n cs)
 
--- the least of some numbers; of none, what is given
+-- the least of some numbers; without numbers, what is given
 abbrev pub least_or : ℕ → List ℕ → ℕ
 least_or given [] = given
 least_or given (c ∷ cs) = min_of c cs

@@ -2,7 +2,7 @@
 
 ghost use Rattle.cad_lookup.specs.Laws.{WaysHaveTheCandidates};
 
-/// A plan has the same candidates as its way, which is the plan without where it lies in memory.
+/// A plan has the same candidates as its way, which is the plan without its place in memory.
 pub fn ways_have_the_candidates()
     ensures { WaysHaveTheCandidates }
 {}

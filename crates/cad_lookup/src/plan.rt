@@ -15,8 +15,8 @@ pub enum Plan {
     /// Those whose shape of the property is near the box, in millimetres: its bounds touch more than 64 cells, or a cell that
     /// the box touches.
     Near { property: usize, bounds: Bounds },
-    /// The candidates of all of these; of no plan, all.
+    /// The candidates of all of these; without plans, all features.
     Meet(Vec<Plan>),
-    /// The candidates of any of these; of no plan, none.
+    /// The candidates of any of these; without plans, none.
     Join(Vec<Plan>),
 }

@@ -18,7 +18,7 @@ pub record Column : Type 0 where
   pub kind : PropertyKind
   pub values : List Datum
 
--- of a kind that has no order there is none
+-- a kind that has no order has no column
 abbrev pub ordered_column : PropertyKind → List Datum → Option Column
 ordered_column kind.Text values = Some (record { kind = kind.Text; values = values })
 ordered_column kind.Whole values = Some (record { kind = kind.Whole; values = values })
@@ -55,12 +55,12 @@ pub record IsSplit (upto : Bool) (ds : List Datum) (s : Datum) (r : ℕ) : Type 
   pub before : (i : ℕ) → i < r → is_before upto (compared (get_or ds i null) s) ≡ true
   pub after : (i : ℕ) → r ≤ i → i < length ds → is_before upto (compared (get_or ds i null) s) ≡ false
 
--- each value with its position, as positions ascend
+-- each value with its position, in ascending order of positions
 abbrev pub keyed_from : ℕ → List Datum → List (Datum × ℕ)
 keyed_from p [] = []
 keyed_from p (x ∷ xs) = cond (has_order x) ((x, p) ∷ keyed_from (p + 1) xs) (keyed_from (p + 1) xs)
 
--- the values stand in their order, each beside its position
+-- the values are in their order, each with its position
 pub record IsOrderOf (ds : List Datum) (places : List ℕ) (values : List Datum) : Type 0 where
   pub ascends : IsAscending ds
   pub same : IsPermutation (keyed_from 0 values) (zip ds places)
@@ -75,7 +75,7 @@ pub record IsLowRank (ds : List Datum) (low : Edge) (r : ℕ) : Type 0 where
   pub within : r ≤ length ds
   pub splits : (i : ℕ) → i < length ds → is_above (limit_of low) (get_or ds i null) ≡ nat_le r i
 
--- how many values lie below the upper edge, or at it where it is taken in
+-- how many values lie below the upper edge, or at it if it is included
 pub record IsHighRank (ds : List Datum) (high : Edge) (r : ℕ) : Type 0 where
   pub within : r ≤ length ds
   pub splits : (i : ℕ) → i < length ds → is_under (limit_of high) (get_or ds i null) ≡ nat_lt i r

@@ -1,7 +1,7 @@
 -- The first bytes of a text as a number.
 use Rattle.std.specs.Prelude.{ℕ, zero, suc, ◌+◌, ◌*◌, ◌^◌, ◌<◌, List, [], ◌∷◌, get_or}
 
--- the number that the first n bytes are the digits of, to the base of 256; zeros stand where there are none
+-- the number whose digits to the base of 256 are the first n bytes; missing digits are zeros
 abbrev pub front_of : ℕ → List ℕ → ℕ
 front_of zero xs = 0
 front_of (suc n) [] = 0

@@ -13,6 +13,6 @@ value_at place x = datum_at x place
 abbrev pub column : ℕ → List Item → List Datum
 column place xs = map (value_at place) xs
 
--- the positions, as they ascend
+-- the positions, in ascending order
 unfoldable pub range_positions : List Datum → Limit → Limit → List ℕ
 range_positions values low high = filter (λ p. lies_between low high (get_or values p null)) (range_with_len 0 (length values))

@@ -104,7 +104,7 @@ fn read_at<K: Key>(feature: &Feature, place: usize) -> Result<Option<K>, AllocEr
     }
 }
 
-// The keys of the features beside their positions.
+// The keys of the features with their positions.
 fn read_all<K: Key>(
     alloc: Global,
     features: &[Feature],
@@ -138,7 +138,7 @@ fn parted<K: Drop>(alloc: Global, pairs: Vec<(K, u32)>) -> Result<(Vec<K>, Vec<u
     Ok((keys, places))
 }
 
-/// The keys of the features in their order, and beside them their positions.
+/// The keys of the features in their order, and their positions in the same order.
 pub(crate) fn ordered_keys<K: Key>(
     alloc: Global,
     features: &[Feature],

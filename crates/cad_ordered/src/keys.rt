@@ -21,7 +21,7 @@ pub(crate) enum Keys {
     Days(Vec<Day>),
 }
 
-// Whether an answer says before: below, or also where the two are equal.
+// Whether the result of a comparison says before: below, or also equal if `upto` is true.
 fn says_before(answer: Ordering, upto: bool) -> bool
     ensures { result ≡ is_before upto (Some answer) }
 {
@@ -71,7 +71,7 @@ impl Keys {
         }
     }
 
-    // Whether the edge is none, or a value of the keys' kind.
+    // Whether the edge is free, or a value of the keys' kind.
     pub(crate) fn takes(&self, edge: &Edge) -> bool
         ensures { IsTrue result ↔ IsEdgeOf (kind_of self.now) edge.now }
     {
@@ -115,7 +115,7 @@ impl Keys {
         }
     }
 
-    // How many keys lie below the upper edge, or at it where it is taken in.
+    // How many keys lie below the upper edge, or at it if it is included.
     pub(crate) fn high_rank(&self, count: u32, edge: &Edge) -> u32
         requires ascends { IsAscending (data_of self.now) }
         requires counted { count ≡ length (data_of self.now) }

@@ -89,8 +89,8 @@ impl Ordered {
         Ok(ordered)
     }
 
-    /// The index of the features' property at that place, which has that kind; none where the kind has no order. An error is
-    /// want of memory.
+    /// The index of the features' property at that place, which has that kind; `None` if the kind has no order. An error means
+    /// out of memory.
     pub fn build(
         alloc: Global,
         features: &[Feature],
@@ -121,14 +121,14 @@ impl Ordered {
         }
     }
 
-    /// Whether ranges with this end may be asked for: it is none, or a value of the kind.
+    /// Whether ranges with this end may be asked for: it is free, or a value of the kind.
     pub fn takes(&self, edge: &Edge) -> bool
         ensures { IsTrue result ↔ IsEdgeOf self.now.kind edge.now }
     {
         self.keys.takes(edge)
     }
 
-    /// The positions whose value lies from one end to the other, as they stand between two ranks. No memory is taken.
+    /// The positions whose value lies from one end to the other, by the ranks between which they lie. No memory is taken.
     pub fn range(&self, low: &Edge, high: &Edge) -> Found<'_>
         requires low { IsEdgeOf self.now.kind low.now }
         requires high { IsEdgeOf self.now.kind high.now }

@@ -7,7 +7,7 @@ ghost use Rattle.cad_ordered.specs.Fronts.{front_of, AreBytes};
 use std::alloc::{AllocError, Global};
 use std::rc::Rc;
 
-/// The number that the first `count` bytes are the digits of, to the base of 256; where there are fewer, zeros stand for the others.
+/// The number whose digits to the base of 256 are the first `count` bytes; if there are fewer bytes, the missing digits are zeros.
 fn leading(bytes: &[u8], count: u32) -> u64
     requires { count ≤ 8 }
     ensures front { result ≡ front_of count bytes.now }
@@ -32,8 +32,8 @@ fn behind_front(bytes: &[u8]) -> &[u8]
     }
 }
 
-/// A text, behind the numbers of its first eight bytes and of the eight behind them: two texts with other numbers are in the order of
-/// these, which are soon compared. Keys are sorted with their numbers, and kept without.
+/// A text, behind the numbers of its first eight bytes and of the next eight. Two texts with different numbers are in the order of these,
+/// which are quick to compare. Keys are sorted with their numbers, and stored without them.
 #[derive(PartialEq, Eq, PartialOrd, Ord, Drop)]
 pub(crate) struct TextKey {
     front: u64,
@@ -47,7 +47,7 @@ pub(crate) struct TextKey {
 impl TextKey {
     ghost use Rattle.std.specs.Prelude.{◌≡◌, IfOk, string_bytes};
 
-    /// The key of the text, which is shared. An error says that too many share it.
+    /// The key of the text, which is shared. An error means that too many share it.
     pub(crate) fn of(text: &Rc<String>) -> Result<TextKey, AllocError>
         ensures { IfOk result (λ key. string_bytes key.text.value ≡ string_bytes text.now.value) }
     {

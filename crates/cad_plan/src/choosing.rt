@@ -25,7 +25,7 @@ pub(crate) struct Priced {
     pub(crate) cost: u64,
 }
 
-/// Plans other than all, with the least of their costs, or that of all where there are none.
+/// Plans other than all, with the least of their costs, or with the cost of all if there is no such plan.
 #[derive(Drop)]
 pub(crate) struct NarrowPlans {
     pub(crate) plans: Vec<Plan>,
@@ -37,7 +37,7 @@ impl NarrowPlans {
     ghost use Rattle.cad_lookup.specs.Ways.{way_of};
     ghost use Rattle.cad_plan.specs.inner.Gathered.{with_if};
 
-    // Takes the plan where it costs less than all.
+    // Takes the plan if it costs less than all.
     fn add(&mut self, chosen: Priced, all: u64) -> Result<(), AllocError>
         ensures plans { OnOk result (map way_of self.new.plans.items ≡ with_if (nat_lt chosen.cost all) (map way_of self.old.plans.items) (way_of chosen.plan)) }
         ensures cost { OnOk result (self.new.cost ≡ (if nat_lt chosen.cost all then (min self.old.cost chosen.cost) else self.old.cost)) }
@@ -61,7 +61,7 @@ fn all(layer: &Layer) -> Priced
     }
 }
 
-// All, or the plan that is offered where it costs less.
+// All, or the offered plan if it costs less.
 fn all_or(offered: Priced, layer: &Layer) -> Priced
     requires { offered.cost ≡ cost (counts_of layer.now.features) (way_of offered.plan) }
     ensures way { way_of result.plan ≡ cheaper (counts_of layer.now.features) all_features (way_of offered.plan) }
@@ -74,7 +74,7 @@ fn all_or(offered: Priced, layer: &Layer) -> Priced
     }
 }
 
-/// The plan of a range.
+/// The plan for a range.
 pub(crate) fn range_plan(alloc: Global, range: &Range) -> Result<Plan, AllocError>
     ensures { IfOk result (λ plan. way_of plan ≡ range_way range.now) }
 {
@@ -87,7 +87,7 @@ pub(crate) fn range_plan(alloc: Global, range: &Range) -> Result<Plan, AllocErro
     }))
 }
 
-/// The plan of what is near a shape.
+/// The plan for the features near a shape.
 pub(crate) fn near_plan(property: usize, shape: &Shape) -> Plan
     ensures { way_of result ≡ near_block property (block_around (shape_corners shape.now)) }
 {
@@ -126,7 +126,7 @@ fn of_shape(property: usize, shape: &Shape, layer: &Layer) -> Priced
     all_or(Priced { plan, cost }, layer)
 }
 
-// The meet of two plans or more, else the one, or all.
+// The meet of two plans or more, else the only plan, or all.
 fn meet(plans: Vec<Plan>) -> Plan
     ensures { way_of result ≡ met_of (map way_of plans.items) }
 {
@@ -179,7 +179,7 @@ pub(crate) fn chosen(alloc: Global, form: &Normal, layer: &Layer) -> Result<Pric
     }
 }
 
-// The choices of the parts that are other than all.
+// Those choices of the parts that are other than all.
 #[cycle(choose)]
 pub(crate) fn narrow(
     alloc: Global,

@@ -20,7 +20,7 @@ fn cost_in(plan: &Plan, layer: &Layer) -> u64
     }
 }
 
-// The least of the plans' costs; of no plan, that of all features.
+// The least of the plans' costs; without plans, that of all features.
 #[cycle(costs)]
 fn least_cost(plans: &[Plan], layer: &Layer) -> u64
     ensures { result ≡ least_or (length layer.now.features) (map (cost (counts_of layer.now.features)) (map way_of plans.now)) }
@@ -46,7 +46,7 @@ fn sum_of_costs(plans: &[Plan], layer: &Layer) -> u64
     sum
 }
 
-/// How many features of the layer the plan looks at: of a meet the least of its members', of a join their sum, at most the
+/// How many features of the layer the plan looks at: for a meet the least of its members' numbers, for a join their sum, at most the
 /// greatest number of 64 bits.
 pub fn estimate(plan: &Plan, layer: &Layer) -> u64
     ensures { result ≡ cost (counts_of layer.now.features) (way_of plan.now) }

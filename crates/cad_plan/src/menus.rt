@@ -31,7 +31,7 @@ fn add_choices(
     Ok(())
 }
 
-// All, the meet of the parts' choices that are other than all, where they are two or more, and each part's choice.
+// All, the meet of the parts' choices that are other than all, if there are two or more of them, and each part's choice.
 fn of_all(alloc: Global, parts: &[Normal], layer: &Layer) -> Result<Vec<Plan>, AllocError>
     ensures { IfOk result (λ plans. map way_of plans.items ≡ and_menu (map (choice (counts_of layer.now.features)) parts.now)) }
 {
@@ -112,7 +112,7 @@ fn plans_for(alloc: Global, form: &Normal, layer: &Layer) -> Result<Vec<Plan>, A
     }
 }
 
-/// The plans for the form, in order, for the features of the layer. Each feature that meets the form is a candidate of each, in
+/// The plans for the form, in order, for the features of the layer. Each feature that meets the form is a candidate of each plan, in
 /// the layer or not. An error means out of memory.
 pub fn menu(alloc: Global, form: &Normal, layer: &Layer) -> Result<Vec<Plan>, AllocError>
     ensures ways { IfOk result (λ plans. map way_of plans.items ≡ menu_of (counts_of layer.now.features) form.now) }

@@ -8,7 +8,7 @@ use Rattle.std.proofs.lemmas.List.Kept.{IsStrictlyIncreasing-filter}
 use Rattle.std.proofs.lemmas.List.Sums.{count_by-le-length, length-filter}
 use Rattle.cad_positions.specs.Between.{range_increases}
 
--- how many positions there are: it stays closed, so that nothing counts them out
+-- how many positions there are: the definition stays closed, so that nothing counts them out
 pub most : ℕ
 most = 2 ^ 32
 
@@ -16,7 +16,7 @@ pub most_is : most ≡ 2 ^ 32
 unfolding most
 most_is = refl
 
--- the positions that pass, as they ascend
+-- the positions that pass, in ascending order
 abbrev pub rows_of : (ℕ → Bool) → List ℕ
 rows_of test = filter test (range_with_len 0 most)
 

@@ -1,4 +1,4 @@
--- Fronts that are known, and what they say of what is left.
+-- Fronts that are known, and what they say of the positions that are left.
 use Rattle.std.specs.Prelude.{ℕ, Bool, true, false, ◌&&◌, ◌||◌, ◌==◌, nat_lt, Option, Some, None}
 use Rattle.cad_positions.specs.declared.front.Front.{Front}
 use Rattle.cad_positions.specs.declared.front.Front.TheVariants.{Unknown, At, Spent}
@@ -20,7 +20,7 @@ is_before Unknown from = true
 is_before (At row) from = nat_lt row from
 is_before Spent from = false
 
--- what is left of a source with that front: the front, and what comes after it
+-- the positions left of a source with that front: the front, and those that come after it
 abbrev pub behind : Front → (ℕ → Bool) → ℕ → Bool
 behind Unknown left k = left k
 behind (At row) left k = (k == row) || (nat_lt row k && left k)

@@ -1,4 +1,4 @@
--- What is left: sets of positions, and what taking from their fronts does.
+-- The positions that are left: sets of positions, and the effect of taking from their fronts.
 use Rattle.std.specs.Prelude.{◌≡◌, ℕ, ◌<◌, Bool, true, false, ◌&&◌, nat_le, List, [], Option, MatchOption}
 
 -- the least position that is left, if there is one
@@ -9,7 +9,7 @@ IsFront left front = MatchOption front ((k : ℕ) → left k ≡ false) (λ m. (
 abbrev pub DropsBelow : (ℕ → Bool) → (ℕ → Bool) → ℕ → Type 0
 DropsBelow old new from = (k : ℕ) → new k ≡ (old k && nat_le from k)
 
--- all below a position are dropped, and the front is told
+-- all below a position are dropped, and the front is returned
 pub record Settles (old new : ℕ → Bool) (from : ℕ) (found : Option ℕ) : Type 0 where
   pub kept : DropsBelow old new from
   pub front : IsFront new found

@@ -6,7 +6,7 @@ ghost use Rattle.cad_positions.specs.Has.{has, has_any, has_all};
 use crate::source::Source;
 use std::alloc::{AllocError, Global};
 
-/// Two by two, those of either.
+/// The sources joined in pairs.
 fn joined_pairs<'a>(alloc: Global, sources: Vec<Source<'a>>) -> Result<Vec<Source<'a>>, AllocError>
     ensures any { IfOk result (λ pairs. (k : ℕ) → has_any pairs.items k ≡ has_any sources.entry.items k) }
     ensures fewer { IfOk result (λ pairs. 2 * length pairs.items ≤ length sources.entry.items + 1) }
@@ -25,7 +25,7 @@ fn joined_pairs<'a>(alloc: Global, sources: Vec<Source<'a>>) -> Result<Vec<Sourc
     Ok(pairs)
 }
 
-/// The positions that some of the sources have: of no sources, none. An error means out of memory.
+/// The positions that some of the sources have. Without sources there are no positions. An error means out of memory.
 pub fn join_all<'a>(alloc: Global, sources: Vec<Source<'a>>) -> Result<Source<'a>, AllocError>
     ensures { IfOk result (λ joined. (k : ℕ) → has joined k ≡ has_any sources.entry.items k) }
 {
@@ -36,7 +36,7 @@ pub fn join_all<'a>(alloc: Global, sources: Vec<Source<'a>>) -> Result<Source<'a
     Ok(sources.pop().unwrap_or(Source::Empty))
 }
 
-/// Two by two, those of both.
+/// The sources met in pairs.
 fn met_pairs<'a>(alloc: Global, sources: Vec<Source<'a>>) -> Result<Vec<Source<'a>>, AllocError>
     ensures all { IfOk result (λ pairs. (k : ℕ) → has_all pairs.items k ≡ has_all sources.entry.items k) }
     ensures fewer { IfOk result (λ pairs. 2 * length pairs.items ≤ length sources.entry.items + 1) }

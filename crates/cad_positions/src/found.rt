@@ -29,7 +29,7 @@ impl<'a> Model for Found<'a> {
     ghost invariant = { λ f. IsPart f.places.now f.ranks.now f.low f.high };
 }
 
-// The positions that stand between two places, as they ascend.
+// The positions at the places from `low` on, below `high`, in ascending order.
 fn sorted(alloc: Global, places: &[u32], low: u32, high: u32) -> Result<Vec<u32>, AllocError>
     requires ordered { low ≤ high }
     requires within { high ≤ length places.now }
@@ -54,14 +54,14 @@ impl<'a> Found<'a> {
         }
     }
 
-    /// How many there are. No memory is taken.
+    /// How many positions there are. No memory is taken.
     pub fn count(&self) -> u32
         ensures { result ≡ length self.now }
     {
         self.high - self.low
     }
 
-    /// They as they are best walked: few in a list that is sorted, many by their ranks. An error means out of memory.
+    /// The positions in the form that is best walked: few in a sorted list, many by their ranks. An error means out of memory.
     pub fn positions(&self, alloc: Global) -> Result<Positions<'a>, AllocError>
         ensures { IfOk result (Keeps self.now) }
     {
@@ -77,7 +77,7 @@ impl<'a> Found<'a> {
         }
     }
 
-    // Whether they are few beside all positions, so that sorting them is cheaper than looking at each position.
+    // Whether they are few among all positions, so that sorting them is cheaper than looking at each position.
     fn are_few(&self) -> bool {
         (self.high - self.low) as usize <= self.ranks.len() / 64
     }

@@ -25,7 +25,7 @@ impl Front {
         }
     }
 
-    /// Whether the source has to be settled to begin at `from`.
+    /// Whether the source must be settled so that it begins at `from`.
     pub(crate) fn is_before(self, from: u32) -> bool
         ensures { result ≡ is_before self from }
     {
@@ -36,7 +36,7 @@ impl Front {
         }
     }
 
-    /// The position, where one was found.
+    /// The position, if one was found.
     pub(crate) fn found(self) -> Option<u32>
         ensures { result ≡ found_of self }
     {

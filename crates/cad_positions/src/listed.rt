@@ -5,7 +5,7 @@ ghost use Rattle.std.specs.List.Sorted.{IsStrictlyIncreasing};
 ghost use Rattle.cad_positions.specs.Held.{is_left};
 ghost use Rattle.cad_positions.specs.Left.{Settles};
 
-/// What is left of an ascending list of positions.
+/// The rest of an ascending list of positions.
 #[derive(Debug, Drop)]
 pub struct Listed {
     rows: Vec<u32>,
@@ -24,7 +24,7 @@ impl Listed {
         Listed { rows, at: 0 }
     }
 
-    /// Drops the positions below `from`, and answers the front.
+    /// Drops the positions below `from`, and returns the front.
     pub(crate) fn settle(&mut self, from: u32) -> Option<u32>
         ensures { Settles (is_left self.old.rows.items self.old.at) (is_left self.new.rows.items self.new.at) from result }
     {

@@ -12,15 +12,15 @@ use std::alloc::{AllocError, Global};
 pub struct Ranking {
     places: Vec<u32>,
     ranks: Vec<u32>,
-    /// Each position stands in the order at its rank.
+    /// Each position of the order is in it at the place that is its rank.
     pub ghost inverse: { AreInverse places.items ranks.items },
     /// Positions have 32 bits.
     pub ghost small: { length ranks.items ≤ 4294967295 },
-    /// Positions stand in the order at most once.
+    /// The order has each position at most once.
     pub ghost no_more: { length places.items ≤ length ranks.items },
 }
 
-// The rank of each position, and no rank where it stands nowhere.
+// The rank of each position; a position that is not in the order has no rank.
 fn ranks_of(alloc: Global, places: &[u32], count: usize) -> Result<Vec<u32>, AllocError>
     requires small { length places.now ≤ 4294967295 }
     requires known { All (λ p. p < count) places.now }
@@ -38,7 +38,7 @@ fn ranks_of(alloc: Global, places: &[u32], count: usize) -> Result<Vec<u32>, All
 impl Ranking {
     ghost use Rattle.cad_positions.specs.Parts.{places_in, ranks_in};
 
-    /// The ranking of `count` positions, of which these stand in this order. An error means out of memory.
+    /// The ranking of `count` positions, of which the given ones are ordered as given. An error means out of memory.
     pub fn new(alloc: Global, places: Vec<u32>, count: usize) -> Result<Ranking, AllocError>
         requires small { count ≤ 4294967295 }
         requires fewer { length places.items ≤ count }
@@ -51,14 +51,14 @@ impl Ranking {
         Ok(Ranking { places, ranks })
     }
 
-    /// How many positions stand in the order.
+    /// How many positions the order has.
     pub fn ranked(&self) -> u32
         ensures { result ≡ length (places_in self.now) }
     {
         self.places.len() as u32
     }
 
-    /// The positions whose ranks lie from low on, below high.
+    /// The positions whose ranks lie from `low` on, below `high`.
     pub fn found(&self, low: u32, high: u32) -> Found<'_>
         requires ordered { low ≤ high }
         requires within { high ≤ length (places_in self.now) }

@@ -11,7 +11,7 @@ pub(crate) fn is_ranked(end: u32, ranks: &[u32], from: u32, to: u32, row: u32) -
     row < end && from <= rank && rank < to
 }
 
-/// The position's rank; 0 where it has none.
+/// The position's rank; 0 if it has none.
 fn rank_of(ranks: &[u32], row: usize) -> u32
     ensures { result ≡ slice_index ranks.now row }
 {

@@ -8,7 +8,7 @@ use crate::row_source::RowSource;
 use crate::settling::settle;
 use crate::source::Source;
 
-/// What a tree of sources has from a position on. A position that is sought past is not looked at.
+/// What a tree of sources has from a position on. Positions that a seek passes are not looked at.
 #[derive(Debug, Drop)]
 pub struct Rows<'a> {
     source: Source<'a>,

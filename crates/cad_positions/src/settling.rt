@@ -10,7 +10,7 @@ use crate::front::Front;
 use crate::ranks::is_ranked;
 use crate::source::{Joined, Met, Source, Tested};
 
-/// Drops the positions below `from`, and answers the front.
+/// Drops the positions below `from`, and returns the front.
 #[cycle(settle)]
 pub(crate) fn settle(source: &mut Source, from: u32) -> Option<u32>
     ensures settles { Settles (has source.old) (has source.new) from result }
@@ -31,7 +31,7 @@ pub(crate) fn settle(source: &mut Source, from: u32) -> Option<u32>
     }
 }
 
-/// Walks the source until a position has its rank in the range, or stands above all.
+/// Walks the source until a position has its rank in the range, or is not below the end.
 #[cycle(settle)]
 fn settle_tested(tested: &mut Tested, from: u32) -> Option<u32>
     ensures settles { Settles (has_tested tested.old) (has_tested tested.new) from result }
@@ -50,7 +50,7 @@ fn settle_tested(tested: &mut Tested, from: u32) -> Option<u32>
     None
 }
 
-/// Moves each side to the other's front, until they stand at one position.
+/// Moves each side to the other's front, until both are at one position.
 #[cycle(settle)]
 fn settle_met(met: &mut Met, from: u32) -> Option<u32>
     ensures settles { Settles (has_met met.old) (has_met met.new) from result }
@@ -71,7 +71,7 @@ fn settle_met(met: &mut Met, from: u32) -> Option<u32>
     }
 }
 
-/// Settles the sides that stand before `from`; the less of the fronts is the first of both.
+/// Settles the sides that are before `from`; the smaller of their fronts is the first of both.
 #[cycle(settle)]
 fn settle_joined(joined: &mut Joined, from: u32) -> Option<u32>
     ensures settles { Settles (has_joined joined.old) (has_joined joined.new) from result }
@@ -82,7 +82,7 @@ fn settle_joined(joined: &mut Joined, from: u32) -> Option<u32>
     least(joined.first_front.found(), joined.second_front.found())
 }
 
-/// Settles a source, unless its front is known and stands at `from` or behind it.
+/// Settles a source, unless its front is known and is at `from` or behind it.
 #[cycle(settle)]
 fn advance(source: &mut Source, front: Front, from: u32) -> Front
     ensures settles { Settles (behind front (has source.old)) (behind result (has source.new)) from (found_of result) }
@@ -96,7 +96,7 @@ fn advance(source: &mut Source, front: Front, from: u32) -> Front
     }
 }
 
-/// The less of two fronts.
+/// The smaller of two fronts.
 fn least(first: Option<u32>, second: Option<u32>) -> Option<u32>
     ensures { (p q : ℕ → Bool) → IsFront p first → IsFront q second → IsFront (λ k. p k || q k) result }
 {

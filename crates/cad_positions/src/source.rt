@@ -8,7 +8,7 @@ use std::alloc::{AllocError, Global};
 #[derive(Debug, Drop)]
 #[cycle(source)]
 pub enum Source<'a> {
-    /// None.
+    /// No positions.
     Empty,
     /// All from one on, below another.
     Scan {
@@ -27,7 +27,7 @@ pub enum Source<'a> {
     Joined(Joined<'a>),
 }
 
-/// The positions of a source below `end` whose ranks lie from `from` to below `to`. The rank of each position stands in `ranks`.
+/// The positions of a source below `end` whose ranks lie from `from` to below `to`. `ranks` holds the rank of each position.
 #[derive(Debug, Drop)]
 #[cycle(source)]
 pub struct Tested<'a> {
@@ -46,7 +46,7 @@ pub struct Met<'a> {
     pub(crate) second: Box<Source<'a>>,
 }
 
-/// The positions of either. A side whose front is known is settled again only where that front is passed.
+/// The positions of either. A side whose front is known is settled again only when that front is passed.
 #[derive(Debug, Drop)]
 #[cycle(source)]
 pub struct Joined<'a> {

@@ -51,12 +51,12 @@ lies_in x r = lies_between (limit_of r.low) (limit_of r.high) (datum_at x r.prop
 
 -- ---- words of the contracts
 
--- no range holds nothing
+-- without a range, the feature lies in none
 abbrev pub lies_in_if_any : Item → Option Range → Bool
 lies_in_if_any x None = false
 lies_in_if_any x (Some r) = lies_in x r
 
--- of two tests the second or the first; where none is picked, false
+-- the second of two tests or the first, as the option says; if it says neither, false
 abbrev pub picked : Option Bool → Bool → Bool → Bool
 picked None a b = false
 picked (Some second) a b = if second then b else a

@@ -10,7 +10,7 @@ ghost use Rattle.cad_range.specs.Ranges.{chosen_of, compared, holds_of, is_above
 use crate::ordering::order;
 use cad_feature::{Edge, Range, Scalar};
 
-// Whether the second of two lower ends is the one that decides, where they are of one kind.
+// Whether the second of two lower ends is the one that decides, if they are of one kind.
 fn is_second_above(first: &Edge, second: &Edge) -> Option<bool>
     ensures { (d : Datum) → picked result (is_above (limit_of first.now) d) (is_above (limit_of second.now) d) ≡ (is_above (limit_of first.now) d && is_above (limit_of second.now) d) }
 {
@@ -24,7 +24,7 @@ fn is_second_above(first: &Edge, second: &Edge) -> Option<bool>
     }
 }
 
-// The same of two upper ends.
+// The same for two upper ends.
 fn is_second_under(first: &Edge, second: &Edge) -> Option<bool>
     ensures { (d : Datum) → picked result (is_under (limit_of first.now) d) (is_under (limit_of second.now) d) ≡ (is_under (limit_of first.now) d && is_under (limit_of second.now) d) }
 {
@@ -75,7 +75,7 @@ fn is_not_before(a: &Scalar, b: &Scalar) -> bool
     }
 }
 
-/// The range from one end to the other, or none where they are turned round.
+/// The range from one end to the other, or none if they are turned round.
 pub fn range_between(property: usize, low: Edge, high: Edge) -> Option<Range>
     ensures { (x : Item) → lies_in_if_any x result ≡ lies_between (limit_of low) (limit_of high) (datum_at x property) }
 {
@@ -89,7 +89,7 @@ pub fn range_between(property: usize, low: Edge, high: Edge) -> Option<Range>
     })
 }
 
-/// The values that lie in both of two ranges of one property, or none where no value does.
+/// The values that lie in both of two ranges of one property, or none if no value does.
 pub fn joined(first: Range, second: Range) -> Option<Range>
     requires { first.property ≡ second.property }
     ensures { (x : Item) → lies_in_if_any x result ≡ (lies_in x first && lies_in x second) }

@@ -4,7 +4,7 @@
 //!
 //! - [`Range`], [`Edge`], [`Scalar`]: the values of one property between two ends
 //! - [`lies_in`]: whether a feature has a value inside a range
-//! - [`range_between`]: the range from one end to another, where they are not turned round
+//! - [`range_between`]: the range from one end to another, if they are not turned round
 //! - [`joined`]: the range of the values that lie in both of two
 //! - [`order`]: the order of two values of one kind
 #![tactic(auto)]

@@ -20,7 +20,7 @@ pub(crate) trait HasOrder {
 
     ghost has_one: { (x : Self) → has_order (datum x) ≡ true };
 
-    /// How it is ordered against a scalar, if they are of one kind.
+    /// How it compares with a scalar, if they are of one kind.
     fn against(&self, scalar: &Scalar) -> Option<Ordering>
         ensures { result ≡ compared (datum self.now) (scalar_datum scalar.now) };
 }
@@ -73,7 +73,7 @@ impl HasOrder for String {
     }
 }
 
-/// How one value is ordered against another, if they are of one kind.
+/// How one value compares with another, if they are of one kind.
 pub fn order(first: &Scalar, second: &Scalar) -> Option<Ordering>
     ensures { result ≡ compared (scalar_datum first.now) (scalar_datum second.now) }
 {

@@ -1,4 +1,4 @@
--- What is left of the candidates of a base.
+-- The remaining candidates of a base.
 use Rattle.std.specs.Prelude.{◌<◌, ◌≤◌, ◌^◌, List, length}
 use Rattle.std.proofs.Common.{arith}
 use Rattle.std.specs.List.Sorted.{IsStrictlySortedBy}

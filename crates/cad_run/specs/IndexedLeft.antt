@@ -1,4 +1,4 @@
--- What is left of the candidates of indexed features.
+-- The remaining candidates of indexed features.
 use Rattle.std.specs.Prelude.{◌≡◌, suc, ◌<◌, ◌≤◌, ◌^◌, true, List, [], ◌∷◌, length}
 use Rattle.std.proofs.Common.{arith}
 use Rattle.std.specs.Option.{option_copied}
@@ -17,7 +17,7 @@ use Rattle.cad_run.specs.Bases.{rows_few, rows_left}
 use Rattle.cad_run.specs.Peeked.{peeked_left}
 use Rattle.cad_run.specs.Standing.{standing, stands}
 
--- of indexed features: those of the base in whose place no older change stands, and the older changes
+-- of indexed features: those of the base that no older change replaces, and the older changes
 abbrev pub indexed_left : IndexedCandidates → List Item
 indexed_left i = all_in (standing i.older.now (peeked_left rows_left i.bases)) (peeked_left rows_left i.olders)
 
@@ -35,11 +35,11 @@ indexed_bounded i =
     let olders = peeked_left rows_left i.olders in
     omega (arith, fewer_merged (standing i.older.now bases) olders, filter_fewer (stands i.older.now) bases, peeked_few i.bases, peeked_few i.olders)
 
--- no older change stands in the place of the first of a list
+-- no older change replaces the first of a list
 abbrev pub FirstStands : List Item → List Item → Type 0
 FirstStands cs [] = Unit {0}
 FirstStands cs (x ∷ xs) = stands cs x ≡ true
 
--- nor of the first of the base that is left
+-- nor the first of the rest of the base
 abbrev pub BaseStandsFirst : IndexedCandidates → Type 0
 BaseStandsFirst i = FirstStands i.older.now (peeked_left rows_left i.bases)

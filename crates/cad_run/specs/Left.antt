@@ -1,4 +1,4 @@
--- What is left of the candidates of a layer.
+-- The remaining candidates of a layer.
 use Rattle.std.specs.Prelude.{◌<◌, ◌^◌, List, length}
 use Rattle.std.specs.List.Sorted.{IsStrictlySortedBy}
 use Rattle.cad_feature.specs.Features.{Item, by_identifier}

@@ -7,11 +7,11 @@ abbrev pub holds_for : (Item → Bool) → Option Item → Bool
 holds_for test None = false
 holds_for test (Some x) = test x
 
--- the feature at the position passes; past the last feature none does
+-- the feature at the position passes; past the last feature, false
 abbrev pub holds_at : (Item → Bool) → List Item → ℕ → Bool
 holds_at test xs k = holds_for test (slice_get xs k)
 
--- the features from a position on pass, and none before it
+-- the features from a position on pass, and no feature before it
 abbrev pub PassFrom : (Item → Bool) → List Item → ℕ → Type 0
 PassFrom test xs start = (k : ℕ) (x : Item) → slice_get xs k ≡ Some x → test x ≡ nat_le start k
 

@@ -1,4 +1,4 @@
--- What is left of the candidates of segments.
+-- The remaining candidates of segments.
 use Rattle.std.specs.Prelude.{List, [], ◌∷◌, ◌++◌, filter}
 use Rattle.cad_feature.specs.Features.{Item}
 use Rattle.cad_lookup.specs.Candidates.{is_candidate}
@@ -11,7 +11,7 @@ use Rattle.cad_run.specs.Peeked.{peeked_left}
 abbrev pub segment_left : SegmentCandidates → List Item
 segment_left s = filter (is_candidate s.plan.now) (all_in (peeked_left indexed_left s.bases) s.changes.now)
 
--- of several, the last of which stands first
+-- of several segments; the list has the last segment first
 abbrev pub all_left : List SegmentCandidates → List Item
 all_left [] = []
 all_left (s ∷ ss) = all_left ss ++ segment_left s

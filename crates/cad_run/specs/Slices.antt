@@ -7,11 +7,11 @@ use Rattle.cad_feature.specs.Features.{Item}
 use Rattle.cad_layer.specs.Identifiers.{comes_after}
 use Rattle.cad_run.specs.declared.rows.Page.{Page}
 
--- of an object and the number of its version
+-- from an object and the number of its version
 abbrev pub identifier : ObjectId × ℕ → ℤ × ℤ
 identifier i = identifier_with i.0 i.1
 
--- those after the one that is named, or all
+-- those after the named one, or all
 abbrev pub is_later : Option (ℤ × ℤ) → Item → Bool
 is_later None x = true
 is_later (Some named) x = comes_after named x
@@ -19,11 +19,11 @@ is_later (Some named) x = comes_after named x
 abbrev pub later : Option (ℤ × ℤ) → List Item → List Item
 later last xs = filter (is_later last) xs
 
--- of those the first, as many as are wanted
+-- the first of those, as many as are wanted
 abbrev pub slice : Option (ℤ × ℤ) → ℕ → List Item → List Item
 slice last limit xs = take limit (later last xs)
 
--- one is left after them
+-- at least one is left after them
 abbrev pub is_more : Option (ℤ × ℤ) → ℕ → List Item → Bool
 is_more last limit xs = nat_lt limit (length (later last xs))
 

@@ -1,14 +1,14 @@
--- The features in whose place no change stands.
+-- The features that no change replaces.
 use Rattle.std.specs.Prelude.{Bool, false, not, ◌||◌, List, [], ◌∷◌, filter}
 use Rattle.std.specs.Ordering.{is_eq}
 use Rattle.cad_feature.specs.Features.{Item, by_identifier}
 
--- one of the changes stands in its place
+-- one of the changes replaces it
 abbrev pub is_replaced : List Item → Item → Bool
 is_replaced [] x = false
 is_replaced (c ∷ cs) x = is_eq (by_identifier c x) || is_replaced cs x
 
--- none does
+-- no change replaces it
 abbrev pub stands : List Item → Item → Bool
 stands cs x = not (is_replaced cs x)
 

@@ -15,7 +15,7 @@ use cad_positions::{RowSource, Rows};
 use cad_versions::ObjectId;
 use std::alloc::{AllocError, Global};
 
-/// What is left of the candidates of a base: the features at some positions.
+/// The remaining candidates of a base: the features at some positions.
 #[derive(Debug, Drop)]
 pub(crate) struct Bases<'a> {
     features: &'a [Feature],

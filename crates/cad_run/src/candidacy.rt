@@ -14,7 +14,7 @@ use cad_lookup::Plan;
 use cad_range::lies_in;
 use cad_shape::Bounds;
 
-// Whether some cell is among both, or the feature's own are more than 64.
+// Whether the two have a cell in common, or the feature has more than 64 cells.
 fn are_near(own: Cells, asked: Cells) -> bool
     ensures { result ≡ is_looked_at (block_at asked) (Some (block_at own)) }
 {

@@ -18,16 +18,16 @@ use cad_lookup::Plan;
 use cad_versions::ObjectId;
 use std::alloc::{AllocError, Global};
 
-/// What is left of a plan's candidates, segment by segment.
+/// A plan's remaining candidates, segment by segment.
 #[derive(Drop)]
 pub struct Candidates<'a, 'p> {
-    /// The last first.
+    /// The last segment comes first.
     sources: Vec<SegmentCandidates<'a, 'p>>,
     ghost ascending: { IsStrictlySortedBy by_identifier (all_left sources.items) } by { Prim.hlevel props },
     ghost few: { length (all_left sources.items) < 2 ^ 64 },
 }
 
-/// The sources of the segments that may have candidates, the last first.
+/// The sources of the segments that may have candidates. The last segment comes first.
 fn sources_of<'a, 'p>(
     alloc: Global,
     plan: &'p Plan,
@@ -53,7 +53,7 @@ fn drop_last<T: Drop>(items: &mut Vec<T>)
     items.pop();
 }
 
-/// Takes the first of what is left. The sources before its own, which have nothing left, are dropped.
+/// Takes the first of the rest. The sources before its own have nothing left, and are dropped.
 fn take_first<'a>(sources: &mut Vec<SegmentCandidates<'a, '_>>) -> Option<&'a Feature>
     ensures { MatchOption result ((all_left sources.old.items ≡ []) × (all_left sources.new.items ≡ [])) (λ x. all_left sources.old.items ≡ x.now ∷ all_left sources.new.items) }
 {
@@ -66,7 +66,7 @@ fn take_first<'a>(sources: &mut Vec<SegmentCandidates<'a, '_>>) -> Option<&'a Fe
     None
 }
 
-/// Drops what is left of each up to the feature that is named.
+/// Drops from each source what is left up to the named feature.
 fn seek_each(sources: &mut [SegmentCandidates<'_, '_>], last: (ObjectId, u32))
     ensures { all_left sources.new ≡ later (Some (identifier last)) (all_left sources.old) }
 {
@@ -78,7 +78,7 @@ fn seek_each(sources: &mut [SegmentCandidates<'_, '_>], last: (ObjectId, u32))
 impl<'a, 'p> Candidates<'a, 'p> {
     ghost use Rattle.cad_run.specs.Left.{candidates_left};
 
-    /// Those of the layer. An error means out of memory.
+    /// The candidates of the layer. An error means out of memory.
     pub fn of(
         alloc: Global,
         plan: &'p Plan,
@@ -86,7 +86,7 @@ impl<'a, 'p> Candidates<'a, 'p> {
     ) -> Result<Candidates<'a, 'p>, AllocError>
         ensures { IfOk result (λ left. candidates_left left ≡ candidates plan.now layer.now.features) }
     {
-        // Features ascend, and a counter holds how many there are: so it is of the candidates that are left.
+        // Features ascend, and a counter holds their number: so the same holds of the candidates that are left.
         let _collection = layer.collection();
         let _count = layer.count();
         let sources = sources_of(alloc, plan, layer.segments())?;

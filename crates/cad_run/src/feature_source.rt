@@ -8,22 +8,22 @@ ghost use Rattle.cad_run.specs.Slices.{identifier, later};
 use cad_feature::Feature;
 use cad_versions::ObjectId;
 
-/// Features that ascend by identifier, each once, however they are found. A source that gave nothing gives nothing again.
+/// Features that ascend by identifier, each once, no matter how they are found. A source that gave nothing gives nothing again.
 pub trait FeatureSource<'a>: Drop {
-    /// What is left.
+    /// The features that are left.
     ghost left: { Self → List Item };
 
-    /// Takes the first of what is left.
+    /// Takes the first feature that is left.
     fn next(&mut self) -> Option<&'a Feature>
         ensures { MatchOption result ((left self.old ≡ []) × (left self.new ≡ [])) (λ x. left self.old ≡ x.now ∷ left self.new) };
 
-    /// Drops what is left up to the feature that is named, which need not be one of them.
+    /// Drops what is left up to the named feature, which need not be one of them.
     fn seek(&mut self, last: (ObjectId, u32))
         ensures { left self.new ≡ later (Some (identifier last)) (left self.old) };
 
-    /// It ascends, without doubles.
+    /// They ascend, without duplicates.
     ghost ascends: { (s : Self) → IsStrictlySortedBy by_identifier (left s) };
 
-    /// There are fewer than a counter holds.
+    /// There are fewer than a counter can hold.
     ghost bounded: { (s : Self) → length (left s) < 2 ^ 64 };
 }

@@ -10,8 +10,8 @@ use crate::kept::Kept;
 use crate::rows::Page;
 use std::alloc::{AllocError, Global};
 
-/// The first features that pass, at most `limit` of them. It stops at the one that shows that more are left. An error is want of
-/// memory.
+/// The first features that pass, at most `limit` of them. It stops at the feature that shows that more are left. An error means
+/// out of memory.
 pub(crate) fn find<'a, S: FeatureSource<'a>, T: FeatureTest>(
     alloc: Global,
     source: S,

@@ -1,4 +1,4 @@
-//! Where features come after one that is named.
+//! The position from which on features come after a named one.
 
 ghost use Rattle.std.specs.Prelude.{◌≡◌, ◌≤◌, length, Some};
 ghost use Rattle.std.specs.List.Sorted.{IsStrictlySortedBy};
@@ -9,7 +9,7 @@ ghost use Rattle.cad_run.specs.Slices.{identifier, is_later};
 use cad_feature::Feature;
 use cad_versions::{ObjectId, compare_identifiers};
 
-/// Whether the feature comes after the one that is named.
+/// Whether the feature comes after the named one.
 pub(crate) fn comes_after(feature: &Feature, last: (ObjectId, u32)) -> bool
     ensures { result ≡ is_later (Some (identifier last)) feature.now }
 {

@@ -18,8 +18,8 @@ use cad_lookup::Plan;
 use cad_versions::ObjectId;
 use std::alloc::{AllocError, Global};
 
-/// What is left of a plan's candidates among features of a base and older changes to it: those of the base, but for those in whose place
-/// a change stands, and those of the changes, both found by indexes.
+/// A plan's remaining candidates among features of a base and older changes to it: those of the base that no change replaces, and those
+/// of the changes. Both are found by indexes.
 #[derive(Drop)]
 pub(crate) struct IndexedCandidates<'a> {
     bases: Peeked<'a, Bases<'a>>,
@@ -34,7 +34,7 @@ impl<'a> IndexedCandidates<'a> {
     ghost use Rattle.cad_lookup.specs.Candidates.{is_candidate};
     ghost use Rattle.cad_run.specs.IndexedLeft.{indexed_left, BaseStandsFirst};
 
-    /// Those of the indexed features. An error means out of memory.
+    /// The candidates of the indexed features. An error means out of memory.
     pub(crate) fn of(
         alloc: Global,
         plan: &Plan,
@@ -52,7 +52,7 @@ impl<'a> IndexedCandidates<'a> {
         })
     }
 
-    /// Drops the first of the base, up to one in whose place no change stands.
+    /// Drops the first features of the base, up to one that no change replaces.
     fn drop_replaced(&mut self)
         ensures left { indexed_left self.new ≡ indexed_left self.old }
         ensures first { BaseStandsFirst self.new }

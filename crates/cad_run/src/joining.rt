@@ -37,7 +37,7 @@ fn all_tested<'a>(
     Ok(source)
 }
 
-/// The positions below `count` of all parts: of what is walked, where the tests are made.
+/// The positions below `count` that all parts have: the parts that are walked, with the tests made on them.
 pub(crate) fn met<'a>(
     alloc: Global,
     parts: Vec<Part<'a>>,

@@ -8,7 +8,7 @@ use crate::feature_test::FeatureTest;
 use cad_feature::Feature;
 use std::alloc::AllocError;
 
-/// A source whose features are tested, and how many were.
+/// A source whose features are tested, and how many were tested.
 #[derive(Drop)]
 pub struct Kept<S> {
     source: S,
@@ -34,7 +34,7 @@ impl<'a, S: FeatureSource<'a>> Kept<S> {
         self.examined
     }
 
-    /// The next feature that passes; those before it are taken with it. An error means out of memory.
+    /// The next feature that passes; those before it are taken too. An error means out of memory.
     pub fn kept<T: FeatureTest>(&mut self, test: &T) -> Result<Option<&'a Feature>, AllocError>
         requires few { self.old.examined + length (S.left self.old.source) < 2 ^ 64 }
         ensures rows { IfOk result (λ r. MatchOption r (filter (T.passes test.now) (S.left self.old.source) ≡ []) (λ x. filter (T.passes test.now) (S.left self.old.source) ≡ x.now ∷ filter (T.passes test.now) (S.left self.new.source))) }

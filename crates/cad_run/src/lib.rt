@@ -1,17 +1,17 @@
 //! Pages of the features of a layer, by the candidates of a plan.
 //!
-//! - [`page`]: the first of a plan's candidates that pass a test, after one that is named, and whether more are left: a
+//! - [`page`]: the first of a plan's candidates that pass a test, after a named one, and whether more are left: a
 //!   [`Page`], with how many were tested
-//! - [`FeatureSource`]: features that are taken one after the other, in the order of identifiers, or dropped up to one that is named
+//! - [`FeatureSource`]: features that are taken one after the other, in the order of identifiers, or dropped up to a named one
 //! - [`Candidates`]: a plan's candidates as such a source
 //! - [`Kept`]: the features of any source that a test keeps, and how many were tested
-//! - [`RowSource`]: positions one after the other; of these a base's candidates are made
+//! - [`RowSource`]: positions one after the other, from which a base's candidates are made
 //! - [`candidate_count`]: how many candidates a plan has
 //! - [`FeatureTest`]: a test of features
 //! - [`Layer`], [`Plan`]: the features with their indexes, and which of them are looked at
 //!
-//! Of the parcels 1.1, 1.2, 2.1, 3.1 and 4.1 and the plan of the range of `object` up to 2, the page of one after 1.1 that has
-//! any feature is 1.2: more are left, for 2.1 is one, and both were tested.
+//! Take the parcels 1.1, 1.2, 2.1, 3.1 and 4.1, the plan of the range of `object` up to 2, and a test that any feature passes. The page
+//! of one feature after 1.1 is 1.2. More are left, since 2.1 is a candidate, and both were tested.
 #![tactic(auto)]
 
 mod bases;

@@ -15,7 +15,7 @@ use cad_lookup::Plan;
 use cad_versions::ObjectId;
 use std::alloc::{AllocError, Global};
 
-/// What is left of the source after the feature that is named, or all of it.
+/// The rest of the source after the named feature, or all of it.
 fn left_after<'a, S: FeatureSource<'a>>(source: S, after: Option<(ObjectId, u32)>) -> S
     ensures { S.left result ≡ later (option_map identifier after) (S.left source) }
 {
@@ -29,8 +29,8 @@ fn left_after<'a, S: FeatureSource<'a>>(source: S, after: Option<(ObjectId, u32)
     }
 }
 
-/// The page of the plan's candidates that pass the test: the first of them after the one that is named, `limit` of them at
-/// most. An error means out of memory.
+/// The page of the plan's candidates that pass the test: the first of them after the named one, at most `limit` of them. An error means
+/// out of memory.
 ///
 /// Candidates are tested in their order, each once, up to the one that shows that more are left.
 pub fn page<'a, T: FeatureTest>(

@@ -31,7 +31,7 @@ pub(crate) enum Part<'a> {
     Wide(Wide<'a>),
 }
 
-// Few are walked, and many are a test.
+// If there are few they are walked, and if there are many they are a test.
 fn found_part<'a>(alloc: Global, found: &Found<'a>) -> Result<Part<'a>, AllocError>
     requires { IsStrictlyIncreasing found.now }
     ensures { IfOk result (λ part. (k : ℕ) → has_part part k ≡ is_among found.now k) }

@@ -6,7 +6,7 @@ use cad_feature::Feature;
 use cad_versions::ObjectId;
 use std::cmp::Ordering;
 
-/// What is left of a source, behind the feature that was looked at and not taken yet.
+/// The rest of a source, behind the feature that was looked at and not taken yet.
 #[derive(Drop)]
 pub(crate) struct Peeked<'a, S> {
     source: S,
@@ -18,7 +18,7 @@ impl<'a, S: FeatureSource<'a>> Peeked<'a, S> {
     ghost use Rattle.cad_run.specs.Peeked.{peeked_left, stands_first, without};
     ghost use Rattle.cad_run.specs.Slices.{identifier, later};
 
-    /// The source, of which nothing was looked at yet.
+    /// The source, before any of its features is looked at.
     pub(crate) fn new(source: S) -> Self
         ensures { peeked_left S.left result ≡ S.left source }
     {
@@ -28,7 +28,7 @@ impl<'a, S: FeatureSource<'a>> Peeked<'a, S> {
         }
     }
 
-    /// The first, which is left there.
+    /// The first feature, which stays in the source.
     pub(crate) fn peek(&mut self) -> Option<&'a Feature>
         ensures kept { peeked_left S.left self.new ≡ peeked_left S.left self.old }
         ensures front { self.new.front ≡ result }
@@ -49,7 +49,7 @@ impl<'a, S: FeatureSource<'a>> Peeked<'a, S> {
         first
     }
 
-    /// Drops them up to the one that is named.
+    /// Drops the features up to the named one.
     pub(crate) fn seek(&mut self, last: (ObjectId, u32))
         ensures { peeked_left S.left self.new ≡ later (Some (identifier last)) (peeked_left S.left self.old) }
     {
@@ -62,7 +62,7 @@ impl<'a, S: FeatureSource<'a>> Peeked<'a, S> {
         }
     }
 
-    /// Whether the change stands before all of them, or in the place of the first, which is dropped.
+    /// Whether the change is before all of them, or replaces the first, which is dropped.
     pub(crate) fn give_way(&mut self, change: &Feature) -> bool
         ensures first { result ≡ stands_first change.now (peeked_left S.left self.old) }
         ensures rest { peeked_left S.left self.new ≡ without change.now (peeked_left S.left self.old) }

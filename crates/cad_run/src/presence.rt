@@ -1,4 +1,4 @@
-//! Whether features may be candidates of a plan, by what they lie between.
+//! Whether features may be candidates of a plan, by their extents.
 
 ghost use Rattle.std.specs.Prelude.{◌≡◌, false};
 ghost use Rattle.std.specs.List.{list_all, list_any};

@@ -1,4 +1,4 @@
-//! Whether a change stands in the place of a feature.
+//! Whether a change replaces a feature.
 
 ghost use Rattle.std.specs.Prelude.{◌≡◌};
 ghost use Rattle.std.specs.List.Sorted.{IsStrictlySortedBy};
@@ -8,7 +8,7 @@ ghost use Rattle.cad_run.specs.Standing.{is_replaced as is_replaced_of};
 use cad_feature::Feature;
 use cad_layer::found;
 
-/// Whether one of the changes stands in the place of the feature, by a search in their order.
+/// Whether one of the changes replaces the feature, by a search in their order.
 pub(crate) fn is_replaced(changes: &[Feature], feature: &Feature) -> bool
     requires { IsStrictlySortedBy by_identifier changes.now }
     ensures { result ≡ is_replaced_of changes.now feature.now }

@@ -17,7 +17,7 @@ use cad_lookup::Plan;
 use cad_versions::ObjectId;
 use std::alloc::{AllocError, Global};
 
-/// What is left of a plan's candidates in a segment: those that indexes find, and recent changes, which may be candidates or not.
+/// A plan's remaining candidates in a segment: those that indexes find, and recent changes, which may be candidates or not.
 #[derive(Drop)]
 pub(crate) struct SegmentCandidates<'a, 'p> {
     plan: &'p Plan,
@@ -33,7 +33,7 @@ impl<'a, 'p> SegmentCandidates<'a, 'p> {
     ghost use Rattle.cad_run.specs.SegmentLeft.{segment_left};
     ghost use Rattle.cad_run.specs.Slices.{identifier, later};
 
-    /// Those of the segment. An error means out of memory.
+    /// The candidates of the segment. An error means out of memory.
     pub(crate) fn of(
         alloc: Global,
         plan: &'p Plan,
@@ -50,7 +50,7 @@ impl<'a, 'p> SegmentCandidates<'a, 'p> {
         })
     }
 
-    /// Takes the first.
+    /// Takes the first candidate.
     pub(crate) fn next(&mut self) -> Option<&'a Feature>
         ensures { MatchOption result (segment_left self.old ≡ []) (λ x. segment_left self.old ≡ x.now ∷ segment_left self.new) }
     {
@@ -67,7 +67,7 @@ impl<'a, 'p> SegmentCandidates<'a, 'p> {
         self.bases.next()
     }
 
-    /// Drops them up to the one that is named.
+    /// Drops the candidates up to the named one.
     pub(crate) fn seek(&mut self, last: (ObjectId, u32))
         ensures { segment_left self.new ≡ later (Some (identifier last)) (segment_left self.old) }
     {

@@ -26,6 +26,6 @@ collection_named name = find (λ c. bytes_eq name (name_of c)) collections
 abbrev pub NamesAreReadBack : Type 0
 NamesAreReadBack = (c : Collection) → collection_named (name_of c) ≡ Some c
 
--- and what is read has the name
+-- and a collection that is read has the name
 abbrev pub WhatIsReadHasTheName : Type 0
 WhatIsReadHasTheName = (name : List ℕ) (c : Collection) → collection_named name ≡ Some c → name ≡ name_of c

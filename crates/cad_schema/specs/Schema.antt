@@ -23,12 +23,12 @@ find ps name = find_from 0 ps name
 
 -- ---- laws
 
--- what is found has the name and stands at its place
+-- a property that is found has the name and is at its place
 abbrev pub FindsWhatStands : List Named → List ℕ → Type 0
 FindsWhatStands ps name =
     (place : ℕ) (kind : PropertyKind) → find ps name ≡ Some (place, kind) → slice_get ps place ≡ Some (name, kind)
 
--- and what stands is found by its name: no name stands twice
+-- and each property is found by its name: no name occurs twice
 abbrev pub StandsOnce : List Named → Type 0
 StandsOnce ps =
     (place : ℕ) (name : List ℕ) (kind : PropertyKind) → slice_get ps place ≡ Some (name, kind) → find ps name ≡ Some (place, kind)

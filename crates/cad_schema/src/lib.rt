@@ -4,7 +4,7 @@
 //! - [`schema`]: the names and kinds of a collection's properties, in the order of a feature's values.
 //! - [`find_property`]: a property by its name. Of the units, `name` is the property at place 5, a text.
 //! - [`Attribute`]: what a property says of a version of an object.
-//! - `laws`: names and places of properties tell each other.
+//! - `laws`: a property's name determines its place, and its place its name.
 #![tactic(auto)]
 
 mod attribute;

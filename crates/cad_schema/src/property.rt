@@ -21,7 +21,7 @@ pub enum PropertyKind {
     Area,
 }
 
-/// A property that each feature of a collection has, maybe without a value.
+/// A property that each feature of a collection has, possibly without a value.
 #[derive(Clone, Copy, Debug)]
 pub struct Property {
     /// Its name in filters and replies.

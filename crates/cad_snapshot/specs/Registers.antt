@@ -5,7 +5,7 @@ use Rattle.cad_versions.specs.AsOf.{as_of}
 use Rattle.cad_versions.specs.Listing.{IsListing}
 use Rattle.cad_versions.specs.Refusals.{most_versions, AreAccepted}
 
--- what the commands made at any revision is a listing: each is a version, and they ascend by identifier
+-- the versions that the commands made at any revision are a listing: each is a version, and they ascend by identifier
 abbrev pub AcceptedAreListed : Type 0
 AcceptedAreListed = (commands : List Command) → AreAccepted [] commands → (revision : ℕ) → IsListing (as_of revision commands)
 

@@ -24,7 +24,7 @@ features_at s Units = s.units
 features_at s Parties = s.parties
 features_at s Responsibilities = s.responsibilities
 
--- the same, of the features that are told for each collection
+-- the same, with the features that are given for each collection
 abbrev pub with_features : ℕ → (Collection → List Item) → RevisionFeatures
 with_features revision told = record {
   revision = revision;
@@ -44,7 +44,7 @@ features_given revision told Units = refl
 features_given revision told Parties = refl
 features_given revision told Responsibilities = refl
 
--- what has these features for each collection is one value
+-- a value with this revision and with these features for each collection is the same value
 pub is_with_features : (s : RevisionFeatures) (revision : ℕ) (told : Collection → List Item) → s.revision ≡ revision → ((c : Collection) → features_at s c ≡ told c) → s ≡ with_features revision told
 is_with_features s revision told e same = λ i. record {
   revision = e i;

@@ -1,4 +1,4 @@
-//! The features that a snapshot is built of.
+//! The features of which a snapshot is built.
 
 ghost use Rattle.std.specs.Prelude.{IfOk};
 ghost use Rattle.cad_versions.specs.Listing.{IsListing};

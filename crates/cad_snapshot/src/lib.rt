@@ -1,10 +1,10 @@
 //! The register at one revision, as the features of each collection.
 //!
-//! - [`Snapshot`]: the features of each collection at a revision with their indexes, built of its versions, or of [`Layers`], and lent
-//!   from then on
+//! - [`Snapshot`]: the features of each collection at a revision with their indexes. It is built from the revision's versions, or from
+//!   [`Layers`], and only lent from then on
 //! - [`registers`]: that the revisions of accepted commands are listings, and how many commands there can be
 //!
-//! Of a register whose first two commands enter unit 10 and parcel 1, the snapshot of revision 2 has the feature 1.1 among the parcels
+//! In a register whose first two commands enter unit 10 and parcel 1, the snapshot of revision 2 has the feature 1.1 among the parcels
 //! and 10.1 among the units.
 #![tactic(auto)]
 

@@ -2,7 +2,7 @@
 
 ghost use Rattle.cad_snapshot.specs.Registers.{AcceptedAreFew, AcceptedAreListed};
 
-/// What the commands made at any revision is a listing: each is a version, and they ascend by identifier.
+/// The versions that the commands made at any revision are a listing: each is a version, and they ascend by identifier.
 pub fn accepted_are_listed()
     ensures { AcceptedAreListed }
 {}

@@ -90,8 +90,8 @@ impl Snapshot {
         Snapshot::in_segments(alloc, revision, versions, OF_A_SEGMENT)
     }
 
-    /// The same, where the features of a collection stand in segments of so many, each with a base of its own. An error is want of
-    /// memory.
+    /// The same, with the features of a collection in segments of the given number, each with a base of its own. An error means
+    /// out of memory.
     pub fn in_segments(
         alloc: Global,
         revision: u64,
@@ -107,7 +107,7 @@ impl Snapshot {
         let units = features(alloc, &versions, Collection::Units)?;
         let parties = features(alloc, &versions, Collection::Parties)?;
         let responsibilities = features(alloc, &versions, Collection::Responsibilities)?;
-        // Versions and indexes never stand side by side, so that a register takes the room of one of them.
+        // Versions and indexes never exist at the same time, so that a register needs the memory of only one of them.
         drop(versions);
         let parcels = Layer::in_segments(alloc, parcels, Collection::Parcels, of_a_segment)?;
         let rights = Layer::in_segments(alloc, rights, Collection::Rights, of_a_segment)?;
@@ -167,7 +167,7 @@ impl Snapshot {
             && self.responsibilities.is_settled(most)
     }
 
-    /// How many features were put into indexes since it was built, by each of the revisions that it follows, and what takes as much.
+    /// How many features were put into indexes since it was built, by each of the revisions that it follows, and work of the same cost.
     pub fn spent(&self) -> usize {
         self.parcels
             .spent()
@@ -199,7 +199,7 @@ impl Snapshot {
         })
     }
 
-    /// How many commands had been accepted.
+    /// How many commands were accepted up to this revision.
     pub fn revision(&self) -> u64
         ensures { result ≡ self.now.revision }
     {

@@ -1,4 +1,4 @@
--- What reading a text answers.
+-- The result of reading a text.
 use Rattle.std.specs.Prelude.{◌≡◌, ℕ, ◌⊎◌, List, Result, Ok, Err}
 use Rattle.cad_schema.specs.Attributes.{Named}
 use Rattle.cql_types.specs.declared.filter.Filter.{Filter}
@@ -6,8 +6,8 @@ use Rattle.cql_filter.specs.Filters.{IsAccepted, IsFilterOf, IsFirstFault}
 use Rattle.cql_filter.specs.declared.cause.FilterFault.{FilterFault}
 use Rattle.cql_filter.specs.declared.cause.FilterFault.TheVariants.{Refused, Memory}
 
--- The filter that the text writes, or its first fault.
--- Where memory ran out, nothing is said of the text.
+-- The filter that the text spells, or its first fault.
+-- If memory ran out, nothing is said of the text.
 abbrev pub Answers : List Named → List ℕ → Result Filter FilterFault → Type 0
 Answers schema text (Ok filter) = IsAccepted schema text × IsFilterOf schema text filter
 Answers schema text (Err Memory) = Unit {0}

@@ -24,7 +24,7 @@ place_of (OfLexer fault) = (spelling.label_of fault).place
 place_of (OfParser fault) = (grammar.label_of fault).place
 place_of (OfTypes fault) = fault.place
 
--- what is wrong in the text, or want of memory
+-- what is wrong in the text, or out of memory
 abbrev pub of_lexer : LexFault → FilterFault
 of_lexer (lexer.At fault) = Refused (OfLexer fault)
 of_lexer lexer.Memory = Memory

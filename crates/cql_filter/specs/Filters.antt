@@ -28,13 +28,13 @@ pub record IsAccepted (schema : List Named) (text : List ℕ) : Type 0 where
   pub read : IsRead text tree
   pub condition : IsCondition schema tree
 
--- the filter that the text writes
+-- the filter that the text spells
 pub record IsFilterOf (schema : List Named) (text : List ℕ) (filter : Filter) : Type 0 where
   pub tree : Syntax
   pub read : IsRead text tree
   pub means : IsFilter schema tree filter
 
--- what is wrong first: the spelling, else the depth or the grammar, else of the kinds what has the least place
+-- what is wrong first: the spelling, else the depth or the grammar, else the fault of kinds with the least place
 pub data IsFirstFault (schema : List Named) (text : List ℕ) : Cause → Type 0 where
   of_spelling : {fault : SpellingFault} → lexer.HasFault text fault → IsFirstFault schema text (OfLexer fault)
   of_grammar : {tokens : List Mark} {fault : GrammarFault} → IsSpelt text tokens → parser.HasFault tokens (length text) fault →

@@ -1,4 +1,4 @@
-//! Why a text is no filter.
+//! Why a text is not a filter.
 
 ghost use Rattle.std.specs.Prelude.{◌≡◌};
 ghost use Rattle.cql_filter.specs.Causes.{name_of, place_of};
@@ -14,7 +14,7 @@ pub enum Cause {
     /// The text is misspelt.
     #[error(transparent)]
     OfLexer(SpellingFault),
-    /// Its tokens are no filter.
+    /// Its tokens are not a filter.
     #[error(transparent)]
     OfParser(GrammarFault),
     /// A part of its tree is misused.
@@ -25,10 +25,10 @@ pub enum Cause {
 /// Why a text gave no filter.
 #[derive(Clone, Copy, PartialEq, Eq, Debug, Error)]
 pub enum FilterFault {
-    /// The text is no filter of the collection.
+    /// The text is not a filter of the collection.
     #[error(transparent)]
     Refused(Cause),
-    /// Memory ran out, whatever the text is.
+    /// Memory ran out. This says nothing of the text.
     #[error("out of memory")]
     Memory,
 }
@@ -45,7 +45,7 @@ impl Cause {
         }
     }
 
-    /// The byte of the text at which the fault stands.
+    /// The byte of the text at which the fault is.
     pub fn place(&self) -> usize
         ensures { result ≡ place_of self.now }
     {

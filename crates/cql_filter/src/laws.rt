@@ -6,7 +6,7 @@ use cql_lexer::laws as lexer;
 use cql_parser::laws as parser;
 use cql_types::laws as types;
 
-/// A text cannot be without both: it is a filter of the collection, or has a first fault.
+/// It is impossible that neither holds: a text is a filter of the collection, or has a first fault.
 pub fn filter_or_fault()
     ensures { HasFilterOrFault }
 {
@@ -17,7 +17,7 @@ pub fn filter_or_fault()
     types::condition_or_fault();
 }
 
-/// A text with a fault is no filter.
+/// A text with a fault is not a filter.
 pub fn fault_or_filter()
     ensures { HasFaultOrFilter }
 {
@@ -43,14 +43,14 @@ pub fn one_first_fault()
     types::one_least_fault();
 }
 
-/// Only a text that is accepted writes a filter.
+/// Only a text that is accepted spells a filter.
 pub fn filters_are_of_accepted_texts()
     ensures { HasFiltersOfAccepted }
 {
     types::filters_are_of_conditions();
 }
 
-/// A text writes at most one filter, but for where it lies in memory.
+/// A text spells at most one filter, apart from its place in memory.
 pub fn text_has_one_filter()
     ensures { HasOneFilter }
 {

@@ -16,17 +16,17 @@ use cql_types::laws::filters_are_of_conditions;
 use cql_types::{Filter, check};
 use std::alloc::Global;
 
-/// The filter of the collection that a text writes, or the first fault of the text.
+/// The filter of the collection that a text spells, or the first fault of the text.
 ///
-/// Spelling is asked first, then how many parentheses are open at one time, then the grammar, and at last the kinds, of
-/// which the fault with the least place is told.
+/// The spelling is checked first, then how many parentheses are open at one time, then the grammar, and at last the kinds. Of the
+/// faults of kinds the one with the least place is returned.
 pub fn read(alloc: Global, text: &str, collection: Collection) -> Result<Filter, FilterFault>
     ensures answer { Answers (schema_of collection) text.now result }
     ensures accepted { IsAccepted (schema_of collection) text.now → OrMemory result (IsOk result) }
     ensures refused { (cause : Cause) → IsFirstFault (schema_of collection) text.now cause
         → OrMemory result (result ≡ Err (Refused cause)) }
 {
-    // A text that has a fault is no filter, and has no other.
+    // A text that has a fault is not a filter, and has no other fault.
     fault_or_filter();
     one_first_fault();
     read_filter(alloc, text, collection)

@@ -5,7 +5,7 @@ use Rattle.cql_lexer.specs.declared.fault.SpellingFault.TheVariants.{Unterminate
 use Rattle.cql_lexer.specs.declared.fault.LexFault.{LexFault}
 use Rattle.cql_lexer.specs.declared.fault.LexFault.TheVariants.{At, Memory}
 
--- what programs tell of a fault
+-- what programs report of a fault
 pub record Label : Type 0 where
   pub number : ℕ
   pub name : List ℕ
@@ -25,7 +25,7 @@ abbrev pub name_of : LexFault → List ℕ
 name_of (At fault) = (label_of fault).name
 name_of Memory = codes "Memory"
 
--- want of memory has no place
+-- out of memory has no place
 abbrev pub place_of : LexFault → Option ℕ
 place_of (At fault) = Some (label_of fault).place
 place_of Memory = None

@@ -18,7 +18,7 @@ AscendWithin first end (at place sort ∷ tokens) = (first ≤ place) × (place 
 abbrev pub HasPlacesInOrder : Type 0
 HasPlacesInOrder = (bytes : List ℕ) (tokens : List Mark) → Spells bytes tokens → AscendWithin 0 (length bytes) tokens
 
--- each token is the longest that stands in the text at its place
+-- each token is the longest that begins in the text at its place
 abbrev pub StandAtPlaces : List ℕ → List Mark → Type 0
 StandAtPlaces bytes [] = Unit {0}
 StandAtPlaces bytes (at place sort ∷ tokens) = ((left : List ℕ) × IsLongest (drop place bytes) sort left) × StandAtPlaces bytes tokens

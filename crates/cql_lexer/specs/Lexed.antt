@@ -1,4 +1,4 @@
--- What reading the tokens of a text answers.
+-- The result of reading the tokens of a text.
 use Rattle.std.specs.Prelude.{◌≡◌, ℕ, ◌-◌, ◌<◌, ◌≤◌, Bool, false, ◌==◌, ◌||◌, ◌⊎◌, List, ◌∷◌, Result, Ok, Err, length}
 use Rattle.std.specs.Str.{byte}
 use Rattle.cql_lexer.specs.Mark.{Sort, Mark, marks}
@@ -12,7 +12,7 @@ use Rattle.cql_lexer.specs.declared.fault.SpellingFault.{SpellingFault}
 use Rattle.cql_lexer.specs.declared.fault.SpellingFault.TheVariants.{Unterminated, StrangeCharacter, TooLong, TooMany}
 use Rattle.cql_lexer.specs.declared.token.Tokens.{Tokens}
 
--- the text is spelled by these tokens, and is no larger than is read (own profile)
+-- the text is spelled by these tokens, and is within the limits (own profile)
 pub record IsSpelt (bytes : List ℕ) (tokens : List Mark) : Type 0 where
   pub spells : Spells bytes tokens
   pub few_bytes : length bytes ≤ 8192
@@ -20,7 +20,7 @@ pub record IsSpelt (bytes : List ℕ) (tokens : List Mark) : Type 0 where
 
 -- ---- the faults of a text (own profile)
 
--- a text of no more bytes than are read: behind blanks and these tokens, these bytes are left from this place on
+-- a text within the limit of bytes: behind blanks and these tokens, these bytes are left from this place on
 pub record Reaches (bytes : List ℕ) (tokens : List Mark) (place : ℕ) (left : List ℕ) : Type 0 where
   pub leads : Leads (length bytes) bytes tokens left
   pub place_is : place ≡ length bytes - length left
@@ -35,7 +35,7 @@ pub data IsUnclosed : List ℕ → Type 0 where
 abbrev pub is_quote : ℕ → Bool
 is_quote x = (x == byte "'") || (x == byte "\"")
 
--- a character comes first that is no blank and no quote, and no token begins with it
+-- a character comes first that is neither a blank nor a quote, and no token begins with it
 pub data IsStrange : List ℕ → Type 0 where
   strange : {x : ℕ} {xs : List ℕ} → is_blank x ≡ false → is_quote x ≡ false → IsNoToken (x ∷ xs) → IsStrange (x ∷ xs)
 
@@ -53,7 +53,7 @@ pub record HasStrangeCharacter (bytes : List ℕ) (place : ℕ) : Type 0 where
   pub reaches : Reaches bytes tokens place left
   pub is_strange : IsStrange left
 
--- a token begins at this place, behind as many as are read
+-- a token begins at this place, behind as many as a text may have
 pub record HasTooMany (bytes : List ℕ) (place : ℕ) : Type 0 where
   pub tokens : List Mark
   pub left : List ℕ
@@ -73,7 +73,7 @@ HasFault bytes (TooMany place) = HasTooMany bytes place
 -- ---- answers
 
 -- The tokens that spell the text and its length, or its fault.
--- Where memory ran out, nothing is said of the text.
+-- If memory ran out, nothing is said of the text.
 abbrev pub Answers : List ℕ → Result Tokens LexFault → Type 0
 Answers bytes (Ok t) = IsSpelt bytes (marks t.list.items) × (t.end ≡ length bytes)
 Answers bytes (Err Memory) = Unit {0}

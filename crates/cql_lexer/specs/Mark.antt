@@ -1,4 +1,4 @@
--- A token without where it lies in memory.
+-- A token without its place in memory.
 use Rattle.std.specs.Prelude.{ℕ, List, map, string_bytes}
 use Rattle.cql_lexer.specs.declared.token.Comparison.{Comparison}
 use Rattle.cql_lexer.specs.declared.token.Keyword.{Keyword}

@@ -17,7 +17,7 @@ is_name_start x = is_ascii_alphabetic x || (x == byte "_") || (x == byte ":")
 abbrev pub is_name_part : ℕ → Bool
 is_name_part x = is_ascii_alphanumeric x || (x == byte "_") || (x == byte ".") || (x == byte ":")
 
--- what may stand between the quotes of a quoted name: every character but `"` (own profile)
+-- the characters that may be between the quotes of a quoted name: every character but `"` (own profile)
 abbrev pub is_unquoted : ℕ → Bool
 is_unquoted x = if x == byte "\"" then false else true
 
@@ -62,7 +62,7 @@ keywords =
     ∷ (codes "T_OVERLAPPEDBY", Temporal day.OverlappedBy)
     ∷ []
 
--- the keyword that a bare name is in any ASCII case
+-- the keyword that a bare name is, in any ASCII case
 unfoldable pub keyword_of : List ℕ → Option Keyword
 keyword_of spelling = entry_of str_eq_ignore_ascii_case keywords spelling
 

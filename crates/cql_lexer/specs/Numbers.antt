@@ -19,13 +19,13 @@ pub data IsFraction : List ℕ → List ℕ → List ℕ → Type 0 where
   no_fraction : {xs : List ℕ} → IsFraction xs [] xs
   fraction : {xs run ys : List ℕ} → Run is_ascii_digit xs run ys → IsFraction (byte "." ∷ xs) (byte "." ∷ run) ys
 
--- nothing, or `e`, perhaps a sign, and one digit or more
+-- nothing, or `e`, an optional sign, and one digit or more
 pub data IsExponent : List ℕ → List ℕ → List ℕ → Type 0 where
   no_exponent : {xs : List ℕ} → IsExponent xs [] xs
   exponent : {x : ℕ} {xs run ys : List ℕ} → is_exponent_mark x ≡ true → IsDigits xs run ys → IsExponent (x ∷ xs) (x ∷ run) ys
   signed_exponent : {x sign : ℕ} {xs run ys : List ℕ} → is_exponent_mark x ≡ true → is_sign sign ≡ true → IsDigits xs run ys → IsExponent (x ∷ sign ∷ xs) (x ∷ sign ∷ run) ys
 
--- digits, perhaps with a fraction, or a point and digits; then perhaps an exponent
+-- digits with an optional fraction, or a point and digits; then an optional exponent
 pub data IsNumber : List ℕ → List ℕ → List ℕ → Type 0 where
   digits_first : {xs whole ys part zs power us : List ℕ} → IsDigits xs whole ys → IsFraction ys part zs → IsExponent zs power us → IsNumber xs (whole ++ (part ++ power)) us
   point_first : {xs part ys power zs : List ℕ} → IsDigits xs part ys → IsExponent ys power zs → IsNumber (byte "." ∷ xs) (byte "." ∷ (part ++ power)) zs

@@ -16,7 +16,7 @@ pub data IsToken : List ℕ → Sort → List ℕ → Type 0 where
   quoted_token : {xs run ys : List ℕ} → Run is_unquoted xs run (byte "\"" ∷ ys) → IsToken (byte "\"" ∷ xs) (name run) ys
   text_token : {xs content ys : List ℕ} → IsContent xs content ys → IsToken (byte "'" ∷ xs) (text content) ys
 
--- the first bytes spell a token, and no token that stands there is longer (own profile)
+-- the first bytes spell a token, and no token that begins there is longer (own profile)
 pub record IsLongest (xs : List ℕ) (s : Sort) (ys : List ℕ) : Type 0 where
   pub token : IsToken xs s ys
   pub longest : (t : Sort) (zs : List ℕ) → IsToken xs t zs → length ys ≤ length zs
@@ -36,6 +36,6 @@ pub data Leads (size : ℕ) : List ℕ → List Mark → List ℕ → Type 0 whe
   blank : {x : ℕ} {xs ys : List ℕ} {marks : List Mark} → is_blank x ≡ true → Leads size xs marks ys → Leads size (x ∷ xs) marks ys
   token_first : {xs ys zs : List ℕ} {s : Sort} {marks : List Mark} → IsLongest xs s ys → Leads size ys marks zs → Leads size xs (at (size - length xs) s ∷ marks) zs
 
--- the text is blanks and these tokens by turns, each at its place and the longest there
+-- the text is these tokens, with blanks or nothing around them; each token is at its place and the longest there
 abbrev pub Spells : List ℕ → List Mark → Type 0
 Spells bytes tokens = Leads (length bytes) bytes tokens []

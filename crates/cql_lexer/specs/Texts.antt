@@ -7,8 +7,8 @@ abbrev pub IsNoQuote : List ℕ → Type 0
 IsNoQuote [] = Unit {0}
 IsNoQuote (x ∷ xs) = (x == byte "'") ≡ false
 
--- The first bytes stand for this one, and these bytes are left:
--- `''` and `\'` stand for a quote, and every other byte for itself.
+-- The first bytes spell this character, and these bytes are left:
+-- `''` and `\'` spell a quote, and every other byte spells itself.
 pub data IsCharacter : List ℕ → ℕ → List ℕ → Type 0 where
   doubled_quote : {xs : List ℕ} → IsCharacter (byte "'" ∷ byte "'" ∷ xs) (byte "'") xs
   escaped_quote : {xs : List ℕ} → IsCharacter (byte "\\" ∷ byte "'" ∷ xs) (byte "'") xs

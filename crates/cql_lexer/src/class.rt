@@ -3,7 +3,7 @@
 ghost use Rattle.std.specs.Prelude.{◌≡◌, length, take_while};
 ghost use Rattle.cql_lexer.specs.inner.Scan.{after_run, is_in, run_of};
 
-/// The bytes of which runs are read.
+/// The classes of bytes of which runs are read.
 #[derive(Clone, Copy, PartialEq, Eq, Debug)]
 pub(crate) enum ByteClass {
     Blank,
@@ -26,7 +26,7 @@ impl ByteClass {
         }
     }
 
-    // How many bytes of the class stand at the front.
+    // How many bytes at the front are of the class.
     fn run_length(self, bytes: &[u8]) -> usize
         ensures { result ≡ length (take_while (is_in self) bytes.now) }
     {

@@ -31,7 +31,7 @@ pub enum LexFault {
     /// The text is misspelt.
     #[error(transparent)]
     At(SpellingFault),
-    /// Memory ran out, whatever the text is.
+    /// Memory ran out. This says nothing of the text.
     #[error("out of memory")]
     Memory,
 }
@@ -50,7 +50,7 @@ impl SpellingFault {
         }
     }
 
-    /// The fault's number in the table of specs/Faults, from 1, by which programs may tell it.
+    /// The fault's number in the table of specs/Faults, from 1, by which programs can distinguish faults.
     pub fn number(&self) -> u8
         ensures { result ≡ (label_of self.now).number }
     {
@@ -64,7 +64,7 @@ impl SpellingFault {
         self.number_and_name().1
     }
 
-    /// The byte of the text at which the fault stands.
+    /// The byte of the text at which the fault is.
     pub fn place(&self) -> usize
         ensures { result ≡ (label_of self.now).place }
     {
@@ -78,7 +78,7 @@ impl SpellingFault {
 }
 
 impl LexFault {
-    /// The fault's number in the table of specs/Faults, from 1, by which programs may tell it.
+    /// The fault's number in the table of specs/Faults, from 1, by which programs can distinguish faults.
     pub fn number(&self) -> u8
         ensures { result ≡ number_of self.now }
     {
@@ -98,7 +98,7 @@ impl LexFault {
         }
     }
 
-    /// The byte of the text at which the fault stands, or `None` where memory ran out.
+    /// The byte of the text at which the fault is, or `None` if memory ran out.
     pub fn place(&self) -> Option<usize>
         ensures { result ≡ place_of self.now }
     {

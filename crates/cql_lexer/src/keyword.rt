@@ -50,7 +50,7 @@ const KEYWORDS: [(&[u8], Keyword); 36] = [
     (b"T_OVERLAPPEDBY", Keyword::Temporal(Relation::OverlappedBy)),
 ];
 
-/// The keyword that a bare name is, in whatever case it is written.
+/// The keyword that a bare name is, in upper case, lower case or both.
 #[tactic(auto, unfolding(crate::specs::Names::keyword_of))]
 pub(crate) fn keyword_in_any_case(spelling: &[u8]) -> Option<Keyword>
     ensures { result ≡ keyword_of spelling.now }

@@ -15,7 +15,7 @@ use crate::scan::token_at;
 use crate::token::{Token, Tokens};
 use std::alloc::Global;
 
-// The most bytes of a text that is read.
+// The most bytes that a text may have.
 const MOST_BYTES: usize = 8192;
 
 // The most tokens that a text may have.

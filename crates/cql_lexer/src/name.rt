@@ -32,7 +32,7 @@ pub(crate) fn name_at<'a>(alloc: Global, bytes: &'a [u8]) -> Result<(Kind, &'a [
     Ok((kind, rest))
 }
 
-/// The name behind an opening quote and the bytes behind its closing quote, or `None` where none follows.
+/// The name behind an opening quote and the bytes behind its closing quote, or `None` if no closing quote follows.
 pub(crate) fn quoted_name_at<'a>(
     alloc: Global,
     bytes: &'a [u8],
@@ -50,7 +50,7 @@ pub(crate) fn quoted_name_at<'a>(
     }
 }
 
-// What a bare name is: a keyword, or else its spelling.
+// What a bare name is: a keyword, or else a name with its spelling.
 fn bare_kind(alloc: Global, spelling: &[u8]) -> Result<Kind, AllocError>
     requires { IsUtf8 spelling.now }
     ensures { IfOk result (λ kind. sort_of kind ≡ bare spelling.now) }
@@ -64,11 +64,11 @@ fn bare_kind(alloc: Global, spelling: &[u8]) -> Result<Kind, AllocError>
     }
 }
 
-/// The text of which the bytes are the UTF-8.
+/// The text whose UTF-8 these bytes are.
 pub(crate) fn text_of(alloc: Global, bytes: &[u8]) -> Result<String, AllocError>
     requires { IsUtf8 bytes.now }
     ensures { IfOk result (λ text. string_bytes text ≡ bytes.now) }
 {
-    // What is UTF-8 stays as it is.
+    // Valid UTF-8 stays as it is.
     String::from_utf8_lossy(alloc, bytes)
 }

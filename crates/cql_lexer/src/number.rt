@@ -54,7 +54,7 @@ fn behind_digits(bytes: &[u8]) -> &[u8]
     rest
 }
 
-// Behind a point and any number of digits, where they come.
+// Behind a point and any number of digits, if they follow.
 fn behind_fraction(bytes: &[u8]) -> &[u8]
     ensures { result.now ≡ after_fraction bytes.now }
 {
@@ -64,7 +64,7 @@ fn behind_fraction(bytes: &[u8]) -> &[u8]
     }
 }
 
-// Behind `e`, a sign or none, and digits, where they come.
+// Behind `e`, an optional sign, and digits, if they follow.
 fn behind_exponent(bytes: &[u8]) -> &[u8]
     ensures { result.now ≡ after_exponent bytes.now }
 {
@@ -74,7 +74,7 @@ fn behind_exponent(bytes: &[u8]) -> &[u8]
     }
 }
 
-// Behind a sign or none and digits, or all of `number_rest` where they do not come.
+// Behind an optional sign and digits, or all of `number_rest` if they do not follow.
 fn behind_power<'a>(number_rest: &'a [u8], power: &'a [u8]) -> &'a [u8]
     ensures { result.now ≡ after_signed number_rest.now power.now }
 {

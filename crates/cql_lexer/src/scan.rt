@@ -11,7 +11,7 @@ use crate::text::text_at;
 use crate::token::Kind;
 use std::alloc::{AllocError, Global};
 
-/// The longest token at the front and the bytes behind it, or `None` where none begins there.
+/// The longest token at the front and the bytes behind it, or `None` if no token begins there.
 pub(crate) fn token_at<'a>(
     alloc: Global,
     bytes: &'a [u8],

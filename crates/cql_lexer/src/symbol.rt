@@ -5,7 +5,7 @@ ghost use Rattle.cql_lexer.specs.inner.Scan.{seen, symbol_front};
 
 use crate::token::{Comparison, Kind};
 
-/// The longest symbol at the front and the bytes behind it, or `None` where none comes first.
+/// The longest symbol at the front and the bytes behind it, or `None` if no symbol comes first.
 #[tactic(auto, unfolding(crate::specs::Symbols::symbol_of))]
 pub(crate) fn symbol_at(bytes: &[u8]) -> Option<(Kind, &[u8])>
     ensures { seen result ≡ symbol_front bytes.now }

@@ -7,7 +7,7 @@ ghost use Rattle.cql_lexer.specs.inner.Scan.{Finds, character_front, seen_byte};
 use crate::token::Kind;
 use std::alloc::{AllocError, Global};
 
-/// The text behind an opening quote and the bytes behind its closing quote, or `None` where none follows.
+/// The text behind an opening quote and the bytes behind its closing quote, or `None` if no closing quote follows.
 pub(crate) fn text_at<'a>(
     alloc: Global,
     bytes: &'a [u8],
@@ -26,12 +26,12 @@ pub(crate) fn text_at<'a>(
     };
     match String::from_utf8(content) {
         Ok(text) => Ok(Some((Kind::Text(text), behind))),
-        // Never: what is left of UTF-8 without some of its quotes is UTF-8.
+        // Never happens: UTF-8 without some of its quotes is still UTF-8.
         Err(_) => Ok(None),
     }
 }
 
-// The byte that the first bytes of a content stand for and the bytes behind them, or `None` at the closing quote and the end.
+// The byte that the first bytes of a content spell and the bytes behind them, or `None` at the closing quote and the end.
 fn character_at(bytes: &[u8]) -> Option<(u8, &[u8])>
     ensures { seen_byte result ≡ character_front bytes.now }
 {

@@ -35,7 +35,7 @@ pub enum SpatialRelation {
     Contains,
 }
 
-/// A word that is no name, in whatever case it is written.
+/// A word that is not a name, in upper case, lower case or both.
 #[derive(Clone, Copy, PartialEq, Eq, Debug)]
 pub enum Keyword {
     /// `AND`
@@ -101,9 +101,9 @@ pub enum Kind {
     Word(Keyword),
     /// A name as it is written, without the quotes of a quoted one.
     Name(String),
-    /// What a text stands for: without its quotes, and each `''` and `\'` inside as one quote.
+    /// The content of a text: without its quotes, and with each `''` and `\'` inside as one quote.
     Text(String),
-    /// A number as it is written, without a sign: digits, and a fraction and an exponent where it has them.
+    /// A number as it is written, without a sign: digits, and a fraction and an exponent if it has them.
     Number(String),
 }
 
@@ -112,7 +112,7 @@ pub enum Kind {
 pub struct Token {
     /// The byte of the text at which it begins.
     pub place: usize,
-    /// What stands there.
+    /// The token itself.
     pub kind: Kind,
 }
 

@@ -15,23 +15,23 @@ abbrev pub is_within : ℤ → Bool
 is_within (pos n) = nat_lt n (2 ^ 63)
 is_within (negsuc n) = nat_lt n (2 ^ 63)
 
--- a result, where it is within 64 bits
+-- a result, if it is within 64 bits
 abbrev pub bounded : ℤ → Option ℤ
 bounded z = if is_within z then Some z else None
 
--- the quotient cut toward zero; none of a zero divisor
+-- the quotient cut toward zero; none for a divisor of zero
 abbrev pub quotient : ℤ → ℤ → Option ℤ
 quotient a (pos zero) = None
 quotient a (pos (suc n)) = bounded (int_div a (pos (suc n)))
 quotient a (negsuc n) = bounded (int_div a (negsuc n))
 
--- what that quotient leaves
+-- the remainder of that quotient
 abbrev pub remainder : ℤ → ℤ → Option ℤ
 remainder a (pos zero) = None
 remainder a (pos (suc n)) = Some (int_rem a (pos (suc n)))
 remainder a (negsuc n) = Some (int_rem a (negsuc n))
 
--- one step, with whole numbers without bounds inside it
+-- one step, computed on whole numbers without bounds
 abbrev pub computed : Operation → ℤ → ℤ → Option ℤ
 computed Plus a b = bounded (a +ℤ b)
 computed Minus a b = bounded (a -ℤ b)

@@ -2,7 +2,7 @@
 use Rattle.std.specs.Prelude.{ℕ, ℤ, List, Option, Some, None, String, chars, string_bytes}
 use Rattle.std.specs.declared.alloc.Global.{Global}
 
--- the value that is known, and else the one that is given
+-- the value that is known, or else the one that is given
 abbrev pub whole_or : Option (Option ℤ) → Option ℤ → Option ℤ
 whole_or None given = given
 whole_or (Some value) given = value

@@ -1,4 +1,4 @@
--- Whether a filter folds the case of some text: what takes memory (own profile).
+-- Whether a filter folds the case of some text, which is what takes memory (own profile).
 use Rattle.std.specs.Prelude.{◌≡◌, Bool, true, false, ◌||◌, List, map, Vec}
 use Rattle.std.specs.List.{list_any}
 use Rattle.std.proofs.Common.{◌∙◌, ap, sym}

@@ -34,12 +34,12 @@ abbrev pub NotTwiceIsNone : Type 0
 NotTwiceIsNone = (outer inner : Box Filter Global) (x : Item) → outer.value ≡ filter.Not inner →
     sides x (filter.Not outer) ≡ sides x inner.value
 
--- AND is true where every part is, and false where some part is
+-- AND is true if every part is, and false if some part is
 abbrev pub AndNeedsAll : Type 0
 AndNeedsAll = (fs : Vec Filter Global) (x : Item) →
     (yes (filter.And fs) x ≡ list_all (λ f. yes f x) fs.items) × (no (filter.And fs) x ≡ list_any (λ f. no f x) fs.items)
 
--- OR is true where some part is, and false where every part is
+-- OR is true if some part is, and false if every part is
 abbrev pub OrNeedsSome : Type 0
 OrNeedsSome = (fs : Vec Filter Global) (x : Item) →
     (yes (filter.Or fs) x ≡ list_any (λ f. yes f x) fs.items) × (no (filter.Or fs) x ≡ list_all (λ f. no f x) fs.items)
@@ -63,7 +63,7 @@ InIsSomeEqual =
     × (days : (a : DayTerm) → IsSomeEqual (filter.InDay a) (filter.CompareDay Equal a))
     × ((a : FlagTerm) → IsSomeEqual (filter.InFlag a) (filter.CompareFlag Equal a))
 
--- where one of two operands has no value, the filter made of them is neither true nor false
+-- if one of two operands has no value, the filter made of them is neither true nor false
 abbrev pub IsUndecidedByNull : {T V : Type 0} → (Item → T → Option V) → (T → T → Filter) → Type 0
 IsUndecidedByNull {T} value made = (a b : T) (x : Item) → (value x a ≡ None) ⊎ (value x b ≡ None) →
     (yes (made a b) x ≡ false) × (no (made a b) x ≡ false)

@@ -4,7 +4,7 @@ use Rattle.cql_meaning.specs.declared.verdict.Truth.{Truth}
 use Rattle.cql_meaning.specs.declared.verdict.Truth.TheVariants.{Yes, No, Unknown}
 use Rattle.cql_meaning.specs.Sides.{Sides}
 
--- true alone, false alone, or neither
+-- only true, only false, or neither
 abbrev pub said : Truth → Sides
 said Yes = record { yes = true; no = false }
 said No = record { yes = false; no = true }

@@ -28,7 +28,7 @@ pub record Sides : Type 0 where
   pub yes : Bool
   pub no : Bool
 
--- what an answer says; no answer says nothing
+-- the sides of an answer; without an answer neither side is true
 abbrev pub sides_of : Option Bool → Sides
 sides_of (Some b) = record { yes = b; no = not b }
 sides_of None = record { yes = false; no = false }
@@ -58,7 +58,7 @@ texts by a b = stands by (text_cmp a b)
 abbrev pub days : Comparison → Day → Day → Bool
 days by a b = stands by (int_cmp (number_of a) (number_of b))
 
--- accepted filters compare flags by equality alone
+-- accepted filters compare flags only by equality
 abbrev pub flags : Comparison → Bool → Bool → Bool
 flags by a b = stands by (bool_cmp a b)
 
@@ -66,7 +66,8 @@ flags by a b = stands by (bool_cmp a b)
 abbrev pub is_like : List ℕ → List ℕ → Bool
 is_like text pattern = like_test pattern text
 
--- S_ functions; one that is not judged says nothing (OGC 21-065r2, requirements class Spatial Functions; boundaries: own profile)
+-- S_ functions; a pair of shapes that is not decided gives no answer (OGC 21-065r2, requirements class Spatial Functions; boundaries: own
+-- profile)
 abbrev pub spatial : SpatialRelation → Shape → Shape → Option Bool
 spatial Intersects a b = Some (shapes_meet a b)
 spatial Disjoint a b = Some (not (shapes_meet a b))

@@ -23,7 +23,7 @@ use Rattle.cql_types.specs.declared.filter.ShapeTerm.{ShapeTerm}
 use Rattle.cql_types.specs.declared.filter.ShapeTerm.TheVariants as place
 use Rattle.cad_day.specs.Intervals.{interval_of, day_interval}
 
--- nothing where either has nothing
+-- no value if either has none
 abbrev pub both : {A B C : Type 0} → (A → B → Option C) → Option A → Option B → Option C
 both f (Some a) (Some b) = f a b
 both f _ _ = None
@@ -67,7 +67,7 @@ abbrev pub end_value : Item → EndTerm → Option (Option Day)
 end_value x end.Open = Some None
 end_value x (end.Day d) = option_map Some (day_value x d)
 
--- a day is the interval of that day; an INTERVAL with an end that has no value, or turned round on this feature, has none
+-- a day is the interval of that day; an INTERVAL has no value if an end has none, or if its last day is before its first on this feature
 abbrev pub span_value : Item → SpanTerm → Option Interval
 span_value x (span.Day d) = option_and_then day_interval (day_value x d)
 span_value x (span.Property i) = span_in (datum_at x i)

@@ -6,7 +6,7 @@ ghost use Rattle.cql_meaning.specs.Sides.{stands as stands_of};
 use cql_lexer::Comparison;
 use std::cmp::Ordering;
 
-/// Whether a comparison holds of two operands that stand in that order.
+/// Whether a comparison holds of two operands that have that order.
 pub(crate) fn stands(by: Comparison, order: Ordering) -> bool
     ensures { result ≡ stands_of by order }
 {

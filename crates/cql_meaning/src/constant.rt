@@ -11,7 +11,7 @@ use cql_text::fold;
 use cql_types::{TextTerm, WholeTerm};
 use std::alloc::{AllocError, Global};
 
-/// The value that the term has on every feature, where no property is inside it: `Some(None)` of `1 div 0`, and `None` of
+/// The value that the term has on every feature, if no property is inside it: `Some(None)` of `1 div 0`, and `None` of
 /// `area - area`.
 pub fn constant_whole(term: &WholeTerm) -> Option<Option<i64>>
     ensures { (x : Item) → whole_or result (whole_value x term.now) ≡ whole_value x term.now }
@@ -29,7 +29,7 @@ pub fn constant_whole(term: &WholeTerm) -> Option<Option<i64>>
     }
 }
 
-/// The text that the term has on every feature, where no property is inside it. `CASEI('Ana')` is `ana`.
+/// The text that the term has on every feature, if no property is inside it. `CASEI('Ana')` is `ana`.
 pub fn constant_text(alloc: Global, term: &TextTerm) -> Result<Option<String>, AllocError>
     ensures { IfOk result (λ text. (x : Item) → text_or text (text_value x term.now) ≡ text_value x term.now) }
 {

@@ -29,7 +29,7 @@ fn is_null(alloc: Global, term: &AnyTerm, feature: &Feature) -> Result<bool, All
     }
 }
 
-/// What the filter says of the feature, or want of memory, which is taken for texts whose case is folded alone: a filter
+/// What the filter says of the feature. An error means out of memory. Memory is taken only for texts whose case is folded: a filter
 /// without CASEI is always answered.
 #[cycle(truth)]
 pub fn truth(alloc: Global, filter: &Filter, feature: &Feature) -> Result<Truth, AllocError>

@@ -19,12 +19,12 @@ pub fn not_twice_is_none()
     ensures { NotTwiceIsNone }
 {}
 
-/// AND is true where every part is, and false where some part is.
+/// AND is true if every part is, and false if some part is.
 pub fn and_needs_all()
     ensures { AndNeedsAll }
 {}
 
-/// OR is true where some part is, and false where every part is.
+/// OR is true if some part is, and false if every part is.
 pub fn or_needs_some()
     ensures { OrNeedsSome }
 {}
@@ -49,7 +49,7 @@ pub fn is_null_decides()
     ensures { IsNullDecides }
 {}
 
-/// Filters of one condition are true of the same features and false of the same, wherever they lie in memory.
+/// Filters of one condition are true of the same features and false of the same, no matter where they are in memory.
 pub fn filters_of_one_condition_agree()
     ensures { FiltersOfOneConditionAgree }
 {}

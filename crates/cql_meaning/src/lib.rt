@@ -1,7 +1,7 @@
 //! What a filter says of a feature.
 //!
-//! [`truth`] says whether a filter is true or false of a feature, or neither for want of a value. Of
-//! `NOT area > 390` it says Yes where the area is 380, No where it is 400, and Unknown where there is none.
+//! [`truth`] says whether a filter is true or false of a feature, or neither because a value is missing. For
+//! `NOT area > 390` it says Yes if the area is 380, No if it is 400, and Unknown if the feature has no area.
 //! `like("ß", "_")` is true, and `fold("Ana Straße")` is `ana strasse`.
 //!
 //! - [`truth`], [`Truth`]: what a filter says of a feature

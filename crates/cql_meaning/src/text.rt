@@ -35,7 +35,7 @@ fn text_at(feature: &Feature, place: usize) -> Option<CowStr<'_>>
     text_in(feature.value(place)?)
 }
 
-// The text with its case folded, where there is one.
+// The text with its case folded, if there is a text.
 fn folded(alloc: Global, text: Option<CowStr<'_>>) -> Result<Option<CowStr<'static>>, AllocError>
     ensures { IfOk result (λ folded. content folded ≡ folded_content (content text.entry)) }
 {

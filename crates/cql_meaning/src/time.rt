@@ -47,7 +47,7 @@ pub(crate) fn in_days(value: Option<Day>, items: &[DayTerm], feature: &Feature) 
     found
 }
 
-// The interval with these ends, if it is not turned round.
+// The interval with these ends, if they are not turned round.
 fn interval(from: Option<Day>, to: Option<Day>) -> Option<Interval>
     ensures { result ≡ interval_of from to }
 {

@@ -11,7 +11,7 @@ pub enum Truth {
     Yes,
     /// It is false of the feature.
     No,
-    /// It is neither, for want of a value.
+    /// It is neither, because a value is missing.
     Unknown,
 }
 

@@ -31,7 +31,7 @@ fn computed(by: Operation, left: i64, right: i64) -> Option<i64>
     }
 }
 
-// What a part of a sum or a product, with this value, makes of the value before it.
+// What a part of a sum or a product with this value makes of the value before it.
 pub(crate) fn made(by: Operation, part: Option<i64>, value: Option<i64>) -> Option<i64>
     ensures { result ≡ made_of by part value }
 {

@@ -1,4 +1,4 @@
--- What parsing answers.
+-- The result of parsing.
 use Rattle.std.specs.Prelude.{◌≡◌, ℕ, ◌⊎◌, List, [], ◌∷◌, Result, Ok, Err, None}
 use Rattle.cql_lexer.specs.Mark.{Mark, at}
 use Rattle.cql_tree.specs.Syntax.{Syntax}
@@ -22,7 +22,7 @@ pub record IsParsed (tokens : List Mark) (tree : Syntax) : Type 0 where
   pub reads : Reads tokens tree
 
 -- The tree, or the first fault of the tokens of a text that ends there.
--- Where memory ran out, nothing is said of the tokens.
+-- If memory ran out, nothing is said of the tokens.
 abbrev pub Answers : List Mark → ℕ → Result Tree ParseFault → Type 0
 Answers tokens end (Ok tree) = (deep_at 0 tokens ≡ None) × IsReading tokens (syntax_of tree.root)
 Answers tokens end (Err Memory) = Unit {0}

@@ -1,4 +1,4 @@
--- What is wrong with tokens that are no filter.
+-- What is wrong with tokens that are not a filter.
 use Rattle.std.specs.Prelude.{◌≡◌, ℕ, ◌+◌, ◌-◌, ◌≤◌, List, [], ◌∷◌, ◌++◌, Option, Some, None, if◌then◌else◌, ◌==◌, codes}
 use Rattle.cql_lexer.specs.Mark.{Sort, Mark, at, opening, closing}
 use Rattle.cql_tree.specs.Syntax.{Syntax}
@@ -41,18 +41,18 @@ pub record IsUnexpected (tokens : List Mark) (place : ℕ) : Type 0 where
   pub viable : IsViable before
   pub dead : IsViable (before ++ at place sort ∷ []) → ⊥
 
--- the front of a filter, and no filter
+-- the tokens begin a filter, and are not a filter themselves
 pub record IsUnfinished (tokens : List Mark) : Type 0 where
   pub viable : IsViable tokens
   pub unread : (tree : Syntax) → Reads tokens tree → ⊥
 
--- the tokens of a text that ends there have the fault: depth is asked before the grammar
+-- the tokens of a text that ends there have the fault: depth is checked before the grammar
 abbrev pub HasFault : List Mark → ℕ → GrammarFault → Type 0
 HasFault tokens end (TooDeep place) = deep_at 0 tokens ≡ Some place
 HasFault tokens end (NotExpected place) = (deep_at 0 tokens ≡ None) × IsUnexpected tokens place
 HasFault tokens end (EndOfFilter place) = (deep_at 0 tokens ≡ None) × (place ≡ end) × IsUnfinished tokens
 
--- what programs tell of a fault
+-- what programs report of a fault
 pub record Label : Type 0 where
   pub number : ℕ
   pub name : List ℕ
@@ -71,7 +71,7 @@ abbrev pub name_of : ParseFault → List ℕ
 name_of (At fault) = (label_of fault).name
 name_of Memory = codes "Memory"
 
--- want of memory has no place
+-- out of memory has no place
 abbrev pub place_of : ParseFault → Option ℕ
 place_of (At fault) = Some (label_of fault).place
 place_of Memory = None

@@ -1,5 +1,5 @@
 -- The grammar of filters: the BNF of CQL2 Text (OGC 21-065r2, annex B), with one rule for expressions of all kinds:
--- which kind stands where is no matter of the grammar. Each rule says that the first tokens of a list spell a tree, and
+-- the grammar does not say which kind an expression has. Each rule says that the first tokens of a list spell a tree, and
 -- which tokens are left.
 use Rattle.std.specs.Prelude.{ℕ, Bool, true, false, List, [], ◌∷◌, ◌++◌}
 use Rattle.cad_day.specs.declared.relation.Relation.{Relation}

@@ -18,7 +18,7 @@ HasTreeOrFault =
     (tokens : List Mark) (end : ℕ) →
     ((tree : Syntax) × IsParsed tokens tree) ⊎ ((fault : GrammarFault) × HasFault tokens end fault)
 
--- tokens with a fault are no filter
+-- tokens with a fault are not a filter
 abbrev pub HasFaultOrTree : Type 0
 HasFaultOrTree =
     (tokens : List Mark) (end : ℕ) (fault : GrammarFault) (tree : Syntax) → HasFault tokens end fault → ¬ IsParsed tokens tree
@@ -29,10 +29,10 @@ HasOneFault =
     (tokens : List Mark) (end : ℕ) (fault other : GrammarFault) →
     HasFault tokens end fault → HasFault tokens end other → fault ≡ other
 
--- the count of open parentheses stays within 64 where no tokens in a row open over 64 more than they close
+-- the count of open parentheses stays within 64 exactly if no tokens in a row open over 64 more than they close
 abbrev pub CountsOpen : Type 0
 CountsOpen = (tokens : List Mark) → ((deep_at 0 tokens ≡ None) ↔ IsShallow tokens)
 
--- a tree's places ascend in the order of reading where its tokens' do
+-- a tree's places ascend in the order of reading if its tokens' places do
 abbrev pub HasPlacesInOrder : Type 0
 HasPlacesInOrder = (tokens : List Mark) (tree : Syntax) → Reads tokens tree → Ascend 0 tokens → IsOrdered tree

@@ -1,4 +1,4 @@
--- How far tokens are read, one at a time: what has been read is kept as what is still open around it.
+-- How far tokens are read, one at a time: the tokens read so far are kept as the parts that are still open around the next one.
 use Rattle.std.specs.Prelude.{ℕ, Bool, true, false, List, [], ◌∷◌, ◌++◌}
 use Rattle.cql_lexer.specs.Mark.{Sort, Mark, at, opening, closing, comma, plus, minus, times, modulo, compare, word, name, text, number}
 use Rattle.cql_lexer.specs.declared.token.Comparison.{Comparison}
@@ -13,7 +13,7 @@ pub data Sign : Type 0 where
   comma_sign : Sign
   close_sign : Sign
 
--- what stands at one point of a function or of a literal behind its keyword
+-- what one point of a function or of a literal behind its keyword holds
 pub data Slot : Type 0 where
   open_slot : Slot
   sign_slot : Sign → Slot
@@ -145,7 +145,7 @@ abbrev pub have_whole : ForWhole → Syntax → State
 have_whole (as_primary k) t = have_primary k t
 have_whole (as_slot ss op ts k) t = want_slots ss op (ts ++ t ∷ []) k
 
--- what the next token does to a value that may go on
+-- what the next token does to a value that may continue
 pub data Tail : Type 0 where
   compares : Comparison → Tail
   likes : Tail
@@ -158,7 +158,7 @@ pub data Inner : Type 0 where
   tails : Tail → Inner
   computes : Operation → Inner
 
--- what the next token does to a part that may go on
+-- what the next token does to a part that may continue
 pub data Role : Type 0 where
   ends : Role
   closes : Role
@@ -272,7 +272,7 @@ factors_step (inner (computes operation.Modulo)) k operations ts =
     go_on (want_primary (product_part (operations ++ operation.Modulo ∷ []) ts k))
 factors_step r k operations ts = product_step r k (joined (computed_op operations) ts)
 
--- what stands behind a keyword
+-- what follows a keyword
 abbrev pub two_sums : List Slot
 two_sums = open_slot ∷ sum_slot comma_sign ∷ sum_slot close_sign ∷ []
 
@@ -288,7 +288,7 @@ point_slots = open_slot ∷ whole_slot ∷ whole_slot ∷ sign_slot close_sign �
 abbrev pub ring_slots : List Slot
 ring_slots = open_slot ∷ whole_slot ∷ whole_slot ∷ corners_slot ∷ []
 
--- and that of a polygon before its first ring
+-- and what follows that of a polygon, before its first ring
 abbrev pub polygon_slots : List Slot
 polygon_slots = open_slot ∷ ring_slots
 
@@ -390,7 +390,7 @@ step (have_ands k ts) xs = ands_step (role_of xs) k ts
 step (have_ors k ts) xs = ors_step (role_of xs) k ts
 step (have_or k t) xs = or_step (role_of xs) k t
 
--- the tree that the tokens spell, or what is left where no tree can come
+-- the tree that the tokens spell, or the tokens left if no tree can come
 pub data Outcome : Type 0 where
   spells : Syntax → Outcome
   stops : List Mark → Outcome

@@ -1,4 +1,4 @@
-//! Why tokens are not read.
+//! Why tokens cannot be read as a filter.
 
 ghost use Rattle.std.specs.Prelude.{◌≡◌};
 ghost use Rattle.cql_parser.specs.Faults.{label_of, name_of, number_of, place_of};
@@ -22,10 +22,10 @@ pub enum GrammarFault {
 /// Why tokens gave no tree.
 #[derive(Clone, Copy, PartialEq, Eq, Debug, Error)]
 pub enum ParseFault {
-    /// The tokens are no filter.
+    /// The tokens are not a filter.
     #[error(transparent)]
     At(GrammarFault),
-    /// Memory ran out, whatever the tokens are.
+    /// Memory ran out. This says nothing of the tokens.
     #[error("out of memory")]
     Memory,
 }
@@ -43,7 +43,7 @@ impl GrammarFault {
         }
     }
 
-    /// The fault's number in the table of specs/Faults, from 1, by which programs may tell it.
+    /// The fault's number in the table of specs/Faults, from 1, by which programs can distinguish faults.
     pub fn number(&self) -> u8
         ensures { result ≡ (label_of self.now).number }
     {
@@ -57,7 +57,7 @@ impl GrammarFault {
         self.number_and_name().1
     }
 
-    /// The byte of the text at which the fault stands.
+    /// The byte of the text at which the fault is.
     pub fn place(&self) -> usize
         ensures { result ≡ (label_of self.now).place }
     {
@@ -70,7 +70,7 @@ impl GrammarFault {
 }
 
 impl ParseFault {
-    /// The fault's number in the table of specs/Faults, from 1, by which programs may tell it.
+    /// The fault's number in the table of specs/Faults, from 1, by which programs can distinguish faults.
     pub fn number(&self) -> u8
         ensures { result ≡ number_of self.now }
     {
@@ -90,7 +90,7 @@ impl ParseFault {
         }
     }
 
-    /// The byte of the text at which the fault stands, or `None` where memory ran out.
+    /// The byte of the text at which the fault is, or `None` if memory ran out.
     pub fn place(&self) -> Option<usize>
         ensures { result ≡ place_of self.now }
     {

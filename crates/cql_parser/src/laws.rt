@@ -12,7 +12,7 @@ pub fn tree_or_fault()
     ensures { HasTreeOrFault }
 {}
 
-/// Tokens with a fault are no filter.
+/// Tokens with a fault are not a filter.
 pub fn fault_or_tree()
     ensures { HasFaultOrTree }
 {}
@@ -28,7 +28,7 @@ pub fn open_parentheses_are_counted()
     ensures { CountsOpen }
 {}
 
-/// The places of a tree's nodes ascend in the order of reading where those of its tokens do.
+/// The places of a tree's nodes ascend in the order of reading if those of its tokens do.
 pub fn places_are_in_order()
     ensures { HasPlacesInOrder }
 {}

@@ -6,7 +6,7 @@
 //! may be open at one time.
 //!
 //! - [`Tree`]: a filter, by its root; [`Expression`]: a filter or a part of one, each name, literal and keyword at its place.
-//! - [`ParseFault`]: why tokens are no filter; a [`GrammarFault`] is the first fault, with its place.
+//! - [`ParseFault`]: why tokens are not a filter; a [`GrammarFault`] is the first fault, with its place.
 //! - [`laws`]: a list of tokens has one tree or one fault, and never both, and a tree's places ascend.
 #![tactic(auto)]
 

@@ -163,7 +163,7 @@ pub(crate) fn after_name(tokens: &[Token]) -> Option<(usize, &String, &[Token])>
     }
 }
 
-/// The place of a text, what it stands for, and what follows it.
+/// The place of a text, its content, and what follows it.
 pub(crate) fn after_text(tokens: &[Token]) -> Option<(usize, &String, &[Token])>
     ensures found { IfSome result
         (λ r. marks tokens.now ≡ at r.0 (text (string_bytes r.1.now)) ∷ marks r.2.now) }

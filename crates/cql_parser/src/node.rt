@@ -12,7 +12,7 @@ use cql_lexer::{Comparison, SpatialRelation};
 use cql_tree::{Bound, Corner, Expression, Number, Operand, Ring};
 use std::alloc::{AllocError, Global};
 
-/// The parts joined by OR; one part alone is that part.
+/// The parts joined by OR; a single part is returned as it is.
 pub(crate) fn or_tree(
     alloc: Global,
     first: Box<Expression>,
@@ -26,7 +26,7 @@ pub(crate) fn or_tree(
     Ok(Box::new(alloc, Expression::Or { first, others })?)
 }
 
-/// The parts joined by AND; one part alone is that part.
+/// The parts joined by AND; a single part is returned as it is.
 pub(crate) fn and_tree(
     alloc: Global,
     first: Box<Expression>,
@@ -40,7 +40,7 @@ pub(crate) fn and_tree(
     Ok(Box::new(alloc, Expression::And { first, others })?)
 }
 
-/// The parts computed from the left; one part alone is that part.
+/// The parts computed from the left; a single part is returned as it is.
 pub(crate) fn computed_tree(
     alloc: Global,
     first: Box<Expression>,
@@ -80,7 +80,7 @@ pub(crate) fn compare_tree(
     Ok(Box::new(alloc, Expression::Compare { by, left, right })?)
 }
 
-/// A value held against a pattern.
+/// A value compared with a pattern.
 #[tactic(auto, unfolding(cql_tree::specs::Views::syntax_of))]
 pub(crate) fn like_tree(
     alloc: Global,
@@ -139,7 +139,7 @@ pub(crate) fn in_tree(
     Ok(Box::new(alloc, tree)?)
 }
 
-/// A value that is asked for.
+/// A value that is tested for null.
 #[tactic(auto, unfolding(cql_tree::specs::Views::syntax_of))]
 pub(crate) fn null_tree(
     alloc: Global,

@@ -12,15 +12,15 @@ use cql_lexer::{Comparison, Keyword, Kind, SpatialRelation, Token};
 pub enum TailStart<'a> {
     /// A comparison by this sign.
     Compared(Comparison, &'a [Token]),
-    /// LIKE, and whether a NOT stands before it.
+    /// LIKE, and whether a NOT comes before it.
     Liked(bool, &'a [Token]),
-    /// BETWEEN, and whether a NOT stands before it.
+    /// BETWEEN, and whether a NOT comes before it.
     Ranged(bool, &'a [Token]),
-    /// IN, and whether a NOT stands before it.
+    /// IN, and whether a NOT comes before it.
     Listed(bool, &'a [Token]),
     /// IS.
     Tested(&'a [Token]),
-    /// A NOT, and nothing that may follow it; the tokens are those behind it.
+    /// A NOT that is followed by nothing that may follow it; the tokens are those behind it.
     Broken(&'a [Token]),
     /// None of these.
     NoTail,
@@ -35,7 +35,7 @@ pub enum Pairing {
     Temporal(Relation),
 }
 
-/// What opens a parenthesis round other expressions, and the tokens behind its word.
+/// What opens a parenthesis around other expressions, and the tokens behind its word.
 #[derive(Clone, Copy)]
 pub enum CallStart<'a> {
     /// The parenthesis itself, without a word.
@@ -110,7 +110,7 @@ fn negated_start(tokens: &[Token]) -> TailStart<'_>
     }
 }
 
-/// What opens a parenthesis round other expressions.
+/// What opens a parenthesis around other expressions.
 pub(crate) fn call_start(tokens: &[Token]) -> CallStart<'_>
     ensures starts { StartsCall result (marks tokens.now) }
     ensures shorter { IsShorterCall (length tokens.now) result }

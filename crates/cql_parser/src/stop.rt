@@ -10,7 +10,7 @@ use std::alloc::{AllocError, AllocFailed};
 /// Memory ran out, or no tree can come at the first of these tokens.
 #[derive(Drop)]
 pub enum Stop<'a> {
-    /// A growth was refused.
+    /// Memory ran out.
     Memory,
     /// No filter can come once the first of these tokens is read.
     At(&'a [Token]),
@@ -21,7 +21,7 @@ pub enum Stop<'a> {
 pub struct Parsed<'a> {
     /// The part.
     pub tree: Box<Expression>,
-    /// The tokens that no part has yet.
+    /// The tokens that no part contains yet.
     pub rest: &'a [Token],
 }
 

@@ -8,7 +8,7 @@ use Rattle.cql_rewrite.specs.declared.form.Normal.{Normal}
 use Rattle.cql_rewrite.specs.declared.form.Normal.TheOpen.{Normal-F}
 use Rattle.cql_rewrite.specs.declared.form.Normal.TheFolds.{fold-Normal}
 
--- a condition of the language that is not made of others, and neither TRUE nor FALSE
+-- a condition of the language that does not consist of others, and is neither TRUE nor FALSE
 abbrev pub atom_step : Filter-F Bool → Bool
 atom_step (Filter-F.Truth b) = false
 atom_step (Filter-F.Not f) = false
@@ -22,7 +22,7 @@ is_atom = fold-Filter Bool atom_step
 abbrev pub IsAtom : Filter → Type 0
 IsAtom f = is_atom f ≡ true
 
--- whether what a form takes from its filter are atoms, with that of each part in the part's place
+-- whether the conditions that a form takes from its filter are atoms, with the answer for each part in the part's place
 abbrev pub plain_step : Normal-F Bool → Bool
 plain_step (Normal-F.Constant b) = true
 plain_step (Normal-F.Range r) = true
@@ -44,6 +44,6 @@ HasPlainAtoms n = has_plain_atoms n ≡ true
 abbrev pub HavePlainAtoms : List Normal → Type 0
 HavePlainAtoms ns = list_all has_plain_atoms ns ≡ true
 
--- parts that have plain atoms keep them with one more that has
+-- if the parts have plain atoms, so have they with one more part that has plain atoms
 abbrev pub KeepsAtoms : List Normal → List Normal → Normal → Type 0
 KeepsAtoms old new part = HavePlainAtoms old → HasPlainAtoms part → HavePlainAtoms new

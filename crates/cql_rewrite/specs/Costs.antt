@@ -36,7 +36,7 @@ use Rattle.cql_rewrite.specs.Terms.{day_sides, is_plain_days, is_plain_texts, is
 abbrev pub every : List Written → ℕ
 every t = length t
 
--- how many are looked at where that shape is asked for: those whose bounds touch more than 64 cells, or a cell that its bounds touch
+-- how many are looked at when that shape is asked for: those whose bounds touch more than 64 cells, or a cell that its bounds touch
 abbrev pub near_count : List Written → ℕ → Shape → ℕ
 near_count t property shape = how_many (λ x. is_near property (block_around (shape_corners shape)) x.item) t
 
@@ -70,7 +70,7 @@ is_near_by relation.Disjoint = false
 is_near_by relation.Within = true
 is_near_by relation.Contains = true
 
--- what looking near the shape costs, where one term is a property and the other a literal
+-- what looking near the shape costs, if one term is a property and the other a literal
 abbrev pub near_terms : List Written → ShapeTerm → ShapeTerm → ℕ
 near_terms t (place.Property i) (place.Constant s) = min (every t) (near_count t i s)
 near_terms t (place.Constant s) (place.Property i) = min (every t) (near_count t i s)
@@ -79,7 +79,7 @@ near_terms t a b = every t
 abbrev pub near_bound : List Written → SpatialRelation → ShapeTerm → ShapeTerm → ℕ
 near_bound t by a b = if is_near_by by then near_terms t a b else every t
 
--- how many have a value that meets a plain comparison; of another comparison all
+-- how many have a value that meets a plain comparison; for another comparison all
 abbrev pub count_if : Bool → List Written → (Written → Sides) → ℕ
 count_if true t said = how_many (λ x. (said x).yes) t
 count_if false t said = every t
@@ -91,7 +91,7 @@ abbrev pub begins_in : List ℕ → Option (List ℕ) → Bool
 begins_in front None = false
 begins_in front (Some text) = begins_with front text
 
--- how many have a text that begins with the front of a literal pattern, where the front is not empty
+-- how many have a text that begins with the front of a literal pattern, if the front is not empty
 abbrev pub begun_by : List Written → ℕ → List ℕ → ℕ
 begun_by t i [] = every t
 begun_by t i (c ∷ front) = how_many (λ x. begins_in (c ∷ front) (text_in (datum_at x.item i))) t
@@ -112,7 +112,7 @@ is_plain_in_texts a items = list_all (is_plain_texts comparison.Equal a) items
 abbrev pub is_plain_in_days : DayTerm → List DayTerm → Bool
 is_plain_in_days a items = list_all (is_plain_days comparison.Equal a) items
 
--- the value is some item's
+-- the value equals that of some item
 abbrev pub any_equal : {T : Type 0} → (Item → T → T → Sides) → Item → T → List T → Bool
 any_equal equal x a items = list_any (λ item. (equal x a item).yes) items
 
@@ -120,7 +120,7 @@ any_equal equal x a items = list_any (λ item. (equal x a item).yes) items
 abbrev pub count_of : {T : Type 0} → List Written → (Item → T → T → Sides) → T → T → ℕ
 count_of t equal a item = how_many (λ x. (equal x.item a item).yes) t
 
--- the sum over the items; of another IN all
+-- the sum over the items; for another IN all
 abbrev pub count_in : {T : Type 0} → Bool → List Written → (Item → T → T → Sides) → T → List T → ℕ
 count_in true t equal a items = min (every t) (total (map (count_of t equal a) items))
 count_in false t equal a items = every t
@@ -150,12 +150,12 @@ bound t = fold-Filter ℕ (bound_step t)
 
 -- ---- words of the contracts
 
--- the bound speaks of the features of which the filter is true alone
+-- the bound is only about the features of which the filter is true
 abbrev pub bound_on : Bool → List Written → Filter → ℕ
 bound_on true t f = bound t f
 bound_on false t f = every t
 
--- the bounds of the parts, of all or of some
+-- the bounds of the parts, for all or for some
 abbrev pub bounds_joined : Bool → Bool → List Written → List Filter → ℕ
 bounds_joined true side t fs = min_of (every t) (map (bound_on side t) fs)
 bounds_joined false side t fs = min (every t) (total (map (bound_on side t) fs))
@@ -166,14 +166,14 @@ least_of_all t ns = min_of (every t) (map (least t) ns)
 abbrev pub least_of_some : List Written → List Normal → ℕ
 least_of_some t ns = min (every t) (total (map (least t) ns))
 
--- no more is looked at than meets the form
+-- exactly as many are looked at as meet the form
 abbrev pub IsCounted : Normal → Type 0
 IsCounted n = (t : List Written) → least t n ≡ how_many (λ x. meets x.item n) t
 
 abbrev pub range_count : List Written → Option Range → ℕ
 range_count t r = how_many (λ x. lies_in_if_any x.item r) t
 
--- one more part of an AND costs no more than what stood, nor than the part
+-- an AND with one more part costs no more than the AND before, and no more than the part
 abbrev pub CostsPart : List Normal → List Normal → Normal → Type 0
 CostsPart old new part = (t : List Written) → least_of_all t new ≤ min (least_of_all t old) (least t part)
 
@@ -185,10 +185,10 @@ abbrev pub least_or : List Written → Option Normal → ℕ
 least_or t None = every t
 least_or t (Some n) = least t n
 
--- more parts of an AND cost no more than what stood, nor than each of them
+-- an AND with more parts costs no more than the AND before, and no more than any of the parts
 abbrev pub CostsAll : List Normal → List Normal → List Normal → Type 0
 CostsAll old new parts = (t : List Written) → least_of_all t new ≤ min (least_of_all t old) (least_of_all t parts)
 
--- one more part of an OR costs no more than what stood and the part
+-- an OR with one more part costs no more than the OR before and the part together
 abbrev pub CostsEither : List Normal → List Normal → Normal → Type 0
 CostsEither old new part = (t : List Written) → total (map (least t) new) ≤ total (map (least t) old) + least t part

@@ -17,7 +17,7 @@ use Rattle.cql_rewrite.specs.Costs.{is_near_by, least}
 use Rattle.cql_rewrite.specs.Meets.{HoldsCharacters, Written, meets}
 use Rattle.cql_rewrite.specs.Menus.{IsFirstOfLeast, choice, menu}
 
--- the features of a collection hold characters alone
+-- the features of a collection hold only characters
 abbrev pub FeaturesAreWritten : Collection → Type 0
 FeaturesAreWritten collection = (x : Item) → IsFeatureOf collection x → HoldsCharacters x
 
@@ -25,7 +25,7 @@ FeaturesAreWritten collection = (x : Item) → IsFeatureOf collection x → Hold
 abbrev pub ChoicesCostTheLeast : Type 0
 ChoicesCostTheLeast = (t : List Written) (n : Normal) → cost (counts_of (map (λ x. x.item) t)) (choice (counts_of (map (λ x. x.item) t)) n) ≤ least t n
 
--- the choice of a form's menu is one of the menu, costs no more than any of it, and less than each that stands before it
+-- the choice of a form's menu is one of the menu, costs no more than any of it, and less than each that comes before it
 abbrev pub ChoicesAreTheFirstOfLeast : Type 0
 ChoicesAreTheFirstOfLeast = (counts : Counts) (n : Normal) → IsFirstOfLeast counts (choice counts n) (menu counts n)
 

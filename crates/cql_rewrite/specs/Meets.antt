@@ -18,11 +18,11 @@ use Rattle.cql_rewrite.specs.declared.form.Normal.TheVariants as form
 use Rattle.cql_rewrite.specs.declared.form.Normal.TheOpen.{Normal-F}
 use Rattle.cql_rewrite.specs.declared.form.Normal.TheFolds.{fold-Normal}
 
--- its texts hold characters alone (Unicode scalar values)
+-- its texts hold only characters (Unicode scalar values)
 abbrev pub HoldsCharacters : Item → Type 0
 HoldsCharacters x = (i : ℕ) (t : List ℕ) → text_in (datum_at x i) ≡ Some t → all_scalars t ≡ true
 
--- a feature whose texts hold characters alone; those of every collection are such
+-- a feature whose texts hold only characters; those of every collection are such
 pub record Written : Type 0 where
   pub item : Item
   pub characters : HoldsCharacters item
@@ -40,7 +40,7 @@ abbrev pub is_liked : Option (List ℕ) → List ℕ → Bool
 is_liked None pattern = false
 is_liked (Some text) pattern = like_test pattern text
 
--- a form, with what each part meets in the part's place
+-- a form, with whether the feature meets each part in the part's place
 abbrev pub meet_step : Item → Normal-F Bool → Bool
 meet_step x (Normal-F.Constant b) = b
 meet_step x (Normal-F.Range r) = lies_in x r
@@ -84,7 +84,7 @@ folds = fold-Normal Bool folds_step
 
 -- ---- words of the contracts
 
--- of all, or of some
+-- for all, or for some
 abbrev pub joined_by : Bool → (Filter → Bool) → List Filter → Bool
 joined_by true p fs = list_all p fs
 joined_by false p fs = list_any p fs
@@ -93,7 +93,7 @@ abbrev pub joined_test : Bool → Bool → Bool → Bool
 joined_test true a b = a && b
 joined_test false a b = a || b
 
--- one more part of an AND, in whatever way it is kept
+-- one more part of an AND, no matter how it is kept
 abbrev pub AddsPart : List Normal → List Normal → Normal → Type 0
 AddsPart old new part = (x : Item) → list_all (meets x) new ≡ (list_all (meets x) old && meets x part)
 
@@ -104,6 +104,6 @@ AddsBoth old new a b = (x : Item) → list_all (meets x) new ≡ (list_all (meet
 abbrev pub AddsAll : List Normal → List Normal → List Normal → Type 0
 AddsAll old new parts = (x : Item) → list_all (meets x) new ≡ (list_all (meets x) old && list_all (meets x) parts)
 
--- one more part of an OR, in whatever way it is kept
+-- one more part of an OR, no matter how it is kept
 abbrev pub AddsEither : List Normal → List Normal → Normal → Type 0
 AddsEither old new part = (x : Item) → list_any (meets x) new ≡ (list_any (meets x) old || meets x part)

@@ -10,7 +10,7 @@ use Rattle.cql_rewrite.specs.declared.form.Normal.TheFolds.{fold-Normal}
 
 -- ---- the choice
 
--- the cheaper of two ways; of two of one cost the first
+-- the cheaper of two ways; if they cost the same, the first
 abbrev pub cheaper : Counts → Way → Way → Way
 cheaper counts w v = if nat_lt (cost counts v) (cost counts w) then v else w
 
@@ -19,12 +19,13 @@ abbrev pub first_least : Counts → Way → List Way → Way
 first_least counts w [] = w
 first_least counts w (v ∷ vs) = first_least counts (cheaper counts w v) vs
 
--- the first of least cost; of no way, all
+-- the first of least cost; without ways, all
 abbrev pub chosen : Counts → List Way → Way
 chosen counts [] = all_features
 chosen counts (w ∷ ws) = first_least counts w ws
 
--- what a choice is, in the subject's words: one of these ways, which costs less than each that stands before it, and no more than any that stands behind it
+-- what a choice is, in the subject's words: one of these ways, which costs less than each that comes before it, and no more than any that
+-- comes behind it
 pub record IsFirstOfLeast (counts : Counts) (w : Way) (ws : List Way) : Type 0 where
   pub before : List Way
   pub behind : List Way
@@ -48,11 +49,11 @@ abbrev pub meets_of : List Way → List Way
 meets_of (v ∷ w ∷ ws) = meet_of (ways_in (v ∷ w ∷ ws)) ∷ []
 meets_of ws = []
 
--- of an AND, by the choice of each part: all, the meet of those that are other than all, each of them
+-- the menu of an AND, by the choice of each part: all, the meet of those that are other than all, each of them
 abbrev pub and_menu : List Way → List Way
 and_menu choices = all_features ∷ (meets_of (filter is_narrow choices) ++ choices)
 
--- of an OR: all, and the join of each part's choice
+-- the menu of an OR: all, and the join of each part's choice
 abbrev pub or_menu : List Way → List Way
 or_menu choices = all_features ∷ join_of (ways_in choices) ∷ []
 

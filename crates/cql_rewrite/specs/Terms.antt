@@ -1,4 +1,4 @@
--- What a comparison comes to where an operand is a constant (own profile).
+-- What a comparison reduces to if an operand is a constant (own profile).
 use Rattle.std.specs.Prelude.{ℕ, Bool, true, false, not, List, Option, Some, None, option_map}
 use Rattle.cad_feature.specs.Features.{Item, datum_at}
 use Rattle.cad_feature.specs.Limits.{Limit, free, scalar_datum, without_value}
@@ -75,16 +75,16 @@ abbrev pub is_plain_flags : FlagTerm → FlagTerm → Bool
 is_plain_flags (flag.Property i) (flag.Property j) = false
 is_plain_flags a b = true
 
--- ---- what a comparison comes to
+-- ---- what a comparison reduces to
 
--- what is said of a feature by what a comparison comes to; where it comes to nothing, what is given
+-- what the reduced comparison says of a feature; if it reduces to nothing, what is given
 abbrev pub plain_sides : Item → Plain → Sides → Sides
 plain_sides x (plain.Decided b) s = sides_of (Some b)
 plain_sides x plain.Never s = sides_of None
 plain_sides x (plain.Compared property by scalar) s = sides_of (option_map (stands by) (order_of (datum_at x property) (scalar_datum scalar)))
 plain_sides x plain.Other s = s
 
--- it comes to a constant or a range
+-- it reduces to a constant or a range
 abbrev pub is_exact : Plain → Bool
 is_exact (plain.Decided b) = true
 is_exact plain.Never = true
@@ -98,7 +98,7 @@ abbrev pub side_of_test : Bool → Bool → Bool
 side_of_test true b = b
 side_of_test false b = not b
 
--- the comparison of the operands exchanged
+-- the comparison with its operands exchanged
 abbrev pub turned_of : Comparison → Comparison
 turned_of comparison.Equal = comparison.Equal
 turned_of comparison.Unequal = comparison.Unequal
@@ -107,22 +107,22 @@ turned_of comparison.Greater = comparison.Less
 turned_of comparison.AtMost = comparison.AtLeast
 turned_of comparison.AtLeast = comparison.AtMost
 
--- what meets a form, where there is one; else what is given
+-- whether the feature meets the form, if there is one; else what is given
 abbrev pub met_or : Item → Option Normal → Bool → Bool
 met_or x None given = given
 met_or x (Some n) given = meets x n
 
--- what is said of a feature by a filter, where there is one; else what is given
+-- what the filter says of the feature, if there is one; else what is given
 abbrev pub filter_or : Item → Option Filter → Sides → Sides
 filter_or x None given = given
 filter_or x (Some f) given = sides x f
 
--- what a range says, where there is one; else what is given
+-- whether the feature is in the range, if there is one; else what is given
 abbrev pub said_by : Option Range → Item → Bool → Bool
 said_by None x given = given
 said_by (Some r) x given = lies_in x r
 
--- the end of a range of texts, which is outside
+-- the end of a range of texts, which is not included
 abbrev pub end_limit : Option (List ℕ) → Limit
 end_limit None = free
 end_limit (Some end) = without_value (a_text end)

@@ -20,7 +20,7 @@ use cql_lexer::Comparison;
 use cql_types::{Filter, WholeTerm};
 use std::alloc::{AllocError, Global};
 
-// The whole numbers from the one to the other.
+// The whole numbers from one to the other.
 fn between_wholes(property: usize, a: i64, b: i64) -> Option<Range>
     ensures { (x : Item) → lies_in_if_any x result ≡ (between_of (whole_in (datum_at x property)) (Some a) (Some b)).yes }
 {
@@ -45,7 +45,7 @@ fn literal_between<'a>(value: &WholeTerm, low: &WholeTerm, high: &WholeTerm) -> 
     }
 }
 
-// That the value is at most the one number, joined to the form of the other comparison.
+// That the value is at most the one number, joined with the form of the other comparison.
 fn with_most<'a>(
     alloc: Global,
     least: Normal<'a>,
@@ -71,7 +71,7 @@ fn with_most<'a>(
     Ok(Some(form))
 }
 
-// Both comparisons, where each comes to a constant or a range.
+// Both comparisons, if each reduces to a constant or a range.
 fn computed_between<'a>(
     alloc: Global,
     value: &WholeTerm,

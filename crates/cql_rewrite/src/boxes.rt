@@ -10,7 +10,7 @@ use cql_lexer::SpatialRelation;
 use cql_types::{Filter, ShapeTerm};
 
 /// The filter that is true of those features whose geometry meets the box. `geometry` is the place of the geometry in the
-/// collection's schema, where it has one.
+/// collection's schema, if it has one.
 pub fn box_condition(geometry: Option<usize>, bounds: Bounds) -> Filter
     ensures condition { result ≡ condition_of geometry bounds }
     ensures says { (x : Item) → yes result x ≡ meets_box x geometry bounds }

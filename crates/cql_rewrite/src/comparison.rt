@@ -14,7 +14,7 @@ use crate::plain::{Plain, plain_range, sided};
 use cql_types::Filter;
 use std::alloc::{AllocError, Global};
 
-/// The form of a comparison, where it comes to a constant or a range.
+/// The form of a comparison, if it reduces to a constant or a range.
 pub(crate) fn exact_form<'a>(
     alloc: Global,
     plain: Plain,
@@ -43,7 +43,7 @@ pub(crate) fn exact_form<'a>(
     }
 }
 
-/// The form of a comparison, by what it comes to.
+/// The form of a comparison, by what it reduces to.
 pub(crate) fn formed<'a>(
     alloc: Global,
     filter: &'a Filter,

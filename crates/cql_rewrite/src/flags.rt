@@ -16,7 +16,7 @@ use cql_lexer::Comparison;
 use cql_types::{Filter, FlagTerm};
 use std::alloc::{AllocError, Global};
 
-// The same term once more.
+// A copy of the term.
 fn copied(term: &FlagTerm) -> FlagTerm
     ensures { (x : Item) → flag_value x result ≡ flag_value x term.now }
 {
@@ -26,7 +26,7 @@ fn copied(term: &FlagTerm) -> FlagTerm
     }
 }
 
-// That the value equals the item, where one of them is a constant.
+// That the value equals the item, if one of them is a constant.
 fn equal_flag<'a>(value: &FlagTerm, item: &FlagTerm) -> Option<Normal<'a>>
     ensures stands { (x : Item) → met_or x result (flag_sides Equal x value.now item.now).yes ≡ (flag_sides Equal x value.now item.now).yes }
     ensures is_there { is_some result ≡ is_plain_flags value.now item.now }
@@ -46,7 +46,7 @@ fn equal_flag<'a>(value: &FlagTerm, item: &FlagTerm) -> Option<Normal<'a>>
     }
 }
 
-// The OR of the equalities, where each has a constant.
+// The OR of the equalities, if each has a constant.
 fn equal_flags<'a>(
     alloc: Global,
     value: &FlagTerm,

@@ -15,7 +15,7 @@ use cql_text::fold;
 use cql_types::{Filter, TextTerm};
 use std::alloc::{AllocError, Global};
 
-// Whether a constant stands inside a CASEI.
+// Whether a constant is inside a CASEI.
 fn folds_constant(term: &TextTerm) -> bool {
     match term {
         TextTerm::Constant(_) | TextTerm::Property(_) => false,
@@ -40,7 +40,7 @@ fn some_folds_constant(terms: &[TextTerm]) -> bool {
     false
 }
 
-// A term whose case is folded, at once where it is a constant.
+// A term whose case is folded: if it is a constant, it is folded at once.
 fn folded(alloc: Global, term: TextTerm) -> Result<TextTerm, AllocError>
     ensures { IfOk result (λ t. (x : Item) → text_value x t ≡ folded_content (text_value x term)) }
 {
@@ -56,7 +56,7 @@ fn folded(alloc: Global, term: TextTerm) -> Result<TextTerm, AllocError>
     }
 }
 
-// The same term once more, its constants folded.
+// A copy of the term, with its constants folded.
 fn settled(alloc: Global, term: &TextTerm) -> Result<TextTerm, AllocError>
     ensures { IfOk result (λ t. (x : Item) → text_value x t ≡ text_value x term.now) }
 {
@@ -117,7 +117,7 @@ fn settled_in(alloc: Global, value: &TextTerm, items: &[TextTerm]) -> Result<Fil
     Ok(Filter::InText { value, items })
 }
 
-// The filter once more, where it folds the case of a constant.
+// A copy of the filter, if it folds the case of a constant.
 fn settled_filter(alloc: Global, filter: &Filter) -> Result<Option<Filter>, AllocError>
     ensures stands { IfOk result (λ o. (x : Item) → filter_or x o (sides x filter.now) ≡ sides x filter.now) }
     ensures atom { IfOk result (λ o. IfSome o IsAtom) }

@@ -7,11 +7,11 @@ use cql_types::Filter;
 /// A condition that a feature meets or does not meet.
 #[derive(Drop)]
 pub enum Normal<'a> {
-    /// Every feature meets it, or none.
+    /// Every feature meets it, or no feature does.
     Constant(bool),
     /// The feature has a value inside the range.
     Range(Range),
-    /// The feature has a text inside the range that is like the pattern. The range is that of the pattern's front.
+    /// The feature has a text inside the range, and the text is like the pattern. The range is that of the pattern's front.
     Like {
         pattern: String,
         range: Range,
@@ -21,7 +21,7 @@ pub enum Normal<'a> {
         filter: &'a Filter,
         side: bool,
     },
-    /// The same of a condition that the form holds itself: one in which the case of each constant is folded beforehand, or an
+    /// The same for a condition that the form itself owns: one in which the case of each constant is folded beforehand, or an
     /// equality of an IN.
     Owned {
         filter: Filter,
@@ -46,7 +46,7 @@ impl Normal<'_> {
     ghost use Rattle.cad_range.specs.Ranges.{lies_in};
     ghost use Rattle.cql_rewrite.specs.Meets.{is_settled, meets, offers_own};
 
-    /// What every feature meets or none, where the whole is a constant. No memory is taken.
+    /// What every feature meets or no feature does, if the whole is a constant. No memory is taken.
     pub fn is_constant(&self) -> Option<bool>
         ensures stands { IfSome result (λ b. (x : Item) → meets x self.now ≡ b) }
         ensures is_there { is_some result ≡ is_settled self.now }
@@ -57,8 +57,8 @@ impl Normal<'_> {
         }
     }
 
-    /// A range in which each feature has a value that meets the whole, where one is offered: the range of a comparison, of
-    /// the front of a LIKE, or of the first part of an AND that has one. No memory is taken.
+    /// A range in which each feature that meets the whole has a value, if one is offered: the range of a comparison, of the front of
+    /// a LIKE, or of the first part of an AND that has one. No memory is taken.
     pub fn range(&self) -> Option<&Range>
         ensures stands { IfSome result (λ r. (x : Item) → IsTrue (meets x self.now) → IsTrue (lies_in x r.now)) }
         ensures is_there { IsTrue (offers_own self.now) → IsTrue (is_some result) }

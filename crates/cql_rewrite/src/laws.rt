@@ -12,28 +12,28 @@ use cad_grid::laws::shared_cells_are_touched;
 use cad_schema::Collection;
 use cad_shape::laws::{bounds_overlap, meeting_is_symmetric, tests_tell, within_meets};
 
-/// The features of a collection hold characters alone, as `normal` asks of those of which it speaks.
+/// The features of a collection hold only characters, as `normal` requires of the features that it speaks of.
 pub fn features_are_written(collection: Collection)
     ensures { FeaturesAreWritten collection }
 {}
 
-/// The choice of a form's menu costs no more than the least of which `normal` speaks, over any list of features.
+/// The choice of a form's menu costs no more than the least that `normal` speaks of, over any list of features.
 pub fn choices_cost_the_least()
     ensures { ChoicesCostTheLeast }
 {}
 
-/// The choice of a form's menu is one of the menu, costs no more than any of it, and less than each that stands before it,
-/// however features are counted.
+/// The choice of a form's menu is one of the menu, costs no more than any of it, and less than each that comes before it, no matter how
+/// features are counted.
 pub fn choices_are_the_first_of_least()
     ensures { ChoicesAreTheFirstOfLeast }
 {}
 
-/// Each way of a form's menu has each feature that meets the form, however features are counted, and so has the choice.
+/// Each way of a form's menu has each feature that meets the form, no matter how features are counted, and so has the choice.
 pub fn menus_cover()
     ensures { MenusCover }
 {}
 
-/// A feature of which S_INTERSECTS, S_WITHIN or S_CONTAINS with a shape is true is near the shape.
+/// If S_INTERSECTS, S_WITHIN or S_CONTAINS with a shape is true of a feature, the feature is near the shape.
 pub fn spatial_is_near()
     ensures { SpatialIsNear }
 {

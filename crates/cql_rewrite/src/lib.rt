@@ -1,12 +1,12 @@
-//! The normal form of a filter: NOT stands above no condition, constants are computed, comparisons with constants are
-//! ranges, and those of one property under one AND are joined.
+//! The normal form of a filter: NOT is above no condition, constants are computed, comparisons with constants are
+//! ranges, and ranges of one property under one AND are joined.
 //!
 //! - [`normal`]: the normal form of a filter. Of `NOT (area < 3 OR area > 8)` it is the range of `area` from 3 to 8.
-//! - [`Normal`]: a normal form; it borrows from the filter the conditions that are no ranges.
+//! - [`Normal`]: a normal form; it borrows from the filter the conditions that are not ranges.
 //! - [`both`]: the AND of two normal forms
-//! - [`box_condition`]: that the geometry meets a box, as a filter: what `bbox` adds to the filter of a request. Of a collection
+//! - [`box_condition`]: that the geometry meets a box, as a filter: what `bbox` adds to the filter of a request. In a collection
 //!   without geometry it is true of no feature
-//! - [`test`]: whether a feature meets it, which it does exactly where the filter is true of the feature
+//! - [`test`]: whether a feature meets the form, which it does exactly if the filter is true of the feature
 //! - [`laws`]: what holds of normal forms, beyond what each call says
 #![tactic(auto)]
 

@@ -31,7 +31,7 @@ fn high_edge(end: Option<String>) -> Edge
     }
 }
 
-// The texts of a property that are like a pattern, where its front is not empty.
+// The texts of a property that are like a pattern, if its front is not empty.
 fn front_form<'a>(property: usize, pattern: String, range: LikeRange) -> Normal<'a>
     requires { IsLikeRange (text_of pattern) (text_of range.low) (option_map text_of range.end) range.is_exact }
     ensures stands { (x : Written) → meets x.item result ≡ is_liked (text_in (datum_at x.item property)) (text_of pattern) }
@@ -67,7 +67,7 @@ fn property_form<'a>(
     Ok(Some(front_form(property, pattern, range)))
 }
 
-// The form of LIKE, where a property is compared with a pattern that has a front.
+// The form of LIKE, if a property is compared with a pattern that has a front.
 fn like_form<'a>(
     alloc: Global,
     value: &TextTerm,

@@ -18,7 +18,7 @@ use cql_lexer::Comparison;
 use cql_types::Filter;
 use std::alloc::{AllocError, Global};
 
-// That the value equals the item, where this comes to a constant or a range.
+// That the value equals the item, if this reduces to a constant or a range.
 fn equal_item<'a, T: Term>(
     alloc: Global,
     value: &T,
@@ -34,7 +34,7 @@ fn equal_item<'a, T: Term>(
     Ok(form)
 }
 
-// The OR of the equalities, where each comes to a constant or a range.
+// The OR of the equalities, if each reduces to a constant or a range.
 fn equal_items<'a, T: Term>(
     alloc: Global,
     value: &T,

@@ -41,7 +41,7 @@ fn add_all<'a>(parts: &mut Vec<Normal<'a>>, inner: Vec<Normal<'a>>) -> Result<()
     Ok(())
 }
 
-// One more part; what every feature meets is left out.
+// One more part; a part that every feature meets is left out.
 fn add_one<'a>(parts: &mut Vec<Normal<'a>>, part: Normal<'a>) -> Result<(), AllocError>
     ensures stands { OnOk result (AddsPart parts.old.items parts.new.items part.entry) }
     ensures costs { OnOk result (CostsPart parts.old.items parts.new.items part.entry) }
@@ -89,7 +89,7 @@ fn add_range(parts: &mut Vec<Normal>, range: Range) -> Result<(), AllocError>
     }
 }
 
-// Both, as one part where they are ranges of one property.
+// Both, as one part if they are ranges of one property.
 fn add_joined<'a>(
     parts: &mut Vec<Normal<'a>>,
     old: Normal<'a>,
@@ -127,7 +127,7 @@ fn add_ranges(parts: &mut Vec<Normal>, old: Range, range: Range) -> Result<(), A
     }
 }
 
-/// The range, or what no feature meets.
+/// The range, or the form that no feature meets.
 pub(crate) fn range_or_never<'a>(range: Option<Range>) -> Normal<'a>
     ensures stands { (x : Item) → meets x result ≡ lies_in_if_any x range }
     ensures costs { (t : List Written) → least t result ≡ range_count t range }
@@ -139,7 +139,7 @@ pub(crate) fn range_or_never<'a>(range: Option<Range>) -> Normal<'a>
     }
 }
 
-// The place of a range of the property.
+// The place of a range of the property, if there is one.
 fn place_of(parts: &[Normal], property: usize) -> Option<usize>
     ensures { IfSome result (λ i. i < length parts.now) }
 {
@@ -173,7 +173,7 @@ pub(crate) fn all_of(parts: Vec<Normal<'_>>) -> Normal<'_>
     Normal::And(parts)
 }
 
-/// One more part of an OR; what no feature meets is left out.
+/// One more part of an OR; a part that no feature meets is left out.
 pub(crate) fn add_either<'a>(
     parts: &mut Vec<Normal<'a>>,
     part: Normal<'a>,
@@ -222,7 +222,7 @@ fn has_always(parts: &[Normal]) -> bool
     false
 }
 
-// Whether every feature meets the part, being the constant.
+// Whether the part is the constant that every feature meets.
 fn is_always(part: &Normal) -> bool
     ensures { IsTrue result → part.now ≡ Normal.Constant true }
 {
@@ -232,7 +232,7 @@ fn is_always(part: &Normal) -> bool
     }
 }
 
-// Whether no feature meets the part, being the constant.
+// Whether the part is the constant that no feature meets.
 fn is_never(part: &Normal) -> bool
     ensures { IsTrue result → part.now ≡ Normal.Constant false }
 {

@@ -1,4 +1,4 @@
-//! What a comparison comes to where an operand is a constant.
+//! What a comparison reduces to if an operand is a constant.
 
 ghost use Rattle.std.specs.Prelude.{◌≡◌, true, IfOk, Some, is_some};
 ghost use Rattle.std.specs.declared.cmp.Ordering.{Ordering as OrderingOf};
@@ -13,7 +13,7 @@ use cql_lexer::Comparison;
 use std::alloc::{AllocError, Global};
 use std::cmp::Ordering;
 
-/// What a comparison comes to.
+/// What a comparison reduces to.
 #[derive(Drop)]
 pub(crate) enum Plain {
     /// The same on every feature.
@@ -43,7 +43,7 @@ pub(crate) fn stands(by: Comparison, order: Ordering) -> bool
     }
 }
 
-/// The comparison of the operands exchanged.
+/// The comparison with its operands exchanged.
 pub(crate) fn turned(by: Comparison) -> Comparison
     ensures { result ≡ turned_of by }
 {
@@ -57,7 +57,7 @@ pub(crate) fn turned(by: Comparison) -> Comparison
     }
 }
 
-/// The comparison, or that which holds where it does not.
+/// The comparison, or the one that holds if it does not.
 pub(crate) fn sided(by: Comparison, side: bool) -> Comparison
     ensures fails { (o : OrderingOf) → stands_of result o ≡ side_of_test side (stands_of by o) }
     ensures same { side ≡ true → result ≡ by }
@@ -75,7 +75,7 @@ pub(crate) fn sided(by: Comparison, side: bool) -> Comparison
     }
 }
 
-// A range, in an answer that may have none.
+// A range, in an answer that may have no range.
 fn range(property: usize, low: Edge, high: Edge) -> Option<Range>
     ensures { result ≡ Some (record { property = property; low = low; high = high }) }
 {
@@ -86,7 +86,7 @@ fn range(property: usize, low: Edge, high: Edge) -> Option<Range>
     })
 }
 
-/// The range of the values that a comparison with a constant holds of. None for `<>`.
+/// The range of the values of which a comparison with a constant holds. `None` for `<>`.
 pub(crate) fn plain_range(
     alloc: Global,
     property: usize,

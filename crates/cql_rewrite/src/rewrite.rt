@@ -18,8 +18,8 @@ use crate::terms::{plain_days, plain_texts, plain_wholes};
 use cql_types::Filter;
 use std::alloc::{AllocError, Global};
 
-/// The form that exactly those features meet of which the filter is true. Its cheapest plan costs no more than the
-/// filter's bound.
+/// The form that a feature meets exactly if the filter is true of it. Its cheapest plan costs no more than the filter's
+/// bound.
 pub fn normal(alloc: Global, filter: &Filter) -> Result<Normal<'_>, AllocError>
     ensures stands { IfOk result (λ n. (x : Written) → meets x.item n ≡ yes filter.now x.item) }
     ensures costs { IfOk result (λ n. (t : List Written) → least t n ≤ bound t filter.now) }

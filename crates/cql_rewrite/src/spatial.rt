@@ -21,7 +21,7 @@ fn is_near(by: SpatialRelation) -> bool
     }
 }
 
-// A true relation of a property and a constant shape.
+// The form for the features of which the relation of a property and a constant shape is true.
 fn near<'a>(
     filter: &'a Filter,
     by: SpatialRelation,

@@ -28,7 +28,7 @@ fn decided_wholes(by: Comparison, left: Option<i64>, right: Option<i64>) -> Plai
     }
 }
 
-// A property compared with a constant, or what is null on every feature.
+// A property compared with a constant, or with a term that is null on every feature.
 fn against_whole(by: Comparison, term: &WholeTerm, known: Option<i64>) -> Plain
     ensures { (x : Item) → plain_sides x result (compared (wholes by) (whole_value x term.now) known) ≡ compared (wholes by) (whole_value x term.now) known }
 {
@@ -43,7 +43,7 @@ fn against_whole(by: Comparison, term: &WholeTerm, known: Option<i64>) -> Plain
     }
 }
 
-// Where the constants are no literals, but computed.
+// If the constants are not literals, but computed.
 fn computed_wholes(by: Comparison, left: &WholeTerm, right: &WholeTerm) -> Plain
     ensures { (x : Item) → plain_sides x result (whole_sides by x left.now right.now) ≡ whole_sides by x left.now right.now }
 {
@@ -55,7 +55,7 @@ fn computed_wholes(by: Comparison, left: &WholeTerm, right: &WholeTerm) -> Plain
     }
 }
 
-/// What a comparison of two whole numbers comes to.
+/// What a comparison of two whole numbers reduces to.
 pub(crate) fn plain_wholes(by: Comparison, left: &WholeTerm, right: &WholeTerm) -> Plain
     ensures says { (x : Item) → plain_sides x result (whole_sides by x left.now right.now) ≡ whole_sides by x left.now right.now }
     ensures exact { is_plain_wholes by left.now right.now ≡ true → is_exact result ≡ true }
@@ -78,7 +78,7 @@ pub(crate) fn plain_wholes(by: Comparison, left: &WholeTerm, right: &WholeTerm) 
 
 // ---- texts
 
-/// The same text once more.
+/// A copy of the text.
 pub(crate) fn copied(alloc: Global, text: &String) -> Result<String, AllocError>
     ensures { IfOk result (λ s. text_of s ≡ text_of text.now) }
 {
@@ -100,7 +100,7 @@ fn against_text(by: Comparison, term: &TextTerm, known: String) -> Plain
     }
 }
 
-// Where the constants are no literals, but folded.
+// If the constants are not literals, but folded.
 fn computed_texts(
     alloc: Global,
     by: Comparison,
@@ -119,7 +119,7 @@ fn computed_texts(
     }
 }
 
-/// What a comparison of two texts comes to.
+/// What a comparison of two texts reduces to.
 pub(crate) fn plain_texts(
     alloc: Global,
     by: Comparison,
@@ -155,7 +155,7 @@ pub(crate) fn plain_texts(
 
 // ---- days
 
-/// What a comparison of two days comes to.
+/// What a comparison of two days reduces to.
 pub(crate) fn plain_days(by: Comparison, left: &DayTerm, right: &DayTerm) -> Plain
     ensures says { (x : Item) → plain_sides x result (day_sides by x left.now right.now) ≡ day_sides by x left.now right.now }
     ensures exact { is_plain_days by left.now right.now ≡ true → is_exact result ≡ true }
@@ -192,7 +192,7 @@ pub(crate) trait Term {
 
     ghost is_plain: { Comparison → Self → Self → Bool };
 
-    /// What a comparison of two terms comes to.
+    /// What a comparison of two terms reduces to.
     fn plain(alloc: Global, by: Comparison, left: &Self, right: &Self) -> Result<Plain, AllocError>
         ensures says { IfOk result (λ p. (x : Item) → plain_sides x p (said by x left.now right.now) ≡ said by x left.now right.now) }
         ensures exact { IfOk result (λ p. is_plain by left.now right.now ≡ true → is_exact p ≡ true) };

@@ -60,7 +60,7 @@ fn is_liked_at(feature: &Feature, property: usize, pattern: &String) -> bool
     }
 }
 
-// Whether some cell is among both, or the feature's own are more than 64.
+// Whether the two have a cell in common, or the feature has more than 64 cells.
 fn are_near(own: Cells, asked: Cells) -> bool
     ensures { result ≡ is_candidate (block_at asked) (Some (block_at own)) }
 {
@@ -86,7 +86,7 @@ fn is_near(feature: &Feature, property: usize, shape: &Shape) -> bool
     }
 }
 
-// The cells are looked at first, since they are soon compared.
+// The cells are looked at first, since they are quick to compare.
 fn is_said_near(
     alloc: Global,
     filter: &Filter,
@@ -104,7 +104,7 @@ fn is_said_near(
     }
 }
 
-/// Whether the feature meets the form, or want of memory, which is taken for texts whose case is folded alone: a form
+/// Whether the feature meets the form. An error means out of memory. Memory is taken only for texts whose case is folded: a form
 /// without such a text is always answered.
 #[cycle(tested)]
 pub fn test(alloc: Global, form: &Normal, feature: &Feature) -> Result<bool, AllocError>

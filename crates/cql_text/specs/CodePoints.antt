@@ -32,7 +32,7 @@ first_less : (x y : ℕ) (xs ys : List ℕ) → x < y → IsLess (x ∷ xs) (y �
 unfolding IsLess
 first_less x y xs ys h = rw (cmp_less x y h) refl
 
--- the first bytes don't fall, and where they are alike the others decide
+-- the first byte is not greater than the other, and if they are equal the following bytes decide
 step_less : (x y : ℕ) (xs ys : List ℕ) → x ≤ y → (x ≡ y → IsLess xs ys) → IsLess (x ∷ xs) (y ∷ ys)
 unfolding IsLess
 step_less x y xs ys h rest = by_ranked (x < y) (x ≡ y) (y < x) (nat_cmp x y) (ranked x y (nat_cmp x y) refl)
@@ -66,7 +66,7 @@ four_less c d r t h = step_less (240 + c / 262144) (240 + d / 262144) _ _ (omega
     (λ f. step_less (128 + (c / 64) % 64) (128 + (d / 64) % 64) _ _ (omega arith)
     (λ g. first_less (128 + c % 64) (128 + d % 64) r t (omega arith))))
 
--- a first byte tells how many there are
+-- the first byte of a character determines how many bytes it has
 encode_less : (c d : ℕ) (r t : List ℕ) → c < d → IsLess (encode c ++ r) (encode d ++ t)
 encode_less c d r t h =
     elim (cases_lt c 128) [

@@ -12,7 +12,7 @@ text_of s = chars (string_bytes s)
 
 -- ---- the front of a pattern
 
--- the characters up to a part that takes others
+-- the characters before the first part that matches others
 abbrev pub front_of : List Piece → List ℕ
 front_of [] = []
 front_of (any ∷ p) = []
@@ -32,14 +32,14 @@ is_all_any (any ∷ p) = is_all_any p
 is_all_any (one ∷ p) = false
 is_all_any (exactly c ∷ p) = false
 
--- parts for any number, one at least
+-- parts that match any number, at least one
 abbrev pub is_open : List Piece → Bool
 is_open [] = false
 is_open (any ∷ p) = is_all_any p
 is_open (one ∷ p) = false
 is_open (exactly c ∷ p) = false
 
--- the first part, if any, doesn't take one character alone
+-- the first part, if any, does not match exactly one given character
 abbrev pub NoneExact : List Piece → Type 0
 NoneExact [] = Unit {0}
 NoneExact (any ∷ p) = Unit {0}
@@ -61,7 +61,7 @@ abbrev pub IsBelow : List ℕ → Option (List ℕ) → Type 0
 IsBelow text None = Unit {0}
 IsBelow text (Some end) = text_cmp text end ≡ Less
 
--- from low on, and below the end where there is one
+-- from low on, and below the end if there is one
 abbrev pub LiesBetween : List ℕ → Option (List ℕ) → List ℕ → Type 0
 LiesBetween low end text = (is_le (text_cmp low text) ≡ true) × IsBelow text end
 
@@ -77,12 +77,12 @@ abbrev pub onward : ℕ → Option (List ℕ) → Option (List ℕ)
 onward c None = option_map (λ d. d ∷ []) (next_scalar c)
 onward c (Some end) = Some (c ∷ end)
 
--- the last character that has a next one becomes it, and those after it go
+-- the last character that has a next one becomes that one, and the characters after it are removed
 abbrev pub next_front : List ℕ → Option (List ℕ)
 next_front [] = None
 next_front (c ∷ front) = onward c (next_front front)
 
--- every text that is like the pattern lies in the range of its front, and where only parts for any number follow the front no other does
+-- every text that is like the pattern lies in the range of its front, and if only parts for any number follow the front, no other text does
 pub record IsLikeRange (pattern low : List ℕ) (end : Option (List ℕ)) (exact : Bool) : Type 0 where
   pub front : low ≡ front_of (pieces pattern)
   pub alone : exact ≡ is_open (after_front (pieces pattern))

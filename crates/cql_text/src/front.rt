@@ -7,19 +7,19 @@ ghost use Rattle.cql_text.specs.Patterns.{exactly, pieces};
 use crate::pattern::{Part, after_any, first_part};
 use std::alloc::{AllocError, Global};
 
-// The characters that a pattern begins with, and whether only parts for any number follow.
+// The characters that a pattern begins with, and whether only parts that match any number follow.
 #[derive(Drop)]
 struct FixedFront {
     text: String,
     is_alone: bool,
 }
 
-/// The texts from `low` on and below `end`, where there is one: those that begin with `low`.
+/// The texts from `low` on and, if there is an `end`, below it: those that begin with `low`.
 #[derive(Drop)]
 pub struct LikeRange {
     /// The front of the pattern, which is the first text of the range.
     pub low: String,
-    /// The first text behind the range; without one it has no end.
+    /// The first text behind the range; without such a text the range has no end.
     pub end: Option<String>,
     /// Each of them is like the pattern.
     pub is_exact: bool,
@@ -52,7 +52,7 @@ fn fixed_front(alloc: Global, pattern: &str) -> Result<FixedFront, AllocError>
     Ok(FixedFront { text, is_alone })
 }
 
-// The character of a first part that takes it alone, and the pattern after it.
+// The character of a first part that matches this character alone, and the pattern after it.
 fn exact_part(pattern: &str) -> Option<(char, &str)>
     ensures { MatchOption result (NoneExact (pieces (chars pattern.now))) (λ r. pieces (chars pattern.now) ≡ exactly r.0 ∷ pieces (chars r.1.now)) }
 {
@@ -62,7 +62,7 @@ fn exact_part(pattern: &str) -> Option<(char, &str)>
     }
 }
 
-// Whether a pattern is parts for any number, one at least.
+// Whether a pattern consists of parts that match any number, at least one.
 fn is_only_any(pattern: &str) -> bool
     ensures { result ≡ is_open (pieces (chars pattern.now)) }
 {
@@ -76,7 +76,7 @@ fn is_only_any(pattern: &str) -> bool
     first_part(left).is_none()
 }
 
-// The least text above all that begin with the front, or `None` where none is.
+// The least text above all that begin with the front, or `None` if there is no such text.
 fn end_of_front(alloc: Global, front: &str) -> Result<Option<String>, AllocError>
     ensures { IfOk result (λ end. IsFrontRange (chars front.now) (option_map text_of end)) }
 {

@@ -3,27 +3,27 @@
 
 ghost use Rattle.cql_text.specs.Laws.{LikeTestTells, PlainPatternsAreEqual, AnyNumberTakesAll, FoldedTextsStay, OneTextIsEqual, OrderIsTotal};
 
-/// A pattern without `%`, `_` and `\` is like itself alone.
+/// A pattern without `%`, `_` and `\` matches only the same text.
 pub fn plain_patterns_are_equal()
     ensures { PlainPatternsAreEqual }
 {}
 
-/// The test by which texts are judged is true exactly where the relation holds.
+/// The test that decides whether a text is like a pattern is true exactly if the relation holds.
 pub fn like_test_tells()
     ensures { LikeTestTells }
 {}
 
-/// The pattern `%` is like every text.
+/// Every text is like the pattern `%`.
 pub fn any_number_takes_all()
     ensures { AnyNumberTakesAll }
 {}
 
-/// The fold of a fold is that fold.
+/// Folding a folded text leaves it as it is.
 pub fn folded_texts_stay()
     ensures { FoldedTextsStay }
 {}
 
-/// Two texts are ordered as equal exactly where they are one.
+/// The order of two texts is Equal exactly if they are the same text.
 pub fn one_text_is_equal()
     ensures { OneTextIsEqual }
 {}

@@ -1,11 +1,11 @@
-//! LIKE, in one walk with a place to come back to.
+//! LIKE, in one walk that remembers one place to return to.
 
 ghost use Rattle.std.specs.Prelude.{◌≡◌, ◌↔◌, ◌∷◌, [], chars, MatchOption, IsTrue};
 ghost use Rattle.cql_text.specs.Patterns.{Advances, BeginsPlain, Stops, any, is_like, like_test, pieces, piece_takes, some_end};
 ghost use Rattle.cql_text.specs.Likeness.{IsLike};
 ghost use Rattle.cql_text.specs.inner.Parts.{piece_of};
 
-// One part of a pattern: any number of characters, one, or exactly that one.
+// One part of a pattern: it matches any number of characters, any one, or exactly that one.
 #[derive(Clone, Copy)]
 pub(crate) enum Part {
     Any,
@@ -13,8 +13,8 @@ pub(crate) enum Part {
     Exactly(char),
 }
 
-/// Whether the whole text is like the pattern: `%` stands for any number of characters, `_` for one, `\` for the
-/// character after it, and a last `\` for itself. No memory is taken.
+/// Whether the whole text is like the pattern: `%` matches any number of characters, `_` matches one, `\` makes the character after it
+/// match itself, and a last `\` matches itself. No memory is taken.
 #[tactic(auto, using(crate::proofs::LikenessLemmas::tells))]
 pub fn like(text: &str, pattern: &str) -> bool
     ensures meaning { IsTrue result ↔ IsLike (chars pattern.now) (chars text.now) }
@@ -23,7 +23,7 @@ pub fn like(text: &str, pattern: &str) -> bool
     is_whole_like(text, pattern)
 }
 
-// Up to the first part for any number, each part takes one character.
+// Up to the first part that matches any number, each part takes one character.
 fn is_whole_like(text: &str, pattern: &str) -> bool
     ensures { result ≡ is_like (pieces (chars pattern.now)) (chars text.now) }
 {
@@ -41,7 +41,7 @@ fn is_whole_like(text: &str, pattern: &str) -> bool
     }
 }
 
-// After a part for any number: `again` and `from` are where the walk comes back to.
+// After a part that matches any number: `again` and `from` are where the walk returns to.
 fn is_some_end_like(text: &str, pattern: &str) -> bool
     ensures { result ≡ some_end (is_like (pieces (chars pattern.now))) (chars text.now) }
 {
@@ -71,7 +71,7 @@ fn is_some_end_like(text: &str, pattern: &str) -> bool
     }
 }
 
-// Whether nothing is left on either side, where the walk goes no further.
+// Whether nothing is left on either side, when the walk can go no further.
 fn is_over(pattern: &str, text: &str) -> bool
     requires plain { BeginsPlain (pieces (chars pattern.now)) }
     requires stops { Stops (pieces (chars pattern.now)) (chars text.now) }
@@ -80,7 +80,7 @@ fn is_over(pattern: &str, text: &str) -> bool
     first_part(pattern).is_none() && first_char(text).is_none()
 }
 
-// The pattern after a part that takes any number.
+// The pattern after a part that matches any number.
 pub(crate) fn after_any(pattern: &str) -> Option<&str>
     ensures { MatchOption result (BeginsPlain (pieces (chars pattern.now))) (λ after. pieces (chars pattern.now) ≡ any ∷ pieces (chars after.now)) }
 {
@@ -90,7 +90,7 @@ pub(crate) fn after_any(pattern: &str) -> Option<&str>
     }
 }
 
-// What is left when the first part has taken the first character.
+// The rest of both after the first part has taken the first character.
 fn advance<'a>(pattern: &'a str, text: &'a str) -> Option<(&'a str, &'a str)>
     requires { BeginsPlain (pieces (chars pattern.now)) }
     ensures { MatchOption result (Stops (pieces (chars pattern.now)) (chars text.now)) (λ r. Advances (pieces (chars pattern.now)) (chars text.now) (pieces (chars r.0.now)) (chars r.1.now)) }

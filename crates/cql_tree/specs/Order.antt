@@ -17,6 +17,6 @@ mutual
     one_part : {from middle to : ℕ} {t : Syntax} {ts : Parts} → InOrder from t middle → AreInOrder middle ts to →
         AreInOrder from (part t ts) to
 
--- the tree's places ascend: a fact of one proof, so that a type can keep it
+-- the tree's places ascend: a fact with only one proof, so that a type can keep it
 abbrev pub IsOrdered : Syntax → Type 0
 IsOrdered t = ∥ ((from : ℕ) × (to : ℕ) × InOrder from t to) ∥₁

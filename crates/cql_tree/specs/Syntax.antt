@@ -1,4 +1,4 @@
--- The tree of a filter, without where it lies in memory: a leaf at its place, or a node over its parts.
+-- The tree of a filter, without its place in memory: a leaf at its place in the text, or a node over its parts.
 use Rattle.std.specs.Prelude.{ℕ, Bool, List, [], ◌∷◌}
 use Rattle.cad_day.specs.declared.relation.Relation.{Relation}
 use Rattle.cql_lexer.specs.declared.token.Comparison.{Comparison}

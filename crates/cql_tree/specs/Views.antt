@@ -1,4 +1,4 @@
--- A tree without where it lies in memory.
+-- A tree without its place in memory.
 use Rattle.std.specs.Prelude.{List, [], ◌∷◌, map, string_bytes}
 use Rattle.cql_tree.specs.Syntax.{Syntax, Parts, none, part, parts_of, leaf, node, name_leaf, number_leaf, text_leaf, truth_leaf, day_leaf, bound_leaf, or_op, and_op, not_op, compare_op, like_op, between_op, in_op, is_null_op, computed_op, casei_op, date_op, interval_op, point_op, polygon_op, ring_op, bbox_op, spatial_op, temporal_op}
 use Rattle.cql_tree.specs.declared.expression.Operation.{Operation}

@@ -21,7 +21,7 @@ pub enum Expression {
     Text {
         /// The byte at which it begins.
         place: usize,
-        /// What the text stands for.
+        /// The content of the text.
         content: String,
     },
     /// TRUE or FALSE.
@@ -63,7 +63,7 @@ pub enum Expression {
     },
     /// `[NOT] LIKE`
     Like {
-        /// Whether NOT stands before LIKE.
+        /// Whether NOT comes before LIKE.
         is_negated: bool,
         /// What is to be like the pattern.
         value: Box<Expression>,
@@ -72,7 +72,7 @@ pub enum Expression {
     },
     /// `[NOT] BETWEEN`, with both ends.
     Between {
-        /// Whether NOT stands before BETWEEN.
+        /// Whether NOT comes before BETWEEN.
         is_negated: bool,
         /// What is to lie between the bounds.
         value: Box<Expression>,
@@ -83,7 +83,7 @@ pub enum Expression {
     },
     /// `[NOT] IN`, with one item or more.
     In {
-        /// Whether NOT stands before IN.
+        /// Whether NOT comes before IN.
         is_negated: bool,
         /// What is to be one of the items.
         value: Box<Expression>,
@@ -94,7 +94,7 @@ pub enum Expression {
     },
     /// `IS [NOT] NULL`
     IsNull {
-        /// Whether NOT stands behind IS.
+        /// Whether NOT comes behind IS.
         is_negated: bool,
         /// What is to have no value.
         value: Box<Expression>,
@@ -183,9 +183,9 @@ pub enum Expression {
 pub struct Number {
     /// The place of its digits, behind the sign.
     pub place: usize,
-    /// A minus stands before it.
+    /// Whether a minus comes before it.
     pub is_negative: bool,
-    /// Digits, and a fraction and an exponent where it has them.
+    /// Digits, and a fraction and an exponent if it has them.
     pub digits: String,
 }
 
@@ -200,7 +200,7 @@ pub enum Operation {
     Times,
     /// `DIV`, cut toward zero
     Div,
-    /// `%`, what is left by `DIV`
+    /// `%`, the remainder of `DIV`
     Modulo,
 }
 
@@ -235,6 +235,6 @@ pub struct Corner {
 /// A closed line through its corners.
 #[derive(Drop)]
 pub struct Ring {
-    /// The corners as they are written, the first once more at the end.
+    /// The corners as they are written, the first one repeated at the end.
     pub corners: Vec<Corner>,
 }

@@ -6,8 +6,8 @@
 //! - [`Operand`]: a further part of a sum or a product, and the [`Operation`] before it.
 //! - [`Bound`], [`Number`], [`Corner`], [`Ring`]: what literals of several parts hold.
 //!
-//! The definitions say what a tree is without where it lies in memory (`Syntax`, `Views`), and that its places ascend in
-//! the order of reading (`Order`).
+//! The definitions say what a tree is without its place in memory (`Syntax`, `Views`), and that its places ascend in the order of
+//! reading (`Order`).
 #![tactic(auto)]
 
 mod expression;

@@ -1,4 +1,4 @@
--- A filter without where it lies in memory (OGC 21-065r2, requirements class Basic CQL2).
+-- A filter without its place in memory (OGC 21-065r2, requirements class Basic CQL2).
 use Rattle.std.specs.Prelude.{ℕ, ℤ, Bool, List, [], ◌∷◌, map, string_bytes}
 use Rattle.cad_day.specs.declared.relation.Relation.{Relation}
 use Rattle.cql_lexer.specs.declared.token.Comparison.{Comparison}
@@ -83,7 +83,7 @@ abbrev pub conditions_of : List Condition → Conditions
 conditions_of [] = no_condition
 conditions_of (f ∷ fs) = one_condition f (conditions_of fs)
 
--- by what the terms inside are
+-- from what the terms inside are
 abbrev pub numeric_step : WholeTerm-F NumericExpression (Operation × NumericExpression) → NumericExpression
 numeric_step (WholeTerm-F.Constant z) = number z
 numeric_step (WholeTerm-F.Property i) = number_property i

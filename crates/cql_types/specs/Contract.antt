@@ -33,7 +33,7 @@ pub record IsJudged (s : List Named) (t : Syntax) (j : Judged) : Type 0 where
   pub place : place_of t ≡ j.place
   pub means : Means s t j.node
 
--- nothing is said for want of memory
+-- if memory ran out, nothing is said
 abbrev pub ForFault : (Fault → Type 0) → TypeFault → Type 0
 ForFault Is Memory = ⊤
 ForFault Is (At f) = Is f

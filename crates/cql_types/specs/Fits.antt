@@ -1,4 +1,4 @@
--- A node is a term of one kind exactly where its kind is that kind.
+-- A node is a term of one kind exactly if its kind is that kind.
 use Rattle.std.specs.Prelude.{◌≡◌, is_some}
 use Rattle.std.proofs.Common.{refl}
 use Rattle.cql_types.specs.declared.judged.Node.{Node}

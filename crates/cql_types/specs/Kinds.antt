@@ -20,7 +20,7 @@ use Rattle.cql_types.specs.Literals.{IsPoint, IsPolygon, IsBox, are_turned}
 pub data Kind : Type 0 where
   whole : Kind
   text : Kind
-  -- a text literal, or CASEI round one: of kind Text
+  -- a text literal, or CASEI around one: of kind Text
   pattern : Kind
   day : Kind
   flag : Kind
@@ -33,7 +33,7 @@ pub data Kind : Type 0 where
   condition : Kind
   -- the open end of an INTERVAL
   open_end : Kind
-  -- the line round a POLYGON
+  -- the line around a POLYGON
   line : Kind
 
 abbrev pub is_whole : Kind → Bool
@@ -63,7 +63,7 @@ is_condition condition = true
 is_condition truth = true
 is_condition _ = false
 
--- a day, which stands for the interval of that day, or an interval
+-- a day, which is taken as the interval of that day, or an interval
 abbrev pub is_time : Kind → Bool
 is_time day = true
 is_time span = true
@@ -93,7 +93,7 @@ abbrev pub is_line : Kind → Bool
 is_line line = true
 is_line _ = false
 
--- any kind but Condition alone
+-- any kind except `condition`, `open_end` and `line`; TRUE and FALSE are values too
 abbrev pub is_value : Kind → Bool
 is_value condition = false
 is_value open_end = false
@@ -145,7 +145,7 @@ abbrev pub first_not : (Kind → Bool) → List Mark → Option Fault
 first_not fits [] = None
 first_not fits (m ∷ ms) = if fits m.1 then first_not fits ms else Some (wrong_kind m.0)
 
--- the same where the kinds that may stand behind the first part are told by the first one's
+-- the same if the kind of the first part determines which kinds may follow it
 abbrev pub first_unlike : (Kind → Bool) → (Kind → Kind → Bool) → List Mark → Option Fault
 first_unlike fits beside [] = None
 first_unlike fits beside (m ∷ ms) = if fits m.1 then first_not (beside m.1) ms else Some (wrong_kind m.0)
@@ -155,7 +155,7 @@ is_equality by.Equal = true
 is_equality by.Unequal = true
 is_equality _ = false
 
--- flags are compared by equality alone
+-- flags are compared only by equality
 abbrev pub is_comparable : Bool → Kind → Bool
 is_comparable equality whole = true
 is_comparable equality text = true
@@ -178,7 +178,7 @@ is_same _ = is_condition
 abbrev pub is_always_pattern : Kind → Kind → Bool
 is_always_pattern k = is_pattern
 
--- the second shape of a relation, by the first one: what lies within another is a point, or the other is a box
+-- the second shape of a relation, by the first one: if one is to lie within the other, the inner is a point or the outer is a box
 abbrev pub is_related : SpatialRelation → Kind → Kind → Bool
 is_related spatial.Intersects k = is_shape
 is_related spatial.Disjoint k = is_shape
@@ -206,7 +206,7 @@ misfit (bbox_op p) = first_not is_whole
 misfit (spatial_op p r) = first_unlike is_shape (is_related r)
 misfit (temporal_op p r) = first_not is_time
 
--- CASEI round a pattern is one
+-- CASEI around a pattern is a pattern
 abbrev pub folded : List Mark → Kind
 folded [] = text
 folded (m ∷ ms) = if is_pattern m.1 then pattern else text
@@ -223,7 +223,7 @@ made ring_op ms = line
 made (bbox_op p) ms = frame
 made _ ms = condition
 
--- what a literal must be as a whole, where its parts fit
+-- what a literal must be as a whole, if its parts fit
 abbrev pub IsSound : Op → Parts → Type 0
 IsSound (interval_op p) ps = are_turned ps ≡ false
 IsSound (point_op p) ps = IsPoint ps
@@ -239,7 +239,7 @@ abbrev pub unsound : Op → Parts → Fault
 unsound op ps = record { place = keyed op (place_in ps); cause = unsound_cause op }
 
 mutual
-  -- the tree has the kind: a node where its parts have kinds that fit
+  -- the tree has the kind: a node only if its parts have kinds that fit
   pub data Has (s : List Named) : Syntax → Kind → Type 0 where
     leaf_has : {p : ℕ} {l : Leaf} {k : Kind} → leaf_kind s l ≡ Ok k → Has s (leaf p l) k
     node_has : {op : Op} {ps : Parts} {ms : List Mark} → Have s ps ms → misfit op ms ≡ None → IsSound op ps → Has s (node op ps) (made op ms)
@@ -250,7 +250,7 @@ mutual
     one_more : {t : Syntax} {ts : Parts} {k : Kind} {ms : List Mark} → Has s t k → Have s ts ms → Have s (part t ts) ((place_of t, k) ∷ ms)
 
 mutual
-  -- the fault is in the tree: a node is judged only where its parts have kinds
+  -- the fault is in the tree: a node is judged only if its parts have kinds
   pub data IsWrong (s : List Named) : Syntax → Fault → Type 0 where
     leaf_wrong : {p : ℕ} {l : Leaf} {c : Misuse} → leaf_kind s l ≡ Err c → IsWrong s (leaf p l) (record { place = p; cause = c })
     node_wrong : {op : Op} {ps : Parts} {ms : List Mark} {f : Fault} → Have s ps ms → misfit op ms ≡ Some f → IsWrong s (node op ps) f
@@ -265,7 +265,7 @@ mutual
 abbrev pub IsCondition : List Named → Syntax → Type 0
 IsCondition s t = (k : Kind) × Has s t k × (is_condition k ≡ true)
 
--- a fault of a filter: one in its tree, or that the whole is no condition
+-- a fault of a filter: one in its tree, or that the whole is not a condition
 pub data IsFault (s : List Named) (t : Syntax) : Fault → Type 0 where
   in_tree : {f : Fault} → IsWrong s t f → IsFault s t f
   no_condition : {k : Kind} → Has s t k → is_condition k ≡ false → IsFault s t (wrong_kind (place_of t))

@@ -13,18 +13,18 @@ use Rattle.cql_types.specs.declared.filter.Filter.{Filter}
 abbrev pub HasFaultOrCondition : Type 0
 HasFaultOrCondition = (s : List Named) (t : Syntax) (f : Fault) → IsCondition s t → ¬ IsFault s t f
 
--- a tree whose places ascend is a condition or has a fault with the least place: it cannot be that neither holds
+-- a tree whose places ascend is a condition or has a fault with the least place: it is impossible that neither holds
 abbrev pub HasConditionOrFault : Type 0
 HasConditionOrFault = (s : List Named) (t : Syntax) → IsOrdered t → ¬ ¬ (IsCondition s t ⊎ ((f : Fault) × IsLeast s t f))
 
--- and of all faults one alone has the least place
+-- and only one of all faults has the least place
 abbrev pub HasOneLeastFault : Type 0
 HasOneLeastFault = (s : List Named) (t : Syntax) (f g : Fault) → IsOrdered t → IsLeast s t f → IsLeast s t g → f ≡ g
 
--- what a tree means is a filter only where the tree is a condition
+-- a tree means a filter only if the tree is a condition
 abbrev pub HasFiltersOfConditions : Type 0
 HasFiltersOfConditions = (s : List Named) (t : Syntax) (x : Filter) → IsFilter s t x → IsCondition s t
 
--- a tree means at most one filter, but for where it lies in memory
+-- a tree means at most one filter, apart from its place in memory
 abbrev pub HasOneFilter : Type 0
 HasOneFilter = (s : List Named) (t : Syntax) (x y : Filter) → IsFilter s t x → IsFilter s t y → condition_in x ≡ condition_in y

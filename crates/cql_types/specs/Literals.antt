@@ -1,4 +1,5 @@
--- What the numbers and the texts of a literal are those of (OGC 21-065r2, requirements classes Basic Spatial Functions: spatial literals, and Temporal Functions: INTERVAL; the limits: own profile).
+-- The points, boxes, regions and days that the numbers and texts of literals spell (OGC 21-065r2, requirements classes Basic Spatial
+-- Functions: spatial literals, and Temporal Functions: INTERVAL; the limits: own profile).
 use Rattle.std.specs.Prelude.{◌≡◌, ℕ, ℤ, ◌<ℤ◌, Bool, false, List, [], ◌∷◌, ◌++◌, Option, None, Ok}
 use Rattle.cad_day.specs.DayTexts.{day_named}
 use Rattle.cad_day.specs.Intervals.{are_turned as is_turned}
@@ -41,7 +42,7 @@ abbrev pub coordinates_of : List Point → List ℤ
 coordinates_of [] = []
 coordinates_of (p ∷ ps) = p.x ∷ p.y ∷ coordinates_of ps
 
--- with the first point once more at the end
+-- with the first point repeated at the end
 abbrev pub closed : List Point → List Point
 closed [] = []
 closed (p ∷ ps) = (p ∷ ps) ++ (p ∷ [])

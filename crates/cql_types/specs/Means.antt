@@ -105,7 +105,7 @@ condition_of (n.Condition f) = Some f
 condition_of (n.Truth b) = Some (filter.Truth b)
 condition_of _ = None
 
--- any kind but Condition alone
+-- any kind except Condition; TRUE and FALSE are flags here
 abbrev pub any_of : Node → Option AnyTerm
 any_of (n.Whole a) = Some (any.Whole a)
 any_of (n.Text a) = Some (any.Text a)
@@ -146,7 +146,7 @@ pub data IsLeaf (s : List Named) : Leaf → Node → Type 0 where
 
 -- ---- nodes over terms
 
--- what is done, part for part
+-- the operations with their parts, one by one
 pub data AreSteps : List Operation → List Judged → List Step → Type 0 where
   no_step : AreSteps [] [] []
   one_step : {b : Operation} {bs : List Operation} {j : Judged} {js : List Judged} {step : Step} {steps : List Step} →
@@ -157,7 +157,7 @@ pub data IsNegatedIf (f : Filter) : Bool → Filter → Type 0 where
   as_it_is : IsNegatedIf f false f
   negated : (b : Box Filter Global) → b.value ≡ f → IsNegatedIf f true (filter.Not b)
 
--- what a node is, by what its parts are: a rule a row of the table
+-- what a node is, from what its parts are: one rule for each row of the table
 pub data Makes : Op → List Judged → Node → Type 0 where
   disjunction : {js : List Judged} (fs : Vec Filter Global) → Are condition_of js fs.items → Makes or_op js (n.Condition (filter.Or fs))
   conjunction : {js : List Judged} (fs : Vec Filter Global) → Are condition_of js fs.items → Makes and_op js (n.Condition (filter.And fs))

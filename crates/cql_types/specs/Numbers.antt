@@ -12,7 +12,7 @@ is_point c = c == 46
 abbrev pub is_zero : ℕ → Bool
 is_zero c = c == 48
 
--- digits alone, and behind a point nothing but zeros
+-- only digits, and behind a point only zeros
 abbrev pub is_whole_spelling : List ℕ → Bool
 is_whole_spelling spelling =
     list_all is_ascii_digit (before_first is_point spelling) && list_all is_zero (after_first is_point spelling)

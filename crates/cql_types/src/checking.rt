@@ -22,10 +22,10 @@ use cql_lexer::{Comparison, SpatialRelation};
 use cql_tree::{Expression, Operand, Tree};
 use std::alloc::Global;
 
-/// The filter of the collection that the tree writes, or the fault with the least place.
+/// The filter of the collection that the tree spells, or the fault with the least place.
 ///
-/// The tree's places ascend in the order of reading, so no fault has a lesser place than the one that is told. Memory apart,
-/// there is a filter exactly where the tree is a condition.
+/// The tree's places ascend in the order of reading, so no fault has a smaller place than the returned one. Unless memory runs
+/// out, there is a filter exactly if the tree is a condition.
 pub fn check(alloc: Global, tree: &Tree, collection: Collection) -> Result<Filter, TypeFault>
     ensures condition { OnOk result (IsCondition (schema_of collection) (syntax_of tree.now.root)) }
     ensures filter { IfOk result (IsFilter (schema_of collection) (syntax_of tree.now.root)) }
@@ -35,7 +35,7 @@ pub fn check(alloc: Global, tree: &Tree, collection: Collection) -> Result<Filte
     ensures refused { (f : Fault) → IsLeast (schema_of collection) (syntax_of tree.now.root) f
         → OrMemory result (result ≡ Err (At f)) }
 {
-    // A condition has no fault, and of all faults one alone has the least place.
+    // A condition has no fault, and only one of all faults has the least place.
     fault_or_condition();
     one_least_fault();
     check_tree(alloc, tree, collection)
@@ -115,7 +115,7 @@ fn judge(alloc: Global, tree: &Expression, collection: Collection) -> Result<Jud
     }
 }
 
-// The two parts of a node. What waits for the next part is in a box, which keeps the walk's frames small.
+// The two parts of a node. The state that waits for the next part is in a box, which keeps the walk's frames small.
 #[cycle(judges)]
 fn judge_pair(
     alloc: Global,

@@ -28,7 +28,7 @@ pub trait Term: Sized + Drop {
     ghost fits: { (x : Node) → is_some (as_term x) ≡ has_kind (kind_of x) };
 }
 
-// What is of another kind is dropped by one call, and not left to its scope, where it would be taken apart.
+// A part of another kind is dropped by one call, and not left to its scope, where it would be taken apart.
 impl Term for WholeTerm {
     ghost as_term = { whole_of };
 

@@ -1,7 +1,7 @@
 //! Nodes from their parts, each of which has a kind.
 //!
-//! A part is made a term, or dropped by a call, before a fault is told: where it is left to its scope it is taken apart
-//! there, variant by variant down to the least part, and proved so.
+//! A part is converted to a term, or dropped by a call, before a fault is returned. If it were left to its scope, it would be taken
+//! apart there, variant by variant down to the least part, and the proof would do the same.
 
 ghost use Rattle.std.specs.Prelude.{◌≡◌, [], ◌∷◌, Some, Bool, IfOk, IfErr, false};
 ghost use Rattle.cql_tree.specs.Syntax.{or_op, and_op, not_op, compare_op, like_op, between_op, in_op, is_null_op, computed_op, casei_op, date_op, spatial_op, temporal_op};
@@ -29,7 +29,7 @@ fn condition(place: usize, filter: Filter) -> Judged
     }
 }
 
-// The filter, or its negation where a NOT stands in the node.
+// The filter, or its negation if the node has a NOT.
 fn negated_if(alloc: Global, is_negated: bool, filter: Filter) -> Result<Filter, AllocError>
     ensures { IfOk result (IsNegatedIf filter is_negated) }
 {
@@ -141,7 +141,7 @@ pub(crate) fn like(
     Ok(condition(place, filter))
 }
 
-// The text literal, or the CASEI round one, that stands behind LIKE.
+// The text literal, or CASEI around one, that comes behind LIKE.
 fn one_pattern(part: Judged) -> Result<TextTerm, TypeFault>
     ensures ok { IfOk result (λ x. pattern_of part.node ≡ Some x) }
     ensures err { IfErr result (λ e. (e ≡ At (kinds.wrong_kind part.place)) × (is_pattern (kind_of part.node) ≡ false)) }
@@ -243,7 +243,7 @@ pub(crate) fn is_null(alloc: Global, is_negated: bool, value: Judged) -> Result<
     Ok(condition(place, filter))
 }
 
-/// A sum or a product, by what is done with each part behind the first.
+/// A sum or a product, from its parts and the operation before each part behind the first.
 pub(crate) fn computed(
     alloc: Global,
     first: Judged,
@@ -288,7 +288,7 @@ pub(crate) fn date(place: usize, part: Judged) -> Result<Judged, TypeFault>
     Ok(Judged { place, node })
 }
 
-// Whether the second shape may stand beside the first: what lies within another is a point, or the other is a box.
+// Whether the second shape fits the first: if one is to lie within the other, the inner is a point or the outer is a box.
 fn are_related(by: SpatialRelation, left: &Node, right: &Node) -> bool
     ensures { result ≡ is_related by (kind_of left.now) (kind_of right.now) }
 {

@@ -1,4 +1,4 @@
-//! Why a tree is no filter.
+//! Why a tree is not a filter.
 
 ghost use Rattle.std.specs.Prelude.{◌≡◌, Some, None};
 ghost use Rattle.cql_types.specs.declared.fault.TypeFault.TheVariants.{Memory};
@@ -20,7 +20,7 @@ pub enum Misuse {
     NotWhole,
     /// The number is outside of 64 bits.
     NumberTooLarge,
-    /// The numbers of a point, a region or a box are those of none.
+    /// The numbers do not make a point, a region or a box.
     BadShape,
     /// The last day of an interval lies before the first.
     EndsTurned,
@@ -35,13 +35,13 @@ pub struct Fault {
     pub cause: Misuse,
 }
 
-/// Why a tree is no filter.
+/// Why a tree is not a filter.
 #[derive(Clone, Copy, PartialEq, Eq, Debug, Error)]
 pub enum TypeFault {
     /// A part of the tree is misused.
     #[error("a part of the filter is misused")]
     At(Fault),
-    /// A growth was refused.
+    /// Memory ran out.
     #[error("out of memory")]
     Memory,
 }
@@ -73,7 +73,7 @@ impl TypeFault {
         }
     }
 
-    /// The fault's number in the table of specs/Faults, from 1, by which programs may tell it.
+    /// The fault's number in the table of specs/Faults, from 1, by which programs can distinguish faults.
     pub fn number(&self) -> u8
         ensures { result ≡ (fault_row self.now).0 }
     {
@@ -87,7 +87,7 @@ impl TypeFault {
         self.row().1
     }
 
-    /// The byte of the text at which the misused part begins; none for want of memory.
+    /// The byte of the text at which the misused part begins; `None` if memory ran out.
     pub fn place(&self) -> Option<usize>
         ensures { result ≡ fault_place self.now }
     {

@@ -66,7 +66,7 @@ pub enum FlagTerm {
 pub enum EndTerm {
     /// No end on this side.
     Open,
-    /// The end is this day, and counted in.
+    /// The end is this day, which is included.
     Day(DayTerm),
 }
 
@@ -139,9 +139,9 @@ pub enum Filter {
         /// The side behind it.
         right: DayTerm,
     },
-    /// By equality alone.
+    /// Two flags, only by equality.
     CompareFlag {
-        /// How the sides are compared, by equality alone.
+        /// How the sides are compared: only by equality.
         by: Comparison,
         /// The side before the sign.
         left: FlagTerm,
@@ -159,9 +159,9 @@ pub enum Filter {
     Between {
         /// What is to lie between the bounds.
         value: WholeTerm,
-        /// The lower bound, counted in.
+        /// The lower bound, included.
         low: WholeTerm,
-        /// The upper bound, counted in.
+        /// The upper bound, included.
         high: WholeTerm,
     },
     /// The value equals one of the numbers.

@@ -8,9 +8,9 @@ use cql_tree::Operation;
 pub enum Node {
     /// A whole number.
     Whole(WholeTerm),
-    /// A text that is no literal.
+    /// A text that is not a literal.
     Text(TextTerm),
-    /// A text literal, or CASEI round one.
+    /// A text literal, or CASEI around one.
     Pattern(TextTerm),
     /// A day.
     Day(DayTerm),

@@ -23,7 +23,7 @@ pub fn faultless_tree_has_a_kind()
     ensures { (s : List Named) (t : Syntax) → ((f : Fault) → ¬ IsWrong s t f) → ¬ ¬ ((k : Kind) × Has s t k) }
 {}
 
-/// At one place at most one cause is wrong.
+/// At one place at most one thing is wrong.
 pub fn one_place_has_one_cause()
     ensures { (s : List Named) (t : Syntax) (f g : Fault) (from to : ℕ) → InOrder from t to → IsWrong s t f → IsWrong s t g → f.place ≡ g.place → f ≡ g }
 {}
@@ -33,22 +33,22 @@ pub fn fault_or_condition()
     ensures { HasFaultOrCondition }
 {}
 
-/// A tree whose places ascend cannot be without both: it is a condition, or has a fault with the least place.
+/// For a tree whose places ascend it is impossible that neither holds: it is a condition, or has a fault with the least place.
 pub fn condition_or_fault()
     ensures { HasConditionOrFault }
 {}
 
-/// The fault with the least place is one.
+/// Only one fault has the least place.
 pub fn one_least_fault()
     ensures { HasOneLeastFault }
 {}
 
-/// What a tree means is a filter only where the tree is a condition, and then no fault is there.
+/// A tree means a filter only if the tree is a condition, and then it has no fault.
 pub fn filters_are_of_conditions()
     ensures { HasFiltersOfConditions }
 {}
 
-/// A tree means at most one filter, but for where it lies in memory.
+/// A tree means at most one filter, apart from its place in memory.
 pub fn tree_has_one_filter()
     ensures { HasOneFilter }
 {}

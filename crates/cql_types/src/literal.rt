@@ -75,7 +75,7 @@ fn bound_place(bound: &Bound) -> usize
     }
 }
 
-// An end of an interval, or nothing where it is a name of another kind than Day.
+// An end of an interval, or nothing if it is a name of another kind than Day.
 fn read_end(bound: &Bound, collection: Collection) -> Result<Option<EndTerm>, TypeFault>
     ensures { ReadsEnd (schema_of collection) (bound_of bound.now) result }
 {

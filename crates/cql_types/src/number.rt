@@ -30,7 +30,7 @@ fn read_whole(is_negative: bool, spelling: &str) -> Result<i64, Misuse>
     }
 }
 
-// What stands before the point, and what behind it.
+// The text before the point, and the text behind it.
 fn parted(spelling: &str) -> (&str, &str)
     ensures { (result.0.now ≡ before_first is_point spelling.now) × (result.1.now ≡ after_first is_point spelling.now) }
 {
@@ -52,7 +52,7 @@ fn are_zeros(text: &str) -> bool
     text.as_bytes().iter().all(|byte| *byte == b'0')
 }
 
-// The number that decimal digits write, where 64 bits hold it. No digits write 0.
+// The number that decimal digits spell, if 64 bits hold it. No digits spell 0.
 fn magnitude(digits: &str) -> Option<u64>
     requires { list_all is_ascii_digit digits.now ≡ true }
     ensures { result ≡ (if nat_lt (digits_value 10 digits.now) 18446744073709551616 then Some (digits_value 10 digits.now) else None) }

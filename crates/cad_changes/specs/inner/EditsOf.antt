@@ -1,4 +1,4 @@
--- What the crate's own values stand for.
+-- The meaning of the crate's own values.
 use Rattle.std.specs.Prelude.{Option, option_map}
 use Rattle.std.specs.Option.{option_copied}
 use Rattle.cad_feature.specs.Values.{Datum, datum_of}
@@ -6,7 +6,7 @@ use Rattle.cad_feature.specs.declared.value.Value.{Value}
 use Rattle.cad_changes.specs.declared.edits.NewValues.{NewValues}
 use Rattle.cad_changes.specs.Touching.{Edits}
 
--- the value in its place, where there is one
+-- the value in its place, if there is one
 abbrev pub datum_if_any : Option Value → Option Datum
 datum_if_any v = option_map datum_of v
 

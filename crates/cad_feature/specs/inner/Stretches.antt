@@ -1,4 +1,4 @@
--- Where versions stand by the numbers of their objects (own profile).
+-- The positions of versions, by the numbers of their objects (own profile).
 use Rattle.std.specs.Prelude.{ℕ, ◌<◌, ◌≤◌, ◌/◌, List, length, slice_index_or}
 use Rattle.std.specs.List.{AllWithin}
 use Rattle.cad_versions.specs.Objects.{object_number}
@@ -11,7 +11,7 @@ number_in v = object_number v.object
 abbrev pub stretch_in : ℕ → VersionedObject → ℕ
 stretch_in width v = number_in v / width
 
--- of the first so many versions, those before the start are of earlier stretches, and those from it on are of this one or of later ones
+-- of the first `upto` versions, those before the start are of earlier stretches, and those from it on are of this one or of later ones
 pub record PartAt (width : ℕ) (vs : List VersionedObject) (upto stretch start : ℕ) : Type 0 where
   pub within : start < upto
   pub before : AllWithin (λ v. stretch_in width v < stretch) vs 0 start

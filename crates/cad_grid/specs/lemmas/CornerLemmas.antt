@@ -1,4 +1,4 @@
--- The least box round corners has their least and their greatest coordinates.
+-- The least box around corners has their least and their greatest coordinates.
 use Rattle.std.proofs.Common.{◌≡◌, List, [], ◌∷◌, map, refl, arith}
 use Rattle.std.specs.Prelude.{ℤ, pos, neg_ℤ, ◌≤ℤ◌}
 use Rattle.std.specs.Int.{int_min, int_max}
@@ -96,7 +96,7 @@ is_zero = (omega (arith, ints), omega (arith, ints))
 is_one : IsCoordinate (pos 1)
 is_one = (omega (arith, ints), omega (arith, ints))
 
--- no box is least round no corners
+-- no box is the least around no corners
 none_round : (b : Bounds) → ((other : Bounds) → Covers other b) → ⊥
 unfolding box_at
 none_round b covers =

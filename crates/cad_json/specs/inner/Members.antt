@@ -31,7 +31,7 @@ order_of Parties = (codes "begin", 2) ∷ (codes "end", 3) ∷ (codes "name", 5)
 order_of Responsibilities =
     (codes "begin", 2) ∷ (codes "end", 3) ∷ (codes "number", 1) ∷ (codes "object", 0) ∷ (codes "party", 10) ∷ (codes "party_name", 11) ∷ of_right []
 
--- the member, where there is a value
+-- the member, if there is a value
 abbrev pub member_if : List ℕ → Option Datum → Members → Members
 member_if name None ms = ms
 member_if name (Some d) ms = member name (value_data d) ms

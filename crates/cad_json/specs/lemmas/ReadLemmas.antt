@@ -20,7 +20,7 @@ use Rattle.serde_json.proofs.Texts.{print-outline}
 use Rattle.cad_json.specs.Order.{IsBeforeFirst, IsInOrder, AreItemsInOrder, AreMembersInOrder}
 use Rattle.cad_json.specs.Sent.{IsWhole, IsOfWholes, AreItemsOfWholes, AreMembersOfWholes}
 
--- ---- each name goes behind those before it
+-- ---- each name comes behind those before it
 
 abbrev IsAbove : List ℕ → Members → Type 0
 IsAbove name no_members = ⊤

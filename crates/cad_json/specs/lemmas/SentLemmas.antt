@@ -38,6 +38,6 @@ mutual
 pub sent_text : (d : Data) (log : Log) (text : List ℕ) → Sends d (Some []) log → IsTextOf log text → text ≡ compact_text d
 sent_text d log text sent is = text_of_value d log text sent.0 is (nowhere d sent.1)
 
--- and is read as it
+-- and is read back as that tree
 pub sent_read : (d : Data) (log : Log) (text : List ℕ) → Sends d (Some []) log → IsTextOf log text → IsInOrder d → depth d ≤ max_depth → read text ≡ Some d
 sent_read d log text sent is all low = ap read (sent_text d log text sent is) ∙ read_again d all sent.1 low

@@ -1,4 +1,4 @@
--- Recent changes to features that stand in indexes (own profile).
+-- Recent changes to features that are in indexes (own profile).
 use Rattle.std.specs.Prelude.{◌≡◌}
 use Rattle.std.specs.List.{AllByRecursion}
 use Rattle.cad_extents.specs.Extents.{IsWithin}
@@ -8,6 +8,6 @@ use Rattle.cad_layer.specs.declared.recent.Recent.{Recent}
 use Rattle.cad_layer.specs.inner.Replaced.{replaced_in}
 use Rattle.cad_layer.specs.Walks.{all_in}
 
--- changes to these features of a collection, with the features in whose place they stand; all lie within the extents
+-- changes to these features of a collection, with the features that they replace; all lie within the extents
 abbrev pub AreRecent : LayerFeatures → Recent → Type 0
 AreRecent f r = AreFeaturesOf f.collection f.features × AreFeaturesOf f.collection r.changes.items × (r.replaced.items ≡ replaced_in by_identifier f.features r.changes.items) × AllByRecursion (IsWithin r.extents) (all_in f.features r.changes.items)

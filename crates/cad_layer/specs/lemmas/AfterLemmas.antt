@@ -1,4 +1,4 @@
--- What comes after a feature, of a list that ascends and of one with changes merged into it.
+-- What comes after a feature, in a list that ascends and in one with changes merged into it.
 use Rattle.std.proofs.Common.{◌≡◌, ℕ, zero, suc, ◌-◌, ◌≤◌, ◌<◌, ℤ, Bool, true, false, not, List, [], ◌∷◌, length, filter, take, drop, refl, sym, ap, ◌∙◌, subst, arith, get_or, true≢false, ⊎_elim, Ordering, Less, Equal, Greater, is_gt}
 use Rattle.std.specs.List.Sorted.{IsStrictlySortedBy, IsPartitionedBy, IsPartitionPoint}
 use Rattle.std.specs.Ordering.{ordering_reverse}
@@ -31,11 +31,11 @@ before_by a b c Less is less h = gt_is _ (identifiers_total.trans a b c less is)
 before_by a b c Equal is less h = gt_is _ (less_from_equal a b c less is)
 before_by a b c Greater is less h = absurd (true≢false h)
 
--- one that stands before one that does not come after
+-- a feature that is before one that does not come after does not come after either
 pub before : (last : ℤ × ℤ) (x y : Item) → by_identifier x y ≡ Less → comes_after last y ≡ false → comes_after last x ≡ false
 before last x y less h = before_by (identifier_of x) (identifier_of y) last (identifier_cmp (identifier_of y) last) refl less h
 
--- a list that a test parts
+-- a list that a test divides in two
 pub filter_cut : {X : Type 0} (p : X → Bool) (xs : List X) (k : ℕ) → ((i : ℕ) (d : X) → i < k → i < length xs → p (get_or xs i d) ≡ false) → ((i : ℕ) (d : X) → k ≤ i → i < length xs → p (get_or xs i d) ≡ true) → filter p xs ≡ drop k xs
 filter_cut p [] zero low high = refl
 filter_cut p [] (suc k) low high = refl
@@ -44,7 +44,7 @@ filter_cut p (x ∷ xs) zero low high =
 filter_cut p (x ∷ xs) (suc k) low high =
     rw (low 0 x (omega arith) (omega arith)) (filter_cut p xs k (λ i d below h. low (suc i) d (omega (arith, below)) (omega (arith, h))) (λ i d above h. high (suc i) d (omega (arith, above)) (omega (arith, h))))
 
--- one that stands after the last comes after it
+-- a feature that is after the last comes after it
 pub beyond : (x y : Item) → by_identifier x y ≡ Less → comes_after (identifier_of x) y ≡ true
 beyond x y less = ap is_gt (identifiers_total.antisymm (identifier_of y) (identifier_of x) ∙ ap ordering_reverse less)
 

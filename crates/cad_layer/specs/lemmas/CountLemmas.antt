@@ -1,4 +1,4 @@
--- How many of a base with changes pass a test: those of the base and of the changes, less those that are replaced.
+-- How many of a base with changes pass a test: those of the base and of the changes, minus those that are replaced.
 use Rattle.std.proofs.Common.{◌≡◌, ℕ, zero, suc, ◌+◌, Bool, true, false, cond, if◌then◌else◌, List, [], ◌∷◌, ◌++◌, refl, sym, ap, ◌∙◌, arith, Ordering, Less, Equal, Greater, is_eq}
 use Rattle.std.specs.List.{AllByRecursion, count_by}
 use Rattle.std.specs.List.Sorted.{IsStrictlySortedBy}
@@ -12,7 +12,7 @@ use Rattle.cad_layer.specs.lemmas.MergeLemmas.{filter_merged, merged_ascends}
 use Rattle.cad_layer.specs.inner.Replaced.{twins, replaced_in}
 
 module _ {X : Type 0} (p : X → Bool) where
-  -- each is counted for itself
+  -- each is counted separately
   one : (x : X) (xs : List X) → how_many p (x ∷ xs) ≡ how_many p (x ∷ []) + how_many p xs
   one x xs = go (p x) (how_many p xs)
     where
@@ -24,7 +24,7 @@ module _ {X : Type 0} (p : X → Bool) where
   both [] ys = omega arith
   both (x ∷ xs) ys = omega (arith, one x (xs ++ ys), one x xs, both xs ys)
 
-  -- std's word for it
+  -- std's definition for it
   pub counted_by : (xs : List X) → how_many p xs ≡ count_by p xs
   counted_by = is_count_by (how_many p) p refl (λ x xs. go (p x) (how_many p xs))
     where
@@ -68,7 +68,7 @@ module _ {X : Type 0} (p : X → Bool) (cmp : X → X → Ordering) (total : IsT
           omega (arith, one p c ys, one p y ys, ap (how_many p) (twins_at cmp total c y ys Equal e), one p y (twins cmp c ys), none)
       go Greater e more = omega (arith, one p y (put cmp c ys), one p y ys, ap (how_many p) (twins_at cmp total c y ys Greater e), more)
 
-  -- each of the list, less what is replaced, with each of the changes
+  -- each of the list, minus what is replaced, with each of the changes
   pub merged_counted : (base cs : List X) → IsStrictlySortedBy cmp base → IsStrictlySortedBy cmp cs → how_many p (merged cmp base cs) + how_many p (replaced_in cmp base cs) ≡ how_many p base + how_many p cs
   unfolding IsStrictlySortedBy
   merged_counted base [] up rising = refl

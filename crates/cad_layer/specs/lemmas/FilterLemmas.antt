@@ -1,4 +1,4 @@
--- A filter of a list with changes put into it. Of the list it needs no more than what passes, even where it tells equals apart.
+-- A filter of a list with changes put into it. Of the list it needs only what passes, even if the filter distinguishes equal elements.
 use Rattle.std.proofs.Common.{◌≡◌, Bool, true, false, cond, not, List, [], ◌∷◌, filter, refl, sym, ap, ◌∙◌, Ordering, Less, Equal, Greater, is_eq}
 use Rattle.std.specs.List.{AllByRecursion}
 use Rattle.std.specs.List.Sorted.{IsStrictlySortedBy}
@@ -18,7 +18,7 @@ module _ {X : Type 0} (p : X → Bool) where
   filter_again (x ∷ xs) = kept_again (p x) x (filter p xs) refl (filter_again xs)
 
 module _ {X : Type 0} (cmp : X → X → Ordering) (total : IsTotalOrder cmp) where
-  -- it does not stand in the place of the other
+  -- it does not replace the other
   abbrev is_apart : X → X → Bool
   is_apart n y = not (is_eq (cmp n y))
 
@@ -39,7 +39,7 @@ module _ {X : Type 0} (cmp : X → X → Ordering) (total : IsTotalOrder cmp) wh
   all_apart n (y ∷ ys) all = ap (λ o. cond (not (is_eq o)) (y ∷ filter (is_apart n) ys) (filter (is_apart n) ys)) all.0 ∙ ap (λ l. y ∷ l) (all_apart n ys all.1)
 
   module _ (p : X → Bool) where
-    -- what stands before all of a list that ascends, or in the place of its first, stands before what passes of the rest
+    -- an element that is before all of a list that ascends, or replaces its first, is before what passes of the rest
     under : (n y : X) (ys : List X) → cmp n y ≡ Less → AllByRecursion (λ z. cmp y z ≡ Less) ys → AllByRecursion (λ z. cmp n z ≡ Less) (filter p (y ∷ ys))
     under n y ys e up = all_filtered (λ z. cmp n z ≡ Less) p (y ∷ ys) (e, all_weaker (λ z. cmp y z ≡ Less) (λ z. cmp n z ≡ Less) (λ z k. total.trans n y z e k) ys up)
 
@@ -65,7 +65,7 @@ module _ {X : Type 0} (cmp : X → X → Ordering) (total : IsTotalOrder cmp) wh
         go Equal e more = ap (λ b. cond b (n ∷ filter p ys) (filter p ys)) h ∙ same e (p y)
         go Greater e more = ap (λ l. cond (p y) (y ∷ l) l) more ∙ later e (p y)
 
-    -- of a change that does not pass nothing is left, nor of what stood in its place
+    -- a change that does not pass leaves neither itself nor the element that it replaces
     put_dropped : (n : X) (ys : List X) → p n ≡ false → IsStrictlySortedBy cmp ys → filter p (put cmp n ys) ≡ filter (is_apart n) (filter p ys)
     unfolding IsStrictlySortedBy
     put_dropped n [] h up = ap (λ b. cond b (n ∷ []) []) h
@@ -85,7 +85,7 @@ module _ {X : Type 0} (cmp : X → X → Ordering) (total : IsTotalOrder cmp) wh
         go Equal e more = ap (λ b. cond b (n ∷ filter p ys) (filter p ys)) h ∙ same e (p y)
         go Greater e more = ap (λ l. cond (p y) (y ∷ l) l) more ∙ later e (p y)
 
-    -- lists of which the same passes, with the same changes
+    -- two lists of which the same elements pass, with the same changes
     put_alike : (n : X) (ys zs : List X) → IsStrictlySortedBy cmp ys → IsStrictlySortedBy cmp zs → filter p ys ≡ filter p zs → filter p (put cmp n ys) ≡ filter p (put cmp n zs)
     put_alike n ys zs up rising same = go (p n) refl
       where
@@ -98,6 +98,6 @@ module _ {X : Type 0} (cmp : X → X → Ordering) (total : IsTotalOrder cmp) wh
     merged_alike ys zs (c ∷ cs) up rising same =
         put_alike c (merged cmp ys cs) (merged cmp zs cs) (merged_ascends cmp total ys cs up) (merged_ascends cmp total zs cs rising) (merged_alike ys zs cs up rising same)
 
-    -- of the base those that pass are enough
+    -- the elements of the base that pass are enough
     pub merged_filtered : (base cs : List X) → IsStrictlySortedBy cmp base → filter p (merged cmp (filter p base) cs) ≡ filter p (merged cmp base cs)
     merged_filtered base cs up = merged_alike (filter p base) base cs (IsStrictlySortedBy-filter cmp p base up) up (filter_again p base)

@@ -9,11 +9,11 @@ use Rattle.std.specs.List.Sorted.{IsStrictlySortedBy}
 pub items_total : IsTotalOrder by_identifier
 items_total = on_total identifier_of identifiers_total
 
--- what is left of a list that ascends ascends
+-- the rest of a list that ascends ascends
 pub rest_rises : {X : Type 0} (cmp : X → X → Ordering) (x : X) (xs ys : List X) → ys ≡ x ∷ xs → IsStrictlySortedBy cmp ys → IsStrictlySortedBy cmp xs
 unfolding IsStrictlySortedBy
 rest_rises cmp x xs ys e up = (subst (IsStrictlySortedBy cmp) e up).1
 
--- the same front, of a feature that is it
+-- the same front, for a feature that equals it
 pub front_as : (xs rest : List Item) (x y : Item) → xs ≡ x ∷ rest → y ≡ x → xs ≡ y ∷ rest
 front_as xs rest x y e same = e ∙ ap (λ z. z ∷ rest) (sym same)

@@ -15,7 +15,7 @@ all_listed collection base changes all some = record {
   ascending = merged_ascends by_identifier items_total base changes all.ascending;
 }
 
--- the same of a list that is they
+-- the same for a list that equals them
 pub listed_is : (collection : Collection) (base changes xs : List Item) → xs ≡ all_in base changes → AreFeaturesOf collection base → AreFeaturesOf collection changes → AreFeaturesOf collection xs
 listed_is collection base changes xs is all some = subst (AreFeaturesOf collection) (sym is) (all_listed collection base changes all some)
 

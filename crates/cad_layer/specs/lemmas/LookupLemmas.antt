@@ -59,7 +59,7 @@ has_base base (c ∷ cs) x apart has = put_keeps c x (merged by_identifier base 
 pub changed_one : (wanted : ℤ × ℤ) (base changes : List Item) (x : Item) → IsStrictlySortedBy by_identifier changes → IsTheOne wanted changes (Some x) → IsTheOne wanted (merged by_identifier base changes) (Some x)
 changed_one wanted base changes x up one = (has_change base changes x up one.0, one.1)
 
--- a feature with another identifier does not stand in the place of one
+-- a feature with another identifier does not replace one
 pub apart : (wanted : ℤ × ℤ) (x c : Item) → identifier_of x ≡ wanted → ¬ (identifier_of c ≡ wanted) → is_eq (by_identifier c x) ≡ false
 apart wanted x c is other = go (by_identifier c x) refl
   where
@@ -68,7 +68,7 @@ apart wanted x c is other = go (by_identifier c x) refl
     go Equal e = absurd (other (equal_is (identifier_of c) (identifier_of x) e ∙ is))
     go Greater e = refl
 
--- what no change has is as it was
+-- a feature whose identifier no change has is as it was
 pub base_one : (wanted : ℤ × ℤ) (base changes : List Item) (found : Option Item) → IsTheOne wanted changes None → IsTheOne wanted base found → IsTheOne wanted (merged by_identifier base changes) found
 base_one wanted base changes None none one =
     let Other : Item → Type 0 = λ x. ¬ (identifier_of x ≡ wanted) in

@@ -22,7 +22,7 @@ module _ {X : Type 0} (cmp : X → X → Ordering) where
   put_front n [] all = refl
   put_front n (y ∷ ys) all = put_less n y ys all.0
 
-  -- none of the list has its place
+  -- no element of the list has its place
   abbrev pub IsNew : X → List X → Type 0
   IsNew n xs = AllByRecursion (λ y. is_eq (cmp n y) ≡ false) xs
 
@@ -157,12 +157,12 @@ module _ {X : Type 0} (cmp : X → X → Ordering) where
         go Equal e more = (all_weaker (λ z. cmp y z ≡ Less) (λ z. cmp n z ≡ Less) (λ z k. total.congr n y z e ∙ k) ys up.0, up.1)
         go Greater e more = (all_put (λ z. cmp y z ≡ Less) n ys (below n y e) up.0, more)
 
-    -- what is merged with a list that ascends ascends
+    -- a merge into a list that ascends ascends
     pub merged_ascends : (base cs : List X) → IsStrictlySortedBy cmp base → IsStrictlySortedBy cmp (merged cmp base cs)
     merged_ascends base [] up = up
     merged_ascends base (c ∷ cs) up = put_ascends c (merged cmp base cs) (merged_ascends base cs up)
 
-    -- a change that stands before all of the base
+    -- a change that is before all of the base
     pub change_first : (base : List X) (c : X) (cs : List X) → AllByRecursion (λ y. cmp c y ≡ Less) base → IsStrictlySortedBy cmp (c ∷ cs) → merged cmp base (c ∷ cs) ≡ c ∷ merged cmp base cs
     unfolding IsStrictlySortedBy
     change_first base c cs all up = put_front c (merged cmp base cs) (all_merged (λ y. cmp c y ≡ Less) base cs all up.0)
@@ -182,7 +182,7 @@ module _ {X : Type 0} (cmp : X → X → Ordering) where
         let less = below c b e in
         merged_behind b bs (c ∷ cs) (less, all_weaker (λ z. cmp c z ≡ Less) (λ z. cmp b z ≡ Less) (λ z k. total.trans b c z less k) cs rising.0)
 
-    -- ---- a filter that does not tell equals apart
+    -- ---- a filter that does not distinguish equal elements
 
     module _ (p : X → Bool) (alike : (x y : X) → cmp x y ≡ Equal → p x ≡ p y) where
       filter_put_alike : (n : X) (ys : List X) → IsStrictlySortedBy cmp ys → filter p (put cmp n ys) ≡ cond (p n) (put cmp n (filter p ys)) (filter p ys)
@@ -256,7 +256,7 @@ module _ {X : Type 0} (cmp : X → X → Ordering) where
         under Equal k t e = total.antisymm n y ∙ ap ordering_reverse (sym (total.congr v y n k)) ∙ sym (total.antisymm n v) ∙ e
         under Greater k t e = absurd (true≢false t)
 
-        -- v stands before y
+        -- v is before y
         early : (q : Ordering) → cmp v y ≡ q → is_gt q ≡ false → (o : Ordering) → cmp n v ≡ o → insert_sorted cmp v (put cmp n (y ∷ ys)) ≡ put cmp n (v ∷ y ∷ ys)
         early q k t Less e =
             ap (insert_sorted cmp v) (put_less n y ys (under q k t e)) ∙ behind n (y ∷ ys) (above n v e) ∙ ap (λ l. n ∷ l) (before y ys q k t)

@@ -1,4 +1,4 @@
--- Lists that ascend by identifier, and a search of them by halves.
+-- Lists that ascend by identifier, and a binary search of them.
 use Rattle.std.proofs.Common.{◌≡◌, ℕ, zero, suc, ◌+◌, ◌<◌, ℤ, false, List, [], ◌∷◌, length, refl, sym, ap, ◌∙◌, subst, arith, get_or, Contains, Option, Some, None, Ordering, Less, Equal, Greater, is_lt, is_eq, int_cmp, true≢false, ⊎_elim}
 use Rattle.std.specs.Ordering.{ordering_then, ordering_reverse, ordering_index}
 use Rattle.std.specs.List.{AllByRecursion, HoldsAt}
@@ -63,7 +63,7 @@ not_less x y e = ap is_lt (identifiers_total.antisymm (identifier_of y) (identif
 sorted : (xs : List Item) → IsStrictlySortedBy by_identifier xs → IsSortedBy (λ x y. is_lt (by_identifier x y)) xs
 sorted xs up k d low h = not_less (get_or xs k d) (get_or xs (k + 1) d) (neighbours xs up k d h)
 
--- what a search by halves asks of the list
+-- what a binary search requires of the list
 pub searchable : (wanted : ℤ × ℤ) (xs : List Item) → IsStrictlySortedBy by_identifier xs → IsNonDecreasingBy (λ x. ordering_index (compared wanted x)) xs
 searchable wanted xs up = searchable_from_sorted identifiers_total identifier_of xs wanted (sorted xs up)
 
@@ -72,14 +72,14 @@ searchable wanted xs up = searchable_from_sorted identifiers_total identifier_of
 other_identifier : (wanted : ℤ × ℤ) (x : Item) (o : Ordering) → compared wanted x ≡ o → ¬ (o ≡ Equal) → ¬ (identifier_of x ≡ wanted)
 other_identifier wanted x o is other e = other (sym is ∙ is_equal (identifier_of x) wanted e)
 
--- where a search ends between two neighbours, the list has none
+-- if a search ends between two neighbours, the list has no such feature
 pub absent : (wanted : ℤ × ℤ) (xs ys : List Item) (i : ℕ) → xs ≡ ys → IsPartitionPoint (λ x. compared wanted x ≡ Less) (λ x. compared wanted x ≡ Greater) xs i → IsTheOne wanted ys None
 absent wanted xs ys i same split = rw (← same) (λ k d h. ⊎_elim
     (λ below. other_identifier wanted (get_or xs k d) Less (split.0 k d (omega arith) below) less_not_equal)
     (λ above. other_identifier wanted (get_or xs k d) Greater (split.1 k d above h) greater_not_equal)
     (cases_lt k i))
 
--- where it ends at a feature, that is the one
+-- if it ends at a feature, that is the one
 pub present : (wanted : ℤ × ℤ) (xs ys : List Item) (i : ℕ) (x : Item) → xs ≡ ys → i < length xs → x ≡ get_or xs i x → HoldsAt (λ y. compared wanted y ≡ Equal) xs i → IsTheOne wanted ys (Some x)
 present wanted xs ys i x same h is found = rw (← same) ((i, h, sym is), equal_is (identifier_of x) wanted (subst (λ y. compared wanted y ≡ Equal) (sym is) (found x)))
 

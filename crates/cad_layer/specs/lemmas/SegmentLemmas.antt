@@ -1,4 +1,4 @@
--- Changes in segments are changes in all that they hold, and the versions of an object stand in one of them.
+-- Changes in segments are changes in all that they hold, and all versions of an object are in one of them.
 use Rattle.std.proofs.Common.{◌≡◌, ◌∙◌, ℕ, ◌<◌, ◌≤◌, Bool, true, false, cond, not, List, [], ◌∷◌, ◌++◌, filter, refl, sym, ap, subst, arith, append-nil, Ordering, Less, Equal, Greater}
 use Rattle.std.specs.Cmp.{IsTotalOrder}
 use Rattle.std.specs.List.{AllByRecursion}
@@ -20,7 +20,7 @@ use Rattle.cad_layer.specs.lemmas.MergeLemmas.{all_merged, put_behind, put_front
 use Rattle.cad_layer.specs.Segments.{AreSegments, SegmentFeatures, is_from, joined, left_of, own_of, with_in}
 use Rattle.cad_layer.specs.Walks.{all_in}
 
--- ---- two lists, of which one stands behind the other
+-- ---- two lists, one behind the other
 
 module _ {X : Type 0} (cmp : X → X → Ordering) (total : IsTotalOrder cmp) where
   put_within : (n : X) (xs ys : List X) → AllByRecursion (λ y. cmp n y ≡ Less) ys → put cmp n (xs ++ ys) ≡ put cmp n xs ++ ys
@@ -90,7 +90,7 @@ module _ (k : ℕ) where
           ap (λ l. l ++ c ∷ filter (is_from k) cs) (none_kept is_below cs (all_weaker IsFrom (λ d. is_below d ≡ false) (λ d h. ap not h) cs all)) ∙ ap (λ l. c ∷ l) (each_kept (is_from k) cs all)
       go false e more = ap (λ l. c ∷ l) more
 
-  -- what lies before the number is merged with what lies before it, and the rest with the rest
+  -- what lies before the number is merged with the changes before it, and the rest with the rest
   merged_parted : (xs ys cs : List Item) → AllByRecursion IsBelow xs → AllByRecursion IsFrom ys → IsStrictlySortedBy by_identifier cs
       → all_in (xs ++ ys) cs ≡ all_in xs (filter is_below cs) ++ all_in ys (filter (is_from k) cs)
   merged_parted xs ys cs low high up =
@@ -134,12 +134,12 @@ module _ (object : ObjectId) where
   none_from : (k : ℕ) (xs : List Item) → object_number object < k → AllByRecursion (IsFrom k) xs → of_object object xs ≡ []
   none_from k xs h high = none_kept (is_item_of object) xs (all_weaker (IsFrom k) (λ x. is_item_of object x ≡ false) (λ x l. grind (arith, ints, nat_tests)) xs high)
 
-  -- where the next segment starts with it or before it, the first has nothing of it
+  -- if the next segment starts with the object or before it, the first has no feature of it
   pub skipped : (s t : SegmentFeatures) (ss : List SegmentFeatures) → AreSegments (s ∷ t ∷ ss) → t.start ≤ object_number object → of_object object (joined (s ∷ t ∷ ss)) ≡ of_object object (joined (t ∷ ss))
   skipped s t ss apart h =
       filter-append (is_item_of object) s.features (joined (t ∷ ss)) ∙ ap (λ xs. xs ++ of_object object (joined (t ∷ ss))) (none_below t.start s.features h apart.0.0)
 
-  -- where it starts behind it, the first has all
+  -- if it starts behind the object, the first has all of them
   pub stopped : (s t : SegmentFeatures) (ss : List SegmentFeatures) → AreSegments (s ∷ t ∷ ss) → object_number object < t.start → of_object object (joined (s ∷ t ∷ ss)) ≡ of_object object s.features
   stopped s t ss apart h =
       filter-append (is_item_of object) s.features (joined (t ∷ ss)) ∙ ap (λ xs. of_object object s.features ++ xs) (none_from t.start (joined (t ∷ ss)) h apart.0.1) ∙ append-nil (of_object object s.features)

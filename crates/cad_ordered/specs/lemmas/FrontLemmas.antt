@@ -1,4 +1,4 @@
--- Texts with other fronts are in the order of these.
+-- Texts with different fronts are in the order of these.
 use Rattle.std.proofs.Common.{◌≡◌, ℕ, zero, suc, ◌+◌, ◌*◌, ◌^◌, ◌<◌, ◌≤◌, List, [], ◌∷◌, refl, sym, ap, ap₂, subst, ◌∙◌, arith, inl, inr, ◌⊎◌, drop, get_or, Fits, w8}
 use Rattle.std.specs.Ordering.{nat_cmp, ordering_then}
 use Rattle.std.specs.declared.cmp.Ordering.{Ordering}
@@ -34,7 +34,7 @@ same_digit w x y f g e = by (one_of f g)
     by (inr (inl h)) = cmp_equal (x * w + f) (y * w + g) (rw (e, h) refl) ∙ sym (cmp_equal f g h)
     by (inr (inr h)) = cmp_greater (x * w + f) (y * w + g) (rw e (omega (arith, h))) ∙ sym (cmp_greater f g h)
 
--- what comes before nothing, and behind it
+-- what comes before an empty text, and what comes behind it
 none_first : (f : ℕ) → ordering_then (nat_cmp 0 f) Less ≡ Less
 none_first zero = ap (λ o. ordering_then o Less) (cmp_equal 0 0 refl)
 none_first (suc f) = ap (λ o. ordering_then o Less) (cmp_less 0 (suc f) (omega arith))
@@ -43,7 +43,7 @@ none_last : (f : ℕ) → ordering_then (nat_cmp f 0) Greater ≡ Greater
 none_last zero = ap (λ o. ordering_then o Greater) (cmp_equal 0 0 refl)
 none_last (suc f) = ap (λ o. ordering_then o Greater) (cmp_greater (suc f) 0 (omega arith))
 
--- the order of texts is that of their fronts, and where these are the same that of the texts
+-- the order of texts is that of their fronts, and if these are the same, that of the texts
 pub front_first : (n : ℕ) (xs ys : List ℕ) → AreBytes xs → AreBytes ys → ordering_then (nat_cmp (front_of n xs) (front_of n ys)) (slice_cmp nat_cmp xs ys) ≡ slice_cmp nat_cmp xs ys
 front_first zero xs ys a b = ap (λ o. ordering_then o (slice_cmp nat_cmp xs ys)) (cmp_equal 0 0 refl)
 front_first (suc n) [] [] a b = ap (λ o. ordering_then o Equal) (cmp_equal 0 0 refl)
@@ -96,7 +96,7 @@ fronts_first (suc n) m (x ∷ xs) (y ∷ ys) a b = by (one_of x y) (fronts_first
     by (inr (inl h)) behind = ap₂ (λ o p. ordering_then o (ordering_then then (ordering_then p rest))) (same_digit (256 ^ n) x y f g h) (cmp_equal x y h) ∙ behind ∙ sym (ap (λ p. ordering_then p rest) (cmp_equal x y h))
     by (inr (inr h)) behind = ap (λ o. ordering_then o (ordering_then then (ordering_then (nat_cmp x y) rest))) (cmp_greater _ _ (digit_less (256 ^ n) y x g f h (front_small n ys (λ i. b (suc i))))) ∙ sym (ap (λ p. ordering_then p rest) (cmp_greater x y h))
 
--- the room of a front
+-- each power of 256 below the eighth is at most the seventh
 pub power_small : (n : ℕ) → n < 8 → 256 ^ n ≤ 72057594037927936
 power_small zero h = omega arith
 power_small (suc zero) h = omega arith

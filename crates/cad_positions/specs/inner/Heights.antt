@@ -17,7 +17,7 @@ met_height m = 1 + max m.first.value m.second.value
 abbrev pub joined_height : Joined-F ℕ ℕ ℕ ℕ → ℕ
 joined_height j = 1 + max j.first.value j.second.value
 
--- a tree, with the depths of what is inside in their places
+-- a tree, with the depths of its parts in their places
 abbrev pub height_step : Source-F ℕ ℕ ℕ ℕ → ℕ
 height_step Source-F.Empty = 0
 height_step (Source-F.Scan at end) = 0
@@ -26,7 +26,7 @@ height_step (Source-F.Tested t) = t
 height_step (Source-F.Met m) = m
 height_step (Source-F.Joined j) = j
 
--- how many trees stand one in the other
+-- how many trees are nested in one another
 abbrev pub height : Source → ℕ
 height = fold-Source ℕ ℕ ℕ ℕ height_step joined_height met_height tested_height
 

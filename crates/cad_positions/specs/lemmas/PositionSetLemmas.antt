@@ -1,4 +1,4 @@
--- Positions of which none passes a test, and those of a stretch that two tests judge alike.
+-- Positions of which none passes a test, and those of a stretch on which two tests agree.
 use Rattle.std.proofs.Common.{◌≡◌, ℕ, zero, suc, ◌+◌, ◌≤◌, ◌<◌, Bool, false, List, [], ◌∷◌, filter, refl, arith}
 use Rattle.std.specs.List.{range_with_len}
 

@@ -31,7 +31,7 @@ has_any_part ps k = list_any (λ p. has_part p k) ps
 abbrev pub PartStands : List Item → (Item → Bool) → Part → Type 0
 PartStands xs test p = (k : ℕ) → has_part p k ≡ holds_at test xs k
 
--- the feature at the position is a candidate of all plans, or of some
+-- the feature at the position is a candidate of all plans, or of at least one
 abbrev pub all_hold : List Plan → List Item → ℕ → Bool
 all_hold plans xs k = list_all (λ p. holds_at (is_candidate p) xs k) plans
 

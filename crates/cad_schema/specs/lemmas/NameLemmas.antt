@@ -1,4 +1,4 @@
--- What is proved of the collections one by one, and what is proved of all by it.
+-- What is proved for each collection separately, and what follows for all collections.
 use Rattle.std.proofs.Common.{◌≡◌, ℕ, List, [], ◌∷◌, Bool, true, false, true≢false, not, Some, Contains, cond, find, ap, refl, sym, ◌∙◌, arith}
 use Rattle.std.specs.List.{list_any}
 use Rattle.std.proofs.lemmas.List.Folds.{list_any_at}
@@ -8,7 +8,7 @@ use Rattle.cad_schema.specs.declared.collection.Collection.{Collection}
 use Rattle.cad_schema.specs.declared.collection.Collection.TheVariants.{Parcels, Rights, Restrictions, Units, Parties, Responsibilities}
 use Rattle.cad_schema.specs.Collections.{collections, name_of, NamesAreReadBack, WhatIsReadHasTheName}
 
--- the list of all has each
+-- the list of all collections contains each one
 pub contained : (c : Collection) → Contains collections c
 contained Parcels = (0, omega arith, refl)
 contained Rights = (1, omega arith, refl)
@@ -17,7 +17,7 @@ contained Units = (3, omega arith, refl)
 contained Parties = (4, omega arith, refl)
 contained Responsibilities = (5, omega arith, refl)
 
--- so a test that all of the list pass, each passes
+-- so each collection passes a test that all collections of the list pass
 pub each_passes : (test : Collection → Bool) → list_any (λ c. not (test c)) collections ≡ false → (c : Collection) → test c ≡ true
 each_passes test all c = go (test c) refl
   where

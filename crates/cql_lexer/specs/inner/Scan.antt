@@ -24,12 +24,12 @@ is_in Unquoted x = is_unquoted x
 
 -- ---- runs
 
--- what passes from the front on
+-- the bytes at the front that pass the test
 abbrev pub run_of : (ℕ → Bool) → List ℕ → List ℕ
 run_of passes [] = []
 run_of passes (x ∷ xs) = if passes x then x ∷ run_of passes xs else []
 
--- and what is left behind it
+-- and the bytes behind them
 abbrev pub after_run : (ℕ → Bool) → List ℕ → List ℕ
 after_run passes [] = []
 after_run passes (x ∷ xs) = if passes x then after_run passes xs else x ∷ xs
@@ -42,7 +42,7 @@ begins_name (x ∷ xs) = is_name_start x
 
 -- ---- numbers
 
--- behind the digits at the front, or all of it where none come
+-- behind the digits at the front, or all of it if no digits come first
 abbrev pub after_digits : List ℕ → List ℕ → List ℕ
 after_digits all [] = all
 after_digits all (x ∷ xs) = if is_ascii_digit x then after_run is_ascii_digit xs else all
@@ -59,7 +59,7 @@ abbrev pub after_fraction : List ℕ → List ℕ
 after_fraction [] = []
 after_fraction (x ∷ xs) = if x == byte "." then after_run is_ascii_digit xs else x ∷ xs
 
--- behind digits, a fraction and an exponent, where they come
+-- behind digits, a fraction and an exponent, if they follow
 abbrev pub after_number : List ℕ → List ℕ
 after_number xs = after_exponent (after_fraction (after_run is_ascii_digit xs))
 
@@ -82,7 +82,7 @@ abbrev pub or_else : Option (Sort × List ℕ) → Option (Sort × List ℕ) →
 or_else None other = other
 or_else (Some found) other = Some found
 
--- the symbol at the front and what is left: of two bytes, or else of one
+-- the symbol at the front and the rest: of two bytes, or else of one
 abbrev pub symbol_front : List ℕ → Option (Sort × List ℕ)
 symbol_front [] = None
 symbol_front (x ∷ []) = with_rest [] (symbol_of (x ∷ []))
@@ -90,7 +90,7 @@ symbol_front (x ∷ y ∷ xs) = or_else (with_rest xs (symbol_of (x ∷ y ∷ []
 
 -- ---- texts
 
--- what the first bytes of a content stand for, and what is left; nothing at its closing quote or where no bytes are left
+-- what the first bytes of a content spell, and the rest; nothing at its closing quote or if no bytes are left
 abbrev pub character_front : List ℕ → Option (ℕ × List ℕ)
 character_front [] = None
 character_front (x ∷ []) = if x == byte "'" then None else Some (x, [])
@@ -100,12 +100,12 @@ character_front (x ∷ y ∷ xs) =
 
 -- ---- what was found
 
--- the longest token at the front and what is left, or none begins there
+-- the longest token at the front and the rest, or no token begins there
 abbrev pub Finds : List ℕ → Option (Kind × Bor (List ℕ)) → Type 0
 Finds xs None = IsNoToken xs
 Finds xs (Some t) = IsLongest xs (sort_of t.0) t.1.now
 
--- what was found, without where it lies in memory
+-- what was found, without its place in memory
 abbrev pub seen : Option (Kind × Bor (List ℕ)) → Option (Sort × List ℕ)
 seen None = None
 seen (Some r) = Some (sort_of r.0, r.1.now)
@@ -116,7 +116,7 @@ seen_byte (Some r) = Some (r.0, r.1.now)
 
 -- ---- between tokens
 
--- nothing that passes comes first
+-- no byte that passes the test comes first
 abbrev pub IsPast : (ℕ → Bool) → List ℕ → Type 0
 IsPast passes [] = Unit {0}
 IsPast passes (x ∷ xs) = passes x ≡ false

@@ -1,4 +1,4 @@
--- Places that ascend below an end ascend.
+-- Places that ascend and are below an end are places that ascend.
 use Rattle.std.specs.Prelude.{ℕ, ◌+◌, List, [], ◌∷◌}
 use Rattle.cql_lexer.specs.Laws.{AscendWithin}
 use Rattle.cql_lexer.specs.Mark.{Mark, at}

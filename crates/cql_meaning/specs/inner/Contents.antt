@@ -1,4 +1,4 @@
--- The characters of a text that is lent or owned, where there is one.
+-- The characters of a text that is lent or owned, if there is a text.
 use Rattle.std.specs.Prelude.{ℕ, List, Option, chars, option_map}
 use Rattle.std.specs.Cow.{cow_str_bytes}
 use Rattle.std.specs.declared.alloc.Global.{Global}

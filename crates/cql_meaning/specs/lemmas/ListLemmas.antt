@@ -1,4 +1,4 @@
--- Some element of a list that is made of another.
+-- Whether a test holds of some element of a list that is made from another list.
 use Rattle.std.proofs.Common.{◌≡◌, Bool, ◌||◌, List, [], ◌∷◌, map, refl, ap}
 use Rattle.std.specs.List.{list_any}
 

@@ -1,4 +1,4 @@
--- What reading one rule says of a whole run, whatever stands around the rule.
+-- What reading one rule says of a whole run, for any open rules around it.
 use Rattle.std.specs.Prelude.{◌≡◌, ℕ, List, [], ◌∷◌, ◌++◌, Result, MatchResult}
 use Rattle.std.specs.declared.alloc.Global.{Global}
 use Rattle.std.specs.declared.boxed.Box.{Box}
@@ -17,7 +17,7 @@ abbrev pub IsStopped : {K : Type 0} → (K → State) → List Mark → Stop →
 IsStopped want xs Memory = Unit {0}
 IsStopped {K} want xs (At rest) = (k : K) → run (want k) xs ≡ stops (marks rest.now)
 
--- Around any open rules k, the run goes from wanting the part to having it, or stops.
+-- Around any open rules k, the run goes from the state that expects the part to the state that has it, or stops.
 abbrev pub Parses : {K : Type 0} → (K → State) → (K → Syntax → State) → List Mark → Result Parsed Stop → Type 0
 Parses {K} want have xs result =
     MatchResult result

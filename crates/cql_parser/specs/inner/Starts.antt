@@ -43,7 +43,7 @@ StartsNegated (Tested rest) xs = ⊥
 StartsNegated (Broken rest) xs = (marks rest.now ≡ xs) × IsNoNegated xs
 StartsNegated NoTail xs = ⊥
 
--- a word, behind a NOT where it is negated
+-- a word, behind a NOT if it is negated
 abbrev pub BeginsNegated : Bool → Keyword → List Mark → List Mark → Type 0
 BeginsNegated false w xs ys = Begins (word w) xs ys
 BeginsNegated true w [] ys = ⊥

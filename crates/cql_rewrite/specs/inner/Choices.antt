@@ -98,7 +98,7 @@ abbrev pub EachCosts : Counts → List Way → Type 0
 EachCosts counts [] = ⊤
 EachCosts counts (w ∷ ws) = Costs counts w × EachCosts counts ws
 
--- of two or more their meet, else the one, or all
+-- for two or more their meet, else the only one, or all
 abbrev pub met : List Way → Way
 met [] = all_features
 met (w ∷ []) = w
@@ -125,14 +125,14 @@ under_step : (counts : Counts) (k rest : ℕ) (w : Way) (narrow : List Way) (b :
 under_step counts k rest w narrow true at e ih f = let r = ih (omega arith) in omega arith
 under_step counts k rest w narrow false at e ih f = let r = ih f in omega (arith, cost_if_all counts w at)
 
--- what is at most the cost of all, and of each that is other than all, is at most each cost
+-- a number that is at most the cost of all, and of each that is other than all, is at most each cost
 under_each : (counts : Counts) (k n : ℕ) (ws : List Way) → k ≤ n → k ≤ counts.every → k ≤ min_of counts.every (map (cost counts) (filter is_narrow ws)) → k ≤ min_of n (map (cost counts) ws)
 under_each counts k n [] h e f = h
 under_each counts k n (w ∷ ws) h e f =
     under_step counts k (min_of n (map (cost counts) ws)) w (filter is_narrow ws) (is_narrow w) refl e (under_each counts k n ws h e)
     (rw (filter_step w ws) at f)
 
--- with the cost of all, where each costs at most that
+-- with the cost of all, if each costs at most that
 pub min_over : (n c : ℕ) (cs : List ℕ) → c ≤ n → min c (min_of n cs) ≡ min_of c cs
 min_over n c [] h = omega arith
 min_over n c (d ∷ cs) h = omega (arith, min_over n c cs h)
@@ -184,7 +184,7 @@ one_narrow : (counts : Counts) (w : Way) (ws : List Way) → EachCosts counts ws
 one_narrow counts w [] h e = absurd cc
 one_narrow counts w (v ∷ vs) h e = one_step counts w v vs (is_narrow v) refl h.0 (e ∙ filter_step v vs) (one_narrow counts w vs h.1)
 
--- the first of those that are other than all is one
+-- the first of those that are other than all is one of them
 first_narrow : (counts : Counts) (w : Way) (ws fs : List Way) → EachCosts counts ws → w ∷ fs ≡ filter is_narrow ws → cost counts w < counts.every
 first_narrow counts w [] fs h e = absurd cc
 first_narrow counts w (v ∷ vs) fs h e = first_if counts w v vs fs (is_narrow v) refl h.0 (e ∙ filter_step v vs) (first_narrow counts w vs fs h.1)

@@ -1,4 +1,4 @@
--- A part of a pattern as the code has it.
+-- A part of a pattern as the code represents it.
 use Rattle.cql_text.specs.Patterns.{Piece, any, one, exactly}
 use Rattle.cql_text.specs.declared.pattern.Part.{Part}
 use Rattle.cql_text.specs.declared.pattern.Part.TheVariants.{Any, One, Exactly}

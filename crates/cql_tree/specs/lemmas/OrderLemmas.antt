@@ -1,4 +1,4 @@
--- Where places ascend, a tree and the parts of a node end no earlier than they begin.
+-- If places ascend, a tree and the parts of a node end no earlier than they begin.
 use Rattle.std.specs.Prelude.{ℕ, ◌≤◌}
 use Rattle.std.proofs.Common.{arith}
 use Rattle.cql_tree.specs.Order.{InOrder, leaf_in_order, node_in_order, AreInOrder, no_part, one_part}

@@ -1,4 +1,4 @@
--- What stands in a node's vectors, part for part.
+-- The elements of a node's vectors, part for part.
 use Rattle.std.proofs.Common.{◌≡◌, ◌∷◌, refl, ap, ◌∙◌}
 use Rattle.std.specs.declared.alloc.Global.{Global}
 use Rattle.std.specs.declared.vec.Vec.{Vec}

@@ -1,4 +1,4 @@
--- What is read of the parts of a literal.
+-- What is read from the parts of a literal.
 use Rattle.std.specs.Prelude.{◌≡◌, ◌<ℤ◌, ℕ, ℤ, false, List, [], ◌∷◌, Option, Some, None, Result, Ok, Err, MatchResult, MatchOption, Vec, map, string_bytes}
 use Rattle.std.specs.declared.alloc.Global.{Global}
 use Rattle.cad_day.specs.Days.{number_of}
@@ -27,7 +27,7 @@ use Rattle.cql_types.specs.Means.{IsEnd}
 use Rattle.cql_types.specs.Numbers.{written}
 use Rattle.cql_types.specs.Contract.{ForFault, IsFirst, IsFirstIn}
 
--- an end of an INTERVAL, or None where it has a kind that is none
+-- an end of an INTERVAL, or None if its kind is not that of an end
 abbrev pub IsEndRead : List Named → Syntax → Option EndTerm → Type 0
 IsEndRead s t None = (k : Kind) × Has s t k × (is_end k ≡ false)
 IsEndRead s t (Some e) = IsEnd s t e
@@ -45,7 +45,7 @@ end_day end.Open = None
 end_day (end.Day (day.Constant d)) = Some (number_of d)
 end_day (end.Day (day.Property i)) = None
 
--- the first fault of numbers, whatever the collection
+-- the first fault of numbers, for any collection
 abbrev pub IsFirstNumber : Parts → Fault → Type 0
 IsFirstNumber ps f = (s : List Named) → IsFirstIn s ps f
 
@@ -77,7 +77,7 @@ lines_of lines = map (λ line. positions_of line.items) lines
 abbrev pub outlines_of : List Outline → List (List ℤ)
 outlines_of rings = map outline_of rings
 
--- the region inside rings along the lines, or no region is
+-- the region inside rings along the lines, or there is no such region
 abbrev pub IsRegionAlong : List (List ℤ) → Option Region → Type 0
 IsRegionAlong lines region = MatchOption region ((rings : List Outline) → outlines_of rings ≡ lines → ¬ IsRegion rings)
     (λ area. outlines_of (region_rings area) ≡ lines)
