@@ -36,7 +36,7 @@ commands_in commands (office_leaves o ∷ later) = commands_in commands later
 commands_in commands (aside deeds said ∷ later) = commands_in commands later
 
 -- These commands, after so many, are those that were entered, in their order.
--- The text of a line says each of them, and was answered by its revision.
+-- Each is the one that the text of a line asks for, and the line was answered by its revision.
 module _ (AreLater : ℕ → List Command → Type 0) where
   abbrev pub AreFirst : ℕ → List ℕ → Answer → List Command → Type 0
   AreFirst count text (Entered revision) [] = ⊥

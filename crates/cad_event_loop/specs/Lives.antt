@@ -72,8 +72,7 @@ module _ {R : Type 0} (g : Ghosts R) (c s : ℕ) where
   IsLeft mid last None next = next c ≡ Some (s, last)
   IsLeft mid last (Some ended) next = (after : Desk R) × Leaves g c s mid last ended.0 ended.1 after
 
-  -- This happens to it. What was read and written by its own deeds is what was read and written in what happens and by the deeds of its
-  -- end.
+  -- This happens to it. Its own deeds read and wrote what was read and written in what happens and by the deeds of its end.
   abbrev pub IsLifeBy : Desk R → Channel → List Happening → List Deed → Option (Option Ending × List Deed) → Desk R → Held → Type 0
   IsLifeBy old channel happenings deeds ended new next =
       (mid : Desk R) × (last : Channel) × Lives g c old channel happenings mid last × IsLeft mid last ended next

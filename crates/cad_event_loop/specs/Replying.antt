@@ -26,9 +26,9 @@ module _ {R : Type 0} (g : Ghosts R) where
     pub held : between.slots c ≡ Some (s, channel)
     pub rests : MayWait channel
 
-  -- For a connection that is open when a round begins, after other rounds that began with nobody: it waits since before, or at a turn in
-  -- this
-  -- round; or it is let go; or the desk takes a piece of what was read, and all that it sends for that is written; or it has four turns.
+  -- For a connection that is open when a round begins, after other rounds that began with nobody: it waits since before, or at a turn
+  -- in this round; or it is let go; or the desk takes a piece of what was read, and all that it sends for that is written; or it has
+  -- four turns.
   abbrev pub EachIsServed : Type 0
   EachIsServed = (c s : ℕ) (channel : Channel) (rounds : List (List Work)) (round : List Work) (old mid new : Desk R) (first here next : Place)
       → IsEmpty first → AreRounds nobody (rounds ++ round ∷ []) → Goes g old first (all_works rounds) mid here → Goes g mid here round new next → here.slots c ≡ Some (s, channel)

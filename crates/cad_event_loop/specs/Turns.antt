@@ -189,9 +189,8 @@ abbrev pub GivesTurns : Standings → List Work → Type 0
 GivesTurns stands (wakes places ∷ later) = EachHasTurn (all_after stands (wakes places ∷ [])) later × ComesByVisits (office_after stands.office (wakes places)) later
 GivesTurns stands other = ⊥
 
--- The most that is done in a round: the network reports readiness; 64 clients have four turns each, after each of which the network reports
--- again
--- and the land office has eight turns; it has eight more; 64 clients are dropped, 64 come, and the land office comes.
+-- The most that is done in a round. The network reports readiness. For each of 64 clients there are four turns, a further report of the
+-- network and eight turns of the land office. The office has eight more; 64 clients are dropped, 64 come, and the land office comes.
 abbrev pub most_in_round : ℕ
 most_in_round = 970
 
@@ -205,8 +204,7 @@ abbrev pub AreRounds : Standings → List (List Work) → Type 0
 AreRounds stands [] = ⊤
 AreRounds stands (round ∷ rounds) = IsRound stands round × AreRounds (all_after stands round) rounds
 
--- these works are rounds, in each of which everybody that may continue is served, and then the beginning of one more, if hosting ends
--- within it
+-- these works are rounds, in each of which all that may continue are served, and the beginning of one more, if hosting ends within it
 pub record AreServed (stands : Standings) (works : List Work) : Type 0 where
   pub rounds : List (List Work)
   pub last : List Work

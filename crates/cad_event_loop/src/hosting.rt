@@ -11,8 +11,7 @@ use cad_stream::Responder;
 use std::alloc::Global;
 use std::io::Result;
 
-/// How hosting ended, by the results of the rounds and of closing. A refusal by the database is reported even if the system fails in
-/// closing.
+/// How hosting ended, by the results of the rounds and of closing. A refusal by the database is reported even if closing fails.
 fn last_of(hosted: Result<Stopped>, ended: Result<()>) -> Result<Stopped>
     ensures { IsLastOf hosted result }
 {
