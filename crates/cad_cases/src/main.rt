@@ -1,15 +1,15 @@
 //! The server's answers to a list of events: each line of standard input is an event, and a line is printed for it.
 //!
 //! The server runs over a ledger in memory, which holds the sample register. The lines and what is printed for them are those of
-//! `test_support`. Six more lines are answered by their own text, and the first three of these begin anew, with a server and a desk of
+//! `test_support`. Six more lines are answered by their own text, and the first three of these start again, with a server and a desk of
 //! their own:
 //!
 //! - `sample`: the ledger holds the sample register, as at the first line;
 //! - `empty`: the ledger holds nothing;
 //! - `restart`: the ledger is the one that the desk before gives back;
-//! - `changes N`: from here on a server that begins anew gives a base of a collection at most N changes;
-//! - `listings N`: from here on a ledger that a server begins anew over can be listed at most N times, and each listing after these is out
-//!   of memory: so what is answered then was not read from it;
+//! - `changes N`: from here on each new server gives a base of a collection at most N changes;
+//! - `listings N`: from here on the ledger of each new server can be listed at most N times, and each listing after these runs out of
+//!   memory: so what is answered then was not read from it;
 //! - `memory may be wanting`: from here on an event that the desk refuses because it is out of memory is answered by `4 Memory`, and the
 //!   program continues with the next event.
 //!
@@ -91,7 +91,7 @@ impl Course {
         Ok(course)
     }
 
-    /// Begins anew over the ledger.
+    /// Starts a new server and desk over the ledger.
     fn begin(
         &mut self,
         alloc: Global,
@@ -105,7 +105,7 @@ impl Course {
         Ok(())
     }
 
-    /// Begins anew over the ledger of the desk.
+    /// Starts a new server and desk over the ledger of the desk.
     fn restart(&mut self, alloc: Global) -> std::result::Result<(), AllocError> {
         let idle = idle_desk(alloc)?;
         let limited = mem::replace(&mut self.desk, idle).release();

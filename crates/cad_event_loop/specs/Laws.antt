@@ -68,7 +68,7 @@ module _ {R : Type 0} (g : Ghosts R) where
     pub mid : Desk R
     pub last : Channel
     pub ended : Option (Option Ending × List Deed)
-    -- except for the deeds of its end, it was read and written in the acts of connection c alone
+    -- except for the deeds of its end, it was read and written only in the acts of connection c
     pub read : given_by s all ≡ read_of happenings ++ given_by s (last_deeds ended)
     pub written : taken_by s all ≡ written_of happenings ++ taken_by s (last_deeds ended)
     -- it continues, or it ended with this cause

@@ -7,7 +7,7 @@
 //! - `sample`: a server and a desk over the sample register in a new database, as at the first line;
 //! - `empty`: over a register without commands;
 //! - `restart`: over the register that is opened in the database of the desk before;
-//! - `changes N`: from here on a server that begins anew gives a base of a collection at most N changes;
+//! - `changes N`: from here on each new server gives a base of a collection at most N changes;
 //! - `memory may be wanting`: from here on an event that the desk refuses because it is out of memory is answered by `4 Memory`, and the
 //!   program continues with the next event.
 //!
@@ -99,13 +99,13 @@ impl Course {
         })
     }
 
-    /// Begins anew over the register.
+    /// Starts a new server and desk over the register.
     fn begin(&mut self, alloc: Global, register: Register<MemStore>) -> Result<()> {
         self.desk = begun(alloc, register, self.most_changes)?;
         Ok(())
     }
 
-    /// Begins anew over the register of the desk, opened again.
+    /// Starts a new server and desk over the register of the desk, opened again.
     fn restart(&mut self, alloc: Global) -> Result<()> {
         let idle = begun(alloc, empty_register(alloc)?, None)?;
         let register = mem::replace(&mut self.desk, idle).release().release();

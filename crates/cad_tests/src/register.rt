@@ -243,7 +243,7 @@ fn no_building(alloc: Global) -> Result<Body, Fail> {
     })
 }
 
-/// The first command, one of each class, and an amendment.
+/// The command at this place of the sample, from 0 on. The sample has commands of each class, and an amendment.
 fn sample(alloc: Global, at: u32) -> Result<Command, Fail> {
     match at {
         0 => enter(10, Y2000, mill(alloc)?),

@@ -284,7 +284,7 @@ fn restrictions(alloc: Global) -> Result<Vec<Feature>> {
 }
 
 impl Features {
-    /// All features, made anew.
+    /// Makes all features.
     pub fn new(alloc: Global) -> Result<Features> {
         Ok(Features {
             parcels: parcels(alloc)?,
