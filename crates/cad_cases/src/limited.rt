@@ -5,8 +5,8 @@ ghost use Rattle.std.specs.Prelude.{◌≡◌};
 use cad_memory_ledger::MemoryLedger;
 use cad_versions::{Command, Ledger, RegisterFault, Version};
 
-/// A ledger in memory that can be listed so many more times; each listing after these runs out of memory. So if that is not reported, nothing
-/// more was read from it.
+/// A ledger in memory that can be listed so many more times; each listing after these runs out of memory. So if that is not reported,
+/// nothing more was read from it.
 #[derive(Drop)]
 pub struct LimitedLedger {
     /// The ledger.
