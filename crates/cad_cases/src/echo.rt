@@ -1,10 +1,10 @@
-//! Events at a desk whose requests are answered by their own words.
+//! Events at a desk whose replies are the words of the requests.
 
 use cad_desk::Desk;
 use std::alloc::{AllocError, Global};
 use test_support::{Echo, Memory, answer as answer_of_line, line_of};
 
-/// What is printed for a line. Want of memory that it does not ask for is answered by `Err`.
+/// What is printed for a line. Out of memory that the line does not ask for is reported by `Err`.
 pub fn answer(alloc: Global, desk: &mut Desk<Echo>, line: &[u8]) -> Result<String, AllocError> {
     let memory = if line.windows(5).any(|part| part == b"/full".as_slice()) {
         Memory::MayBeWanting

@@ -1,17 +1,17 @@
-//! A ledger that is listed at most so many times.
+//! A ledger that can be listed at most so many times.
 
 ghost use Rattle.std.specs.Prelude.{◌≡◌};
 
 use cad_memory_ledger::MemoryLedger;
 use cad_versions::{Command, Ledger, RegisterFault, Version};
 
-/// A ledger in memory of which so many more listings are to be had; each one after them wants memory. So where that isn't told,
-/// no more was read of it.
+/// A ledger in memory that can be listed so many more times; each listing after these runs out of memory. So if that is not reported,
+/// nothing more was read from it.
 #[derive(Drop)]
 pub struct LimitedLedger {
     /// The ledger.
     pub ledger: MemoryLedger,
-    /// How many more listings are to be had.
+    /// How many more listings are possible.
     pub listings: u64,
 }
 

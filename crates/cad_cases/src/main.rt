@@ -1,24 +1,24 @@
-//! What the server answers to a list of events: each line of standard input is an event, and a line is printed for it.
+//! The server's answers to a list of events: each line of standard input is an event, and a line is printed for it.
 //!
-//! The server stands over a ledger in memory, which holds the sample register. The lines and what is printed for them are
-//! those of `test_support`, and six more are answered by themselves, of which the first three begin anew, with a server and
-//! a desk of their own:
+//! The server runs over a ledger in memory, which holds the sample register. The lines and what is printed for them are those of
+//! `test_support`. Six more lines are answered by their own text, and the first three of these start again, with a server and a desk of
+//! their own:
 //!
 //! - `sample`: the ledger holds the sample register, as at the first line;
 //! - `empty`: the ledger holds nothing;
 //! - `restart`: the ledger is the one that the desk before gives back;
-//! - `changes N`: from here on a server that begins anew gives a base of a collection at most N changes;
-//! - `listings N`: from here on a ledger that a server begins anew over is listed at most N times, and wants memory for each
-//!   listing after these: so what is answered then was not read of it;
-//! - `memory may be wanting`: from here on an event that the desk refuses for want of memory is answered by `4 Memory`, and
-//!   the events after it go on.
+//! - `changes N`: from here on each new server gives a base of a collection at most N changes;
+//! - `listings N`: from here on the ledger of each new server can be listed at most N times, and each listing after these runs out of
+//!   memory: so what is answered then was not read from it;
+//! - `memory may be wanting`: from here on an event that the desk refuses because it is out of memory is answered by `4 Memory`, and the
+//!   program continues with the next event.
 //!
-//! Behind the word `echo` stands a line of `test_support` for a desk of its own: each request there is answered with its method, its
-//! target and the revision in force, over a ledger in memory, and two targets have no reply: `/lost` is refused with `NotARegister`,
-//! and `/full` with `Memory`.
+//! After the word `echo` follows a line of `test_support` for a desk of its own: each request there is answered with its method, its target
+//! and the revision in force, over a ledger in memory, and two targets have no reply: `/lost` is refused with `NotARegister`, and `/full`
+//! with `Memory`.
 //!
-//! A line without bytes, and one that begins with `#`, is passed over. Any other line is answered by `no case`. Where memory
-//! is refused otherwise the program ends with status 7.
+//! A line without bytes, and one that begins with `#`, is skipped. Any other line is answered by `no case`. If memory runs out otherwise,
+//! the program ends with status 7.
 #![tactic(auto)]
 
 mod echo;
@@ -38,10 +38,10 @@ use std::mem;
 use std::process::ExitCode;
 use test_support::{Echo, Line, Memory, answer_event, answer_served, line_of};
 
-/// The status where memory is refused.
+/// The status if memory runs out.
 const NO_MEMORY: u8 = 7;
 
-/// A desk, and what holds from here on.
+/// A desk, and the settings from here on.
 #[derive(Drop)]
 struct Course {
     desk: Desk<LimitedLedger>,
@@ -91,7 +91,7 @@ impl Course {
         Ok(course)
     }
 
-    /// Begins anew over the ledger.
+    /// Starts a new server and desk over the ledger.
     fn begin(
         &mut self,
         alloc: Global,
@@ -105,14 +105,14 @@ impl Course {
         Ok(())
     }
 
-    /// Begins anew over the ledger of the desk.
+    /// Starts a new server and desk over the ledger of the desk.
     fn restart(&mut self, alloc: Global) -> std::result::Result<(), AllocError> {
         let idle = idle_desk(alloc)?;
         let limited = mem::replace(&mut self.desk, idle).release();
         self.begin(alloc, limited.ledger)
     }
 
-    /// What the line sets or begins, if it is a line of this program alone.
+    /// Does what the line sets or begins, if it is a line of this program only.
     fn set(&mut self, alloc: Global, line: &str) -> std::result::Result<bool, AllocError> {
         if let Some(most) = line.strip_prefix("changes ") {
             let Ok(most) = most.parse() else {
@@ -155,7 +155,7 @@ impl Course {
     }
 }
 
-/// What is printed for a line, of the server's desk or of the other one.
+/// What is printed for a line, by the server's desk or by the other one.
 fn answer_line(
     alloc: Global,
     course: &mut Course,

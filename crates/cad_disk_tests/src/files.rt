@@ -6,7 +6,7 @@ use sqlite_disk::{Disk, Fuse, Memory};
 use std::alloc::Global;
 use std::test::Fail;
 
-/// Two files of no bytes, which never fail.
+/// Two files without bytes, which never fail.
 pub(crate) fn empty_files(alloc: Global) -> Files<Fuse<Memory>> {
     Files {
         log: Fuse::new(Memory::new(alloc), u64::MAX),
@@ -33,7 +33,7 @@ fn connected<D: Disk + Drop>(
     }
 }
 
-/// The register in the database, or the database back.
+/// The register in the database, or the database again.
 fn found<S: Alter + Drop>(
     alloc: Global,
     connection: Connection<S>,
@@ -44,12 +44,12 @@ fn found<S: Alter + Drop>(
     }
 }
 
-/// A register of no commands in the database.
+/// A register without commands in the database.
 fn begun<S: Alter + Drop>(alloc: Global, connection: Connection<S>) -> Result<Register<S>, Fail> {
     Ok(Register::create(alloc, connection).ok().ok_or("created")?)
 }
 
-/// The files of a register, as they stand.
+/// The files of a register, in their present state.
 fn files_of<D: Disk + Drop>(register: Register<FileStore<D>>) -> Files<D> {
     register.release().into_store().close()
 }
@@ -60,7 +60,7 @@ fn opened<D: Disk + Drop>(alloc: Global, files: Files<D>) -> Option<Register<Fil
     found(alloc, connection).ok()
 }
 
-/// A register of no commands, in files of no bytes.
+/// A register without commands, in files without bytes.
 pub(crate) fn made<D: Disk + Drop>(
     alloc: Global,
     files: Files<D>,
@@ -83,7 +83,7 @@ pub(crate) fn is_opened<D: Disk + Drop>(alloc: Global, files: Files<D>) -> bool 
     opened(alloc, files).is_some()
 }
 
-/// What the register answers to a command.
+/// The register's answer to a command.
 fn answered<S: Alter>(
     register: &mut Register<S>,
     command: Command,
@@ -91,7 +91,7 @@ fn answered<S: Alter>(
     register.apply(command)
 }
 
-/// Files of no bytes, in which a register of one command is made.
+/// Files without bytes at first, in which a register with one command is made.
 pub(crate) fn made_of_one<D: Disk + Drop>(
     alloc: Global,
     files: Files<D>,
@@ -104,7 +104,7 @@ pub(crate) fn made_of_one<D: Disk + Drop>(
     Ok(files_of(register))
 }
 
-/// What the register in the files answers to a command, and the files as they stand then.
+/// The answer of the register in the files to a command, and the files in their state after it.
 pub(crate) fn applied<D: Disk + Drop>(
     alloc: Global,
     files: Files<D>,

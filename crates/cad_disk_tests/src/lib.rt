@@ -1,11 +1,11 @@
 //! Tests of the register over files in memory that can fail at any call, and of a desk over a restart.
 //!
 //! - `files`: registers in two files, of any kind
-//! - `stops`: what a file that fails behind so many calls leaves of a command
-//! - `walk`: a walk through pages, the files closed and opened again within it
+//! - `stops`: what a command leaves if a file fails after so many calls
+//! - `walk`: a walk through pages, in which the files are closed and opened again
 //!
-//! They stand apart from the other tests of the land office, since what a database over another kind of file costs the prover is
-//! to be had once.
+//! They are separate from the other tests of the land office, so that the prover's cost of a database over another kind of file is paid
+//! once.
 #![tactic(auto)]
 
 #[cfg(test)]

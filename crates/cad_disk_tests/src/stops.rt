@@ -1,4 +1,4 @@
-//! What a stop in the middle of a command leaves of a register.
+//! The state of a register after a stop in the middle of a command.
 
 use crate::files::{applied, empty_files, is_opened, listed_in, made_of_one};
 use cad_commands::read_command;
@@ -9,15 +9,15 @@ use std::alloc::Global;
 use std::process::Abort;
 use std::test::Fail;
 
-/// The calls of a file before which a run of a command has ended.
+/// The most calls of a file: a run of a command ends before this many.
 const MOST_CALLS: u64 = 1000;
 
-/// The command that the register holds before, and how it lists then.
+/// The command that the register holds before, and what it lists then.
 const FIRST: &str = r#"{"do":"enter","object":11,"first":"2000-01-01","unit":{}}"#;
 
 const BEFORE: &str = "1: 11.1 10957 None;";
 
-/// A command of each kind, and how the register lists after it. 1970-01-01 is day 0.
+/// A command of each kind, and what the register lists after it. 1970-01-01 is day 0.
 const COMMANDS: [(&str, &str); 3] = [
     (
         r#"{"do":"enter","object":12,"first":"2003-01-01","unit":{}}"#,
@@ -41,7 +41,7 @@ fn command_of(alloc: Global, line: &str) -> Result<Command, Fail> {
     )
 }
 
-/// A file of these bytes, which a crash leaves, and which fails behind so many calls.
+/// A file with these bytes, which a crash leaves, and which fails after so many calls.
 fn file_of(alloc: Global, bytes: &[u8], calls: u64) -> Result<Fuse<Memory>, Fail> {
     let mut file = Memory::new(alloc);
     file.write_at(0, bytes)?;
@@ -57,7 +57,7 @@ struct Stored {
 }
 
 impl Stored {
-    /// What stands in the files.
+    /// The contents of the files.
     fn of(alloc: Global, files: &Files<Fuse<Memory>>) -> Result<Stored, Fail> {
         Ok(Stored {
             log: Vec::from_slice(alloc, files.log.inner().bytes())?,
@@ -65,7 +65,7 @@ impl Stored {
         })
     }
 
-    /// Files of these bytes, of which one fails behind so many calls.
+    /// Files with these bytes, one of which fails after so many calls.
     fn files(
         &self,
         alloc: Global,
@@ -90,13 +90,13 @@ enum Failing {
     Database,
 }
 
-/// A register of one command.
+/// A register with one command.
 fn stored_of_one(alloc: Global) -> Result<Stored, Fail> {
     let files = made_of_one(alloc, empty_files(alloc), command_of(alloc, FIRST)?)?;
     Stored::of(alloc, &files)
 }
 
-/// What is found in files of these bytes.
+/// What is found in files with these bytes.
 fn found_in(alloc: Global, log: &[u8], db: &[u8]) -> Result<String, Fail> {
     let files = Files {
         log: file_of(alloc, log, u64::MAX)?,
@@ -105,7 +105,7 @@ fn found_in(alloc: Global, log: &[u8], db: &[u8]) -> Result<String, Fail> {
     listed_in(alloc, files)
 }
 
-/// What is found where a stop left of each file all that was written, or what was synced alone.
+/// What is found if a stop left all that was written to each file, or only what was synced.
 fn found_after(alloc: Global, files: Files<Fuse<Memory>>) -> Result<[String; 4], Fail> {
     let written = Stored::of(alloc, &files)?;
     let mut files = files;
@@ -120,7 +120,7 @@ fn found_after(alloc: Global, files: Files<Fuse<Memory>>) -> Result<[String; 4],
     ])
 }
 
-/// The least number of calls behind which the register is open.
+/// The least number of calls after which the register is open.
 fn opening_calls(alloc: Global, stored: &Stored, failing: Failing) -> Result<u64, Fail> {
     for calls in 0..MOST_CALLS {
         if is_opened(alloc, stored.files(alloc, failing, calls)?) {
@@ -134,7 +134,7 @@ fn has_failed(file: &mut Fuse<Memory>) -> bool {
     !file.may_be_used() || file.len().is_err()
 }
 
-/// Runs a command over files of which one fails behind so many calls, and looks at what a stop leaves then. Whether a call failed.
+/// Runs a command over files, one of which fails after so many calls, and checks what a stop leaves then. Returns whether a call failed.
 fn run(
     rt: &impl Abort,
     alloc: Global,
@@ -153,7 +153,7 @@ fn run(
     Ok(is_failed)
 }
 
-/// How many stops of the file a run of the command has, one after each of its calls behind those that open the register.
+/// How many stops of the file a run of the command has, one after each of its calls after those that open the register.
 fn stops(
     rt: &impl Abort,
     alloc: Global,
@@ -172,8 +172,8 @@ fn stops(
     Err("a run makes more calls")?
 }
 
-/// The stops of one of the two files, behind each number of calls until a run meets no failure. Opened again, the register is the
-/// one before the command or the one after it, and the one after it where the command was answered by its revision.
+/// The stops of one of the two files, after each number of calls until a run meets no failure. Opened again, the register is the one before
+/// the command or the one after it, and the one after it if the command was answered by its revision.
 fn stop_each(rt: &impl Abort, alloc: Global, failing: Failing) -> Result<(), Fail> {
     let stored = stored_of_one(alloc)?;
     let opening = opening_calls(alloc, &stored, failing)?;

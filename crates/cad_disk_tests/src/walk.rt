@@ -13,7 +13,7 @@ use std::process::Abort;
 use std::test::Fail;
 use test_support::{Memory as Want, answer, line_of};
 
-/// A walk of five pages on connection 1, and what is printed for each line. Behind each page a command is entered, and connection 2 asks for
+/// A walk of five pages on connection 1, and what is printed for each line. After each page a command is entered, and connection 2 asks for
 /// an old revision.
 const WALK: [(&str, &str); 8] = [
     ("open 1", "Opened"),
@@ -41,7 +41,7 @@ const WALK: [(&str, &str); 8] = [
     (r#"bytes 2 "GET / HTTP/1.1\r\n""#, r#"Sent """#),
 ];
 
-/// It goes on behind a restart, on connections that are opened anew.
+/// It continues after a restart, on connections that are opened anew.
 const WALK_ON: [(&str, &str); 13] = [
     (
         r#"bytes 1 "GET / HTTP/1.1\r\nHost: x\r\n\r\n""#,
@@ -106,7 +106,7 @@ fn filled<S: Alter + Drop>(alloc: Global, register: Register<S>) -> Result<Regis
     Ok(register)
 }
 
-/// Hands the desk each line, and compares what is printed for it.
+/// Gives the desk each line, and compares what is printed for it.
 fn tell<R: Responder>(
     rt: &impl Abort,
     alloc: Global,

@@ -16,13 +16,13 @@ use Rattle.cad_event_loop.specs.declared.stopped.Stopped.TheVariants.{Asked, Sto
 use Rattle.cad_event_loop.specs.Turns.{nobody, AreServed}
 use Rattle.cad_event_loop.specs.Works.{Place, IsEmpty, Work, wakes, opens, acts, waits, ends, office_comes, enters, office_leaves, aside, all_deeds, end_with, end_in, EndsBy, Goes}
 
--- why hosting ends by what came of serving a client
+-- why hosting ends after serving a client with this result, if it does
 abbrev pub end_of_client : Served → Option Stopped
 end_of_client client.Stays = None
 end_of_client (client.Over ending) = end_with ending
 end_of_client client.Unknown = None
 
--- and by a round, and by all of them, where the system did not refuse before
+-- and after a round, and after all of them, if the system did not refuse before
 abbrev pub end_of_round : {E : Type 0} → Result (Option Stopped) E → Option Stopped
 end_of_round (Ok end) = end
 end_of_round (Err error) = None
@@ -33,26 +33,26 @@ end_of_rounds (Ok StoreRefused) = Some StoreRefused
 end_of_rounds (Ok RoundsSpent) = None
 end_of_rounds (Err error) = None
 
--- what is told of it: a stop that the office asked for may be told as a failure of the system that came then
+-- the reported result: it may be a failure of the system instead of a stop that the office asked for
 abbrev pub IsLastOf : {E : Type 0} → Result Stopped E → Result Stopped E → Type 0
 IsLastOf hosted result = (result ≡ hosted) ⊎ ((hosted ≡ Ok Asked) × IsErr result)
 
--- socket s is told that there is no room, and let go
+-- a head that says that there is no room is sent to socket s, and it is let go
 abbrev pub IsTurnedAway : ℕ → List Deed → Type 0
 IsTurnedAway s deeds = (told : List Deed) × SendsFault s Memory told × (deeds ≡ told ++ left s ∷ [])
 
--- each of these is so
+-- this holds of each of these works
 module _ (May : Work → Type 0) where
   abbrev pub Each : List Work → Type 0
   Each [] = ⊤
   Each (work ∷ later) = May work × Each later
 
--- while clients and the land office are served, it is let go only where it is over
+-- while clients and the land office are served, the land office is let go only if it is over
 abbrev pub IsServing : Work → Type 0
 IsServing (office_leaves o) = ⊥
 IsServing other = ⊤
 
--- where hosting ends nobody comes and nothing is read or answered: what is under way is written, and all are let go
+-- when hosting ends, nobody comes and nothing is read or answered: what is under way is written, and all are let go
 abbrev pub IsLastAct : Act → Type 0
 IsLastAct (wrote bytes) = ⊤
 IsLastAct other = ⊥
@@ -85,12 +85,13 @@ module _ {R : Type 0} (g : Ghosts R) where
   Hosts May end from old here to new next =
       (works : List Work) × Adds from to (all_deeds works) × (end_in works ≡ end) × Goes g old here works new next × Each May works
 
-  -- the same while clients and the land office are served, where this holds of the works: the work by which hosting ends is the last
+  -- the same while clients and the land office are served, if this holds of the works: the work by which hosting ends is the last
   abbrev pub Serves : (List Work → Type 0) → Option Stopped → Option (List Deed) → Desk R → Place → Option (List Deed) → Desk R → Place → Type 0
   Serves Holds end from old here to new next =
       (works : List Work) × Adds from to (all_deeds works) × EndsBy end works × Goes g old here works new next × Each IsServing works × Holds works
 
-  -- from nobody on these works are done, whose deeds are all that is done at the network, up to the one by which hosting ends, and everybody is served by them; and then at once others, until nobody is here
+  -- Beginning with nobody, these works are done up to the one by which hosting ends, and everybody is served by them.
+  -- Then others follow at once, until nobody is here. Their deeds are all that is done at the network.
   pub record HostsBy (end : Option Stopped) (from : Option (List Deed)) (old : Desk R) (to : Option (List Deed)) (new : Desk R) : Type 0 where
     pub works : List Work
     pub closing : List Work
@@ -105,7 +106,8 @@ module _ {R : Type 0} (g : Ghosts R) where
     pub nobody_last : IsEmpty last
     pub goes : Goes g old first (works ++ closing) new last
 
-  -- it ended as the office asked to stop, or as the register's database refused, where that was the first of these that came; or the rounds were spent, or the system refused, and the database did not refuse
+  -- It ended as the office asked to stop, or as the register's database refused, by what came first.
+  -- Or the rounds were spent, or the system refused, and the database did not refuse.
   abbrev pub Hosted : {E : Type 0} → Option (List Deed) → Desk R → Result Stopped E → Option (List Deed) → Desk R → Type 0
   Hosted from old (Ok RoundsSpent) to new = HostsBy None from old to new
   Hosted from old (Ok stopped) to new = HostsBy (Some stopped) from old to new

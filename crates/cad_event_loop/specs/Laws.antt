@@ -18,7 +18,7 @@ use Rattle.cad_office_socket.specs.declared.turned.EntryTurned.TheVariants.{Answ
 use Rattle.cad_event_loop.specs.Works.{Place, Said, Work, wakes, opens, acts, waits, ends, office_comes, enters, office_leaves, aside, IsEmpty, all_deeds, Goes, MayGoOn}
 use Rattle.cad_event_loop.specs.Lives.{last_deeds, IsLeft}
 
--- the commands in force after what is said, and after all that is done: only what the land office entered adds to them
+-- the commands in force after an event at the desk, and after all that is done: only what the land office entered adds to them
 abbrev pub commands_by : List Command → Said → List Command
 commands_by commands None = commands
 commands_by commands (Some told) = commands_after commands told.0 told.1
@@ -35,7 +35,8 @@ commands_in commands (enters o text turned deeds said ∷ later) = commands_in (
 commands_in commands (office_leaves o ∷ later) = commands_in commands later
 commands_in commands (aside deeds said ∷ later) = commands_in commands later
 
--- these commands, after so many, are those that were entered, in their order: each is what the text of a line says that was answered by its revision
+-- These commands, after so many, are those that were entered, in their order.
+-- Each is the one that the text of a line asks for, and the line was answered by its revision.
 module _ (AreLater : ℕ → List Command → Type 0) where
   abbrev pub AreFirst : ℕ → List ℕ → Answer → List Command → Type 0
   AreFirst count text (Entered revision) [] = ⊥
@@ -55,28 +56,28 @@ AreEntered (enters o text turned deeds said ∷ later) count entered = AreFirstB
 AreEntered (other ∷ later) count entered = AreEntered later count entered
 
 module _ {R : Type 0} (g : Ghosts R) where
-  -- what keeps the commands stands at the end for those before, and for those that the land office was answered the revisions of, and no others
+  -- at the end, the ledger holds the commands from before and those that the land office got revisions for as answers, and no others
   abbrev pub LedgerStands : Type 0
   LedgerStands = (commands : List Command) (works : List Work) (old new : Desk R) (here next : Place) → (goes : Goes g old here works new next) → MayGoOn g works old new here next goes
       → g.counts (responder_of new) → g.stands_for (responder_of old) commands
       → (entered : List Command) × AreEntered works (length commands) entered × (commands_in commands works ≡ commands ++ entered) × g.stands_for (responder_of new) (commands ++ entered)
 
-  -- of a socket that came once, and became connection c: what was read from it, and what was written to it
+  -- for a socket that came once, and became connection c: what was read from it, and what was written to it
   pub record IsServedSocket (s c : ℕ) (commands : List Command) (all : List Deed) (next : Place) : Type 0 where
     pub happenings : List Happening
     pub mid : Desk R
     pub last : Channel
     pub ended : Option (Option Ending × List Deed)
-    -- the deeds of its end aside, it was read and written in the acts of connection c alone
+    -- except for the deeds of its end, it was read and written only in the acts of connection c
     pub read : given_by s all ≡ read_of happenings ++ given_by s (last_deeds ended)
     pub written : taken_by s all ≡ written_of happenings ++ taken_by s (last_deeds ended)
-    -- it goes on, or ended so
+    -- it continues, or it ended with this cause
     pub left : IsLeft g c s mid last ended next.slots
     -- what was read went to the desk under its own number, and what was written are the replies to that
     pub passed : IsPassedOn (exchanges_with c commands happenings) (read_of happenings) (written_of happenings) last
     pub answered : IsAnswered g (exchanges_with c commands happenings) (written_of happenings) last
 
-  -- whatever else is done
+  -- for all else that may be done
   abbrev pub SocketsAreTheirOwn : Type 0
   SocketsAreTheirOwn = (s c : ℕ) (commands : List Command) (before later : List Work) (old new : Desk R) (first next : Place)
       → IsEmpty first → (goes : Goes g old first (before ++ opens s c ∷ later) new next) → MayGoOn g (before ++ opens s c ∷ later) old new first next goes

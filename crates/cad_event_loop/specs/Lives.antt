@@ -18,7 +18,7 @@ by_another d (wrote bytes) later = later
 by_another d (took bytes) later = later
 by_another d (fed piece out over) later = other (Bytes d piece) (Ok (Sent out over)) ∷ later
 
--- what the desk is told for others
+-- what the desk gets for others
 abbrev pub by_desk : Said → List Happening → List Happening
 by_desk None later = later
 by_desk (Some said) later = other said.0 said.1 ∷ later
@@ -67,12 +67,12 @@ last_deeds None = []
 last_deeds (Some ended) = ended.1
 
 module _ {R : Type 0} (g : Ghosts R) (c s : ℕ) where
-  -- it is open at last, with this channel; or it left, for this cause and with these deeds
+  -- it is open at the end, with this channel; or it left, for this cause and with these deeds
   abbrev pub IsLeft : Desk R → Channel → Option (Option Ending × List Deed) → Held → Type 0
   IsLeft mid last None next = next c ≡ Some (s, last)
   IsLeft mid last (Some ended) next = (after : Desk R) × Leaves g c s mid last ended.0 ended.1 after
 
-  -- this happens to it; and of its own deeds, what was read and written there is what was read and written in what happens, and in the deeds of its end
+  -- This happens to it. Its own deeds read and wrote what was read and written in what happens and by the deeds of its end.
   abbrev pub IsLifeBy : Desk R → Channel → List Happening → List Deed → Option (Option Ending × List Deed) → Desk R → Held → Type 0
   IsLifeBy old channel happenings deeds ended new next =
       (mid : Desk R) × (last : Channel) × Lives g c old channel happenings mid last × IsLeft mid last ended next

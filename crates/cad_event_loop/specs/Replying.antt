@@ -1,4 +1,4 @@
--- What comes of a connection in a whole round (own profile).
+-- What happens to a connection in a whole round (own profile).
 use Rattle.std.specs.Prelude.{◌≡◌, ◌⊎◌, ℕ, ◌≤◌, nat_eq, Bool, true, false, List, [], ◌∷◌, ◌++◌, Some}
 use Rattle.cad_stream.specs.declared.responder.Responder.{Ghosts}
 use Rattle.cad_desk.specs.declared.desk.Desk.{Desk}
@@ -13,7 +13,8 @@ is_leaving c (ends s d cause deeds said) = nat_eq d c
 is_leaving c other = false
 
 module _ {R : Type 0} (g : Ghosts R) where
-  -- among these works connection c has a turn at which its socket gives or takes nothing: then all that was read was taken, and all that the desk sent was written; or something is to be written
+  -- Among these works connection c has a turn at which its socket gives or takes nothing.
+  -- Then all that was read was taken, and all that the desk sent was written; or something is to be written.
   pub record RestsIn (c s : ℕ) (works : List Work) (old : Desk R) (here : Place) : Type 0 where
     pub before : List Work
     pub later : List Work
@@ -25,7 +26,9 @@ module _ {R : Type 0} (g : Ghosts R) where
     pub held : between.slots c ≡ Some (s, channel)
     pub rests : MayWait channel
 
-  -- of a connection that is open when a round begins, after others from nobody on: it waits since before; or at a turn in this round; or it is let go; or the desk takes a piece of what was read, and all that it sends for that is written; or it has four turns
+  -- For a connection that is open when a round begins, after other rounds that began with nobody: it waits since before, or at a turn
+  -- in this round; or it is let go; or the desk takes a piece of what was read, and all that it sends for that is written; or it has
+  -- four turns.
   abbrev pub EachIsServed : Type 0
   EachIsServed = (c s : ℕ) (channel : Channel) (rounds : List (List Work)) (round : List Work) (old mid new : Desk R) (first here next : Place)
       → IsEmpty first → AreRounds nobody (rounds ++ round ∷ []) → Goes g old first (all_works rounds) mid here → Goes g mid here round new next → here.slots c ≡ Some (s, channel)

@@ -11,14 +11,14 @@ use Rattle.cad_office_socket.specs.declared.turned.EntryTurned.TheVariants.{Answ
 use Rattle.cad_office_socket.specs.Entries.{EntersAtDesk}
 use Rattle.cad_event_loop.specs.Works.{Place, Work, office_comes, enters, IsEmpty, all_deeds, Goes}
 
--- a line ended in the turn that is not empty: it was answered, or it is `stop`
+-- a line that is not empty ended in the turn: it was answered, or it is `stop`
 abbrev pub ends_line : EntryTurned → Bool
 ends_line (Answered answer) = true
 ends_line (Lost answer) = true
 ends_line Stops = true
 ends_line other = false
 
--- what is to be written for it: its answer, if there was memory for the text
+-- the text that is to be written for it: its answer, if there was memory for the text
 abbrev pub answer_text : EntryTurned → List ℕ
 answer_text (Answered answer) = printed answer
 answer_text other = []
@@ -40,14 +40,14 @@ EndsWell o (enters p text turned deeds said ∷ later) = ((p ≡ o) × IsLeftWel
 EndsWell o (other ∷ later) = EndsWell o later
 
 module _ {R : Type 0} (g : Ghosts R) where
-  -- what came of a line at the desk: its command is entered, and then it is answered so
+  -- the result of a line at the desk: its command is entered, and then it gets this answer
   abbrev pub ComesTo : List ℕ → Desk R → EntryTurned → Desk R → Type 0
   ComesTo line old (Answered answer) new = AnswersLine (EntersAtDesk g) line old answer new
   ComesTo line old (Lost answer) new = AnswersLine (EntersAtDesk g) line old answer new
   ComesTo line old Stops new = (line ≡ codes "stop") × (new ≡ old)
   ComesTo line old other new = ⊥
 
-  -- the next of the lines did, where one ended
+  -- the same for the next of the lines, if one ended
   abbrev pub TakesLine : Bool → Desk R → EntryTurned → Desk R → (List (List ℕ) → Type 0) → List (List ℕ) → Type 0
   TakesLine false old turned mid AreLater lines = AreLater lines
   TakesLine true old turned mid AreLater [] = ⊥
@@ -68,12 +68,12 @@ module _ {R : Type 0} (g : Ghosts R) where
     -- the first lines of what was read ended, each once and in their order
     pub ended : lines_in read ≡ lines ++ more
     pub come : LinesCome o works old new here next goes lines
-    -- what was written is their answers, up to what is left
+    -- their answers were written, except for the unwritten rest
     pub answered : answer_texts o works ≡ written ++ unwritten
-    -- where the connection ended well, nothing is left
+    -- if the connection ended well, no line and no text is left
     pub all : EndsWell o works → (more ≡ []) × (unwritten ≡ [])
 
-  -- of a socket that came once, and is the land office's, whatever else is done
+  -- for a socket of the land office that came once, and for all else that may be done
   abbrev pub OfficeIsAnswered : Type 0
   OfficeIsAnswered = (o : ℕ) (before later : List Work) (old mid new : Desk R) (first here next : Place)
       → IsEmpty first → Goes g old first before mid here → (goes : Goes g mid here (office_comes o ∷ later) new next)

@@ -6,13 +6,13 @@ use Rattle.cad_office_socket.specs.declared.turned.EntryTurned.{EntryTurned}
 use Rattle.cad_office_socket.specs.declared.turned.EntryTurned.TheVariants as turn
 use Rattle.cad_event_loop.specs.Works.{Work, wakes, opens, acts, waits, ends, office_comes, enters, office_leaves, aside, is_last}
 
--- a connection is not open; or it waits until the network tells of its socket; or it may go on
+-- a connection is not open; or it waits until the network reports its socket; or it may continue
 pub data Standing : Type 0 where
   absent : Standing
   waiting : Standing
   ready : Standing
 
--- how each connection stands, by its number, and the land office
+-- the state of each connection, by its number, and of the land office
 pub record Standings : Type 0 where
   pub clients : ℕ → Standing
   pub office : Standing
@@ -21,22 +21,23 @@ pub record Standings : Type 0 where
 abbrev pub nobody : Standings
 nobody = record { clients = λ c. absent; office = absent }
 
--- the network tells of its socket
+-- the network reports its socket
 abbrev pub woken : Standing → Standing
 woken absent = absent
 woken waiting = ready
 woken ready = ready
 
--- the network tells of this place
+-- the network reports this place
 abbrev pub is_among : ℕ → List ℕ → Bool
 is_among c [] = false
 is_among c (place ∷ places) = nat_eq place c || is_among c places
 
--- the place by which it tells of the land office: those of the clients are their numbers
+-- the place by which it reports the land office: the places of the clients are their numbers
 abbrev pub office_place : ℕ
 office_place = 66
 
--- how connection c stands after one thing is done: it may go on since it was opened, or the network told of it, or it had a turn at which it did not wait
+-- The state of connection c after one thing is done.
+-- It may continue after it was opened, or the network reported it, or it had a turn at which it did not wait.
 abbrev pub stands_after : ℕ → Standing → Work → Standing
 stands_after c old (wakes places) = if is_among c places then woken old else old
 stands_after c old (opens s d) = if nat_eq d c then ready else old
@@ -53,7 +54,7 @@ abbrev pub stands_in : ℕ → Standing → List Work → Standing
 stands_in c old [] = old
 stands_in c old (work ∷ later) = stands_in c (stands_after c old work) later
 
--- and the land office, after a turn of it: it may go on if it is not over and did not wait
+-- and of the land office, after a turn of it: it may continue if it is not over and did not wait
 abbrev pub office_turned : Bool → EntryTurned → Standing
 office_turned true turned = absent
 office_turned false turn.Waits = waiting
@@ -135,12 +136,12 @@ pub record Replies (c : ℕ) (works : List Work) : Type 0 where
   pub all : works ≡ before ++ acts s c (fed piece out over) ∷ later
   pub written : written_to c later ≡ out.items ++ more
 
--- connection c has turns, and has no more for now: it is over at one of them, or its socket gives or takes nothing, or a reply goes out, or there are four
+-- connection c has turns, and these are enough: it is over or waits at one of them, or a reply is written, or there are four
 pub record HasEnough (c : ℕ) (works : List Work) : Type 0 where
   pub turn : has_turn c works ≡ true
   pub enough : (any_of (is_end_of c) works ≡ true) ⊎ ((any_of (is_wait_of c) works ≡ true) ⊎ (Replies c works ⊎ (4 ≤ turns_of c works)))
 
--- each connection that may go on has its turns, and the land office has one, if it may go on
+-- each connection that may continue has its turns, and the land office has one, if it may continue
 pub record EachHasTurn (stands : Standings) (works : List Work) : Type 0 where
   pub clients : (c : ℕ) → stands.clients c ≡ ready → HasEnough c works
   pub office : stands.office ≡ ready → any_of is_office_turn works ≡ true
@@ -154,7 +155,7 @@ all_works (some ∷ more) = some ++ all_works more
 abbrev pub IsQuiet : List Work → Type 0
 IsQuiet works = (c : ℕ) → has_turn c works ≡ false
 
--- the land office is not here; or the network tells who may go on, and then it has a turn, if it may go on
+-- the land office is not here; or the network reports who may continue, and then it has a turn, if it may continue
 abbrev pub HearsOffice : Standing → List Work → Type 0
 HearsOffice stand [] = stand ≡ absent
 HearsOffice stand (wakes places ∷ later) = (office_after stand (wakes places) ≡ ready → any_of is_office_turn later ≡ true)
@@ -174,7 +175,7 @@ abbrev pub AreVisits : Standing → List (List Work) → Type 0
 AreVisits stand [] = ⊤
 AreVisits stand (visit ∷ visits) = IsVisit stand visit × AreVisits (office_in stand visit) visits
 
--- clients have their turns in visits alone
+-- clients have their turns only in visits
 pub record ComesByVisits (stand : Standing) (works : List Work) : Type 0 where
   pub visits : List (List Work)
   pub rest : List Work
@@ -182,12 +183,14 @@ pub record ComesByVisits (stand : Standing) (works : List Work) : Type 0 where
   pub are : AreVisits stand visits
   pub quiet : IsQuiet rest
 
--- the network tells whose sockets may go on, and then each has its turns that may go on, one client after the other, and the land office after each
+-- The network reports whose sockets may continue. Then each client that may continue has its turns, one client after the other.
+-- The land office has one after each of them.
 abbrev pub GivesTurns : Standings → List Work → Type 0
 GivesTurns stands (wakes places ∷ later) = EachHasTurn (all_after stands (wakes places ∷ [])) later × ComesByVisits (office_after stands.office (wakes places)) later
 GivesTurns stands other = ⊥
 
--- the most that is done in a round: the network tells; 64 clients have four turns each, after which the network tells and the land office has eight turns; it has eight more; 64 clients are dropped, as many come, and the land office does
+-- The most that is done in a round. The network reports readiness. For each of 64 clients there are four turns, a further report of the
+-- network and eight turns of the land office. The office has eight more; 64 clients are dropped, 64 come, and the land office comes.
 abbrev pub most_in_round : ℕ
 most_in_round = 970
 
@@ -201,7 +204,7 @@ abbrev pub AreRounds : Standings → List (List Work) → Type 0
 AreRounds stands [] = ⊤
 AreRounds stands (round ∷ rounds) = IsRound stands round × AreRounds (all_after stands round) rounds
 
--- these works are rounds, in each of which everybody is served who may go on, and then the beginning of one more, if hosting ends within it
+-- these works are rounds, in each of which all that may continue are served, and the beginning of one more, if hosting ends within it
 pub record AreServed (stands : Standings) (works : List Work) : Type 0 where
   pub rounds : List (List Work)
   pub last : List Work

@@ -46,14 +46,14 @@ held_of name (Some client) = Some (name client.socket, client.channel)
 abbrev pub held_at : {S : Type 0} → (S → ℕ) → Clients S → Held
 held_at name clients c = held_of name (client_at clients c)
 
--- connection c is this one since, or is not open, and all others are as they were
+-- connection c is this one afterwards, or is not open, and all others are as they were
 abbrev pub Puts : Held → Held → ℕ → Option (ℕ × Channel) → Type 0
 Puts old new c one = (d : ℕ) → new d ≡ (if nat_eq c d then one else old d)
 
 abbrev pub Same : Held → Held → Type 0
 Same old new = (d : ℕ) → new d ≡ old d
 
--- the land office, if it is here: the name of its socket, and what is held of its connection
+-- the land office, if it is here: the name of its socket, and what its connection holds
 abbrev pub AtOffice : Type 0
 AtOffice = Option (ℕ × Entry)
 
@@ -69,11 +69,15 @@ place_of name clients office = record { slots = held_at name clients; office = o
 abbrev pub IsEmpty : Place → Type 0
 IsEmpty place = ((c : ℕ) → place.slots c ≡ None) × (place.office ≡ None)
 
--- what the desk is told, if anything, and its answer
+-- the event that the desk gets, if any, and its answer
 abbrev pub Said : Type 0
 Said = Option (Event × Result Reply DeskFault)
 
--- the network tells that the sockets at these places may go on; socket s comes and is connection c; connection c acts at socket s; it can't for now; it ends, by a turn of its own or since it is closed, with these deeds; the land office comes at socket o; it has a turn there, in which the line with this text ends if one does; it is let go; or what is done is for none of them
+-- One of these is done:
+-- the network reports that the sockets at these places may continue; socket s comes and is connection c; connection c acts at socket s;
+-- its socket gives or takes nothing for now; it ends, by a turn of its own or because it is closed, with these deeds;
+-- the land office comes at socket o; it has a turn there, in which the line with this text ends, if one does; it is let go;
+-- or something is done for none of them
 pub data Work : Type 0 where
   wakes : List ℕ → Work
   opens : ℕ → ℕ → Work
@@ -106,7 +110,7 @@ abbrev pub all_deeds : List Work → List Deed
 all_deeds [] = []
 all_deeds (work ∷ later) = deeds_of work ++ all_deeds later
 
--- what the desk is told by each that it may refuse
+-- the event that the desk gets by each, if the desk may refuse it
 abbrev pub said_by : Work → Said
 said_by (wakes places) = None
 said_by (opens s c) = None
@@ -127,7 +131,7 @@ is_store (Err fault) = false
 abbrev pub store_end : Bool → Option Stopped
 store_end refused = if refused then Some StoreRefused else None
 
--- why hosting ends by the end of a connection, and by a turn of the land office, if it does
+-- why hosting ends after the end of a connection, and after a turn of the land office, if it does
 abbrev pub end_with : Ending → Option Stopped
 end_with PeerEnded = None
 end_with WeEnded = None
@@ -149,7 +153,7 @@ end_of_turned turn.Stops = Some Asked
 end_of_turned turn.Waits = None
 end_of_turned turn.Over = None
 
--- by what is done
+-- after one thing is done
 abbrev pub end_by : Work → Option Stopped
 end_by (wakes places) = None
 end_by (opens s c) = None
@@ -161,12 +165,12 @@ end_by (enters o text turned deeds said) = end_of_turned turned
 end_by (office_leaves o) = None
 end_by (aside deeds said) = None
 
--- and by the first of these by which it does
+-- and after the first of these that ends it
 abbrev pub end_in : List Work → Option Stopped
 end_in [] = None
 end_in (work ∷ later) = option_or (end_by work) (end_in later)
 
--- hosting ends by the last of these for this reason, and by none before it; or, where there is no reason, by none
+-- hosting ends by the last of these for this reason, and by none before it; or, if there is no reason, by none
 abbrev pub EndsBy : Option Stopped → List Work → Type 0
 EndsBy None works = end_in works ≡ None
 EndsBy (Some stopped) works = (before : List Work) × (last : Work) × (works ≡ before ++ last ∷ []) × (end_in before ≡ None) × (end_by last ≡ Some stopped)
@@ -182,32 +186,32 @@ abbrev pub IsOf : ℕ → Said → Type 0
 IsOf c None = ⊤
 IsOf c (Some told) = IsEventOf c told.0
 
--- it is of none: the desk refused to open a connection
+-- the event is of no connection: the desk refused to open one
 abbrev pub IsOfNone : Held → Said → Type 0
 IsOfNone slots None = ⊤
 IsOfNone slots (Some told) = (c : ℕ) × (slots c ≡ None) × (told.0 ≡ Open c) × IsErr told.1
 
--- the desk is told the command that the line asks for, and answers so; or it is told none
+-- the desk gets the command that the line asks for, and gives this answer; or it gets none
 abbrev pub SaysSo : List ℕ → Answer → Said → Type 0
 SaysSo text (answer.Entered revision) said = (command : Command) × Asks text command × (said ≡ Some (Office command, Ok (reply.Entered revision)))
 SaysSo text (answer.Refused fault) said =
     ((command : Command) × Asks text command × (said ≡ Some (Office command, Err (fault_of fault)))) ⊎ ((fault ≡ Memory) × (length text ≤ longest_line) × (said ≡ None))
 SaysSo text answer.NotACommand said = ((command : Command) → ¬ Asks text command) × (said ≡ None)
 
--- what a turn of the land office tells the desk of the line that ended in it
+-- what the desk gets in a turn of the land office, for the line that ended in it
 abbrev pub IsLineSaid : List ℕ → EntryTurned → Said → Type 0
 IsLineSaid text (turn.Answered answer) said = IsAsking text answer × SaysSo text answer said
 IsLineSaid text (turn.Lost answer) said = IsAsking text answer × SaysSo text answer said
 IsLineSaid text turn.Stops said = (text ≡ codes "stop") × (said ≡ None)
 IsLineSaid text other said = said ≡ None
 
--- whether the land office is over by the turn: it can't be told more, and the work goes on without it
+-- whether the land office is over by the turn: nothing more can be written to it, and hosting continues without it
 abbrev pub is_last : EntryTurned → Bool
 is_last turn.Over = true
 is_last (turn.Lost answer) = not (serving.is_store answer)
 is_last other = false
 
--- nothing is done at a socket; or one comes and is turned away: it is let go, a client's after it is told why
+-- nothing is done at a socket; or one comes and is let go, a client's after a head with the reason is sent to it
 abbrev pub IsAside : List Deed → Type 0
 IsAside deeds =
     (deeds ≡ []) ⊎ (((s : ℕ) × (fault : DeskFault) × (told : List Deed) × SendsFault s fault told × (deeds ≡ came s ∷ (told ++ left s ∷ [])))
@@ -249,7 +253,7 @@ module _ {R : Type 0} (g : Ghosts R) where
   Goes old here (work ∷ later) new next =
       (mid : Desk R) × (between : Place) × Works old here work mid between × Goes mid between later new next
 
-  -- what keeps the commands was not closed by a refusal
+  -- the ledger was not closed by a refusal
   abbrev pub MayAsk : Desk R → Said → Desk R → Type 0
   MayAsk old None new = ⊤
   MayAsk old (Some told) new = IfErr told.1 (λ fault. ¬ IsShutAtDesk g old fault new)

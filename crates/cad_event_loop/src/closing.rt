@@ -1,4 +1,4 @@
-//! What is under way when hosting ends, and letting all go.
+//! Writing what is under way when hosting ends, and letting all go.
 
 use crate::rounds::Rounds;
 use cad_desk::Desk;
@@ -7,10 +7,10 @@ use cad_office_socket::EntryTurned;
 use cad_stream::Responder;
 use std::io::Result;
 
-/// For how many seconds replies and the office's answer go out once hosting ends.
+/// For how many seconds replies and the office's answer are written once hosting ends.
 const LAST_SECONDS: u64 = 5;
 
-/// For how many milliseconds nothing is waited for at most meanwhile.
+/// The most milliseconds of one wait meanwhile.
 const LAST_PATIENCE: u64 = 100;
 
 impl<S: Drop> Rounds<S> {
@@ -20,7 +20,7 @@ impl<S: Drop> Rounds<S> {
     ghost use Rattle.cad_event_loop.specs.inner.Rounds.{here};
     ghost use Rattle.cad_event_loop.specs.Works.{IsEmpty};
 
-    /// Waits until a socket may take something, or for so long.
+    /// Waits until a socket may take something, or for `LAST_PATIENCE`.
     fn wait_last<N: Network<Socket = S>, R: Responder>(
         &mut self,
         net: &mut N,
@@ -31,7 +31,7 @@ impl<S: Drop> Rounds<S> {
         self.peers.wait(net, LAST_PATIENCE)
     }
 
-    /// Whether an answer to the land office has not gone out.
+    /// Whether an answer to the land office is not fully written.
     fn is_office_sending(&self) -> bool
         ensures { IsTrue result → IsOfficeSending self.now.office }
     {
@@ -41,7 +41,7 @@ impl<S: Drop> Rounds<S> {
         }
     }
 
-    /// A write of the answer that has not gone out to the land office, if it takes something.
+    /// Writes once to the land office what is not written of its answer, if its socket may take something.
     fn send_office<N: Network<Socket = S>, R: Responder>(&mut self, net: &mut N, desk: &mut Desk<R>)
         ensures { Hosts R.Responder IsClosing None (N.history net.old) desk.old (here N.name self.old) (N.history net.new) desk.new (here N.name self.new) }
     {
@@ -56,7 +56,7 @@ impl<S: Drop> Rounds<S> {
         self.peers.ready.office = !matches!(turned, EntryTurned::Waits);
     }
 
-    /// A write to each of them of what has not gone out, if it takes something.
+    /// Writes once to the clients and the land office what is not written yet, if their sockets may take something.
     fn send_all<N: Network<Socket = S>, R: Responder>(&mut self, net: &mut N, desk: &mut Desk<R>)
         ensures { Hosts R.Responder IsClosing None (N.history net.old) desk.old (here N.name self.old) (N.history net.new) desk.new (here N.name self.new) }
     {
@@ -64,7 +64,7 @@ impl<S: Drop> Rounds<S> {
         self.send_office(net, desk);
     }
 
-    /// Lets the replies and the office's answer go out that are under way, for five seconds at most. Nothing is read or answered.
+    /// Writes the replies and the office's answer that are under way, for at most five seconds. Nothing is read or answered.
     fn send_last<N: Network<Socket = S>, R: Responder>(
         &mut self,
         net: &mut N,
@@ -84,7 +84,7 @@ impl<S: Drop> Rounds<S> {
         Ok(())
     }
 
-    /// The same, if the network was not at fault.
+    /// The same, if the network did not fail before.
     fn send_if<N: Network<Socket = S>, R: Responder>(
         &mut self,
         is_sound: bool,
@@ -120,7 +120,7 @@ impl<S: Drop> Rounds<S> {
         self.part_office(net, desk);
     }
 
-    /// Lets what is under way go out, if the network was not at fault, and then all go.
+    /// Writes what is under way, if the network did not fail before, and then lets all go.
     pub(crate) fn end<N: Network<Socket = S>, R: Responder>(
         &mut self,
         is_sound: bool,

@@ -11,7 +11,7 @@ use cad_stream::Responder;
 use std::alloc::Global;
 use std::io::Result;
 
-/// How hosting ended, by the rounds and by what came then. A refusal of the database is told whatever the system refuses then.
+/// How hosting ended, by the results of the rounds and of closing. A refusal by the database is reported even if closing fails.
 fn last_of(hosted: Result<Stopped>, ended: Result<()>) -> Result<Stopped>
     ensures { IsLastOf hosted result }
 {
@@ -26,11 +26,11 @@ fn last_of(hosted: Result<Stopped>, ended: Result<()>) -> Result<Stopped>
     }
 }
 
-/// Takes clients at one door of a network, up to 64 at once, and the land office at the other, one at a time, and serves them by
-/// turns until the office asks to stop or the register's database refuses, whether or not the office is told that. A client that
-/// comes when 64 are there is told so by a fixed head. One that neither sends nor takes a byte for 60 seconds is dropped, and
-/// so is one whose request and its reply take 300 seconds. Replies and the office's answer that are under way at the end go out
-/// for five seconds at most; then all are let go.
+/// Takes clients at one door of a network, up to 64 at once, and the land office at the other, one at a time. Serves them alternately until
+/// the office asks to stop or the register's database refuses, whether or not the office gets that answer. A client that comes when 64 are
+/// connected gets a fixed head that says so. One that neither sends nor takes a byte for 60 seconds is dropped, and so is one whose request
+/// and its reply take 300 seconds. Replies and the office's answer that are under way at the end are written for at most five seconds; then
+/// all are let go.
 pub fn host<N: Network, R: Responder, L: AccessLog<N::Socket>>(
     alloc: Global,
     net: &mut N,

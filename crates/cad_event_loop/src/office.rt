@@ -13,7 +13,7 @@ use cad_stream::Responder;
 use cad_versions::RegisterFault;
 use std::alloc::Global;
 
-/// Why hosting ends by what came of serving the office, if it does.
+/// Why hosting ends after serving the office with this result, if it does.
 pub(crate) fn end_of(served: EntryServed) -> Option<Stopped>
     ensures { result ≡ end_of_office served }
 {
@@ -24,21 +24,21 @@ pub(crate) fn end_of(served: EntryServed) -> Option<Stopped>
     }
 }
 
-/// Whether it is over.
+/// Whether the office's connection is over.
 fn is_over(served: EntryServed) -> bool
     ensures { result ≡ is_over_of served }
 {
     matches!(served, EntryServed::Over)
 }
 
-/// Whether it may go on at once, if it is not over.
+/// Whether the office may continue at once, if its connection is not over.
 pub(crate) fn may_go_on(served: EntryServed) -> bool
     ensures { result ≡ may_go_on_of served }
 {
     !matches!(served, EntryServed::Waits)
 }
 
-/// Whether it is over by a turn.
+/// Whether the office's connection is over by a turn.
 fn is_last(turned: EntryTurned) -> bool
     ensures { result ≡ is_last_of turned }
 {
@@ -66,7 +66,7 @@ impl<S: Drop> Office<S> {
     ghost use Rattle.cad_office_socket.specs.Turns.{IsNewEntry, IsSending};
     ghost use Rattle.cad_event_loop.specs.inner.Offices.{HasOfficeTurns, HasSent};
 
-    /// An office of which nothing was read.
+    /// An office from which nothing was read.
     pub(crate) fn new(alloc: Global, socket: S) -> Office<S>
         ensures socket { result.socket ≡ socket }
         ensures new { IsNewEntry result.entry }
@@ -77,7 +77,7 @@ impl<S: Drop> Office<S> {
         }
     }
 
-    /// Its socket. All else is dropped.
+    /// Its socket. Everything else is dropped.
     pub(crate) fn into_socket(self) -> S
         ensures { result ≡ self.socket }
     {
@@ -85,7 +85,7 @@ impl<S: Drop> Office<S> {
         socket
     }
 
-    /// Some turns, and what is left. Where it is over, its socket is let go.
+    /// Serves the office with some turns, and returns it. If its connection is over, its socket is let go and no office is returned.
     pub(crate) fn serve<N: Network<Socket = S>, R: Responder>(
         self,
         alloc: Global,
@@ -103,7 +103,8 @@ impl<S: Drop> Office<S> {
         (served, Some(Office { socket, entry }))
     }
 
-    /// A write of the answer that has not gone out, and what is left. Nothing is read. Where it is over, its socket is let go.
+    /// Writes once what is not written of the answer, and returns the office. Nothing is read. If its connection is over, its socket is let
+    /// go and no office is returned.
     pub(crate) fn send<N: Network<Socket = S>>(
         self,
         net: &mut N,

@@ -1,4 +1,4 @@
-//! The clients, and what the network told of sockets.
+//! The clients, and what the network reported about sockets.
 
 ghost use Rattle.std.specs.Prelude.{◌≡◌};
 ghost use Rattle.cad_event_loop.specs.Hosting.{end_of_client};
@@ -22,7 +22,7 @@ const LIMITS: Limits = Limits {
 /// The most clients that are taken in a round.
 const TAKEN: u32 = 64;
 
-/// The clients, and what the network told of sockets.
+/// The clients, and what the network reported about sockets.
 #[derive(Drop)]
 pub(crate) struct Peers<S> {
     pub(crate) clients: Clients<S>,
@@ -31,7 +31,7 @@ pub(crate) struct Peers<S> {
     pub(crate) alloc: Global,
 }
 
-/// Why hosting ends by what came of serving a client, if it does.
+/// Why hosting ends after serving a client with this result, if it does.
 fn end_of(served: Served) -> Option<Stopped>
     ensures { result ≡ end_of_client served }
 {
@@ -64,12 +64,12 @@ impl<S: Drop> Peers<S> {
         })
     }
 
-    /// Whether a client may go on at once.
+    /// Whether a client may continue at once.
     pub(crate) fn any_ready(&self) -> bool {
         (0..ROOM).any(|c| self.clients.is_ready(c))
     }
 
-    /// Whether a reply has not gone out.
+    /// Whether a reply is not fully written.
     pub(crate) fn any_sending(&self) -> bool {
         (0..ROOM).any(|c| self.clients.is_sending(c))
     }
@@ -91,7 +91,7 @@ impl<S: Drop> Peers<S> {
         }
     }
 
-    /// Marks what the network tells.
+    /// Marks the places that the network reports.
     fn note<N: Network<Socket = S>>(&mut self, net: &mut N)
         ensures told { AddsSome (N.history net.old) (N.history net.new) (IsWoken self.old self.new) }
         ensures held { Same (held_at N.name self.old.clients) (held_at N.name self.new.clients) }
@@ -104,7 +104,7 @@ impl<S: Drop> Peers<S> {
         }
     }
 
-    /// Waits until a socket may give or take something, or for so long, and looks at the clock.
+    /// Waits until a socket may give or take something, or until the time is over, and looks at the clock.
     pub(crate) fn wait<N: Network<Socket = S>>(
         &mut self,
         net: &mut N,
@@ -119,7 +119,7 @@ impl<S: Drop> Peers<S> {
         Ok(())
     }
 
-    /// Serves a client, if it may go on. Why hosting ends by that, if it does.
+    /// Serves a client, if it may continue. Returns why hosting ends by that, if it does.
     pub(crate) fn serve_one<N: Network<Socket = S>, R: Responder, L: AccessLog<S>>(
         &mut self,
         c: u32,
@@ -133,7 +133,7 @@ impl<S: Drop> Peers<S> {
         end_of(self.clients.serve(self.alloc, c, self.now, net, desk, log))
     }
 
-    /// Writes what has not gone out to a client, once.
+    /// Writes once to a client what is not written yet.
     fn send_one<N: Network<Socket = S>, R: Responder>(
         &mut self,
         c: u32,
@@ -148,7 +148,7 @@ impl<S: Drop> Peers<S> {
         }
     }
 
-    /// Writes what has not gone out, to each client once. Nothing is read or answered.
+    /// Writes once to each client what is not written yet. Nothing is read or answered.
     pub(crate) fn send_ready<N: Network<Socket = S>, R: Responder>(
         &mut self,
         net: &mut N,
@@ -206,7 +206,7 @@ impl<S: Drop> Peers<S> {
         }
     }
 
-    /// Tells a socket that there is no room, and lets it go.
+    /// Writes to a socket that there is no room, and lets it go.
     fn turn_away<N: Network<Socket = S>>(&self, socket: S, net: &mut N)
         ensures { AddsSome (N.history net.old) (N.history net.new) (IsTurnedAway (N.name socket)) }
     {
@@ -214,7 +214,8 @@ impl<S: Drop> Peers<S> {
         net.let_go(socket);
     }
 
-    /// Opens a connection for a socket, if there is a number for it and the network tells of it. One that is not opened is told so.
+    /// Opens a connection for a socket, if there is a number for it and the network can watch it. A socket that is not opened gets a fixed
+    /// head that says so.
     fn admit<N: Network<Socket = S>, R: Responder, L: AccessLog<S>>(
         &mut self,
         mut socket: S,
@@ -240,8 +241,8 @@ impl<S: Drop> Peers<S> {
             .open(self.alloc, c, self.now, socket, net, desk);
     }
 
-    /// Takes the client that waits. `false`: none does for now. One that the system could not hand over is passed over: where
-    /// descriptors are wanting it waits at the door until the next round.
+    /// Takes the client that waits. `false` means that none waits for now. A client that the system could not hand over is skipped: if
+    /// there are not enough descriptors, it waits at the door until the next round.
     fn take_client<N: Network<Socket = S>, R: Responder, L: AccessLog<S>>(
         &mut self,
         net: &mut N,
@@ -260,7 +261,7 @@ impl<S: Drop> Peers<S> {
         }
     }
 
-    /// Takes the clients that wait, if some do.
+    /// Takes the clients that wait, if there are some.
     pub(crate) fn take_clients<N: Network<Socket = S>, R: Responder, L: AccessLog<S>>(
         &mut self,
         net: &mut N,

@@ -1,4 +1,4 @@
-//! Places that a network tells by, and who may go on.
+//! The places by which a network reports readiness, and who may continue.
 
 use cad_clients::ROOM;
 
@@ -14,7 +14,7 @@ pub const OFFICE: usize = ROOM as usize + 2;
 /// How many places there are.
 pub const PLACES: usize = ROOM as usize + 3;
 
-/// The sockets, beside those of the clients, that may give something. Each is cleared where it says that it does not.
+/// The sockets other than the clients' that may give something. Each is cleared when it says that it gives nothing.
 #[derive(Clone, Copy, Debug)]
 pub(crate) struct Readiness {
     pub(crate) clients_door: bool,

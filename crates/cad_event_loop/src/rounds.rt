@@ -1,4 +1,4 @@
-//! The clients and the land office, by turns.
+//! The clients and the land office, served alternately.
 
 use crate::office::{Office, end_of, may_go_on};
 use crate::peers::Peers;
@@ -11,10 +11,10 @@ use cad_stream::Responder;
 use std::alloc::{AllocError, Global};
 use std::io::Result;
 
-/// For how many milliseconds nothing is waited for at most.
+/// The most milliseconds of one wait.
 const PATIENCE: u64 = 1000;
 
-/// The same where somebody waits at a door whom the system could not hand over.
+/// The same if somebody may still wait at a door, as after the system could not hand over a connection.
 const IMPATIENCE: u64 = 50;
 
 /// The clients and the land office.
@@ -33,7 +33,7 @@ impl<S: Drop> Rounds<S> {
     ghost use Rattle.cad_event_loop.specs.inner.Standing.{GivesTurnAlone, HearsBetween, IsAsked, IsAtDoors, MakesRound, ServesAll, ServesOffice, VisitsClient};
     ghost use Rattle.cad_event_loop.specs.Turns.{most_in_round, AreServed};
 
-    /// Nobody.
+    /// Without clients and land office.
     pub(crate) fn new(alloc: Global) -> std::result::Result<Rounds<S>, AllocError>
         ensures { IfOk result IsNobody }
     {
@@ -43,7 +43,7 @@ impl<S: Drop> Rounds<S> {
         })
     }
 
-    /// Waits until a socket may give or take something, or for so long, while clients are served.
+    /// Waits until a socket may give or take something, or until the time is over, while clients are served.
     fn wait<N: Network<Socket = S>, R: Responder>(
         &mut self,
         net: &mut N,
@@ -56,7 +56,7 @@ impl<S: Drop> Rounds<S> {
         self.peers.wait(net, milliseconds)
     }
 
-    /// Some turns of the land office, if it is here.
+    /// Serves the land office with some turns, if it is here.
     fn serve_office_once<N: Network<Socket = S>, R: Responder>(
         &mut self,
         net: &mut N,
@@ -76,7 +76,7 @@ impl<S: Drop> Rounds<S> {
         end_of(served)
     }
 
-    /// Serves the land office, if it may go on.
+    /// Serves the land office, if it may continue.
     fn serve_office<N: Network<Socket = S>, R: Responder>(
         &mut self,
         net: &mut N,
@@ -92,7 +92,7 @@ impl<S: Drop> Rounds<S> {
         self.serve_office_once(net, desk)
     }
 
-    /// A turn of the land office between those of two clients: what it said meanwhile is heard.
+    /// Serves the land office between two clients, with what it sent meanwhile.
     fn serve_office_between<N: Network<Socket = S>, R: Responder>(
         &mut self,
         net: &mut N,
@@ -109,7 +109,7 @@ impl<S: Drop> Rounds<S> {
         Ok(self.serve_office(net, desk))
     }
 
-    /// Serves a client, if it may go on. Why hosting ends by that, if it does.
+    /// Serves a client, if it may continue. Returns why hosting ends by that, if it does.
     fn serve_peer<N: Network<Socket = S>, R: Responder, L: AccessLog<S>>(
         &mut self,
         c: u32,
@@ -123,7 +123,7 @@ impl<S: Drop> Rounds<S> {
         self.peers.serve_one(c, net, desk, log)
     }
 
-    /// Serves a client once, if it may go on, and then the land office.
+    /// Serves a client once, if it may continue, and then the land office.
     fn serve_client<N: Network<Socket = S>, R: Responder, L: AccessLog<S>>(
         &mut self,
         c: u32,
@@ -144,7 +144,7 @@ impl<S: Drop> Rounds<S> {
         self.serve_office_between(net, desk)
     }
 
-    /// Each client that may go on is served once, and the land office after each of them.
+    /// Serves each client that may continue once, and the land office after each of them.
     fn serve_clients<N: Network<Socket = S>, R: Responder, L: AccessLog<S>>(
         &mut self,
         net: &mut N,
@@ -163,7 +163,7 @@ impl<S: Drop> Rounds<S> {
         Ok(None)
     }
 
-    /// Keeps the land office's socket, if the network tells of it.
+    /// Keeps the land office's socket, if the network can watch it.
     fn admit_office<N: Network<Socket = S>, R: Responder>(
         &mut self,
         mut socket: S,
@@ -183,7 +183,7 @@ impl<S: Drop> Rounds<S> {
         self.peers.ready.office = true;
     }
 
-    /// Takes the land office that waits, if one does and none is here.
+    /// Takes the land office that waits, if one waits and none is here.
     fn take_office<N: Network<Socket = S>, R: Responder>(&mut self, net: &mut N, desk: &mut Desk<R>)
         requires { HasBegun self.old.office }
         ensures begun { HasBegun self.new.office }
@@ -212,7 +212,7 @@ impl<S: Drop> Rounds<S> {
         self.peers.take_clients(net, desk, log);
     }
 
-    /// For how many milliseconds nothing is waited for.
+    /// The most milliseconds of the next wait.
     fn patience(&self) -> u64 {
         if self.peers.any_ready() || self.peers.ready.office {
             0
@@ -225,7 +225,7 @@ impl<S: Drop> Rounds<S> {
         }
     }
 
-    /// Each client that may go on is served once, and the land office after each of them, and once more.
+    /// Serves each client that may continue once, and the land office after each of them and once more.
     fn serve_all<N: Network<Socket = S>, R: Responder, L: AccessLog<S>>(
         &mut self,
         net: &mut N,
@@ -244,7 +244,7 @@ impl<S: Drop> Rounds<S> {
         Ok(self.serve_office(net, desk))
     }
 
-    /// A round: all that may go on are served, and then those that wait at the doors are taken.
+    /// A round: all that may continue are served, and then those that wait at the doors are taken.
     fn round<N: Network<Socket = S>, R: Responder, L: AccessLog<S>>(
         &mut self,
         net: &mut N,

@@ -1,4 +1,4 @@
-//! What the extents of features tell.
+//! What the extents of features say.
 
 use crate::values::{bounds, edge};
 use cad_extents::Extents;
@@ -54,7 +54,7 @@ fn extents_of(alloc: Global, features: &[Feature]) -> Result<Extents, AllocError
     extents.with(alloc, others)
 }
 
-/// Puts behind the answer whether the extents of the features tell that none is in it.
+/// Appends to the answer whether the extents of the features show that none of them is in the range or near the box.
 pub(crate) fn put_extents(
     alloc: Global,
     answer: &mut String,

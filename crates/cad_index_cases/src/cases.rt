@@ -85,7 +85,7 @@ fn ranked(alloc: Global, ranks: &[u32], from: u32, to: u32) -> Result<Vec<u32>, 
     Ok(rows)
 }
 
-// The positions of the range, whichever way they are walked.
+// The positions of the range, for both ways of walking them.
 fn found(alloc: Global, range: &Found) -> Result<Vec<u32>, AllocError> {
     let positions = range.positions(alloc)?;
     match positions {
@@ -168,7 +168,7 @@ fn index_answer(
     }
 }
 
-/// What the index of the property at that place answers of the features.
+/// The answer of the index of the property at that place about the features.
 fn indexed_answer(
     alloc: Global,
     features: &[Feature],
@@ -204,7 +204,7 @@ fn read_answer(alloc: Global, line: &str) -> Result<Option<String>> {
     Ok(Some(answer))
 }
 
-/// What a line is answered: see the head of the program.
+/// The answer to a line: see the head of the program.
 pub fn answer(alloc: Global, line: &str) -> Result<String> {
     match read_answer(alloc, line)? {
         Some(answer) => Ok(answer),

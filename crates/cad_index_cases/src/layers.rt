@@ -11,7 +11,7 @@ use cad_layer::Layer;
 use cad_schema::{Collection, find_property};
 use std::alloc::{AllocError, Global};
 
-/// The parcels with these labels, in segments of so many.
+/// The parcels with these labels, in segments of that size.
 fn base(alloc: Global, labels: &str, of_a_segment: usize) -> Result<Layer>
     ensures { IfOk result (λ layer. layer.collection ≡ Parcels) }
 {
@@ -92,7 +92,7 @@ fn put_layer(
     )
 }
 
-/// What is told of the layer, and of the same over new bases.
+/// What is printed for the layer, and for the same over new bases.
 fn put_both(
     alloc: Global,
     told: &mut String,
@@ -112,7 +112,7 @@ fn told(alloc: Global, layer: &Layer, place: usize, most: usize) -> Result<Strin
     Ok(told)
 }
 
-/// The numbers of a line: how many features a segment is cut of, how many times parcels are merged in, and the most changes.
+/// The numbers of a line: how many features a segment has, how many times parcels are merged in, and the most changes.
 #[derive(Clone, Copy)]
 struct Numbers {
     of_a_segment: usize,
@@ -120,7 +120,7 @@ struct Numbers {
     most: usize,
 }
 
-/// The numbers in front, and what is behind them.
+/// The numbers in front, and the text after them.
 fn read_numbers(asked: &str) -> Option<(Numbers, &str)> {
     let (of_a_segment, rest) = asked.trim().split_once(' ')?;
     let (times, rest) = rest.split_once(' ')?;
@@ -133,7 +133,7 @@ fn read_numbers(asked: &str) -> Option<(Numbers, &str)> {
     Some((numbers, rest))
 }
 
-/// What a line with these labels and this question is answered: see the head of the program.
+/// The answer to a line with these labels and this question: see the head of the program.
 pub fn layer_answer(alloc: Global, labels: &str, asked: &str) -> Result<Option<String>> {
     let Some((numbers, changed)) = read_numbers(asked) else {
         return Ok(None);

@@ -1,18 +1,17 @@
 //! Cases of indexes, one a line of the input, and an answer for each:
 //!
 //! - `PROPERTY VALUE VALUE .. ? X,Y,X,Y`, of a property with a grid: the positions near the box, their number, and whether the extents of
-//!   the values tell that there are none (`none`, or `may be`)
-//! - `PROPERTY VALUE VALUE .. ? LOW HIGH`, of a property with an order: the positions in the range as they are listed and as
-//!   they are tested by their ranks, their number, and what the extents tell
+//!   the values show that there is nothing near it (`none`, or `may be`)
+//! - `PROPERTY VALUE VALUE .. ? LOW HIGH`, of a property with an order: the positions in the range as they are listed and as they are
+//!   tested by their ranks, their number, and what the extents show
 //! - `layer LABEL LABEL .. ? SIZE TIMES MOST LABEL LABEL ..`: the labels of parcels in segments of that size, into which those with the
-//!   labels behind are merged so many times (a `/` parts the labels of several lists, which are merged in one after the other), how many
-//!   they are and in how many segments, whether new bases are due at the most changes that are named (`settled` or `due`), and what was
-//!   spent: how many features were put into indexes, and what takes as much; then the same over new bases
+//!   labels after the numbers are merged so many times (a `/` separates the labels of several lists, which are merged in one after the
+//!   other), how many they are and in how many segments, whether new bases are due at the given most changes (`settled` or `due`), and what
+//!   was spent: how many features were put into indexes, and what takes as much; then the same over new bases
 //!
-//! The values are those of parcels at the positions 0, 1 and so on, `-` where one has none: `X,Y,X,Y` is a rectangle by
-//! its least and greatest corner, `X,Y` a point, `2001-01-01` a day; a label has no blank. An end is `free`, `with:VALUE`
-//! or `without:VALUE`. A line that is not of this form is answered by `unread`; one without text, or that begins with `#`,
-//! is passed over.
+//! The values are those of parcels at the positions 0, 1 and so on, `-` if one has none: `X,Y,X,Y` is a rectangle by its least and greatest
+//! corner, `X,Y` a point, `2001-01-01` a day; a label has no blank. An end is `free`, `with:VALUE` or `without:VALUE`. A line that is not
+//! of this form is answered by `unread`; one without text, or that begins with `#`, is skipped.
 #![tactic(auto)]
 
 mod between;
@@ -23,7 +22,7 @@ mod values;
 
 use anyhow::Result;
 
-/// Prints what the line is answered, if it is a case.
+/// Prints the answer to the line, if it is a case.
 fn tell(rt: &HostRuntime, line: &str) -> Result<()> {
     if line.is_empty() || line.starts_with('#') {
         return Ok(());

@@ -23,15 +23,15 @@ use std::rc::Rc;
 pub struct Parcel {
     /// The first day.
     pub first: Day,
-    /// The last day, where there is one.
+    /// The last day, if there is one.
     pub last: Option<Day>,
     /// The name on maps.
     pub label: String,
-    /// The area in square metres, where it is told.
+    /// The area in square metres, if it is given.
     pub area: Option<u32>,
-    /// The region, where it has one.
+    /// The region, if it has one.
     pub shape: Option<Region>,
-    /// The reference point, where it has one.
+    /// The reference point, if it has one.
     pub spot: Option<Point>,
 }
 

@@ -1,4 +1,4 @@
--- Turns of the land office's connection before the others have theirs (own profile).
+-- Turns of the land office's connection before the clients have theirs (own profile).
 use Rattle.std.specs.Prelude.{◌≡◌, ◌⊎◌, ℕ, ◌≤◌, Bool, true, false, ◌&&◌, List, [], ◌∷◌, ◌++◌, length, Option, None, Some, is_none, if◌then◌else◌}
 use Rattle.cad_network.specs.Deeds.{Deed}
 use Rattle.cad_versions.specs.declared.fault.RegisterFault.TheVariants.{Store}
@@ -20,7 +20,7 @@ is_store (Refused Store) = true
 is_store (Refused fault) = false
 is_store NotACommand = false
 
--- how a turn ends serving, if it does: a refusal by the database does so whether or not there was memory for its answer
+-- how a turn ends the serving of the office, if it does: a refusal by the database ends it whether or not there was memory for its answer
 abbrev pub end_at : EntryTurned → Option EntryServed
 end_at Wrote = None
 end_at Took = None
@@ -31,7 +31,7 @@ end_at Stops = Some entry_served.Stops
 end_at Waits = Some entry_served.Waits
 end_at Over = Some entry_served.Over
 
--- none of these turns ends it
+-- none of these turns ends serving
 abbrev pub all_go_on : List EntryTurned → Bool
 all_go_on [] = true
 all_go_on (turned ∷ turns) = is_none (end_at turned) && all_go_on turns
@@ -40,7 +40,8 @@ all_go_on (turned ∷ turns) = is_none (end_at turned) && all_go_on turns
 abbrev pub most_turns : ℕ
 most_turns = 8
 
--- the last turn, which comes first, ends serving, and none before does; or none does, and there were as many as may be, or an answer went out; and there were no more
+-- the turns, the last one first: none before the last ends serving; the last ends it, or it does not and the number of turns is the most,
+-- or an answer is fully written; and there are at most that many turns
 abbrev pub IsEnough : List EntryTurned → EntryServed → Entry → Type 0
 IsEnough [] served next = ⊥
 IsEnough (turned ∷ before) served next =
@@ -56,6 +57,6 @@ module _ {R : Type 0} (g : Ghosts R) (s : ℕ) where
       (mid : Desk R) × (between : Entry) × (front : List Deed) × (last : List Deed)
       × HasTurns old entry before mid between front × IsEntryTurn g s mid between turned new next last × (deeds ≡ front ++ last)
 
-  -- the office is served by turns, as many as it has for now
+  -- the office is served with turns, as many as are enough for now
   abbrev pub IsEntryServed : Desk R → Entry → EntryServed → Desk R → Entry → List Deed → Type 0
   IsEntryServed old entry served new next deeds = (turns : List EntryTurned) × HasTurns old entry turns new next deeds × IsEnough turns served next

@@ -22,7 +22,7 @@ use Rattle.cad_office_socket.specs.Entries.{EntersAtDesk}
 abbrev pub unread : Entry → List ℕ
 unread entry = drop entry.input_at entry.input.items
 
--- what was not written of an answer
+-- the unwritten part of an answer
 abbrev pub unwritten : Entry → List ℕ
 unwritten entry = drop entry.output_at entry.output.items
 
@@ -38,7 +38,7 @@ IsSending entry = 0 < length (unwritten entry)
 abbrev pub IsIdle : Entry → Type 0
 IsIdle entry = (unwritten entry ≡ []) × (unread entry ≡ []) × (has_ended entry ≡ false)
 
--- what is next is a write or a read, which the socket may leave undone for now
+-- the next thing is a write or a read, which the socket may not allow for now
 abbrev pub MayWait : Entry → Type 0
 MayWait entry = IsSending entry ⊎ IsIdle entry
 
@@ -60,7 +60,7 @@ IsBegun entry = (text : List ℕ) × HasBegun text entry
 abbrev pub IsUnwritten : ℕ → List Deed → Type 0
 IsUnwritten s deeds = (deeds ≡ failed s ∷ []) ⊎ (deeds ≡ deed.took s [] ∷ [])
 
--- an answer is written on at socket s, or that takes nothing for now, or the write failed; no more is done
+-- a further part of an answer is written at socket s, or the socket takes nothing for now, or the write failed; nothing else is done
 abbrev pub SendsSome : ℕ → Entry → EntryTurned → Entry → List Deed → Type 0
 SendsSome s entry Wrote next deeds =
     (bytes : List ℕ) × (deeds ≡ deed.took s bytes ∷ []) × (0 < length bytes) × (unwritten entry ≡ bytes ++ unwritten next) × (unread next ≡ unread entry) × (next.line ≡ entry.line) × (has_ended next ≡ has_ended entry)
@@ -74,11 +74,11 @@ IsUnheld Buffered = ⊥
 IsUnheld TooLong = ⊥
 IsUnheld (OutOfMemory count) = ⊤
 
--- a line that has an answer: no empty one, and `stop` only where there was no memory to hold it
+-- a line that has an answer: it is not empty, and it is `stop` only if there was no memory to hold it
 abbrev pub IsAsking : List ℕ → Answer → Type 0
 IsAsking text answer = (text ≢ []) × (text ≡ codes "stop" → answer ≡ Refused Memory)
 
--- what the end of a line may come to
+-- the possible results of the end of a line
 abbrev pub MayEnd : EntryTurned → Type 0
 MayEnd Wrote = ⊥
 MayEnd Took = ⊥
@@ -87,7 +87,7 @@ MayEnd Over = ⊥
 MayEnd other = ⊤
 
 module _ {R : Type 0} (g : Ghosts R) where
-  -- what comes of the end of a line with this text: its command is entered, and then answered
+  -- the result of the end of a line with this text: its command is entered, and then answered
   abbrev pub EndsLine : List ℕ → Desk R → EntryTurned → Desk R → Entry → Type 0
   EndsLine text old Added new next = (text ≡ []) × (new ≡ old) × (unwritten next ≡ []) × HasBegun [] next
   EndsLine text old (Answered answer) new next = IsAsking text answer × AnswersLine (EntersAtDesk g) text old answer new × (unwritten next ≡ printed answer) × HasBegun [] next
@@ -99,11 +99,11 @@ module _ {R : Type 0} (g : Ghosts R) where
   EndsLine text old Took new next = ⊥
   EndsLine text old Waits new next = ⊥
 
-  -- the line ends, whatever its text is
+  -- the line ends, for any text that it may have
   abbrev pub IsLineEnd : Desk R → Entry → EntryTurned → Desk R → Entry → Type 0
   IsLineEnd old entry turned new next = (text : List ℕ) → HasBegun text entry → EndsLine text old turned new next × (unread next ≡ unread entry)
 
-  -- bytes of the line are taken, and it goes on or ends
+  -- bytes of the line are taken, and it continues or ends
   abbrev pub IsFed : Desk R → Entry → EntryTurned → Desk R → Entry → Type 0
   IsFed old entry turned new next = (begun : List ℕ) → HasBegun begun entry → (part : List ℕ) × IsOfOneLine part
       × (((turned ≡ Added) × (new ≡ old) × (unwritten next ≡ []) × (unread entry ≡ part) × (unread next ≡ []) × HasBegun (begun ++ part) next)
@@ -111,22 +111,23 @@ module _ {R : Type 0} (g : Ghosts R) where
 
 -- and the deeds at its socket s
 module _ {R : Type 0} (g : Ghosts R) (s : ℕ) where
-  -- the office sends no more, and the line that has begun ends with that
+  -- the office sends no more, and this ends the line that has begun
   abbrev pub IsAtLastLine : Desk R → Entry → EntryTurned → Desk R → Entry → List Deed → Type 0
   IsAtLastLine old entry turned new next deeds = (deeds ≡ deed.gave s [] ∷ []) × (unread entry ≡ []) × IsLineEnd g old entry turned new next × (has_ended next ≡ true) × (has_ended entry ≡ false)
 
-  -- bytes that were read are taken, those of a line and no less; or the input is at its end
+  -- bytes that were read are taken: all those of a line that were read; or the input is at its end
   abbrev pub IsTaken : Desk R → Entry → EntryTurned → Desk R → Entry → List Deed → Type 0
   IsTaken old entry turned new next deeds = (unwritten entry ≡ [])
       × (((deeds ≡ []) × (0 < length (unread entry)) × IsFed g old entry turned new next × (has_ended next ≡ has_ended entry)) ⊎ IsAtLastLine old entry turned new next deeds)
 
-  -- the office sent no more and was answered, or a write failed or took nothing, or a read failed, or there was no memory for what it gave: no line is taken
+  -- no line is taken: the office sent no more and was answered, or a write failed or took nothing, or a read failed, or there was no memory
+  -- for what it gave
   abbrev pub IsCutOff : Entry → List Deed → Type 0
   IsCutOff entry deeds =
       ((deeds ≡ []) × (unwritten entry ≡ []) × (has_ended entry ≡ true)) ⊎ ((IsUnwritten s deeds × IsSending entry)
       ⊎ (((deeds ≡ failed s ∷ []) × IsIdle entry) ⊎ ((bytes : List ℕ) × (deeds ≡ deed.gave s bytes ∷ []) × (0 < length bytes) × IsIdle entry)))
 
-  -- what came of a turn: an answer is written before more is taken, and more is read only when all is taken
+  -- the result of a turn: an answer is written before more is taken, and more is read only when all is taken
   abbrev pub IsEntryTurn : Desk R → Entry → EntryTurned → Desk R → Entry → List Deed → Type 0
   IsEntryTurn old entry Wrote new next deeds =
       (bytes : List ℕ) × (deeds ≡ deed.took s bytes ∷ []) × (0 < length bytes) × (unwritten entry ≡ bytes ++ unwritten next) × (unread next ≡ unread entry) × (next.line ≡ entry.line) × (new ≡ old) × (has_ended next ≡ has_ended entry)

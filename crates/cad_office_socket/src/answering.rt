@@ -1,4 +1,4 @@
-//! What a desk answers to a line.
+//! A desk's answer to a line.
 
 ghost use Rattle.std.specs.Prelude.{◌≡◌, ℕ, List};
 ghost use Rattle.cad_office.specs.Keeping.{AnswersLine, Asks};
@@ -22,7 +22,7 @@ fn apply<R: Responder>(desk: &mut Desk<R>, command: Command) -> Answer
     }
 }
 
-/// What comes of a line at the desk: its command is entered, or refused, or it asks for none.
+/// The desk's answer to a line: its command is entered or refused, or it asks for none.
 pub fn answer_line<R: Responder>(alloc: Global, line: &Line, desk: &mut Desk<R>) -> Answer
     ensures answered { (text : List ℕ) → BuffersLine text line.now → AnswersLine (EntersAtDesk R.Responder) text desk.old result desk.new }
     ensures unheld { IsUnheld line.now.state → result ≡ Answer.Refused RegisterFault.Memory }

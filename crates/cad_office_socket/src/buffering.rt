@@ -10,7 +10,7 @@ use cad_office::{Line, LineState};
 /// The line that asks to stop.
 const STOP: &[u8] = b"stop";
 
-/// How many bytes stand before the first LF.
+/// The number of bytes before the first LF, if there is one.
 pub(crate) fn first_end(bytes: &[u8]) -> Option<usize>
     ensures end { IfSome result (λ count. count < length bytes.now × drop count bytes.now ≡ 10 ∷ drop (count + 1) bytes.now) }
     ensures before { IsOfOneLine (before_end bytes.now result) }
@@ -23,7 +23,7 @@ pub(crate) fn first_end(bytes: &[u8]) -> Option<usize>
     None
 }
 
-/// The bytes, one after the other, of which none is an LF.
+/// Adds the bytes to the line, one after the other. None of them is an LF.
 pub(crate) fn add_all(line: &mut Line, bytes: &[u8])
     ensures { (text : List ℕ) → BuffersLine text line.old → BuffersLine (text ++ bytes.now) line.new }
 {
@@ -32,7 +32,7 @@ pub(crate) fn add_all(line: &mut Line, bytes: &[u8])
     }
 }
 
-/// Whether the line asks to stop. One that could not be held asks for nothing.
+/// Whether the line asks to stop. A line that could not be held asks for nothing.
 pub(crate) fn asks_to_stop(line: &Line) -> bool
     ensures asked { (text : List ℕ) → BuffersLine text line.now → IsTrue result → text ≡ codes "stop" }
     ensures unasked { (text : List ℕ) → BuffersLine text line.now → result ≡ false → text ≡ codes "stop" → IsUnheld line.now.state }

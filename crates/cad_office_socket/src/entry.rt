@@ -12,11 +12,11 @@ use cad_office::{Line, print_answer};
 use cad_stream::Responder;
 use std::alloc::Global;
 
-/// The most turns of the office before the others have theirs.
+/// The most turns of the office before the clients have theirs.
 const TURNS: u32 = 8;
 
-/// What the office's connection holds between its socket and the desk: bytes that were read and not taken, the line that has
-/// begun, and the answer to the line before it, as far as that was not written.
+/// What the office's connection holds between its socket and the desk: the bytes that were read and not taken, the line that has begun, and
+/// the unwritten part of the answer to the line before it.
 #[derive(Drop)]
 pub struct Entry {
     input: Vec<u8>,
@@ -42,7 +42,7 @@ impl Entry {
     ghost use Rattle.cad_office_socket.specs.Turns.{has_ended, IsNewEntry, IsFed, IsEntryTurn, IsLineEnd, IsSending, MayEnd, SendsSome, unread, unwritten};
     ghost use Rattle.cad_office_socket.specs.Serving.{IsEntryServed};
 
-    /// The connection of an office of which nothing was read.
+    /// The connection of an office from which nothing was read.
     pub fn new(alloc: Global) -> Entry
         ensures { IsNewEntry result }
     {
@@ -56,14 +56,14 @@ impl Entry {
         }
     }
 
-    /// Whether an answer has not gone out.
+    /// Whether an answer is not fully written.
     pub fn is_sending(&self) -> bool
         ensures { IsTrue result ↔ IsSending self.now }
     {
         self.output_at < self.output.len()
     }
 
-    /// One write of an answer that has not gone out.
+    /// One write of an answer that is not fully written.
     pub fn send<N: Network>(&mut self, net: &mut N, socket: &N::Socket) -> EntryTurned
         requires { IsSending self.old }
         ensures { AddsSome (N.history net.old) (N.history net.new) (SendsSome (N.name socket.now) self.old result self.new) }
@@ -125,7 +125,7 @@ impl Entry {
         self.end_line(alloc, desk)
     }
 
-    /// The office sends no more: a line that has begun ends with that.
+    /// The office sends no more: this ends a line that has begun.
     fn end_input<R: Responder>(&mut self, alloc: Global, desk: &mut Desk<R>) -> EntryTurned
         requires { unwritten self.old ≡ [] }
         ensures ends { MayEnd result }
@@ -169,8 +169,8 @@ impl Entry {
         }
     }
 
-    /// Does one thing: where an answer is to be written, a write; else, where bytes were read and not taken, those of a line,
-    /// whose command is entered and answered where it ended; else a read. The last line needs no LF.
+    /// Does one thing. If an answer is to be written, this is a write. Else, if bytes were read and not taken, it takes those of a line,
+    /// and if the line ends, its command is entered and answered. Else it is a read. The last line needs no LF.
     pub fn turn<N: Network, R: Responder>(
         &mut self,
         alloc: Global,
@@ -193,8 +193,8 @@ impl Entry {
         self.read_some(alloc, net, socket, desk)
     }
 
-    /// Serves the office: some turns, up to one that ends its work or at which its socket gives and takes nothing, and not beyond
-    /// the first answer that went out. A refusal by the register's database ends its work before its answer is written.
+    /// Serves the office with at most eight turns: up to one that ends its work, or at which its socket gives and takes nothing, or with
+    /// which an answer is fully written. A refusal by the register's database ends its work before its answer is written.
     pub fn serve<N: Network, R: Responder>(
         &mut self,
         alloc: Global,

@@ -1,4 +1,4 @@
-//! What comes of a turn of the land office's connection.
+//! The results of turns of the land office's connection.
 
 ghost use Rattle.std.specs.Prelude.{◌≡◌};
 ghost use Rattle.cad_office_socket.specs.Serving.{end_at as end_at_of};
@@ -6,18 +6,18 @@ ghost use Rattle.cad_office_socket.specs.Serving.{end_at as end_at_of};
 use cad_office::Answer;
 use cad_versions::RegisterFault;
 
-/// What comes of a turn.
+/// The result of a turn.
 #[derive(Clone, Copy, Debug, PartialEq, Eq)]
 pub enum EntryTurned {
     /// Bytes were written.
     Wrote,
     /// Bytes were read.
     Took,
-    /// Bytes were added to a line that goes on, or an empty line ended, which asks for nothing.
+    /// Bytes were added to a line that continues, or an empty line ended, which asks for nothing.
     Added,
     /// A line was answered, and its answer is to be written.
     Answered(Answer),
-    /// A line was answered, and there is no memory for the text of its answer: the office is told no more.
+    /// A line was answered, and there is no memory for the text of its answer: nothing more is written to the office.
     Lost(Answer),
     /// The line `stop` was read.
     Stops,
@@ -27,22 +27,22 @@ pub enum EntryTurned {
     Over,
 }
 
-/// What comes of serving the office.
+/// The result of serving the office.
 #[derive(Clone, Copy, Debug, PartialEq, Eq)]
 pub enum EntryServed {
-    /// It may go on at once.
+    /// The office may continue at once.
     Goes,
     /// Its socket gives or takes nothing for now.
     Waits,
-    /// It is over.
+    /// Its connection is over.
     Over,
     /// It asked to stop.
     Stops,
-    /// The register's database refused a command. The answer that tells so, if there was memory for it, is to be written.
+    /// The register's database refused a command. The answer that reports this, if there was memory for it, is to be written.
     StoreRefused,
 }
 
-/// How a turn ends serving, if it does.
+/// How a turn ends the serving of the office, if it does.
 pub(crate) fn end_at(turned: EntryTurned) -> Option<EntryServed>
     ensures { result ≡ end_at_of turned }
 {

@@ -1,18 +1,18 @@
-//! What the server over a register in a database answers to a list of events: each line of standard input is an event, and a line is
+//! The answers of the server over a register in a database to a list of events: each line of standard input is an event, and a line is
 //! printed for it.
 //!
-//! The database lies in memory, and its register is the sample register. The lines and what is printed for them are those of
-//! `test_support`, and five more are answered by themselves, as `cad_cases` does over a ledger without a database:
+//! The database is in memory, and its register is the sample register. The lines and what is printed for them are those of `test_support`.
+//! Five more lines are answered by their own text, as `cad_cases` does over a ledger without a database:
 //!
 //! - `sample`: a server and a desk over the sample register in a new database, as at the first line;
-//! - `empty`: over a register of no commands;
+//! - `empty`: over a register without commands;
 //! - `restart`: over the register that is opened in the database of the desk before;
-//! - `changes N`: from here on a server that begins anew gives a base of a collection at most N changes;
-//! - `memory may be wanting`: from here on an event that the desk refuses for want of memory is answered by `4 Memory`, and
-//!   the events after it go on.
+//! - `changes N`: from here on each new server gives a base of a collection at most N changes;
+//! - `memory may be wanting`: from here on an event that the desk refuses because it is out of memory is answered by `4 Memory`, and the
+//!   program continues with the next event.
 //!
-//! A line without bytes, and one that begins with `#`, is passed over. Any other line is answered by `no case`. Where memory
-//! is refused otherwise the program ends with status 7, and with status 1 where the register refuses to be made or opened.
+//! A line without bytes, and one that begins with `#`, is skipped. Any other line is answered by `no case`. If memory runs out otherwise,
+//! the program ends with status 7, and with status 1 if the register refuses to be made or opened.
 #![tactic(auto)]
 
 use cad_desk::Desk;
@@ -26,13 +26,13 @@ use std::mem;
 use std::process::ExitCode;
 use test_support::{Memory, answer, line_of};
 
-/// The status where memory is refused.
+/// The status if memory runs out.
 const NO_MEMORY: u8 = 7;
 
 /// A desk of the server over a register in a database in memory.
 type RegisterDesk = Desk<Server<Register<MemStore>>>;
 
-/// What ends the program where the register refuses.
+/// The error that ends the program if the register refuses.
 fn error_of(fault: RegisterFault) -> Error {
     match fault {
         RegisterFault::Memory => Error::from(ErrorKind::OutOfMemory),
@@ -40,7 +40,7 @@ fn error_of(fault: RegisterFault) -> Error {
     }
 }
 
-/// A register of no commands.
+/// A register without commands.
 fn empty_register(alloc: Global) -> Result<Register<MemStore>> {
     let connection = Connection::open_in_memory(alloc)?;
     match Register::create(alloc, connection) {
@@ -82,7 +82,7 @@ fn begun(
     }
 }
 
-/// A desk, and what holds from here on.
+/// A desk, and the settings from here on.
 #[derive(Drop)]
 struct Course {
     desk: RegisterDesk,
@@ -99,20 +99,20 @@ impl Course {
         })
     }
 
-    /// Begins anew over the register.
+    /// Starts a new server and desk over the register.
     fn begin(&mut self, alloc: Global, register: Register<MemStore>) -> Result<()> {
         self.desk = begun(alloc, register, self.most_changes)?;
         Ok(())
     }
 
-    /// Begins anew over the register of the desk, opened again.
+    /// Starts a new server and desk over the register of the desk, opened again.
     fn restart(&mut self, alloc: Global) -> Result<()> {
         let idle = begun(alloc, empty_register(alloc)?, None)?;
         let register = mem::replace(&mut self.desk, idle).release().release();
         self.begin(alloc, opened_again(alloc, register)?)
     }
 
-    /// What the line sets or begins, if it is a line of this program alone.
+    /// Does what the line sets or begins, if it is a line of this program only.
     fn set(&mut self, alloc: Global, line: &str) -> Result<bool> {
         if let Some(most) = line.strip_prefix("changes ") {
             let Ok(most) = most.parse() else {

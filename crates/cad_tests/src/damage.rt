@@ -6,8 +6,8 @@ use sqlite::MemStore;
 use std::alloc::{AllocError, Global};
 use std::test::Fail;
 
-/// A line for each change of the table: the revision that is listed then, the row that is told of as damaged (`-`: none), and the
-/// change, which is made behind the register's back.
+/// A line for each change of the table: the revision that is listed then, the row that is reported as damaged (`-`: none), and the change,
+/// which is made without the register's knowledge.
 const CHANGES: &str =
     r"# Objects and numbers within their ranges. The last row of the table is the last one that is listed.
 10 - UPDATE version SET object = 2147483647 WHERE object = 3
@@ -197,8 +197,8 @@ const CHANGES: &str =
 10 30.1 CREATE TABLE kept (object, number, class, first, last, entered, closed, name, code, label, area, unit, party, share_num, share_den, required, spot_x, spot_y, shape); INSERT INTO kept SELECT * FROM version; DROP TABLE version; CREATE TABLE version (object, number, class, first, last, entered, closed, name, code, label, area, unit, party, share_num, share_den, required, spot_x, spot_y, shape); INSERT INTO version SELECT * FROM kept; UPDATE version SET share_num = '1' WHERE object = 30
 10 31.1 CREATE TABLE kept (object, number, class, first, last, entered, closed, name, code, label, area, unit, party, share_num, share_den, required, spot_x, spot_y, shape); INSERT INTO kept SELECT * FROM version; DROP TABLE version; CREATE TABLE version (object, number, class, first, last, entered, closed, name, code, label, area, unit, party, share_num, share_den, required, spot_x, spot_y, shape); INSERT INTO version SELECT * FROM kept; UPDATE version SET required = 'x' WHERE object = 31";
 
-/// A line for each change of the table: the object of a command that says a right on unit 10 of party 20, which is 40 where it enters
-/// one, the row that the command is told of as damaged or how else it ends, and the change.
+/// A line for each change of the table: the object of a command that says a right on unit 10 of party 20, which is 40 if it enters one, the
+/// row that is reported to the command as damaged or how else it ends, and the change.
 const COMMANDS: &str = r"# The object itself, then the unit, then the party.
 30 30.1 UPDATE version SET class = 9 WHERE object = 30 OR object = 10 OR object = 20
 40 10.1 UPDATE version SET class = 9 WHERE object = 10 OR object = 20
@@ -212,7 +212,7 @@ const COMMANDS: &str = r"# The object itself, then the unit, then the party.
 1 OtherClass UPDATE version SET class = 9 WHERE object = 1 AND number = 2
 40 11 UPDATE version SET name = '' WHERE object = 10";
 
-/// The row that is told of, or how else the listing ended.
+/// The row that is reported, or how else the listing ended.
 fn named(alloc: Global, listed: Result<Vec<Version>, RegisterFault>) -> Result<String, AllocError> {
     match listed {
         Ok(_) => String::from_str(alloc, "-"),
@@ -231,7 +231,7 @@ fn changed(alloc: Global, change: &str) -> Result<Register<MemStore>, Fail> {
     Ok(Register::open(alloc, connection).ok().ok_or("opened")?)
 }
 
-/// What a listing of the sample at the revision tells after the change.
+/// What a listing of the sample at the revision reports after the change.
 fn told_after(alloc: Global, revision: u64, change: &str) -> Result<String, Fail> {
     let mut register = changed(alloc, change)?;
     Ok(named(alloc, register.as_of(revision))?)
@@ -246,7 +246,7 @@ fn right_of(alloc: Global, object: u32) -> Result<Command, Fail> {
     }
 }
 
-/// The row that the command is told of after the change, or how else it ended.
+/// The row that is reported to the command after the change, or how else it ended.
 fn applied_after(alloc: Global, command: Command, change: &str) -> Result<String, Fail> {
     let mut register = changed(alloc, change)?;
     match register.apply(command) {

@@ -33,7 +33,7 @@ fn filled(alloc: Global) -> Result<Register<MemStore>, Fail> {
     Ok(register)
 }
 
-/// Hands the desk each line of a script, and compares what is printed for it.
+/// Gives the desk each line of a script, and compares what is printed for it.
 fn tell<R: Responder>(
     rt: &impl Abort,
     alloc: Global,
@@ -49,7 +49,8 @@ fn tell<R: Responder>(
     Ok(())
 }
 
-/// Of a register whose parcel 2 has no label: what reads that row is refused and closes its connection alone, and all else goes on.
+/// For a register whose parcel 2 has no label: a request that reads that row is refused and closes only its connection, and all else
+/// continues.
 const DAMAGED: &str =
     r#"serve 1 "GET /collections/parcels/items?filter=area+%3E+400 HTTP/1.1\r\nHost: x\r\n\r\n"
 serve 1 "GET / HTTP/1.1\r\nHost: x\r\n\r\n"

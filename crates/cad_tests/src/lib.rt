@@ -1,4 +1,4 @@
-//! Tests of what no case of data can say: readers and writers that fail, listeners, databases in memory and damaged rows.
+//! Tests of what no case of data can show: readers and writers that fail, listeners, databases in memory and damaged rows.
 //!
 //! - `tables`, `register`, `office`: what the tables, the register and the office keep and answer
 //! - `damage`: each rule of a row, broken; `desks`: a desk over a damaged row
@@ -6,7 +6,7 @@
 //! - `serving`: connections over readers and writers that fail at each call, and one connection after another
 //! - `listening`: a connection that is taken from a listener
 //!
-//! They stand apart from the crates that they test, so that each of those is proved once, and SQLite is built once for all of them.
+//! They are separate from the crates that they test, so that each of those is proved once, and SQLite is built once for all of them.
 #![tactic(auto)]
 
 #[cfg(test)]

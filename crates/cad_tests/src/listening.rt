@@ -30,7 +30,7 @@ fn serves_a_client_that_waits(rt: HostRuntime) -> Result<(), Fail> {
     Ok(())
 }
 
-/// A connection that can't be taken is told of by a line, and the next one is waited for.
+/// A connection that cannot be taken is reported by a line, and the program waits for the next one.
 #[test]
 fn tells_of_what_goes_wrong(rt: HostRuntime) -> Result<(), Fail> {
     let alloc = rt.alloc();

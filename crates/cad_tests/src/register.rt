@@ -135,7 +135,7 @@ fn listed<S: Alter>(
     Ok(Ok(listed))
 }
 
-/// What the four revisions of the short run list.
+/// The listings of the four revisions of the short run.
 fn revisions<S: Alter>(alloc: Global, register: &mut Register<S>) -> Result<String, Fail> {
     let mut text = String::new(alloc);
     for revision in 0..4u64 {
@@ -149,7 +149,7 @@ fn unit() -> Body {
     Body::Unit { name: None }
 }
 
-/// The six commands of a short run, and what each answers.
+/// The six commands of a short run, and the answer to each.
 fn short_run<S: Alter>(alloc: Global, register: &mut Register<S>) -> Result<String, Fail> {
     let mut text = String::new(alloc);
     let commands = [
@@ -243,7 +243,7 @@ fn no_building(alloc: Global) -> Result<Body, Fail> {
     })
 }
 
-/// The first command, of each class one, and an amendment.
+/// The command at this place of the sample, from 0 on. The sample has commands of each class, and an amendment.
 fn sample(alloc: Global, at: u32) -> Result<Command, Fail> {
     match at {
         0 => enter(10, Y2000, mill(alloc)?),

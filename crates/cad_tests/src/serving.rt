@@ -1,5 +1,5 @@
-//! Connections served over readers and writers that fail, and one after another. What answers their requests tells each back, for
-//! what serving does is the same over any.
+//! Connections served over readers and writers that fail, and one after another. Each request is answered with its own words, because
+//! serving does the same for any answers.
 
 use cad_desk::{Desk, Event};
 use cad_io::{Counted, CountedWriter};
@@ -7,7 +7,7 @@ use cad_serve::{Ending, ServeFault, serve};
 use std::test::Fail;
 use test_support::{Copies, Echo, Endless, Peer, Stop, Taker};
 
-/// A request after which the connection goes on.
+/// A request after which the connection continues.
 const REQUEST: &str = "GET /collections/parcels/items?filter=5+%3C+3 HTTP/1.1\r\nHost: x\r\n\r\n";
 
 const REPLY: &str = "GET /collections/parcels/items?filter=5+%3C+3 at revision 0\n";
@@ -18,7 +18,7 @@ const LAST: &str =
 
 const LAST_REPLY: &str = "GET /collections/units/items/12.1 at revision 0\n";
 
-/// How reading may go: the most bytes a read gives, and what comes behind the last byte.
+/// How reading may go: the most bytes of a read, and what happens after the last byte.
 const READINGS: [(usize, Stop); 4] = [
     (1, Stop::Ends),
     (1, Stop::Fails),
@@ -34,8 +34,8 @@ fn reads_of(bytes: usize, piece: usize) -> usize {
     bytes.div_ceil(piece)
 }
 
-/// Where the peer ends or a read fails after each number of bytes, the requests before are replied to. The connection is
-/// closed each time, so that it can be opened again.
+/// For each number of bytes after which the peer ends or a read fails, the requests before have replies. The connection is closed each
+/// time, so that it can be opened again.
 #[test]
 fn stops_where_reading_does(rt: HostRuntime) -> Result<(), Fail> {
     let alloc = rt.alloc();
@@ -65,7 +65,7 @@ fn stops_where_reading_does(rt: HostRuntime) -> Result<(), Fail> {
     Ok(())
 }
 
-/// No read is made behind a request that ends the connection.
+/// No read is made after a request that ends the connection.
 #[test]
 fn reads_nothing_behind_the_end(rt: HostRuntime) -> Result<(), Fail> {
     let alloc = rt.alloc();
@@ -88,7 +88,7 @@ fn reads_nothing_behind_the_end(rt: HostRuntime) -> Result<(), Fail> {
     Ok(())
 }
 
-/// Where a write fails or takes nothing after each number of bytes, so many bytes of the reply were written.
+/// For each number of bytes after which a write fails or takes nothing, so many bytes of the reply were written.
 #[test]
 fn stops_where_writing_does(rt: HostRuntime) -> Result<(), Fail> {
     let alloc = rt.alloc();
@@ -118,8 +118,8 @@ fn stops_where_writing_does(rt: HostRuntime) -> Result<(), Fail> {
     Ok(())
 }
 
-/// A desk serves one connection after another, while a third stays open. What it does where a growth is refused is a run of
-/// the cases, in `make refused`.
+/// A desk serves one connection after another, while a third stays open. What it does if the system refuses more memory is tested by a run
+/// of the cases, in `make refused`.
 #[test]
 fn replies_twice_on_one_desk(rt: HostRuntime) -> Result<(), Fail> {
     let alloc = rt.alloc();
@@ -146,8 +146,8 @@ const SHORT: &str = "GET / HTTP/1.1\r\nHost: x\r\n\r\n";
 
 const SHORT_REPLY: &str = "GET / at revision 0\n";
 
-/// A peer that sends a byte a read and never ends is served for 100,000 reads: 3,703 requests of 27 bytes are whole then, each
-/// is replied to, and the connection is closed.
+/// A peer that sends one byte a read and never ends is served for 100,000 reads: 3,703 requests of 27 bytes are complete then, each has its
+/// reply, and the connection is closed.
 #[test]
 fn ends_where_the_turns_are_spent(rt: HostRuntime) -> Result<(), Fail> {
     let alloc = rt.alloc();

@@ -7,7 +7,7 @@ use cad_versions::Ledger;
 use std::test::Fail;
 use test_support::{Endless, Peer, Stop, Taker};
 
-/// Two commands, with a line between them that is none.
+/// Two commands, with a line between them that is no command.
 const LINES: &str = r#"{"do":"enter","object":11,"first":"2000-01-01","unit":{}}
 hello
 {"do":"retire","object":11,"last":"2000-01-01"}
@@ -15,7 +15,7 @@ hello
 
 const ANSWERS: &str = "revision 1\nrefused 0 NotACommand\nrevision 2\n";
 
-/// Behind so many bytes of the lines these are the answers, and the ledger has that revision.
+/// After so many bytes of the lines these are the answers, and the ledger has that revision.
 const PROGRESS: [(usize, &str, u64); 4] = [
     (0, "", 0),
     (58, "revision 1\n", 1),
@@ -23,7 +23,7 @@ const PROGRESS: [(usize, &str, u64); 4] = [
     (112, ANSWERS, 2),
 ];
 
-/// What stands behind so many bytes of the lines: the answers and the revision.
+/// The answers and the revision after so many bytes of the lines.
 fn progress(bytes: usize) -> (&'static str, u64) {
     let mut reached = ("", 0);
     for (from, answers, revision) in PROGRESS {
@@ -34,7 +34,7 @@ fn progress(bytes: usize) -> (&'static str, u64) {
     reached
 }
 
-/// Where a read fails after each number of bytes, the lines before are answered, and no read is made behind it.
+/// For each number of bytes after which a read fails, the lines before are answered, and no read is made after it.
 #[test]
 fn stops_where_reading_does(rt: HostRuntime) -> Result<(), Fail> {
     for bytes in 0..=LINES.len() {
@@ -57,7 +57,7 @@ fn stops_where_reading_does(rt: HostRuntime) -> Result<(), Fail> {
     Ok(())
 }
 
-/// Where a write fails or takes nothing after each number of bytes, so many bytes of the answers were written.
+/// For each number of bytes after which a write fails or takes nothing, so many bytes of the answers were written.
 #[test]
 fn stops_where_writing_does(rt: HostRuntime) -> Result<(), Fail> {
     for most in 0..=ANSWERS.len() {

@@ -138,7 +138,7 @@ fn outline(row: &Row) -> Option<(u32, u32, Option<i32>)> {
     Some((row.get(0).ok()?, row.get(1).ok()?, row.get(4).ok()?))
 }
 
-/// These of a row that has them.
+/// These of a row, if it has them.
 #[derive(Clone, Copy, Debug, PartialEq, Eq, Drop)]
 struct RowOutline(Option<(u32, u32, Option<i32>)>);
 
@@ -215,7 +215,7 @@ fn rows_of_a_revision_are_listed(rt: HostRuntime) -> Result<(), Fail> {
     Ok(())
 }
 
-/// What `open` tells of tables that hold this row of `state`, if it is one.
+/// What `open` returns for tables with this row of `state`, if it is one.
 fn found_with(alloc: Global, row: &str) -> Option<Option<u32>> {
     let mut conn = Connection::open_in_memory(alloc).ok()?;
     let columns = "CREATE TABLE state (one INTEGER PRIMARY KEY, format INTEGER, revision INTEGER)";

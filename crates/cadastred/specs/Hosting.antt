@@ -53,7 +53,7 @@ module _ (asked : SocketAddr) (before after : Option (List ℕ)) (from to : Opti
 module _ (before after : Option (List ℕ)) (image : Image) where
   -- a run over the file at this address; what is done at the system's network and what is logged is not known
   pub record HostsInFile {D : Type 0} {d : disk.Ghosts D} (asked : SocketAddr) (ended : Outcome × Held (FileStore D d)) : Type 0 where
-    -- the run finds the register that the file held, or makes one if there is none, before it writes the address; and hosts it
+    -- the run finds the register that the file held, or makes one if it held none, before it writes the address; and hosts it
     pub runs : RunsInFileOrNew image (HostsFound asked before after None None ⊤ over_files) ended
     -- what the register holds at the end, if the file held one, and if it was empty
     pub held : (commands : List Command) → HoldsRegister image commands → length commands ≤ most_revision

@@ -17,9 +17,10 @@ use Rattle.cadastred_run.specs.declared.outcome.Outcome.{Outcome}
 use Rattle.cadastred_run.specs.declared.outcome.Outcome.TheVariants as outcome
 use Rattle.cadastred_run.specs.Hosting.{EndsHosting, HostsOver}
 
--- of a desk that held these commands at first, if no refusal closed what keeps them; the last argument says that it holds a list of commands at the end
+-- For a desk that held these commands at first, if no refusal closed the ledger.
+-- The last argument says that it holds a list of commands at the end.
 module _ {R : Type 0} (g : Ghosts R) (commands : List Command) (Holds : List Command → Type 0) where
-  -- it holds these, and then those for which a line of the office was answered by `revision N`, in their order, and no others
+  -- it holds these, and then those for which a line of the office got the answer `revision N`, in their order, and no others
   abbrev pub KeepsEntered : (works : List Work) (old new : Desk R) (here next : Place) → Goes g old here works new next → Type 0
   KeepsEntered works old new here next goes =
       MayGoOn g works old new here next goes → (entered : List Command) × AreEntered works (length commands) entered × Holds (commands ++ entered)
@@ -32,7 +33,7 @@ module _ {R : Type 0} (g : Ghosts R) (commands : List Command) (Holds : List Com
   KeepsEither (inl hosted) = KeepsHosted hosted
   KeepsEither (inr hosted) = KeepsHosted hosted
 
-  -- where hosting failed, it may not have begun
+  -- if hosting failed, it may not have begun
   abbrev pub KeepsFailed : {Unhosted Told : Type 0} {from to : Option (List Deed)} {old new : Desk R} → Unhosted ⊎ (Told × (HostsBy g None from old to new ⊎ HostsBy g (Some Asked) from old to new)) → Type 0
   KeepsFailed (inl unhosted) = Holds commands
   KeepsFailed (inr hosted) = KeepsEither hosted.1

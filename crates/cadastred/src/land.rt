@@ -38,7 +38,7 @@ fn host_register<N: Network, S: Alter, W: Write, A: AccessLog<N::Socket>>(
     (outcome, left.release())
 }
 
-/// Hosts the register of a database, and makes it if there is none. Returns the database's connection.
+/// Hosts the register of a database, and makes one if it has none. Returns the database's connection.
 fn host_found<N: Network, S: Alter, W: Write, A: AccessLog<N::Socket>>(
     alloc: Global,
     connection: Connection<S>,

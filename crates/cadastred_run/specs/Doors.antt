@@ -2,6 +2,6 @@
 use Rattle.std.specs.declared.net.socket_addr.SocketAddr.{SocketAddr}
 use Rattle.cadastred_run.specs.declared.doors.Doors.{Doors}
 
--- the address at which clients were to come
+-- the address that was requested for clients
 abbrev pub address_requested : Doors → SocketAddr
 address_requested doors = doors.requested

@@ -1,4 +1,4 @@
--- A desk over a ledger at a network, and how that ends a run (own profile).
+-- A desk over a ledger at a network, and how hosting it ends a run (own profile).
 use Rattle.std.specs.Prelude.{◌≡◌, ◌⊎◌, ℕ, List, [], Option, None, Some, Result, Ok, Err}
 use Rattle.std.specs.Io.KnownBytes.{Appends}
 use Rattle.std.specs.declared.net.socket_addr.SocketAddr.{SocketAddr}
@@ -26,9 +26,9 @@ outcome_of_hosting (Ok StoreRefused) = outcome.Register register.Store
 outcome_of_hosting (Ok RoundsSpent) = outcome.Failed
 outcome_of_hosting (Err error) = outcome.Failed
 
--- the address that was asked for, what standard output holds before and after, and what was done at the network before and after
+-- the requested address, what standard output holds before and after, and what was done at the network before and after
 module _ (asked : SocketAddr) (before after : Option (List ℕ)) (from to : Option (List Deed)) where
-  -- the line that tells the address that is bound is written, and nothing else
+  -- the line with the bound address is written, and nothing else
   abbrev pub TellsAddress : Type 0
   TellsAddress = (bound : SocketAddr) × IsBoundFor asked bound × Appends before after (listening_line bound)
 
@@ -36,7 +36,9 @@ module _ (asked : SocketAddr) (before after : Option (List ℕ)) (from to : Opti
   abbrev pub IsUnhosted : {R : Type 0} → Desk R → Desk R → Type 0
   IsUnhosted old new = (new ≡ old) × Adds from to []
 
-  -- the address can't be had, and nothing is told; or it is told, and then the desk is hosted until the office asks to stop, or the database refuses; or it can't be told, and nothing is hosted; or it is told and hosting failed, and the database did not refuse
+  -- The requested address is not bound, and nothing is written.
+  -- Or the address is written, and then the desk is hosted until the office asks to stop, or the database refuses.
+  -- Or the address cannot be written, and nothing is hosted. Or it is written and hosting failed, and the database did not refuse.
   abbrev pub EndsHosting : {R : Type 0} → responder.Ghosts R → Desk R → Outcome → Desk R → Type 0
   EndsHosting g old outcome.Address new = (after ≡ before) × IsUnhosted old new
   EndsHosting g old outcome.Good new = TellsAddress × HostsBy g (Some Asked) from old to new
@@ -52,6 +54,6 @@ module _ (asked : SocketAddr) (before after : Option (List ℕ)) (from to : Opti
     pub hosting : EndsHosting (answers_of g) old ended.0 new
     pub back : ended.1 ≡ ledger_of (responder_of new)
 
-  -- there is no memory for a desk, and nothing is told or done at the network; or one is hosted
+  -- there is no memory for a desk, and nothing is written or done at the network; or a desk is hosted
   abbrev pub HostsOver : {L : Type 0} → ledger.Ghosts L → L → Outcome × L → Type 0
   HostsOver g lent ended = EndsWithout ((after ≡ before) × Adds from to []) (outcome.Register register.Memory) lent ended ⊎ EndsHosted g lent ended

@@ -4,14 +4,14 @@ use Rattle.std.specs.Str.{bytes_eq}
 use Rattle.cadastred_run.specs.declared.invocation.Invocation.{Invocation}
 use Rattle.cadastred_run.specs.declared.invocation.Invocation.TheVariants.{Help, Version, Serve}
 
--- a command line, as what it asks for: a service of a file, at an address and for the office at a path, with a log or without
+-- what a command line asks for: a service of a file, at an address and for the office at a path, with a log or without
 pub data CommandLine : Type 0 where
   nothing : CommandLine
   help : CommandLine
   version : CommandLine
   a_service : Bool → List ℕ → List ℕ → List ℕ → CommandLine
 
--- what the words behind the program's name ask for
+-- what the words after the program's name ask for
 abbrev pub command_line_of : List (List ℕ) → CommandLine
 command_line_of [] = nothing
 command_line_of (program ∷ []) = nothing

@@ -16,16 +16,16 @@ status_of (Register fault) = no_register
 status_of Address = no_address
 status_of Office = no_address
 
--- how a run ends whose command line cannot be had, by the cause
+-- how a run ends if the system refuses the command line, by the cause
 abbrev pub outcome_without_arguments : ErrorKind → Outcome
 outcome_without_arguments OutOfMemory = Failed
 outcome_without_arguments cause = Usage
 
--- how the program is called
+-- the usage
 abbrev pub usage : List ℕ
 usage = codes "usage: cadastred [--log] FILE ADDRESS OFFICE | --help | --version"
 
--- what is told of a run on standard error
+-- the line on standard error that reports how a run ended
 abbrev pub line_of : Outcome → List ℕ
 line_of Good = []
 line_of Failed = line (codes "host: failed")

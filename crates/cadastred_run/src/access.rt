@@ -1,4 +1,4 @@
-//! A reply, and the line that tells of it.
+//! A reply, and its line in the log.
 
 ghost use Rattle.std.specs.Prelude.{IfOk};
 ghost use Rattle.cadastred_run.specs.inner.Printable.{ArePrintable, StaysPrintable};
@@ -9,12 +9,12 @@ use crate::reply::{revision_of, status_of};
 use std::alloc::{AllocError, Global};
 use std::net::SocketAddr;
 
-/// A reply, and what is told of it.
+/// A reply, and what the log says about it.
 #[derive(Clone, Copy, Debug)]
 pub(crate) struct Access<'a> {
     /// When it was, in seconds after 1970-01-01T00:00:00Z.
     pub seconds: u64,
-    /// Where the client is.
+    /// The client's address.
     pub address: SocketAddr,
     /// The first line of its request.
     pub request: &'a [u8],
@@ -23,7 +23,7 @@ pub(crate) struct Access<'a> {
 }
 
 impl Access<'_> {
-    /// What is told of the client and its request.
+    /// Appends what the log says about the client and its request.
     fn push_request(&self, alloc: Global, text: &mut Vec<u8>) -> Result<(), AllocError>
         ensures { StaysPrintable text.old.items text.new.items }
     {
@@ -35,7 +35,7 @@ impl Access<'_> {
         Ok(())
     }
 
-    /// What is told of the reply.
+    /// Appends what the log says about the reply.
     fn push_reply(&self, alloc: Global, text: &mut Vec<u8>) -> Result<(), AllocError>
         ensures { StaysPrintable text.old.items text.new.items }
     {
@@ -46,9 +46,9 @@ impl Access<'_> {
         push_all(text, revision_of(self.reply))
     }
 
-    /// The line, without its end: the moment, the client's address, the request's first line, and the reply's status, the
-    /// number of its bytes and the revision that its body names. A byte of the request that is not printable stands as `\x`
-    /// and two digits.
+    /// The line, without its end: the moment, the client's address, the request's first line, and the reply's status, the number of its
+    /// bytes and the revision that its body names. A byte of the request that is not printable is written as `\x` and two digits, and so
+    /// are `"` and `\`.
     pub(crate) fn line(&self, alloc: Global) -> Result<Vec<u8>, AllocError>
         ensures { IfOk result (λ line. ArePrintable line.items) }
     {

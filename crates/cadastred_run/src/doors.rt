@@ -22,7 +22,7 @@ pub struct Doors {
     requested: SocketAddr,
 }
 
-/// Removes the socket of a host that is no more, which nobody answers. One that is answered is `AddrInUse`.
+/// Removes the socket that an earlier host left behind, which nobody answers. One that is answered is `AddrInUse`.
 fn remove_left<N: Net + Files>(rt: &N, path: &str) -> Result<()> {
     let Ok(found) = symlink_metadata(rt, path) else {
         return Ok(());
@@ -40,7 +40,7 @@ fn remove_left<N: Net + Files>(rt: &N, path: &str) -> Result<()> {
     }
 }
 
-/// The office's socket, for its owner and group alone.
+/// The office's socket, for its owner and group only.
 fn open_office<N: Net + Files>(rt: &N, path: &str) -> Result<UnixListener> {
     remove_left(rt, path)?;
     let office = UnixListener::bind(rt, path)?;
@@ -81,19 +81,19 @@ impl Doors {
         }
     }
 
-    /// Where clients were to come.
+    /// The address that was requested for clients.
     pub fn requested(&self) -> SocketAddr
         ensures { result ≡ address_requested self.now }
     {
         self.requested
     }
 
-    /// Where clients come.
+    /// The address at which clients come.
     pub fn address(&self) -> Result<SocketAddr> {
         self.clients.local_addr()
     }
 
-    /// A network at them.
+    /// A network at these sockets.
     pub fn into_network<'a, C: Net + Clock>(
         self,
         rt: &'a C,
@@ -103,7 +103,7 @@ impl Doors {
     }
 }
 
-/// Removes the office's socket, where it can be.
+/// Removes the office's socket, if possible.
 pub fn remove_door<N: Files>(rt: &N, office: &str) {
     let _ = remove_file(rt, office);
 }

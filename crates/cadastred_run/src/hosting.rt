@@ -35,7 +35,7 @@ pub fn open_doors<N: Net + Files>(rt: &N, service: Service<'_>) -> Result<Doors,
     }
 }
 
-/// Tells the address, if the one that is found is the one that was asked for, and serves the desk at the network.
+/// Writes the address, if the address that is found is the requested one, and serves the desk at the network.
 fn host_desk<N: Network, R: Responder, W: Write, A: AccessLog<N::Socket>>(
     alloc: Global,
     asked: SocketAddr,
@@ -56,8 +56,8 @@ fn host_desk<N: Network, R: Responder, W: Write, A: AccessLog<N::Socket>>(
     }
 }
 
-/// Tells the address, if the one that is found is the one that was asked for, takes clients and the land office at the doors of
-/// a network, serves them over the ledger until the office asks to stop, and gives the ledger back.
+/// Writes the address, if the address that is found is the requested one, takes clients and the land office at the doors of a network,
+/// serves them over the ledger until the office asks to stop, and gives the ledger back.
 pub fn host_over<N: Network, L: Ledger, W: Write, A: AccessLog<N::Socket>>(
     alloc: Global,
     ledger: L,

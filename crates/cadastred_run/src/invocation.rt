@@ -16,9 +16,9 @@ pub struct Service<'a> {
 /// What the program is to do.
 #[derive(Clone, Copy, Debug, PartialEq, Eq)]
 pub enum Invocation<'a> {
-    /// Tell how it is called.
+    /// Print the usage.
     Help,
-    /// Tell its version.
+    /// Print the version.
     Version,
     /// Serve.
     Serve(Service<'a>),

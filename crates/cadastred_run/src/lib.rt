@@ -3,11 +3,11 @@
 //! - `Invocation`, `Service`: what the words of a command line ask for
 //! - `open_doors`: the sockets of a service, `Doors`; `remove_door` removes the one that is a file
 //! - `host_over`: clients and the land office taken at a network and served over a ledger
-//! - `Outcome`: how a run ended, its status, and what is told of it
+//! - `Outcome`: how a run ended, its status, and the line that reports it
 //! - `Log`: a line of a log of access for each reply, with no byte of a client's that is not printable, or nothing
 //!
-//! No contract can say what is done to files, so a reader has to see of `Doors` that the office's socket has its rights for its
-//! owner and its group alone, and that a socket which nobody answers is removed before.
+//! No contract can say what is done to files. So a reader has to check in `Doors` that only the owner and the group of the office's socket
+//! have rights to it, and that a socket which nobody answers is removed before.
 //!
 //! No database is known here: the program finds the register of a file and lends it to these calls.
 //!
@@ -15,7 +15,7 @@
 //! Invocation::of_words(&["cadastred", "land.db", "127.0.0.1:0", "office"])
 //!     // Some(Invocation::Serve(Service { file: "land.db", address: "127.0.0.1:0", office: "office", logs: false }))
 //! host_over(alloc, rt, &mut net, &mut ledger, &mut Log::new(&rt, alloc, Some(rt.stderr()))?, ..)
-//!     // tells of a reply 2026-11-25T02:13:00Z 127.0.0.1:40123 "GET / HTTP/1.1" 200 503 -
+//!     // writes for a reply: 2026-11-25T02:13:00Z 127.0.0.1:40123 "GET / HTTP/1.1" 200 503 -
 //! ```
 #![tactic(auto)]
 

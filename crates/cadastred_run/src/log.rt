@@ -1,4 +1,4 @@
-//! Where a line is written for each reply.
+//! The log, with a line for each reply.
 
 use crate::access::Access;
 use crate::request::Request;
@@ -25,7 +25,7 @@ pub struct Log<'a, C: Clock, E: Write> {
     alloc: Global,
 }
 
-/// Seconds after 1970-01-01T00:00:00Z, or 0 where the clock does not tell.
+/// Seconds after 1970-01-01T00:00:00Z, or 0 if the clock cannot be read.
 fn wall_seconds(clock: &impl Clock) -> u64 {
     let Ok(time) = SystemTime::now(clock) else {
         return 0;
@@ -53,7 +53,7 @@ impl<'a, C: Clock, E: Write + Drop> Log<'a, C, E> {
 }
 
 impl<'a, C: Clock, E: Write> Log<'a, C, E> {
-    /// Writes the line of a reply. Where memory is refused or a write fails, none is written.
+    /// Writes the line of a reply. If memory runs out or a write fails, no line is written.
     fn tell(&mut self, caller: &Caller, reply: &[u8]) {
         let access = Access {
             seconds: wall_seconds(self.rt),

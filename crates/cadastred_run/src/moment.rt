@@ -1,4 +1,4 @@
-//! Moments as a log tells them.
+//! Moments as a log writes them.
 
 ghost use Rattle.cadastred_run.specs.inner.Printable.{StaysPrintable};
 
@@ -9,8 +9,8 @@ use std::alloc::{AllocError, Global};
 /// The seconds of a day.
 const DAY: u64 = 86_400;
 
-/// Appends the moment so many seconds after 1970-01-01T00:00:00Z, as `YYYY-MM-DDTHH:MM:SSZ` (RFC 3339), or `-` where its
-/// year has more than four digits.
+/// Appends the moment so many seconds after 1970-01-01T00:00:00Z, as `YYYY-MM-DDTHH:MM:SSZ` (RFC 3339), or `-` if its year has more than
+/// four digits.
 pub(crate) fn push_moment(alloc: Global, text: &mut Vec<u8>, seconds: u64) -> Result<(), AllocError>
     ensures { StaysPrintable text.old.items text.new.items }
 {

@@ -1,11 +1,11 @@
-//! How a run ended: its status, and the line that tells it.
+//! How a run ended: its status, and the line that reports it.
 
 use cad_event_loop::Stopped;
 use cad_serve::{ADDRESS, Fault, Message, REGISTER, status};
 use cad_versions::RegisterFault;
 use std::io::{ErrorKind, Result};
 
-/// How the program is called.
+/// The usage.
 pub const HELP: &str = "usage: cadastred [--log] FILE ADDRESS OFFICE | --help | --version";
 
 /// How a run ended.
@@ -31,7 +31,7 @@ impl Outcome {
     ghost use Rattle.cadastred_run.specs.Outcomes.{line_of, outcome_without_arguments, status_of};
     ghost use Rattle.cad_serve.specs.Statuses.{message_line};
 
-    /// How a run ends whose command line cannot be had for this cause.
+    /// How a run ends if the system refuses the command line for this cause.
     pub fn without_arguments(cause: ErrorKind) -> Outcome
         ensures { result ≡ outcome_without_arguments cause }
     {
@@ -65,7 +65,7 @@ impl Outcome {
         }
     }
 
-    /// What is told of it on standard error.
+    /// The line on standard error that reports it.
     pub fn message(self) -> Message
         ensures { message_line result ≡ line_of self }
     {

@@ -24,7 +24,7 @@ fn digit(number: u8) -> u8
     }
 }
 
-/// Appends a byte: itself where it is printable and does not end a quotation, else `\x` and two digits.
+/// Appends a byte: itself if it is printable and neither `"` nor `\`, else `\x` and two digits.
 pub(crate) fn push_byte(text: &mut Vec<u8>, byte: u8) -> Result<(), AllocError>
     ensures { StaysPrintable text.old.items text.new.items }
 {
@@ -39,7 +39,7 @@ pub(crate) fn push_byte(text: &mut Vec<u8>, byte: u8) -> Result<(), AllocError>
     Ok(())
 }
 
-/// Appends the bytes, each so.
+/// Appends the bytes, each in this form.
 pub(crate) fn push_all(text: &mut Vec<u8>, bytes: &[u8]) -> Result<(), AllocError>
     ensures { StaysPrintable text.old.items text.new.items }
 {

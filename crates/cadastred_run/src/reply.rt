@@ -1,4 +1,4 @@
-//! What a reply tells of itself.
+//! The parts of a reply that a log names.
 
 /// The digits of its status, which follow `HTTP/1.1 `.
 pub(crate) fn status_of(reply: &[u8]) -> &[u8] {

@@ -63,7 +63,7 @@ impl Request {
         Ok(())
     }
 
-    /// Bytes of the request, of which those of its first line are kept. Empty lines before it are passed over.
+    /// Adds bytes of the request and keeps those of its first line. Empty lines before it are skipped.
     pub(crate) fn add(&mut self, bytes: &[u8]) -> Result<(), AllocError>
         ensures { OnOk result ((read : List ℕ) → HoldsLineOf self.old read → HoldsLineOf self.new (read ++ bytes.now)) }
     {

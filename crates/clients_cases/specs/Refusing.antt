@@ -1,4 +1,4 @@
--- What answers the requests of hosted cases, and refuses commands for one object (own profile).
+-- Answers the requests of hosted cases, and refuses commands for one object (own profile).
 use Rattle.std.proofs.Common.{◌≡◌, ◌⊎◌, inl, inr, List}
 use Rattle.cad_versions.specs.declared.command.Command.{Command}
 use Rattle.cad_versions.specs.declared.fault.RegisterFault.{RegisterFault}
@@ -10,7 +10,7 @@ use Rattle.cad_memory_ledger.specs.Ledgers.{IsMemory, memory_keeps}
 use Rattle.test_support.specs.Echoes.{StandsFor as EchoStandsFor}
 use Rattle.clients_cases.specs.declared.refusing.Refusing.{Refusing}
 
--- what echoes for it stands for the commands
+-- the ledger of its `Echo` holds the commands
 abbrev pub StandsFor : Refusing → List Command → Type 0
 StandsFor r commands = EchoStandsFor r.echo commands
 
@@ -18,7 +18,7 @@ StandsFor r commands = EchoStandsFor r.echo commands
 abbrev pub IsOfRefused : Command → Type 0
 IsOfRefused command = object_number (object_named command) ≡ 6
 
--- a command is refused for want of memory, or, where it is for that object, as the database would
+-- a command is refused because it is out of memory, or, if it is for that object, as the database would refuse it
 abbrev pub FailsToEnter : Command → RegisterFault → Type 0
 FailsToEnter command fault = IsMemory fault ⊎ ((fault ≡ Store) × IsOfRefused command)
 

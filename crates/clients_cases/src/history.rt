@@ -6,22 +6,22 @@ use cad_network::is_blocked;
 use std::alloc::Global;
 use std::io::{Error, Result};
 
-/// One thing that was done, at sockets by the numbers of their peers.
+/// One thing that was done, at sockets that have the numbers of their peers.
 #[derive(Drop)]
 pub(crate) enum Done {
     /// A client's socket was taken.
     Came(u32),
-    /// An office's was.
+    /// An office's socket was taken.
     OfficeCame(u32),
-    /// The network told of a place.
+    /// The network reported a place.
     Woke(usize),
     /// A read gave this.
     Gave(u32, Vec<u8>),
     /// A write took this.
     Took(u32, Vec<u8>),
-    /// A read or a write can't be done now.
+    /// A read or a write cannot be done now.
     Blocked(u32),
-    /// It failed.
+    /// A read or a write failed.
     Failed(u32),
     /// A socket was let go.
     Left(u32),
@@ -92,7 +92,7 @@ impl History {
         }
     }
 
-    /// What came of a read.
+    /// Adds the result of a read.
     pub(crate) fn add_read(&mut self, name: u32, buffer: &[u8], read: &Result<usize>)
         requires { ReadsAtMost read.now buffer.now }
         ensures { Adds (known self.old) (known self.new) (reading name buffer.now read.now) }
@@ -103,7 +103,7 @@ impl History {
         }
     }
 
-    /// What came of a write.
+    /// Adds the result of a write.
     pub(crate) fn add_write(&mut self, name: u32, bytes: &[u8], written: &Result<usize>)
         requires { WritesAtMost written.now bytes.now }
         ensures { Adds (known self.old) (known self.new) (writing name bytes.now written.now) }

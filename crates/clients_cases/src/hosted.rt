@@ -1,4 +1,4 @@
-//! What the loop does at a network whose peers do as they are told.
+//! What the loop does at a network whose peers follow a script.
 
 use crate::refusing::Refusing;
 use crate::script::put_text;
@@ -20,14 +20,14 @@ fn stopped_name(hosted: &IoResult<Stopped>) -> &'static str {
     }
 }
 
-/// Appends what was written to a peer, and that its socket was let go.
+/// Appends what was written to a peer, and whether its socket was let go.
 fn put_peer(answer: &mut String, peer: &Peer) -> Result<(), AllocError> {
     answer.push_str(if peer.is_left { " left [" } else { " here [" })?;
     put_text(answer, &peer.taker.taken)?;
     answer.push(']')
 }
 
-/// Hosts a desk at a network with these steps, and appends how that ended and what came of each peer.
+/// Hosts a desk at a network with these steps, and appends how that ended and the result for each peer.
 pub(crate) fn put_hosted(answer: &mut String, alloc: Global, text: &str) -> Result<(), AllocError> {
     let mut wire = Wire::new(alloc, read_steps(alloc, text)?);
     let mut desk = Desk::new(alloc, Refusing::new(alloc));

@@ -1,31 +1,31 @@
-//! What clients and the land office get at a desk whose sockets give and take bytes as they are told: each line of standard
-//! input is something that happens, and a line is printed for it.
+//! What clients and the land office get at a desk whose sockets give and take bytes by a script: each line of standard input is something
+//! that happens, and a line is printed for it.
 //!
-//! - `sockets`: sockets that give and take as they are told
-//! - `steps`: what happens at a network; `world`: its peers, at which it does
+//! - `sockets`: sockets that give and take bytes by a script
+//! - `steps`: what happens at a network; `world`: its peers, at which it happens
 //! - `wire`: the network, and `history`: what was done there, so that the loop meets its whole contract here
-//! - `room`: the clients, the office and their sockets, each served as it is told
-//! - `hosted`: the same by the loop; `refusing`: what answers there, whose database refuses commands for object 6
+//! - `room`: the clients, the office and their sockets, each served when a line asks for it
+//! - `hosted`: the same by the loop; `refusing`: what answers there, as if its database refused commands for object 6
 //! - `script`: the lines, and what is printed for them
 //!
 //! The lines are
 //!
 //! - `open`, a client comes: `N opened`, by its number, or `full`;
-//! - `give N TEXT`, it sends this text, in which `|` stands for CR and LF; `long N COUNT`, it sends so many bytes `a`;
-//! - `room N COUNT`, its socket takes so many bytes more; `hang N`, it sends no more; `break N`, reads and writes fail;
-//! - `serve N`, it is served: how that ended, what was written to it, and `sending` where a reply has not gone out;
+//! - `give N TEXT`, it sends this text, in which `|` means CR and LF; `long N COUNT`, it sends so many bytes `a`;
+//! - `room N COUNT`, its socket takes so many more bytes; `hang N`, it sends no more; `break N`, reads and writes fail;
+//! - `serve N`, it is served: how that ended, what was written to it, and `sending` if a reply is not fully written;
 //! - `second N`, it is second N: the numbers of the clients that are dropped for it;
-//! - `line TEXT`, the office sends a line; `part TEXT`, it sends a part of one; `office-room COUNT`, its socket takes so many
-//!   bytes more; `office`, it is served: how that ended, and what was written to it.
+//! - `line TEXT`, the office sends a line; `part TEXT`, it sends a part of one; `office-room COUNT`, its socket takes so many more bytes;
+//!   `office`, it is served: how that ended, and what was written to it.
 //!
-//! - `host STEPS`, a desk is hosted at a network with these steps, up to an `end` until each wait is over, and the system refuses
-//!   to wait where there are no more: `come` and `office`, somebody comes, and is numbered; `give N TEXT`, `room N COUNT`,
-//!   `hang N` and `break N` as above, with `_` for LF; `wake PLACES`, it is told that sockets may go on; `second N`;
-//!   `refuse COUNT` and `unwatched COUNT`, so often a client can't be handed over, or a socket can't be watched. It is answered by
-//!   how that ended, and by what was written to each, and whether its socket was let go.
+//! - `host STEPS`, a desk is hosted at a network with these steps: those up to an `end` are done until each wait is over, and the system
+//!   refuses to wait if there are no more. `come` and `office`: somebody comes, and is numbered; `give N TEXT`, `room N COUNT`, `hang N`
+//!   and `break N` as above, with `_` for LF; `wake PLACES`: the network reports that sockets may continue; `second N`; `refuse COUNT` and
+//!   `unwatched COUNT`: so many times a client cannot be handed over, or a socket cannot be watched. The answer is how hosting ended, what
+//!   was written to each, and whether its socket was let go.
 //!
-//! In what was written `|` stands for LF. A request is answered with its method, its target and the revision in force.
-//! Any other line is answered by `no case`, and an empty one is passed over.
+//! In what was written `|` means LF. A request is answered with its method, its target and the revision in force. Any other line is
+//! answered by `no case`, and an empty one is skipped.
 #![tactic(auto)]
 
 mod history;

@@ -1,4 +1,4 @@
-//! What answers the requests of hosted cases, and refuses commands for one object.
+//! Answers the requests of hosted cases, and refuses commands for one object.
 
 ghost use Rattle.clients_cases.specs.Refusing.{StandsFor};
 
@@ -11,7 +11,7 @@ use test_support::Echo;
 /// The object whose commands the database refuses.
 const REFUSED: u32 = 6;
 
-/// Answers as `Echo`, but refuses each command for one object as a database would.
+/// Answers like `Echo`, but refuses each command for one object as a database would.
 #[derive(Drop)]
 pub(crate) struct Refusing {
     echo: Echo,
@@ -20,7 +20,7 @@ pub(crate) struct Refusing {
 impl Refusing {
     ghost use Rattle.std.specs.Prelude.{[]};
 
-    /// It stands for no commands.
+    /// It holds no commands.
     pub(crate) fn new(alloc: Global) -> Refusing
         ensures { StandsFor result [] }
     {

@@ -1,4 +1,4 @@
-//! The clients, the land office and their sockets, each served as it is told.
+//! The clients, the land office and their sockets, each served when a line asks for it.
 
 use crate::wire::Wire;
 use crate::world::Peer;
@@ -36,7 +36,7 @@ fn push_places(names: &mut Vec<Option<u32>>) -> Result<(), AllocError> {
     Ok(())
 }
 
-/// What was written to a peer since it was asked last.
+/// What was written to a peer since the last call.
 fn take_written(alloc: Global, peer: Option<&mut Peer>) -> Vec<u8> {
     match peer {
         Some(peer) => std::mem::replace(&mut peer.taker.taken, Vec::new(alloc)),
@@ -63,7 +63,7 @@ impl Room {
         })
     }
 
-    /// A client comes, and is told its number, if there is room.
+    /// A client comes, if there is room. Returns its number.
     pub(crate) fn open(&mut self) -> Option<u32> {
         let c = self.clients.free_number()?;
         let name = self.wire.add_peer().ok()?;
@@ -89,7 +89,7 @@ impl Room {
         }
     }
 
-    /// The client's peer has this number from now on, or there is none.
+    /// From now on the client's peer has this number, or the client has no peer.
     fn set_name(&mut self, c: u32, name: Option<u32>) {
         if let Some(slot) = self.names.get_mut(c as usize) {
             *slot = name;
@@ -107,12 +107,12 @@ impl Room {
         self.wire.peer(self.office)
     }
 
-    /// Whether a reply of this client has not gone out.
+    /// Whether a reply of this client is not fully written.
     pub(crate) fn is_sending(&self, c: u32) -> bool {
         self.clients.is_sending(c)
     }
 
-    /// Serves a client. What was written to it since it was served last.
+    /// Serves a client. Also returns what was written to it since it was served last.
     pub(crate) fn serve(&mut self, c: u32) -> (Served, Vec<u8>) {
         let Some(name) = self.name(c) else {
             return (Served::Unknown, Vec::new(self.alloc));
@@ -142,7 +142,7 @@ impl Room {
         true
     }
 
-    /// A turn of the land office. What was written to it since its last turn.
+    /// A turn of the land office. Also returns what was written to it since its last turn.
     pub(crate) fn serve_office(&mut self) -> (EntryTurned, Vec<u8>) {
         let turned = self
             .entry

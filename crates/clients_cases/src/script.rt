@@ -17,7 +17,7 @@ fn give_often(sender: &mut Sender, count: usize) -> Result<(), AllocError> {
     Ok(())
 }
 
-/// Appends the text of bytes, in which `|` stands for LF, and CR is left out.
+/// Appends the text of bytes, in which `|` means LF, and CR is left out.
 pub(crate) fn put_text(answer: &mut String, bytes: &[u8]) -> Result<(), AllocError> {
     for byte in bytes {
         match *byte {
@@ -96,7 +96,7 @@ fn put_office(answer: &mut String, room: &mut Room) -> Result<(), AllocError> {
     put_turn(answer, turned_name(turned), "", &taken)
 }
 
-/// The second is this one.
+/// It is this second. Appends the numbers of the clients that are dropped for it.
 fn put_dropped(answer: &mut String, room: &mut Room, second: u64) -> Result<(), AllocError> {
     room.now = room.now.max(second);
     answer.push_str("dropped")?;

@@ -1,4 +1,4 @@
-//! Sockets that give and take bytes as they are told.
+//! Sockets that give and take bytes by a script.
 
 use std::alloc::{AllocError, Global};
 use std::io::{Error, ErrorKind, Read, Result, Write};

@@ -11,25 +11,25 @@ pub(crate) enum Step {
     Office,
     /// A peer sends this.
     Give(usize, Vec<u8>),
-    /// A peer's socket takes so many bytes more.
+    /// A peer's socket takes so many more bytes.
     Room(usize, usize),
     /// A peer sends no more.
     Hang(usize),
     /// Reads and writes of a peer's socket fail.
     Break(usize),
-    /// The network tells that the sockets at these places may go on.
+    /// The network reports that the sockets at these places may continue.
     Wake(Vec<usize>),
     /// It is this second.
     Second(u64),
-    /// So often a client can't be handed over.
+    /// So many times a client cannot be handed over.
     Refuse(u32),
-    /// So often a socket can't be watched.
+    /// So many times a socket cannot be watched.
     Unwatched(u32),
     /// The wait ends.
     End,
 }
 
-/// The bytes of a text, in which `|` stands for CR and LF, and `_` for LF.
+/// The bytes of a text, in which `|` means CR and LF, and `_` means LF.
 pub(crate) fn read_bytes(alloc: Global, text: &str) -> Result<Vec<u8>, AllocError> {
     let mut bytes = Vec::new(alloc);
     for byte in text.as_bytes() {
@@ -53,7 +53,7 @@ fn read_places(alloc: Global, text: &str) -> Result<Vec<usize>, AllocError> {
     Ok(places)
 }
 
-/// The step that a text names: a word, and what it is about.
+/// The step that a text names: a word, and its arguments.
 fn read_step(alloc: Global, text: &str) -> Result<Option<Step>, AllocError> {
     let (word, rest) = text.split_once(' ').unwrap_or((text, ""));
     let (first, more) = rest.split_once(' ').unwrap_or((rest, ""));
@@ -75,7 +75,7 @@ fn read_step(alloc: Global, text: &str) -> Result<Option<Step>, AllocError> {
     })
 }
 
-/// The steps of a text, with `;` between them. What names none is left out.
+/// The steps of a text, with `;` between them. A part that names no step is left out.
 pub(crate) fn read_steps(alloc: Global, text: &str) -> Result<Vec<Step>, AllocError> {
     let mut steps = Vec::new(alloc);
     for word in text.split(';') {

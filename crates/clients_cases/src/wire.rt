@@ -1,4 +1,4 @@
-//! A network whose peers do as they are told, and whose history is known.
+//! A network whose peers follow a script, and whose history is known.
 
 use crate::history::{Done, History};
 use crate::steps::Step;
@@ -7,7 +7,7 @@ use cad_network::Network;
 use std::alloc::{AllocError, Global};
 use std::io::Result;
 
-/// A network whose peers do as they are told, and what was done there.
+/// A network whose peers follow a script, and what was done there.
 #[derive(Drop)]
 pub(crate) struct Wire {
     pub(crate) world: World,

@@ -1,4 +1,4 @@
-//! What happens at a network: its peers do as they are told.
+//! What happens at a network whose peers follow a script.
 
 ghost use Rattle.std.specs.Io.{ReadsAtMost, WritesAtMost};
 
@@ -21,7 +21,7 @@ pub(crate) struct Peer {
 struct Door {
     waiting: Vec<u32>,
     at: usize,
-    /// So often one can't be handed over.
+    /// How many times the system fails to hand over a socket.
     refusals: u32,
 }
 
@@ -48,7 +48,7 @@ impl Door {
     }
 }
 
-/// Peers that do as they are told, by steps: those up to the next `End` are done until a wait ends.
+/// Peers that follow a script of steps: those up to the next `End` are done until a wait ends.
 #[derive(Drop)]
 pub(crate) struct World {
     alloc: Global,
@@ -137,7 +137,7 @@ impl World {
         Ok(())
     }
 
-    /// Does the steps up to the next end. `false`: there are no more.
+    /// Does the steps up to the next end. `false` means that there are no more.
     fn do_steps(&mut self) -> std::result::Result<bool, AllocError> {
         let steps = std::mem::replace(&mut self.steps, Vec::new(self.alloc));
         let mut is_ended = false;
@@ -160,12 +160,12 @@ impl World {
         self.clients.take()
     }
 
-    /// Takes an office that waits at the other.
+    /// Takes an office that waits at the other door.
     pub(crate) fn take_office(&mut self) -> Result<u32> {
         self.offices.take()
     }
 
-    /// Whether a socket can be told of.
+    /// Whether the network can watch a socket.
     pub(crate) fn watch(&mut self) -> Result<()> {
         if 0 < self.unwatched {
             self.unwatched -= 1;
@@ -201,7 +201,7 @@ impl World {
         }
     }
 
-    /// Does the steps up to the next end, and tells the second.
+    /// Does the steps up to the next end, and returns the second.
     pub(crate) fn wait(&mut self) -> Result<u64> {
         self.places.clear();
         self.places_at = 0;
@@ -212,7 +212,7 @@ impl World {
         }
     }
 
-    /// The next place that it was told of.
+    /// The next place that the network reports.
     pub(crate) fn next_place(&mut self) -> Option<usize> {
         let place = self.places.get(self.places_at)?;
         let place = *place;

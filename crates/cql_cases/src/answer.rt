@@ -1,4 +1,4 @@
-//! What a filter is answered.
+//! The answers to filters.
 
 ghost use Rattle.cad_versions.specs.Listing.{IsListing};
 
@@ -11,16 +11,16 @@ use cql_meaning::{Truth, truth};
 use cql_types::Filter;
 use std::alloc::{AllocError, Global};
 
-/// What a case asks, but for its filter.
+/// What a case asks, without its filter.
 #[derive(Clone, Copy)]
 enum Question {
-    /// The features of a collection; where days are asked, those alone whose lifespan meets them.
+    /// The features of a collection; if days are asked, only those whose lifespan meets them.
     Of(Collection, Option<Interval>),
     NoCollection,
     NoDays,
 }
 
-/// The days that a text asks for, or none where it asks for none.
+/// The days that a text asks for, or none if it asks for none.
 fn days_of(text: &str) -> Result<Option<Interval>, AllocError> {
     match asked(text) {
         Ok(days) => Ok(Some(days)),
@@ -29,7 +29,7 @@ fn days_of(text: &str) -> Result<Option<Interval>, AllocError> {
     }
 }
 
-/// What is asked by the name of a collection, maybe with `/` and days behind it.
+/// What the name of a collection asks for, with or without `/` and days after it.
 fn question_of(name: &str) -> Result<Question, AllocError> {
     let (name, days) = match name.split_once('/') {
         Some((name, days)) => (name, Some(days)),
@@ -72,7 +72,7 @@ fn is_taken(
     Ok(truth(alloc, filter, feature)? == Truth::Yes)
 }
 
-/// Appends the word, and behind it the identifiers of the features that are taken.
+/// Appends the word, and after it the identifiers of the features that are taken.
 fn put_accepted(
     alloc: Global,
     filter: &Filter,
@@ -90,7 +90,7 @@ fn put_accepted(
     Ok(())
 }
 
-// Appends what the filter takes of the collection's features.
+// Appends what the filter takes from the collection's features.
 fn put_taken(
     alloc: Global,
     versions: &[Version],
@@ -126,7 +126,7 @@ fn put_filter_answer(
     }
 }
 
-/// Appends what is printed for a case, asked of these versions.
+/// Appends what is printed for a case, answered from these versions.
 pub fn put_answer(
     alloc: Global,
     versions: &[Version],

@@ -10,7 +10,7 @@ use cad_versions::{Identifier, ObjectId};
 use std::alloc::{AllocError, Global};
 use std::rc::Rc;
 
-/// The features of each collection that has some.
+/// The features of each collection that has any.
 #[derive(Drop)]
 pub struct Features {
     parcels: Vec<Feature>,
@@ -27,7 +27,7 @@ pub struct Head<'a> {
     pub number: u32,
     /// The first day.
     pub begin: &'a str,
-    /// The last day, where there is one.
+    /// The last day, if there is one.
     pub end: Option<&'a str>,
 }
 
@@ -98,20 +98,20 @@ fn feature(head: Head, values: Vec<Value>) -> Result<Feature> {
     })
 }
 
-/// What a parcel has beside its days.
+/// What a parcel has in addition to its days.
 #[derive(Clone, Copy)]
 pub struct ParcelValues<'a> {
     /// The name on maps.
     pub label: &'a str,
-    /// The area in square metres, where it is told.
+    /// The area in square metres, if it is given.
     pub area: Option<i64>,
-    /// The corners of the region; none where it has no shape.
+    /// The corners of the region; none if it has no shape.
     pub corners: &'a [(i64, i64)],
-    /// The reference point, where it has one.
+    /// The reference point, if it has one.
     pub spot: Option<(i64, i64)>,
     /// The object of its unit.
     pub unit: i64,
-    /// The name of its unit, where it has one.
+    /// The name of its unit, if it has one.
     pub unit_name: Option<&'a str>,
 }
 
@@ -284,7 +284,7 @@ fn restrictions(alloc: Global) -> Result<Vec<Feature>> {
 }
 
 impl Features {
-    /// All features, made anew.
+    /// Makes all features.
     pub fn new(alloc: Global) -> Result<Features> {
         Ok(Features {
             parcels: parcels(alloc)?,

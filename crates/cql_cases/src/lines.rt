@@ -2,22 +2,22 @@
 
 use std::alloc::{AllocError, Global};
 
-/// A text that stands several times.
+/// A text that is repeated several times.
 #[derive(Drop)]
 struct Repeated {
     count: usize,
     text: Vec<u8>,
 }
 
-/// The cases of lines that come one after the other.
+/// The cases of successive lines.
 #[derive(Drop)]
 pub struct Cases {
     alloc: Global,
-    /// What the lines before a case say that stands in place of its marks.
+    /// The texts that replace the marks of a case, from the lines before it.
     repeated: Vec<Repeated>,
 }
 
-/// The number and the text behind the word `repeat`.
+/// The number and the text after the word `repeat`.
 fn repeat_of(alloc: Global, line: &[u8]) -> Result<Option<Repeated>, AllocError> {
     let Some(rest) = line.strip_prefix(b"repeat ") else {
         return Ok(None);
@@ -35,7 +35,7 @@ fn repeat_of(alloc: Global, line: &[u8]) -> Result<Option<Repeated>, AllocError>
     Ok(Some(Repeated { count, text }))
 }
 
-/// Appends a text as often as it stands.
+/// Appends a text as often as it is repeated.
 fn push_repeated(out: &mut Vec<u8>, repeated: &Repeated) -> Result<(), AllocError> {
     for _ in 0..repeated.count {
         out.extend_from_slice(&repeated.text)?;
@@ -43,7 +43,7 @@ fn push_repeated(out: &mut Vec<u8>, repeated: &Repeated) -> Result<(), AllocErro
     Ok(())
 }
 
-/// The bytes of a case, each mark replaced by what stands in its place.
+/// The bytes of a case, with each mark replaced by its text.
 fn expanded(alloc: Global, line: &[u8], repeated: &[Repeated]) -> Result<Vec<u8>, AllocError> {
     let mut out = Vec::new(alloc);
     let mut marks = repeated.iter();
@@ -58,7 +58,7 @@ fn expanded(alloc: Global, line: &[u8], repeated: &[Repeated]) -> Result<Vec<u8>
 }
 
 impl Cases {
-    /// None yet.
+    /// No lines yet.
     pub fn new(alloc: Global) -> Cases {
         Cases {
             alloc,

@@ -1,36 +1,35 @@
-//! What filters are answered: each line of standard input is a case, and a line is printed for it.
+//! Answers to filters: each line of standard input is a case, and a line is printed for it.
 //!
-//! A case is the name of a collection, a space or a tab, and the text of a filter, as `parcels area > 400`. Behind the name
-//! may stand `/` and days, as `parcels/2012-05-01 area > 390`. It is asked of the sample register, and answered by
+//! A case is the name of a collection, a space or a tab, and the text of a filter, as `parcels area > 400`. The name may be followed by `/`
+//! and days, as `parcels/2012-05-01 area > 390`. It is asked of the sample register, and answered by
 //!
-//! - `accepted` and the identifiers of the features that live on the asked days, where any are asked, and for which the
-//!   filter is true, as `accepted 3.1`,
-//! - the name and the place of the filter's first fault, as `WrongKind 8`, where the text is no filter of that collection,
-//! - `no text`, where its bytes are no UTF-8,
-//! - `no collection` or `no days`, where the line begins with none.
+//! - `accepted` and the identifiers of the features that live on the asked days, if any are asked, and for which the filter is true, as
+//!   `accepted 3.1`,
+//! - the name and the place of the filter's first fault, as `WrongKind 8`, if the text is no filter of that collection,
+//! - `no text`, if its bytes are no UTF-8,
+//! - `no collection` or `no days`, if the line begins with none.
 //!
-//! Behind the word `normal` a case asks for the filter's normal form over the sample register; what stands behind a `/` in the
-//! name is passed over. The answer is
+//! After the word `normal` a case asks for the filter's normal form over the sample register; a `/` in the name and the text after it are
+//! ignored. The answer is
 //!
 //! - `true`, `false` or `open`, as the whole is a constant or not; then the range that it offers, as
 //!   `area without 5 without 9`, `label with 'A' without 'B'` or `none`; then `yes` and the identifiers of the features that
 //!   meet it: `open area without 390 free yes 3.1`,
-//! - `differs` and an identifier, where the filter says of that feature something else than its normal form,
-//! - `outside` and an identifier, where that feature meets the form and has no value inside the range that it offers,
-//! - `refused`, where the text is no filter of that collection, and `no case`, where the line is none.
+//! - `differs` and an identifier, if the filter and its normal form disagree about that feature,
+//! - `outside` and an identifier, if that feature meets the form and has no value inside the range that it offers,
+//! - `refused`, if the text is no filter of that collection, and `no case`, if the line is no case.
 //!
-//! Behind the word `truth` it asks of which features of the collection the filter is true, of which it is false, and of which
-//! neither, as `yes 1.1 3.1 no 1.2 4.1 unknown 2.1`, of features that are made here; `refused` where the text is no such
-//! filter. And `truth texts TEXT|PATTERN` asks whether the text is like the pattern, how the two are ordered, and for the text
-//! with its case folded.
+//! After the word `truth` it asks for which features of the collection the filter is true, for which it is false, and for which neither, as
+//! `yes 1.1 3.1 no 1.2 4.1 unknown 2.1`. These features are made here; the answer is `refused` if the text is no such filter. And `truth
+//! texts TEXT|PATTERN` asks whether the text is like the pattern, how the two are ordered, and for the text with its case folded.
 //!
-//! A line `repeat N TEXT` is no case: in the next case N times TEXT stands in place of its first `@`, and what a second
-//! such line says in place of its second one, and so on. A line without bytes, or one that begins with `#`, is passed
-//! over. Where memory is refused the program ends with status 7.
+//! A line `repeat N TEXT` is no case: in the next case, N times TEXT replaces its first `@`, the text of a second such line replaces its
+//! second one, and so on. A line without bytes, or one that begins with `#`, is skipped. If memory runs out, the program ends with status
+//! 7.
 //!
-//! - `answer`: what a filter is answered
-//! - `normal_forms`: what its normal form is; `edges`: ranges as they are printed
-//! - `truths`: what it says of each feature; `features`: those that it is asked of
+//! - `answer`: the answers to filters
+//! - `normal_forms`: the answers about their normal forms; `edges`: ranges as they are printed
+//! - `truths`: what they say about each feature; `features`: the features that they are asked about
 //! - `sample`: the versions of the sample register
 //! - `lines`: cases, and the lines that write them
 #![tactic(auto)]
@@ -53,7 +52,7 @@ use std::alloc::{AllocError, Global};
 use std::io::{Error, ErrorKind, Read, Result};
 use std::process::ExitCode;
 
-/// The status where memory is refused.
+/// The status if memory runs out.
 const NO_MEMORY: u8 = 7;
 
 /// Appends what is printed for a case.

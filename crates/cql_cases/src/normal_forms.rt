@@ -1,4 +1,4 @@
-//! What a normal form is answered.
+//! The answers about normal forms.
 
 ghost use Rattle.cad_versions.specs.Listing.{IsListing};
 
@@ -58,7 +58,7 @@ fn put_form(collection: Collection, form: &Normal, line: &mut String) -> Result<
     }
 }
 
-/// Appends the identifiers of the features that meet the form; of one that has a fault nothing but that fault is left.
+/// Appends the identifiers of the features that meet the form. If one has a fault, the line has nothing but that fault.
 fn put_met(
     alloc: Global,
     filter: &Filter,
@@ -137,7 +137,7 @@ fn collection_of(name: &[u8]) -> Option<Collection> {
     Collection::read(str::from_utf8(name).ok()?)
 }
 
-/// Appends what is printed for a case, asked of these versions.
+/// Appends what is printed for a case, answered from these versions.
 pub fn put_answer(
     alloc: Global,
     versions: &[Version],

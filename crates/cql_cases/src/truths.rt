@@ -1,4 +1,4 @@
-//! What filters say of features, and how texts compare.
+//! What filters say about features, and how texts compare.
 
 use crate::features::Features;
 use cad_feature::Feature;

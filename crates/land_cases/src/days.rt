@@ -70,7 +70,7 @@ fn put_relations(a: &str, b: &str, answer: &mut String) -> Result<(), AllocError
     Ok(())
 }
 
-/// Appends what the line is answered: see the head of the program.
+/// Appends the answer to the line: see the head of the program.
 pub fn put_answer(alloc: Global, line: &str, answer: &mut String) -> Result<(), AllocError> {
     let (question, rest) = line.split_once(' ').unwrap_or((line, ""));
     let (first, second) = rest.split_once(' ').unwrap_or((rest, ""));

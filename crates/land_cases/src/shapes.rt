@@ -10,7 +10,7 @@ use std::rc::Rc;
 // Why a case has no answer.
 #[derive(Clone, Copy)]
 enum NoAnswer {
-    // A part of it is none.
+    // A part of it cannot be read.
     Unread,
     // Memory was refused.
     Memory,
@@ -44,7 +44,7 @@ fn ring(alloc: Global, text: &str) -> Result<Ring, NoAnswer> {
     Ring::new(corners).ok().ok_or(NoAnswer::Unread)
 }
 
-// The rings of these parts; no part at all is no ring.
+// The rings of these parts. An empty text has no rings.
 fn rings(alloc: Global, text: &str) -> Result<Rc<Vec<Ring>>, NoAnswer> {
     let mut rings = Vec::new(alloc);
     if !text.is_empty() {
@@ -83,7 +83,7 @@ fn put_unread(answer: &mut String) -> Result<(), AllocError> {
     answer.push_str("unread")
 }
 
-// What is answered where there is no answer.
+// Appends `unread` for a case that cannot be read. Out of memory is an error.
 fn put_none(answer: &mut String, none: NoAnswer) -> Result<(), AllocError> {
     match none {
         NoAnswer::Unread => put_unread(answer),

@@ -1,4 +1,4 @@
-//! Journals of a register in memory, which lines ask for between commands.
+//! Journals of a register in memory, requested by lines between commands.
 
 use cad_io::{Counted, number};
 use cad_office::{Answer, JournalLines, office, print_answer};
@@ -10,7 +10,7 @@ use std::io::{Cursor, Error, ErrorKind, Result};
 /// The most commands of a piece of a journal.
 const PIECE: usize = 16;
 
-/// What ends the program where the register refuses.
+/// The error that ends the program if the register refuses.
 fn error_of(fault: RegisterFault) -> Error {
     match fault {
         RegisterFault::Memory => Error::from(ErrorKind::OutOfMemory),
@@ -18,7 +18,7 @@ fn error_of(fault: RegisterFault) -> Error {
     }
 }
 
-/// A register of no commands.
+/// A register without commands.
 fn empty_register(alloc: Global) -> Result<Register<MemStore>> {
     let connection = Connection::open_in_memory(alloc)?;
     match Register::create(alloc, connection) {
@@ -38,7 +38,7 @@ fn print_commands(rt: &HostRuntime, commands: Vec<Command>, newest: u64) -> Resu
     Ok(())
 }
 
-/// Prints the journal behind a revision, or why there is none.
+/// Prints the journal after a revision, or the register's refusal.
 fn print_journal(rt: &HostRuntime, register: &mut Register<MemStore>, behind: u64) -> Result<()> {
     match register.journal(behind) {
         Ok(commands) => print_commands(rt, commands, register.revision()),
@@ -58,7 +58,7 @@ fn enter_line(rt: &HostRuntime, register: &mut Register<MemStore>, line: &[u8]) 
     }
 }
 
-/// The revision behind which the line asks for a journal.
+/// The revision after which the line asks for a journal.
 fn journal_line(line: &[u8]) -> Option<u64> {
     let digits = line.strip_prefix(b"journal ")?;
     number(digits)

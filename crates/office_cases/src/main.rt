@@ -1,25 +1,25 @@
-//! Lines of the land office, answered over a ledger in memory, features as JSON, and journals of a register in memory.
+//! Lines of the land office, answered over a ledger in memory; features as JSON; and journals of a register in memory.
 //!
 //! The lines are in `stdin`, and what is printed for each is in `stdout`: docs/OFFICE.md row by row, each limit from both sides, and bytes
 //! that are no text. The first line, `{"do":"enter","object":11,"first":"2000-01-01","unit":{}}`, is answered by `revision 1`, and the
 //! fourth, `{"do":"retire","object":99,"last":"2000-01-01"}`, by `refused 2 UnknownObject`.
 //!
-//! The lines behind the line `= features` are entered into a ledger of their own, and answered alike. Then, collection by collection,
-//! each feature of its last revision is printed on a line of its own, as
+//! The lines after the line `= features` are entered into a ledger of their own, and answered in the same way. Then, collection by
+//! collection, each feature of its last revision is printed on a line of its own, as
 //!
 //! ```text
 //! units {"geometry":null,"id":"11.1","properties":{"begin":"2000-01-01","end":null,"name":null,"number":1,"object":11},"type":"Feature"}
 //! ```
 //!
-//! The lines behind the line `= journals` are entered into a register in a database in memory, and answered alike. The line `journal N`
-//! among them is answered by the journal behind revision N, a command a line, and `end R`, R the revision then:
+//! The lines after the line `= journals` are entered into a register in a database in memory, and answered in the same way. The line
+//! `journal N` among them is answered by the journal after revision N, a command a line, and `end R`, with R the revision at that time:
 //!
 //! ```text
 //! {"do":"enter","first":"2000-01-01","object":11,"unit":{"name":null}}
 //! end 1
 //! ```
 //!
-//! The status is 0 where all lines were read, and else the number of the office's fault; 100 where a feature or a journal can't be printed.
+//! The status is 0 if all lines were read, and else the number of the office's fault; 100 if a feature or a journal cannot be printed.
 #![tactic(auto)]
 
 mod journals;
@@ -41,13 +41,13 @@ use std::process::ExitCode;
 /// The line before the part of features, with the end of the line before it.
 const FEATURES: &[u8] = b"\n= features\n";
 
-/// The same before the part of journals.
+/// The same before the part with journals.
 const JOURNALS: &[u8] = b"\n= journals\n";
 
-/// The status where a feature or a journal can't be printed.
+/// The status if a feature or a journal cannot be printed.
 const NOT_PRINTED: u8 = 100;
 
-/// What stands before a line and behind it; nothing stands behind where the line is missing.
+/// The input before a line and after it. If the line is missing, nothing is after it.
 fn parts<'a>(input: &'a [u8], line: &[u8]) -> (&'a [u8], &'a [u8])
     requires { 0 < length line.now }
 {
@@ -57,7 +57,7 @@ fn parts<'a>(input: &'a [u8], line: &[u8]) -> (&'a [u8], &'a [u8])
     }
 }
 
-/// Enters the lines and prints the answers. What ends this before the last line is told by its number.
+/// Enters the lines and prints the answers. Returns 0, or the number of the fault that ends this before the last line.
 fn entered(rt: &HostRuntime, lines: &[u8], ledger: &mut MemoryLedger) -> u8 {
     match office(
         rt.alloc(),

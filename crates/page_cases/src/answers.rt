@@ -1,4 +1,4 @@
-//! What is answered of a filter's plans.
+//! The answers about a filter's plans.
 
 use crate::pages::{Meeting, count, fault_of, features_of};
 use crate::plans::{has, put_plan};
@@ -17,7 +17,7 @@ fn put_priced(plan: &Plan, layer: &Layer, line: &mut String) -> Result<(), Alloc
     write!(line, " {cost}")
 }
 
-// Those of the features of which the filter is true.
+// The features for which the filter is true.
 fn taken<'a>(
     alloc: Global,
     filter: &Filter,
@@ -32,7 +32,7 @@ fn taken<'a>(
     Ok(taken)
 }
 
-// A feature that is taken and that some plan has not.
+// A feature that is taken and that some plan does not have.
 fn uncovered<'a>(plans: &[Plan], taken: &[&'a Feature]) -> Option<&'a Feature> {
     for feature in taken {
         for plan in plans {
@@ -76,7 +76,7 @@ fn put_taken(alloc: Global, taken: &[&Feature], line: &mut String) -> Result<(),
     Ok(())
 }
 
-/// What is asked of a filter's plans: the plans of the menu, and the features of which the filter is true.
+/// What is asked about a filter's plans: the plans of the menu, and the features for which the filter is true.
 #[derive(Clone, Copy)]
 struct Menu<'a, 'f> {
     form: &'a Normal<'f>,

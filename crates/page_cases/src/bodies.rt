@@ -1,4 +1,4 @@
-//! Bodies as bytes: of pages, of one feature, and of faults.
+//! Bodies as bytes: those of pages, of one feature, and of faults.
 
 use crate::sample::{grown_snapshot, snapshot_at};
 use cad_page::{Ask, AskFault, Snapshot, as_bytes};
@@ -15,7 +15,7 @@ fn printed(alloc: Global, bytes: Vec<u8>) -> Result<String, AllocError> {
     }
 }
 
-/// The page, and behind a space the target of its link to the next one, where it has one.
+/// The page, and after a space the target of its link to the next one, if it has one.
 pub fn page_answer(alloc: Global, ask: &Ask, snapshot: &Snapshot) -> Result<String, AllocError> {
     let mut line = printed(alloc, as_bytes::body(alloc, ask, snapshot)?)?;
     if let Some(target) = as_bytes::next_link(alloc, ask, snapshot)? {
@@ -30,7 +30,7 @@ pub fn fault_answer(alloc: Global, fault: &AskFault) -> Result<String, AllocErro
     printed(alloc, as_bytes::fault_body(alloc, fault)?)
 }
 
-/// The page by both, if it is one.
+/// The page by both, if it is the same one.
 fn same_page(
     alloc: Global,
     ask: &Ask,
@@ -45,7 +45,7 @@ fn same_page(
     }
 }
 
-/// The page by the features, which have changes to their bases, and by the same with new bases.
+/// The page by the features, which have changes to their bases, and by the same features with new bases.
 fn settled_answer(alloc: Global, ask: &Ask, grown: &Snapshot) -> Result<String, AllocError> {
     let settled = grown.settled(alloc, 0)?;
     if grown.is_settled(0) || !settled.is_settled(0) {
@@ -54,7 +54,7 @@ fn settled_answer(alloc: Global, ask: &Ask, grown: &Snapshot) -> Result<String, 
     same_page(alloc, ask, grown, &settled)
 }
 
-/// The page of the last revision, whose features each command of the sample made of those before it.
+/// The page of the last revision, whose features each command of the sample made from those before it.
 pub fn grown_answer(alloc: Global, ask: &Ask) -> Result<String, AllocError> {
     let grown = grown_snapshot(alloc)?;
     settled_answer(alloc, ask, &grown)
@@ -73,7 +73,7 @@ fn found_answer(
     printed(alloc, body)
 }
 
-/// The body of a feature of the sample, or that there is none, by the name of a collection, a space and an identifier.
+/// The body of a feature of the sample, or the one that says that it is not there, by the name of a collection, a space and an identifier.
 pub fn feature_answer(alloc: Global, words: &str) -> Result<String, AllocError> {
     let Some((name, identifier)) = words.split_once(' ') else {
         return String::from_str(alloc, "no case");

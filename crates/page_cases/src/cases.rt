@@ -32,7 +32,7 @@ fn asked_answer(
     plans_answer(alloc, filter, &layer)
 }
 
-// The window of four numbers with commas between.
+// The window of four numbers that are separated by commas.
 fn window(words: &str) -> Option<Bounds> {
     let mut numbers = words.split(',');
     let x_min = numbers.next()?.parse::<i64>().ok()?;
@@ -42,7 +42,7 @@ fn window(words: &str) -> Option<Bounds> {
     Bounds::new(x_min, y_min, x_max, y_max)
 }
 
-// The filter with the window, where one is asked for.
+// The filter with the window, if one is asked for.
 fn windowed(
     alloc: Global,
     filter: Filter,
@@ -104,7 +104,7 @@ fn filter_answer(
     }
 }
 
-/// What a question about parameters, links or bodies without features is answered, if it is one.
+/// The answer to a question about parameters, links or bodies without features, if it is one.
 fn parameter_answer(alloc: Global, word: &str, rest: &str) -> Result<Option<String>, AllocError> {
     let (first, second) = rest.split_once(' ').unwrap_or((rest, ""));
     let answer = match word {
@@ -119,7 +119,7 @@ fn parameter_answer(alloc: Global, word: &str, rest: &str) -> Result<Option<Stri
     Ok(Some(format!(in alloc; "{word} {rest}: {answer}")?))
 }
 
-/// What is printed for a case, asked of these versions.
+/// What is printed for a case, answered from these versions.
 pub fn answer(alloc: Global, versions: &[Version], line: &[u8]) -> Result<String, AllocError>
     requires { IsListing versions.now }
 {

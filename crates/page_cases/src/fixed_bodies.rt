@@ -1,4 +1,4 @@
-//! Bodies that no feature stands in, by their paths.
+//! Bodies without features, by their paths.
 
 use cad_json::{
     collection_body, collections_body, filter_fault_body, landing_body, queryables_body,

@@ -100,7 +100,7 @@ fn page_by(alloc: Global, plan: &Plan, layer: &Layer, asked: Asked) -> Result<St
     Ok(line)
 }
 
-// The first plan whose page is another one, as it is printed.
+// The first plan with another page, as it is printed.
 fn another_page(
     alloc: Global,
     plans: &[Plan],
@@ -119,7 +119,7 @@ fn another_page(
     Ok(None)
 }
 
-// The same, of the plans for the first form and by tests of the second.
+// The same, with the plans for the first form and tests by the second.
 fn another_page_by(
     alloc: Global,
     ask: &Ask,
@@ -172,7 +172,7 @@ fn misleading_with(
     another_page_by(alloc, ask, &form, &tested, layer, wanted)
 }
 
-/// The first plan of the request's menu by which its page has others than the wanted identifiers, if there is one.
+/// The first plan of the request's menu whose page has other identifiers than the wanted ones, if there is one.
 pub fn misleading_plan(
     alloc: Global,
     ask: &Ask,

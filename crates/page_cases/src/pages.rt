@@ -42,7 +42,7 @@ fn are_same(rows: &[&Feature], wanted: &[&Feature]) -> bool {
     true
 }
 
-/// The features of the layer, its changes merged into them.
+/// The features of the layer, with its changes merged into them.
 pub fn features_of(alloc: Global, layer: &Layer) -> Result<Vec<Feature>, AllocError> {
     layer.features(alloc)
 }
@@ -53,8 +53,8 @@ pub fn count(plan: &Plan, features: &[Feature]) -> u64 {
     candidates.count() as u64
 }
 
-/// What is wrong with the page by a plan, in a word, if something is. It is to list the wanted features, each once, and to
-/// test each candidate once.
+/// The fault of the page by a plan, in a word, if it has one. The page has to list the wanted features, each once, and to test each
+/// candidate once.
 pub fn fault_of(
     alloc: Global,
     plan: &Plan,

@@ -1,4 +1,4 @@
-//! What is answered of a request.
+//! The answers to requests.
 
 use crate::bodies::{fault_answer, grown_answer, page_answer};
 use crate::menus::misleading_plan;
@@ -8,21 +8,21 @@ use cad_page::{Ask, AskFault, Report, Snapshot, body, explain, next_link};
 use cad_schema::Collection;
 use std::alloc::{AllocError, Global};
 
-/// What is shown of a request.
+/// What is shown for a request.
 #[derive(Clone, Copy)]
 pub enum Shown {
     /// How its page is found, and what that lists.
     Finding,
     /// The page, as it is sent.
     Page,
-    /// The same, where the commands of the sample made its revision one by one.
+    /// The same, if the commands of the sample made its revision one by one.
     Grown,
 }
 
-/// What stands before an identifier in a body. Within a text its quotes would have backslashes.
+/// The text before an identifier in a body. Within a text its quotes would have backslashes.
 const IDENTIFIER: &str = "\"id\":\"";
 
-// The identifiers that stand in a body.
+// The identifiers in a body.
 fn put_identifiers(body: &str, line: &mut String) -> Result<(), AllocError> {
     let mut pieces = body.split(IDENTIFIER);
     let _front = pieces.next();
@@ -136,7 +136,7 @@ fn query_answer(
     }
 }
 
-/// What is shown of a request, which is the name of a collection and, behind `?`, a query.
+/// What is shown for a request, which is the name of a collection and, after `?`, a query.
 pub fn request_answer(alloc: Global, shown: Shown, target: &str) -> Result<String, AllocError> {
     let (name, query) = match target.split_once('?') {
         None => (target, ""),

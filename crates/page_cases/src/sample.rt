@@ -24,7 +24,7 @@ pub fn sample_versions(alloc: Global) -> Result<Vec<Version>, AllocError>
     }
 }
 
-/// The sample register at a revision, or at its last one where none is asked for; none where there is no such revision.
+/// The sample register at a revision, or at its last one if none is asked for; none if there is no such revision.
 pub fn snapshot_at(alloc: Global, asked: Option<u64>) -> Result<Option<Snapshot>, AllocError> {
     let mut ledger = MemoryLedger::new(alloc);
     let Ok(last) = fill(alloc, &mut ledger) else {
@@ -50,7 +50,7 @@ fn empty_snapshot(alloc: Global) -> Result<Snapshot, AllocError> {
     }
 }
 
-/// The sample register at its last revision, each revision made of the one before.
+/// The sample register at its last revision, with each revision made from the one before.
 pub fn grown_snapshot(alloc: Global) -> Result<Snapshot, AllocError> {
     let commands = sample(alloc)?;
     let mut snapshot = empty_snapshot(alloc)?;

@@ -1,4 +1,4 @@
--- What requests are answered in the cases (own profile).
+-- The answers to requests in the cases (own profile).
 use Rattle.std.specs.Prelude.{◌≡◌, ℕ, List, ◌++◌, length, codes, decimal}
 use Rattle.std.proofs.Common.{sym, ◌∙◌}
 use Rattle.cad_versions.specs.declared.command.Command.{Command}
@@ -9,7 +9,7 @@ use Rattle.cad_memory_ledger.specs.Ledgers.{IsLedgerOf}
 use Rattle.cad_head.specs.Request.{Request}
 use Rattle.test_support.specs.declared.echo.Echo.{Echo}
 
--- its ledger stands for the commands
+-- its ledger holds the commands
 abbrev pub StandsFor : Echo → List Command → Type 0
 StandsFor e commands = IsLedgerOf e.ledger commands
 

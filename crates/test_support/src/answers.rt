@@ -7,16 +7,16 @@ use cad_desk::{Desk, DeskFault, Reply};
 use cad_stream::Responder;
 use std::alloc::{AllocError, Global};
 
-/// Whether a line asks for want of memory.
+/// Whether memory may run out for a line.
 #[derive(Clone, Copy, Debug, PartialEq, Eq)]
 pub enum Memory {
-    /// Want of memory is an answer as any other.
+    /// Out of memory is an answer like any other.
     MayBeWanting,
-    /// Want of memory is told by `Err`.
+    /// Out of memory is reported by `Err`.
     IsAmple,
 }
 
-/// What tells a refusal of the desk.
+/// The text of a refusal by the desk.
 pub(crate) fn refusal(
     alloc: Global,
     fault: DeskFault,
@@ -45,7 +45,7 @@ fn told(alloc: Global, reply: Reply) -> Result<String, AllocError> {
     }
 }
 
-/// What is printed for what a desk answered to an event.
+/// What is printed for a desk's answer to an event.
 pub fn answer_event(
     alloc: Global,
     answer: Result<Reply, DeskFault>,
@@ -57,7 +57,7 @@ pub fn answer_event(
     }
 }
 
-/// Does what a line asks for, and answers what is printed for it.
+/// Does what a line asks for, and returns what is printed for it.
 pub fn answer<R: Responder>(
     alloc: Global,
     desk: &mut Desk<R>,

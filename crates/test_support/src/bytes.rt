@@ -1,9 +1,9 @@
-//! Bytes, and the JSON that writes them: each character of a string stands for the byte of its number.
+//! Bytes, and the JSON that writes them: each character of a string means the byte of its number.
 
 use serde_json::{Error, Value};
 use std::alloc::{AllocError, Global};
 
-/// Appends the bytes of a text. Whether each of its characters stands for one.
+/// Appends the bytes of a text. Returns whether each of its characters means a byte.
 fn push_text(out: &mut Vec<u8>, text: &str) -> Result<bool, AllocError> {
     for character in text.chars() {
         let Ok(byte) = u8::try_from(u32::from(character)) else {
@@ -14,7 +14,7 @@ fn push_text(out: &mut Vec<u8>, text: &str) -> Result<bool, AllocError> {
     Ok(true)
 }
 
-/// Appends the bytes of a text so often.
+/// Appends the bytes of a text so many times.
 fn push_often(out: &mut Vec<u8>, count: u64, text: &str) -> Result<bool, AllocError> {
     for _ in 0..count {
         if !push_text(out, text)? {
@@ -24,7 +24,7 @@ fn push_often(out: &mut Vec<u8>, count: u64, text: &str) -> Result<bool, AllocEr
     Ok(true)
 }
 
-/// Appends the bytes of a part: a string, or how often it stands and the string. Whether it is one.
+/// Appends the bytes of a part: a string, or a number of times and the string. Returns whether it is a part.
 fn push_part(out: &mut Vec<u8>, part: &Value) -> Result<bool, AllocError> {
     if let Some(text) = part.as_str() {
         return push_text(out, text);
@@ -41,7 +41,7 @@ fn push_part(out: &mut Vec<u8>, part: &Value) -> Result<bool, AllocError> {
     }
 }
 
-/// Appends the bytes of a string, or of a list of parts.
+/// Appends the bytes of a string, or of a list of parts. Returns whether it is one of these.
 fn push_all(out: &mut Vec<u8>, value: &Value) -> Result<bool, AllocError> {
     let Some(parts) = value.as_array() else {
         return push_part(out, value);
@@ -73,7 +73,7 @@ fn without_value(error: Error) -> Result<Option<Value>, AllocError> {
     }
 }
 
-/// The bytes that a line writes, if it writes some.
+/// The bytes that a line writes, if it writes any.
 pub(crate) fn bytes_of(alloc: Global, line: &[u8]) -> Result<Option<Vec<u8>>, AllocError> {
     let Some(value) = value_of(alloc, line)? else {
         return Ok(None);

@@ -1,8 +1,8 @@
-//! A writer that knows what it should be given.
+//! A writer that knows what it should get.
 
 use std::io::{Result, Write};
 
-/// A writer that takes one byte a call, and counts how often it was given a text, one right behind the other.
+/// A writer that takes one byte a call, and counts how often it got a text, each copy directly after the one before.
 #[derive(Debug, Drop)]
 pub struct Copies<'a> {
     text: &'a [u8],
@@ -22,7 +22,7 @@ impl<'a> Copies<'a> {
         }
     }
 
-    /// How often it was given the text, where it was given that and nothing else.
+    /// How often it got the text, if it got that and nothing else.
     pub fn count(&self) -> Option<usize> {
         if self.has_others || self.at > 0 {
             None

@@ -1,4 +1,4 @@
-//! What answers the requests of the cases.
+//! The answers to the requests of the cases.
 
 ghost use Rattle.std.specs.Prelude.{◌≡◌, IfOk};
 ghost use Rattle.test_support.specs.Echoes.{echo as echo_of};
@@ -21,7 +21,7 @@ impl Echo {
     ghost use Rattle.std.specs.Prelude.{[]};
     ghost use Rattle.test_support.specs.Echoes.{StandsFor};
 
-    /// It stands for no commands.
+    /// It holds no commands.
     pub fn new(alloc: Global) -> Echo
         ensures { StandsFor result [] }
     {

@@ -11,7 +11,7 @@ pub struct Endless<'a> {
 }
 
 impl<'a> Endless<'a> {
-    /// It begins at the text's first byte. Of a text without bytes it gives nothing.
+    /// It begins at the text's first byte. If the text has no bytes, it gives nothing.
     pub fn new(text: &'a [u8]) -> Endless<'a> {
         Endless {
             text,

@@ -1,32 +1,30 @@
-//! What cases and tests stand on: scripts of what happens to a desk, an answerer of requests by their own words, and readers and
-//! writers that end or fail where they are told.
+//! The common parts of cases and tests: scripts of events at a desk, an answerer that returns the words of each request, and readers and
+//! writers that end or fail at a given place.
 //!
 //! - [`Echo`]: answers each request with its method, its target and the revision in force, over a ledger in memory. Two targets have no
 //!   reply: `/lost` is refused with `NotARegister`, and `/full` with `Memory`.
 //! - [`Peer`]: a reader. `Peer::new(b"GET", 1, 2, Stop::Fails)` gives `G`, then `E`, and then it fails.
 //! - [`Endless`]: a reader that gives a text again and again. `Endless::new(b"ab")` gives `a`, then `b`, then `a`.
 //! - [`Taker`]: a writer that keeps what it took. `Taker::new(2, 3, Stop::Ends)` takes two bytes, then one, and then none.
-//! - [`Copies`]: a writer that counts copies of a text. `Copies::new(b"ab")` has counted 2 once it was given `abab`.
+//! - [`Copies`]: a writer that counts copies of a text. `Copies::new(b"ab")` has counted 2 after it was given `abab`.
 //! - `line_of`: what a line asks for
 //! - `answer`: what is printed for it; `answer_event` and `answer_served` are its parts, for a desk within something else
 //!
 //! The lines are
 //!
 //! - `open C`, which opens connection C, and is answered by `Opened`;
-//! - `bytes C JSON`, which sends it these bytes, and is answered by `Sent JSON`, or `Sent JSON ends` where the connection
-//!   ended;
+//! - `bytes C JSON`, which sends it these bytes, and is answered by `Sent JSON`, or `Sent JSON ends` if the connection ended;
 //! - `close C`, which closes it, and is answered by `Closed`;
 //! - `office LINE`, which enters the command of a line of the land office, and is answered by `Entered N`;
-//! - `serve C JSON`, which serves connection C from a reader that gives one byte a read to a writer that takes one byte a
-//!   write, and is answered by how that ended and the bytes written;
-//! - `fail-read K C JSON` and `fail-write K C JSON`, which do so where the Kth read or write fails, and
-//!   `empty-write K C JSON`, where the Kth write takes nothing.
+//! - `serve C JSON`, which serves connection C from a reader that gives one byte a read to a writer that takes one byte a write, and is
+//!   answered by how that ended and the bytes written;
+//! - `fail-read K C JSON` and `fail-write K C JSON`, which do the same while the Kth read or write fails, and `empty-write K C JSON`, while
+//!   the Kth write takes nothing.
 //!
-//! Any of them is answered by `N NAME` where the desk refuses, with the register's fault behind it where that refused.
-//! The bytes are written as JSON: each character of a string, U+0000 to U+00FF, stands for the byte of its number; a list
-//! of such strings and of pairs `[N, STRING]` stands for all of them, the STRING of a pair N times. So
-//! `["GET /", [3, "a"], "\n"]` is the nine bytes of `GET /aaa\n`. The line `open 1` asks for `Line::Event(Event::Open(1))`, and
-//! `open one` for nothing.
+//! If the desk refuses, the answer to any of them is `N NAME`, followed by the register's fault if the register refused. The bytes are
+//! written as JSON: each character of a string, U+0000 to U+00FF, means the byte of its number. A list of such strings and of pairs `[N,
+//! STRING]` means all of their bytes, those of the STRING of a pair N times. So `["GET /", [3, "a"], "\n"]` is the nine bytes of `GET
+//! /aaa\n`. The line `open 1` asks for `Line::Event(Event::Open(1))`, and `open one` for nothing.
 #![tactic(auto)]
 
 mod answers;

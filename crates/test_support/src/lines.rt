@@ -5,7 +5,7 @@ use cad_commands::{CommandError, read_command};
 use cad_desk::Event;
 use std::alloc::{AllocError, Global};
 
-/// Which call of a reader or a writer goes wrong, from 1 on.
+/// Which call of a reader or a writer goes wrong, counted from 1.
 #[derive(Clone, Copy)]
 pub enum Failure {
     /// No call does.
@@ -78,7 +78,7 @@ fn serve_line(alloc: Global, failure: Failure, rest: &str) -> Result<Option<Line
     }
 }
 
-/// A connection that is served while a call goes wrong.
+/// A connection that is served while a call fails.
 fn failing_line(alloc: Global, word: &str, rest: &str) -> Result<Option<Line>, AllocError> {
     let Some((at, rest)) = rest.split_once(' ') else {
         return Ok(None);

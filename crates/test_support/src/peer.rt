@@ -13,7 +13,7 @@ pub struct Peer<'a> {
 }
 
 impl<'a> Peer<'a> {
-    /// It gives at most `piece` bytes a call, and then stops behind `most` bytes of the text, or behind all of them.
+    /// It gives at most `piece` bytes a call, and then stops after `most` bytes of the text, or after all of them.
     pub fn new(text: &'a [u8], piece: usize, most: usize, stop: Stop) -> Peer<'a> {
         Peer {
             left: &text[..most.min(text.len())],

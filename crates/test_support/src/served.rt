@@ -13,7 +13,7 @@ use std::io::{Error, ErrorKind, Read, Result as IoResult, Write};
 /// The bytes for which a writer has room from the start.
 const REPLY_ROOM: usize = 4096;
 
-/// A reader that gives one byte a call, and fails once so many calls went well.
+/// A reader that gives one byte a call, and fails after so many successful calls.
 #[derive(Drop)]
 struct ByteByByte<'a> {
     bytes: &'a [u8],
@@ -37,7 +37,7 @@ impl<'a> Read for ByteByByte<'a> {
     }
 }
 
-/// A writer that takes one byte a call. Once so many calls went well it fails, or takes nothing.
+/// A writer that takes one byte a call. After so many successful calls it fails, or takes nothing.
 #[derive(Drop)]
 struct OneByOne {
     bytes: Vec<u8>,

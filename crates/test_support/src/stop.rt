@@ -1,6 +1,6 @@
-//! Where a stream ends.
+//! How a stream ends.
 
-/// What comes behind the last byte that is given or taken.
+/// What happens after the last byte that is given or taken.
 #[derive(Clone, Copy, Debug, PartialEq, Eq)]
 pub enum Stop {
     /// A call gives or takes nothing.

@@ -16,7 +16,7 @@ pub struct Taker {
 }
 
 impl Taker {
-    /// It takes at most `piece` bytes a call, and stops behind `most` bytes.
+    /// It takes at most `piece` bytes a call, and stops after `most` bytes.
     pub fn new(piece: usize, most: usize, stop: Stop) -> Taker {
         Taker {
             taken: [0; 512],

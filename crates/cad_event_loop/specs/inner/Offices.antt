@@ -18,7 +18,7 @@ abbrev pub office_at : {S : Type 0} → (S → ℕ) → Option (Office S) → At
 office_at name None = None
 office_at name (Some office) = Some (name office.socket, office.entry)
 
--- of the land office, if it is here, a line has begun
+-- a line of the land office has begun, if it is here
 abbrev pub HasBegun : {S : Type 0} → Option (Office S) → Type 0
 HasBegun None = ⊤
 HasBegun (Some office) = IsBegun office.entry
@@ -28,12 +28,12 @@ abbrev pub IsOfficeSending : {S : Type 0} → Option (Office S) → Type 0
 IsOfficeSending None = ⊥
 IsOfficeSending (Some office) = IsSending office.entry
 
--- where hosting goes on
+-- the same, if hosting continues
 abbrev pub HasBegunUnless : {S : Type 0} → Option Stopped → Option (Office S) → Type 0
 HasBegunUnless None office = HasBegun office
 HasBegunUnless (Some stopped) office = ⊤
 
--- why hosting ends by what came of serving the land office, if it does
+-- why hosting ends after serving the land office with this result, if it does
 abbrev pub end_of_office : EntryServed → Option Stopped
 end_of_office served.Goes = None
 end_of_office served.Waits = None
@@ -46,12 +46,12 @@ abbrev pub is_over : EntryServed → Bool
 is_over served.Over = true
 is_over other = false
 
--- it may go on at once, if it is not over
+-- it may continue at once, if it is not over
 abbrev pub may_go_on : EntryServed → Bool
 may_go_on served.Waits = false
 may_go_on other = true
 
--- its socket, and what is left of its connection, unless it is over and its socket is let go
+-- the deed of letting its socket go, and what remains of its connection: nothing, if it is over
 abbrev pub left_deeds : Bool → ℕ → List Deed
 left_deeds over o = if over then left o ∷ [] else []
 
@@ -59,13 +59,13 @@ abbrev pub left_at : Bool → ℕ → Entry → AtOffice
 left_at over o entry = if over then None else Some (o, entry)
 
 module _ {R S : Type 0} (g : Ghosts R) (name : S → ℕ) where
-  -- the land office is served, and this is left of it
+  -- the land office is served, and this remains of it
   abbrev pub HasOfficeTurns : Desk R → Office S → EntryServed × Option (Office S) → Desk R → List Deed → Type 0
   HasOfficeTurns old office result new deeds =
       (after : Entry) × (own : List Deed) × IsEntryServed g (name office.socket) old office.entry result.0 new after own
       × (deeds ≡ own ++ left_deeds (is_over result.0) (name office.socket)) × (office_at name result.1 ≡ left_at (is_over result.0) (name office.socket) after)
 
--- an answer to the land office is written on, if one is to be, and this is left of it
+-- a further part of an answer to the land office is written, if there is one, and this remains of the office
 module _ {S : Type 0} (name : S → ℕ) where
   abbrev pub HasSent : Office S → EntryTurned × Option (Office S) → List Deed → Type 0
   HasSent office result deeds =

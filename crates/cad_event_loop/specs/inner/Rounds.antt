@@ -7,11 +7,11 @@ use Rattle.cad_event_loop.specs.inner.Standing.{standings}
 use Rattle.cad_event_loop.specs.Turns.{Standings}
 use Rattle.cad_event_loop.specs.Works.{Place, place_of}
 
--- the clients and the land office, where sockets of this type have these names
+-- the clients and the land office, if sockets of this type have these names
 abbrev pub here : {S : Type 0} → (S → ℕ) → Rounds S → Place
 here name rounds = place_of name rounds.peers.clients (office_at name rounds.office)
 
--- how they stand
+-- their states
 abbrev pub standing : {S : Type 0} → (S → ℕ) → Rounds S → Standings
 standing name rounds = standings rounds.peers (office_at name rounds.office)
 

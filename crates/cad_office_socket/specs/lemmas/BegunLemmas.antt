@@ -8,7 +8,7 @@ use Rattle.cad_office_socket.specs.declared.turned.EntryTurned.{EntryTurned}
 use Rattle.cad_office_socket.specs.declared.turned.EntryTurned.TheVariants.{Wrote, Took, Added, Answered, Lost, Stops, Waits, Over}
 use Rattle.cad_office_socket.specs.Turns.{HasBegun, IsBegun, EndsLine, IsTaken, IsEntryTurn}
 
--- where the office goes on, a line has begun
+-- if the office continues, a line has begun
 abbrev pub Later : EntryTurned → Entry → Type 0
 Later Over next = Unit {0}
 Later (Lost answer) next = Unit {0}

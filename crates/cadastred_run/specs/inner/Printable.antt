@@ -9,6 +9,6 @@ is_printable byte = nat_le 32 byte && nat_le byte 126
 abbrev pub ArePrintable : List ℕ → Type 0
 ArePrintable bytes = list_all is_printable bytes ≡ true
 
--- where all bytes were printable, all are
+-- if all bytes were printable before, all are afterwards
 abbrev pub StaysPrintable : List ℕ → List ℕ → Type 0
 StaysPrintable old new = ArePrintable old → ArePrintable new
