@@ -19,7 +19,7 @@ use cad_shape::Bounds;
 /// Which features are asked for, but for the filter.
 #[derive(Clone, Copy, Debug, PartialEq, Eq)]
 pub struct Selection {
-    /// How many at most, from 1 to 1,000.
+    /// The most features, from 1 to 1,000.
     pub limit: u32,
     /// The days that a version's lifespan has to meet.
     pub datetime: Option<Interval>,
