@@ -1,10 +1,10 @@
 //! Serving connections of a desk: one, from a reader to a writer, or those of a listener, one after the other.
 //!
-//! - `serve`: reads the connection's bytes in pieces, has the desk take each, and writes its replies
+//! - `serve`: reads the connection's bytes in pieces, gives each to the desk, and writes its replies
 //! - `Ending`: how serving ended
 //! - `ServeFault`: why it stopped before its end
-//! - `write_fixed_head`: writes the head that tells a fault of the desk, for which no memory is needed; `fixed_head`: that head
-//! - `listen`: takes so many connections, and answers the status of the process
+//! - `write_fixed_head`: writes the head that reports a fault of the desk, which needs no memory; `fixed_head`: that head
+//! - `listen`: takes a number of connections, and returns the status of the process
 //! - `read_words`, `read_count`, `read_address`: the words of a command line, and what the arguments of a program ask for
 //! - `bound_for`, `tell_address`: whether the address that is bound is the one that was asked for, and the line that names it
 //! - `Message`, `Fault`, `tell`: the line on standard error for what went wrong

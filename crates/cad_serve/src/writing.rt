@@ -9,15 +9,15 @@ use cad_desk::DeskFault;
 use cad_io::{CountedWrite, WriteFailed, write_counted, write_whole};
 use std::io::Write;
 
-/// The head that tells that a growth was refused.
+/// The head for out of memory.
 const NO_MEMORY_HEAD: &str =
     "HTTP/1.1 503 Service Unavailable\r\nContent-Length: 0\r\nConnection: close\r\n\r\n";
 
-/// The head that tells that the register refused.
+/// The head for a refusal of the register.
 const REGISTER_HEAD: &str =
     "HTTP/1.1 500 Internal Server Error\r\nContent-Length: 0\r\nConnection: close\r\n\r\n";
 
-/// The head that tells the fault. Nothing is told of a connection that the desk does not open.
+/// The head that reports the fault. It is empty if the connection is not open, is already open, or is one too many.
 pub fn fixed_head(fault: DeskFault) -> &'static str
     ensures { result.now ≡ fixed_head_of fault }
 {
@@ -29,14 +29,14 @@ pub fn fixed_head(fault: DeskFault) -> &'static str
     }
 }
 
-/// Writes the head that tells the fault. No memory is needed for it.
+/// Writes the head that reports the fault. This needs no memory.
 pub fn write_fixed_head<W: Write>(writer: &mut W, fault: DeskFault) -> Result<(), WriteFailed>
     ensures { IsWritten (W.contents writer.old) (W.contents writer.new) (fixed_head_of fault) result }
 {
     write_whole(writer, fixed_head(fault).as_bytes())
 }
 
-/// The same by a writer that counts its failures.
+/// The same for a writer that counts its failures.
 pub(crate) fn write_counted_head<W: CountedWrite>(
     writer: &mut W,
     fault: DeskFault,
