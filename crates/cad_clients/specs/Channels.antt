@@ -50,7 +50,7 @@ pub record IsIdle (channel : Channel) : Type 0 where
 abbrev pub IsSending : Channel → Type 0
 IsSending channel = 0 < length (unsent channel)
 
--- the next step is a write or a read, which the socket may be unable to do at the moment
+-- the next step is a write or a read, which the socket may not be able to do at the moment
 abbrev pub MayWait : Channel → Type 0
 MayWait channel = IsSending channel ⊎ IsIdle channel
 

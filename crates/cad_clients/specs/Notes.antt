@@ -25,7 +25,7 @@ first_notes now = record { is_ready = true; moved = now; begun = None }
 abbrev pub noted : ℕ → Turned → List ℕ → Notes → Notes
 -- bytes went out: if all did, no request is under way
 noted now Wrote left notes = record notes { is_ready = true; moved = now; begun = if length left == 0 then None else notes.begun }
--- bytes came: a request has been under way before, or is since now
+-- bytes came: a request was already under way, or is from now on
 noted now Took left notes = record notes { is_ready = true; moved = now; begun = option_or notes.begun (Some now) }
 noted now Fed left notes = record notes { is_ready = true; begun = option_or notes.begun (Some now) }
 noted now Waits left notes = record notes { is_ready = false }

@@ -46,7 +46,7 @@ abbrev pub fed_in : List Turned → ℕ
 fed_in [] = 0
 fed_in (turned ∷ turns) = fed_by turned + fed_in turns
 
--- after these turns, the last of them first, connection c has no more for now: at the last one its socket gave or took nothing, or the
+-- after these turns, the last of them first, connection c is done for now: at the last one its socket gave or took nothing, or the
 -- reply to a piece went out, or there were four turns
 abbrev pub IsEnough : {S : Type 0} → ℕ → List Turned → Clients S → Type 0
 IsEnough c turns next =
@@ -94,7 +94,7 @@ module _ {R S : Type 0} (g : Ghosts R) (name : S → ℕ) (c now : ℕ) where
       (before : List Turned) × HasTurns old clients (last ∷ before) new next deeds × (fed_in before ≤ 1) × (any_over before ≡ false) × (length before < most_turns)
 
   -- connection c is served by at most four turns of its own, in which the desk takes at most one piece. They are as many as it has for now,
-  -- and it is not over at any of them; or they go up to the one at which it is over. There is no turn if there is no such connection.
+  -- and it is not over at any of them. Or they go up to the turn at which it is over. There is no turn if there is no such connection.
   abbrev pub IsServed : Desk R → Clients S → Served → Desk R → Clients S → List Deed → Type 0
   IsServed old clients Stays new next deeds =
       (turns : List Turned) × HasTurns old clients turns new next deeds × (fed_in turns ≤ 1) × IsEnough c turns next × (any_over turns ≡ false) × (length turns ≤ most_turns)

@@ -184,8 +184,8 @@ impl Channel {
         }
     }
 
-    /// Does one thing. If something is to be written, it is a write. Otherwise, if bytes were read that the desk has not taken, the desk
-    /// takes those up to the first empty line. Otherwise it is a read.
+    /// Does one thing. If something is to be written, it is a write. Otherwise, if a reply ended the connection, the connection is over.
+    /// Otherwise, if bytes were read that the desk has not taken, the desk takes those up to the first empty line. Otherwise it is a read.
     pub fn turn<N: Network, R: Responder>(
         &mut self,
         alloc: Global,

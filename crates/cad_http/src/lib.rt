@@ -14,7 +14,7 @@
 //! With a register, which is a ledger in a database:
 //!
 //! ```text
-//! let mut desk = Desk::new(alloc, register)?;          // or the register back, where there is no memory
+//! let mut desk = Desk::new(alloc, register)?;          // or the register back, if there is no memory
 //! desk.step(Event::Open(1));                           // Ok(Reply::Opened)
 //! desk.step(Event::Bytes(1, head));                    // Ok(Reply::Sent { bytes, ends: false })
 //! desk.step(Event::Office(command));                   // Ok(Reply::Entered(11))

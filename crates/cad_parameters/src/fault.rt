@@ -1,4 +1,4 @@
-//! Why parameters are refused, but for the filter.
+//! Why parameters are refused, except for the filter.
 
 use thiserror::Error;
 

@@ -8,7 +8,7 @@ use Rattle.cad_request.specs.declared.request.ParsedRequest.{ParsedRequest}
 use Rattle.cad_request.specs.declared.request.ParsedRequest.TheVariants as parsed
 use Rattle.cad_server.specs.Replies.{FailsToTell, FailsToAnswer}
 
--- a request fails to be answered only for a fault of what stores the ledger
+-- a request fails to be answered only for a fault of the ledger
 module _ {FailsToList : ℕ → List Command → RegisterFault → Type 0} (keeps : (revision : ℕ) (commands : List Command) (fault : RegisterFault) → FailsToList revision commands fault → IsOfKeeping fault) where
   failing_to_tell : (commands : List Command) (wanted : ParsedRequest) (fault : RegisterFault) → FailsToTell FailsToList commands wanted fault → IsOfKeeping fault
   failing_to_tell commands (parsed.Immediate response) fault f = absurd f

@@ -102,7 +102,7 @@ module _ {L : Type 0} (g : Ghosts L) where
     pub same : ledger_in new ≡ ledger_in old
     pub kept : StaysWith snapshot old.kept new.kept
 
-  -- the response is what is sought, from what is kept of the revision. There is no response only if nothing of the revision is kept. Only
+  -- the response is what is sought, from what is kept of the revision. A response is missing only if nothing of the revision is kept. Only
   -- the order of what is kept changes.
   pub record Recalls {E : Type 0} (revision : ℕ) (sought : FeatureRequest) (old : Records L) (result : Result (Option Response) E) (new : Records L) : Type 0 where
     pub response : IfOk result (λ found. IfSome found (λ response. (commands : List Command) → KeepsOf commands old.kept → content_in_response response ≡ content_in sought (snapshot_at revision commands)))

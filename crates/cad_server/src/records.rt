@@ -21,7 +21,7 @@ pub(crate) const MOST_CHANGES: usize = 2048;
 /// How many features a segment of a collection has for each of these changes: as many are put into a new base when one is due.
 const FEATURES_FOR_A_CHANGE: usize = 4;
 
-/// How many features are put into indexes, or work of the same cost is done, for each of these changes before a revision is dropped. This
+/// How many features are put into indexes, counting what takes as much, for each of these changes before a revision is dropped. This
 /// bounds what is kept in addition to the newest features.
 const SPENT_FOR_A_CHANGE: usize = 32;
 

@@ -39,7 +39,7 @@ fn enter_over<S: Alter, R: CountedRead, W: Write>(
     }
 }
 
-/// Enters the commands of the lines into the register of a file, which held `start` at first, and prints the answers.
+/// Enters the commands of the lines into the register of a file, which at first held what `start` says, and prints the answers.
 pub fn run_office<S: Start, R: CountedRead, W: Write>(
     rt: &HostRuntime,
     file: &str,
@@ -74,7 +74,7 @@ fn ask_over<S: Alter, R: CountedRead, W: CountedWrite>(
     }
 }
 
-/// Serves a connection over the register of a file, which held `start` at first.
+/// Serves a connection over the register of a file, which at first held what `start` says.
 pub fn run_ask<S: Start, R: CountedRead, W: CountedWrite>(
     rt: &HostRuntime,
     file: &str,
