@@ -12,7 +12,8 @@ is_named name field = str_eq_ignore_ascii_case field.0 name
 abbrev pub lacks_host : Request → Bool
 lacks_host r = r.minor == 1 && not (count_by (is_named (codes "host")) r.fields == 1)
 
--- the field announces a body, even an empty one (RFC 9112, section 6.1: transfer-encoding, 6.2: content-length)
+-- the field announces a body: any Transfer-Encoding, or a Content-Length other than `0` (RFC 9112, section 6.1: transfer-encoding, 6.2:
+-- content-length)
 abbrev pub announces_body : FieldText → Bool
 announces_body field =
     is_named (codes "transfer-encoding") field

@@ -21,7 +21,7 @@ pub enum Resource<'a> {
     Queryables(Collection),
     /// `/collections/{c}/items`: the features of a collection.
     Items(Collection),
-    /// `/collections/{c}/items/{id}`: one feature, by the text of its identifier, which may not be a valid one.
+    /// `/collections/{c}/items/{id}`: one feature, by the text of its identifier, which need not be a valid one.
     Item {
         /// The collection.
         collection: Collection,
