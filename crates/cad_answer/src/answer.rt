@@ -22,8 +22,8 @@ fn meets_days(days: Option<Interval>, lifespan: Option<Interval>) -> bool
     }
 }
 
-/// Whether the feature, with its lifespan at this place, passes the query: its days are looked at, and the box and the filter are
-/// tested by their normal form.
+/// Whether the feature, with its lifespan at this place, passes the query: its days are compared, and the box and the filter are tested by
+/// their normal form.
 pub(crate) fn is_answer(
     alloc: Global,
     place: Option<usize>,

@@ -2,14 +2,13 @@
 //!
 //! - [`PageQuery`]: days, a box and a filter that restrict an answer, the normal form of box and filter, by which features are
 //!   tested, and which part of the answer is wanted
-//! - [`page`]: the first features that answer, after one that is named, and whether more are left: a [`Page`]. Looked at are the
-//!   candidates of a [`Plan`] among the features of a [`Layer`]
-//! - `laws`: that pages ascend and are full, that the pages of a walk, joined, are the whole answer, and that those candidates
-//!   of a plan that answer are all that answer, where the plan covers the answer
+//! - [`page`]: the first features that answer, after one that is named, and whether more are left: a [`Page`]. It examines the candidates
+//!   of a [`Plan`] among the features of a [`Layer`]
+//! - `laws`: that pages ascend and are full, and that the pages of a walk, joined, are the whole answer. If a plan covers the answer, its
+//!   candidates that answer are all that answer
 //!
-//! Of the parcels 1.1, 1.2, 2.1, 3.1 and 4.1, of which all but 1.1 are open since 2010, the query with the days of
-//! 2012-05-01 and a limit of 2 has the page 1.2, 2.1, and more is left. After 2.1 it has the page 3.1, 4.1, and none is
-//! left.
+//! An example: the parcels are 1.1, 1.2, 2.1, 3.1 and 4.1, and all but 1.1 are open since 2010. For the query with the days of 2012-05-01
+//! and a limit of 2, the page is 1.2, 2.1, and more is left. After 2.1 the page is 3.1, 4.1, and none is left.
 #![tactic(auto)]
 
 mod answer;

@@ -18,8 +18,8 @@ use std::alloc::{AllocError, Global};
 
 /// The page of the layer's features that the query asks for. An error means out of memory.
 ///
-/// The plan's candidates are looked at one after the other, up to the one that shows that more are left. The page shows those
-/// that answer; where the plan covers the answer, these are all (`covering_plans_have_the_answer`).
+/// The plan's candidates are examined one after the other, up to the one that shows that more are left. The page shows those that answer;
+/// if the plan covers the answer, these are all (`covering_plans_have_the_answer`).
 pub fn page<'a>(
     alloc: Global,
     plan: &Plan,

@@ -15,18 +15,18 @@ use Rattle.cad_ask.specs.declared.fault.AskFault.{AskFault}
 use Rattle.cad_ask.specs.declared.fault.AskFault.TheVariants as fault
 use Rattle.cad_ask.specs.Faults.{fault_number, of_parameter, selection_fault, continuation_fault}
 
--- the text that is given as a filter, if one is
+-- the text that is given as a filter, if there is one
 abbrev pub filter_given : List PairText → Option (List ℕ)
 filter_given pairs = given (codes "filter") pairs
 
--- the filter that a text of the collection writes; none where no text is given
+-- the filter of the collection that a text writes; none if no text is given
 abbrev pub IsFilterGiven : Collection → Option (List ℕ) → Option Filter → Type 0
 IsFilterGiven c None None = Unit {0}
 IsFilterGiven c None (Some filter) = ⊥
 IsFilterGiven c (Some text) None = ⊥
 IsFilterGiven c (Some text) (Some filter) = IsAccepted (schema_of c) text × IsFilterOf (schema_of c) text filter
 
--- the fault of a text that is no filter of the collection: its first one, and where it stands
+-- the fault of a text that is no filter of the collection: its first one, and its place
 pub record IsFilterFault (c : Collection) (text : Option (List ℕ)) (f : AskFault) : Type 0 where
   pub content : List ℕ
   pub cause : Cause
@@ -39,7 +39,7 @@ abbrev pub HasFault : Collection → List PairText → AskFault → Type 0
 HasFault c pairs f =
     ((p : ParameterFault) × (f ≡ of_parameter p) × (have p pairs ≡ true)) ⊎ IsFilterFault c (filter_given pairs) f
 
--- they have it, and none with a lower number
+-- the pairs have the fault, and none with a lower number
 pub record IsLeastFault (c : Collection) (pairs : List PairText) (f : AskFault) : Type 0 where
   pub is_had : HasFault c pairs f
   pub least : (other : AskFault) → HasFault c pairs other → fault_number f ≤ fault_number other
@@ -54,7 +54,7 @@ pub record IsAsk (c : Collection) (pairs : List PairText) (ask : Ask) : Type 0 w
   pub no_continuation_fault : continuation_fault pairs ≡ None
   pub continuation_is : IsContinuation pairs ask.continuation
 
--- the text that is given as a filter is one of the collection
+-- a text that is given as a filter is a filter of the collection
 abbrev pub FiltersWell : Collection → List PairText → Type 0
 FiltersWell c pairs = IfSome (filter_given pairs) (IsAccepted (schema_of c))
 
@@ -71,16 +71,16 @@ pub data IsFirstFault (c : Collection) (pairs : List PairText) : AskFault → Ty
   of_continuation : {f : AskFault} → selection_fault pairs ≡ None → FiltersWell c pairs → continuation_fault pairs ≡ Some f
       → IsFirstFault c pairs f
 
--- the filter, or the fault of its text, or want of memory
+-- the filter, or the fault of its text, or out of memory
 abbrev pub AnswersFilter : Collection → Option (List ℕ) → Result (Option Filter) AskFault → Type 0
 AnswersFilter c text (Ok filter) = IsFilterGiven c text filter
 AnswersFilter c text (Err f) = (f ≡ fault.Memory) ⊎ IsFilterFault c text f
 
--- what the pairs ask, or their first fault, or want of memory
+-- what the pairs ask, or their first fault, or out of memory
 abbrev pub Answers : Collection → List PairText → Result Ask AskFault → Type 0
 Answers c pairs (Ok ask) = IsAsk c pairs ask
 Answers c pairs (Err f) = (f ≡ fault.Memory) ⊎ IsFirstFault c pairs f
 
--- the answer is as said, unless memory was refused
+-- the answer is as said, unless memory ran out
 abbrev pub OrMemory : Result Ask AskFault → Type 0 → Type 0
 OrMemory result said = (result ≡ Err fault.Memory) ⊎ said

@@ -6,7 +6,7 @@ use Rattle.cad_ask.specs.declared.fault.AskFault.{AskFault}
 use Rattle.cad_ask.specs.declared.fault.AskFault.TheVariants.{Filter}
 use Rattle.cad_ask.specs.Faults.{fault_word}
 
--- of a filter the name of its cause and its place; else the fault's word
+-- for a filter, the name of its cause and its place; else the fault's word
 abbrev pub fault_data : AskFault → Data
 fault_data (Filter place cause) = filter_fault_data (name_of cause) place
 fault_data f = word_data (fault_word f)

@@ -28,7 +28,7 @@ fault_number fault = (fault_number_and_name fault).0
 abbrev pub fault_name : AskFault → List ℕ
 fault_name fault = (fault_number_and_name fault).1
 
--- the word that the body of a refusal tells: of a parameter that is wrong, its name
+-- the word in the body of a refusal: if a parameter is wrong, its name
 abbrev pub fault_word : AskFault → List ℕ
 fault_word Unknown = codes "unknown"
 fault_word Repeated = codes "repeated"
@@ -52,7 +52,7 @@ of_parameter parameter.FilterLang = FilterLang
 of_parameter parameter.Revision = Revision
 of_parameter parameter.After = After
 
--- the fault of a filter, with its place; or want of memory
+-- the fault of a filter, with its place; or out of memory
 abbrev pub of_filter : FilterFault → AskFault
 of_filter (filter.Refused cause) = Filter (place_of cause) cause
 of_filter filter.Memory = Memory
@@ -61,6 +61,6 @@ of_filter filter.Memory = Memory
 abbrev pub selection_fault : List PairText → Option AskFault
 selection_fault pairs = option_map of_parameter (first_of selection_faults pairs)
 
--- the first of those that are looked for after it
+-- the first of the faults that are looked for after the filter
 abbrev pub continuation_fault : List PairText → Option AskFault
 continuation_fault pairs = option_map of_parameter (first_of continuation_faults pairs)

@@ -15,13 +15,13 @@ abbrev pub HasOneFirstFault : Type 0
 HasOneFirstFault =
     (c : Collection) (pairs : List PairText) (f g : AskFault) → IsFirstFault c pairs f → IsFirstFault c pairs g → f ≡ g
 
--- the first fault is the one with the lowest number of those that they have
+-- the first fault is the one with the lowest number among the faults of the pairs
 abbrev pub TheFirstIsTheLeast : Type 0
 TheFirstIsTheLeast =
     (c : Collection) (pairs : List PairText) (f : AskFault)
     → (IsFirstFault c pairs f → IsLeastFault c pairs f) × (IsLeastFault c pairs f → ¬ ¬ IsFirstFault c pairs f)
 
--- and then they ask for nothing
+-- pairs with a first fault ask for nothing
 abbrev pub HasFaultOrAsks : Type 0
 HasFaultOrAsks = (c : Collection) (pairs : List PairText) (f : AskFault) → IsFirstFault c pairs f → ¬ AsksWell c pairs
 
@@ -32,7 +32,7 @@ NextAsksTheSame =
     → revision < 10 ^ 18 → Identifies (identifier_text last) last → AsksWell c pairs
     → AsksWell c (continued revision last pairs) × AsksToGoOn pairs revision last (continued revision last pairs)
 
--- two values ask the same, but for where they lie in memory
+-- two values ask the same, except for where they are in memory
 pub record AskTheSame (a b : Ask) : Type 0 where
   pub collection : a.collection ≡ b.collection
   pub pairs : map pair_text a.pairs.items ≡ map pair_text b.pairs.items
@@ -43,6 +43,6 @@ pub record AskTheSame (a b : Ask) : Type 0 where
   pub revision : a.continuation.revision ≡ b.continuation.revision
   pub after : option_map numbers_of a.continuation.after ≡ option_map numbers_of b.continuation.after
 
--- the pairs of a query ask one thing at most
+-- the pairs of a query ask at most one thing
 abbrev pub PairsAskOneThing : Type 0
 PairsAskOneThing = (c : Collection) (pairs : List PairText) (a b : Ask) → IsAsk c pairs a → IsAsk c pairs b → AskTheSame a b

@@ -24,7 +24,7 @@ pub struct Ask {
     pub pairs: Vec<Pair>,
     /// How many features at most, and which days and which box they have to meet.
     pub selection: Selection,
-    /// All features pass where it is `None`.
+    /// If it is `None`, all features pass.
     pub filter: Option<Filter>,
     /// Which revision is shown, and after which feature the page begins.
     pub continuation: Continuation,
@@ -37,7 +37,7 @@ impl Ask {
         ensures asked { AsksWell collection (pairs_of query.now) → OrMemory result (IsOk result) }
         ensures refused { (f : AskFault) → IsFirstFault collection (pairs_of query.now) f → OrMemory result (result ≡ Err f) }
     {
-        // Pairs that have a fault ask for nothing, and have no other.
+        // Pairs that have a first fault ask for nothing, and have no other first fault.
         fault_or_asks();
         one_first_fault();
         read_ask(alloc, collection, query)

@@ -26,7 +26,7 @@ pub enum AskFault {
     /// `filter-lang` is not `cql2-text`.
     #[error("the language of the filter is unknown")]
     FilterLang,
-    /// `filter` is no filter of the collection: the cause, and the byte of the filter's text at which it stands.
+    /// `filter` is no filter of the collection: the cause, and the byte of the filter's text at which it occurs.
     #[error("the filter is not accepted")]
     Filter { place: usize, cause: Cause },
     /// `revision` is no number of 1 to 18 digits.
@@ -35,7 +35,7 @@ pub enum AskFault {
     /// `after` is no identifier.
     #[error("the identifier to start after is none")]
     After,
-    /// A growth was refused, at any point.
+    /// Memory ran out, at any point.
     #[error("out of memory")]
     Memory,
 }
@@ -62,7 +62,7 @@ impl AskFault {
         }
     }
 
-    /// The number by which programs may tell the fault: its place in the order of looking, from 1.
+    /// The number by which programs may identify the fault: its place in the order of looking, from 1.
     pub fn number(&self) -> u8
         ensures { result ≡ fault_number self.now }
     {
@@ -76,7 +76,7 @@ impl AskFault {
         self.number_and_name().1
     }
 
-    /// The word that the body of the refusal tells: the parameter's name, where one is wrong.
+    /// The word in the body of the refusal: if a parameter is wrong, its name.
     pub fn word(&self) -> &'static str
         ensures { result.now ≡ fault_word self.now }
     {

@@ -1,4 +1,4 @@
-//! Why a query is refused, as the body that tells it.
+//! Why a query is refused, as a body.
 
 ghost use Rattle.std.specs.Prelude.{◌≡◌, IfOk, Some, string_bytes};
 ghost use Rattle.serde_json.specs.Read.{read};
@@ -9,7 +9,7 @@ use crate::fault::AskFault;
 use cad_json::{filter_fault_body, word_body};
 use std::alloc::{AllocError, Global};
 
-/// The body of a query's fault: its word, and for a filter the cause and the place beside. An error means out of memory.
+/// The body of a query's fault: its word, or for a filter its word, the cause and the place. An error means out of memory.
 pub fn fault_body(alloc: Global, fault: &AskFault) -> Result<String, AllocError>
     ensures text { IfOk result (λ text. string_bytes text ≡ compact_text (fault_data fault.now)) }
     ensures reads_back { IfOk result (λ text. read (string_bytes text) ≡ Some (fault_data fault.now)) }

@@ -13,7 +13,7 @@ pub fn one_first_fault()
     filters::one_first_fault();
 }
 
-/// The first fault is the one with the lowest number of those that the pairs have.
+/// The first fault is the one with the lowest number among the faults of the pairs.
 pub fn the_first_is_the_least()
     ensures { TheFirstIsTheLeast }
 {
@@ -35,7 +35,7 @@ pub fn next_asks_the_same()
     continued_goes_on();
 }
 
-/// The pairs of a query ask one thing at most.
+/// The pairs of a query ask at most one thing.
 pub fn pairs_ask_one_thing()
     ensures { PairsAskOneThing }
 {

@@ -11,7 +11,7 @@ use Rattle.cad_desk.specs.Desks.{IsShutAtDesk, Steps}
 use Rattle.cad_clients.specs.declared.channel.Channel.{Channel}
 use Rattle.cad_clients.specs.Channels.{Act, wrote, took, fed, read_in, written_in, Does}
 
--- a turn of the connection's own, or an event of another connection or of the land office, with its answer
+-- a turn of this connection, or an event of another connection or of the land office, with its answer
 pub data Happening : Type 0 where
   own : Act → Happening
   other : Event → Result Reply DeskFault → Happening
@@ -56,7 +56,7 @@ answers_of (own act ∷ later) = answers_in act (answers_of later)
 answers_of (other event answer ∷ later) = answer ∷ answers_of later
 
 module _ {R : Type 0} (g : Ghosts R) (c : ℕ) where
-  -- all this happens, one after the other, and what keeps the commands was closed by none of it
+  -- all this happens, one after the other, and none of it closed the ledger
   abbrev pub Lives : Desk R → Channel → List Happening → Desk R → Channel → Type 0
   Lives old channel [] new last = (new ≡ old) × (last ≡ channel)
   Lives old channel (own act ∷ later) new last = (mid : Desk R) × (next : Channel) × Does g c old channel act mid next × Lives mid next later new last

@@ -36,7 +36,7 @@ last_fed channel = take (channel.input_at - channel.fed_at) (drop channel.fed_at
 abbrev pub has_ended : Channel → Bool
 has_ended channel = channel.ends
 
--- all that the desk sends was written, and the connection goes on: only then more is taken from it
+-- all that the desk sends was written, and the connection stays open: only then more is taken from it
 pub record IsReady (channel : Channel) : Type 0 where
   pub all_sent : unsent channel ≡ []
   pub goes_on : has_ended channel ≡ false
@@ -50,11 +50,11 @@ pub record IsIdle (channel : Channel) : Type 0 where
 abbrev pub IsSending : Channel → Type 0
 IsSending channel = 0 < length (unsent channel)
 
--- what is next is a write or a read, which the socket may leave undone for now
+-- the next step is a write or a read, which the socket may not be able to do at the moment
 abbrev pub MayWait : Channel → Type 0
 MayWait channel = IsSending channel ⊎ IsIdle channel
 
--- what a turn does to a connection that goes on: it writes bytes, reads bytes, or has the desk take a piece and send something
+-- what a turn does to a connection that stays open: it writes bytes, reads bytes, or gives a piece to the desk, which sends something
 pub data Act : Type 0 where
   wrote : List ℕ → Act
   took : List ℕ → Act
@@ -81,16 +81,16 @@ module _ {R : Type 0} (g : Ghosts R) (c : ℕ) where
       IsReady channel × IsPiece piece.items × (unfed channel ≡ piece.items ++ unfed next) × (unsent next ≡ out.items) × (has_ended next ≡ ends)
       × Steps g old (Bytes c piece) (Ok (Sent out ends)) new
 
-  -- the desk is told that the connection closes
+  -- the connection is closed at the desk
   abbrev pub Closes : Desk R → Desk R → Type 0
   Closes old new = (answer : Result Reply DeskFault) × Steps g old (Close c) answer new
 
-  -- the desk refused the piece that comes next of what it has not taken
+  -- the desk refused the next piece of what it has not taken
   abbrev pub IsRefusedPiece : Desk R → Channel → DeskFault → Desk R → Type 0
   IsRefusedPiece old channel fault new =
       (piece : Vec ℕ) × (rest : List ℕ) × IsPiece piece.items × (unfed channel ≡ piece.items ++ rest) × Steps g old (Bytes c piece) (Err fault) new
 
--- the deeds at socket s: the head that tells the fault is written, or a front of it, or that can't be done
+-- the deeds at socket s: the head that reports the fault is written, or a front of it, or that can't be done
 abbrev pub SendsFault : ℕ → DeskFault → List Deed → Type 0
 SendsFault s fault deeds =
     (deeds ≡ blocked s ∷ []) ⊎ ((deeds ≡ failed s ∷ []) ⊎ ((front : List ℕ) × IsFront front (fixed_head fault) × (deeds ≡ deed.took s front ∷ [])))
@@ -99,14 +99,14 @@ SendsFault s fault deeds =
 abbrev pub IsUnwritten : ℕ → List Deed → Type 0
 IsUnwritten s deeds = (deeds ≡ failed s ∷ []) ⊎ (deeds ≡ deed.took s [] ∷ [])
 
--- of connection c at the desk, whose socket is s
+-- for connection c at the desk, whose socket is s
 module _ {R : Type 0} (g : Ghosts R) (c s : ℕ) where
-  -- there was no memory: to hand the desk a piece of what it has not taken, or to keep what a read gave
+  -- there was no memory: to give the desk a piece of what it has not taken, or to keep what a read gave
   abbrev pub HasNoRoom : Desk R → Channel → Desk R → List Deed → List Deed → Type 0
   HasNoRoom old channel new told deeds =
       (((deeds ≡ told) × (0 < length (unfed channel))) ⊎ ((bytes : List ℕ) × (deeds ≡ deed.gave s bytes ∷ told) × IsIdle channel × IsPiece bytes)) × Closes g c old new
 
-  -- the desk refused the next piece, or there was no memory; and that was told
+  -- the desk refused the next piece, or there was no memory; and the fault was reported to the peer
   abbrev pub IsNotTaken : Desk R → Channel → DeskFault → Desk R → List Deed → Type 0
   IsNotTaken old channel fault new deeds =
       (told : List Deed) × SendsFault s fault told
@@ -125,7 +125,7 @@ module _ {R : Type 0} (g : Ghosts R) (c s : ℕ) where
   -- a reply was to be written
   EndsSo old channel WriteFailed new deeds = IsUnwritten s deeds × IsSending channel × Closes g c old new
 
-  -- what came of a turn, and the deeds at its socket
+  -- the result of a turn, and the deeds at its socket
   abbrev pub IsTurn : Desk R → Channel → Turned → Desk R → Channel → List Deed → Type 0
   IsTurn old channel Wrote new next deeds = (bytes : List ℕ) × (deeds ≡ deed.took s bytes ∷ []) × (0 < length bytes) × Does g c old channel (wrote bytes) new next
   IsTurn old channel Took new next deeds = (bytes : List ℕ) × (deeds ≡ deed.gave s bytes ∷ []) × Does g c old channel (took bytes) new next

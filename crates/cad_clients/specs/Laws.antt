@@ -1,4 +1,4 @@
--- What holds of every connection, whatever happens to the others (own profile).
+-- What holds of every connection, no matter what happens to the others (own profile).
 use Rattle.std.specs.Prelude.{◌≡◌, ℕ, List, [], ◌∷◌, ◌++◌, Ok}
 use Rattle.cad_versions.specs.declared.command.Command.{Command}
 use Rattle.cad_stream.specs.declared.responder.Responder.{Ghosts}
@@ -23,7 +23,8 @@ pub record IsNew (channel : Channel) : Type 0 where
 abbrev pub exchanges_with : ℕ → List Command → List Happening → List Exchange
 exchanges_with c commands happenings = exchanges_of c commands (events_of c happenings) (answers_of happenings)
 
--- what was read is the pieces that the desk took, and then what it has not taken; what the desk sent was written, up to what is left
+-- what was read is the pieces that the desk took, and then what it has not taken; what the desk sent was written, except for what is left
+-- to write
 pub record IsPassedOn (own : List Exchange) (read written : List ℕ) (last : Channel) : Type 0 where
   pub taken : read ≡ bytes_of (pieces_of own) ++ unfed last
   pub sent : outs_of own ≡ written ++ unsent last
@@ -35,7 +36,7 @@ module _ {R : Type 0} (g : Ghosts R) where
       (heads : List HeadAt) × (outcome : Outcome) × IsConversation g.closes (waits []) (pieces_of own) heads outcome
       × AreReplies g.replies heads (last_reply g.bad_head outcome) (written ++ unsent last)
 
-  -- from its opening on, whatever the other connections and the land office do
+  -- this holds from its opening on, no matter what the other connections and the land office do
   abbrev pub ChannelsAreTheirOwn : Type 0
   ChannelsAreTheirOwn = (c : ℕ) (commands : List Command) (old opened new : Desk R) (channel last : Channel) (happenings : List Happening)
       → IsNew channel → Steps g old (Open c) (Ok Opened) opened → Lives g c opened channel happenings new last

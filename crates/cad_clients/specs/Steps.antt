@@ -32,7 +32,7 @@ abbrev pub last_deed : Turned → ℕ → List Deed
 last_deed (Over ending) s = left s ∷ []
 last_deed other s = []
 
--- at one of these turns it was over
+-- the connection was over at one of these turns
 abbrev pub any_over : List Turned → Bool
 any_over [] = false
 any_over (turned ∷ turns) = is_over turned || any_over turns
@@ -46,18 +46,20 @@ abbrev pub fed_in : List Turned → ℕ
 fed_in [] = 0
 fed_in (turned ∷ turns) = fed_by turned + fed_in turns
 
--- after these turns, the last of them first, connection c has no more for now: at the last one its socket gave or took nothing, or the reply to a piece went out, or there were four
+-- after these turns, the last of them first, connection c is done for now: at the last one its socket gave or took nothing, or the
+-- reply to a piece went out, or there were four turns
 abbrev pub IsEnough : {S : Type 0} → ℕ → List Turned → Clients S → Type 0
 IsEnough c turns next =
     ((before : List Turned) × (turns ≡ Waits ∷ before)) ⊎ (((fed_in turns ≡ 1) × ¬ IsSomeAnd (client_at next c) IsSending) ⊎ (length turns ≡ 4))
 
--- the most turns of a connection before the others have theirs
+-- the most turns of a connection before the others have their turns
 abbrev pub most_turns : ℕ
 most_turns = 4
 
--- what is done for connection c, where sockets of this type have these names
+-- what is done for connection c; sockets of this type have these names
 module _ {R S : Type 0} (g : Ghosts R) (name : S → ℕ) (c now : ℕ) where
-  -- the desk opens connection c, which has this socket and a new channel then; or it refuses it, which is told, and the socket is let go
+  -- the desk opens connection c, which then has this socket and a new channel; or the desk refuses it, this is reported, and the socket is
+  -- let go
   abbrev pub Opens : S → Desk R → Clients S → Result (Unit {0}) DeskFault → Desk R → Clients S → List Deed → Type 0
   Opens socket old clients (Ok done) new next deeds =
       desks.Steps g old (Open c) (Ok Opened) new × (deeds ≡ [])
@@ -67,7 +69,8 @@ module _ {R S : Type 0} (g : Ghosts R) (name : S → ℕ) (c now : ℕ) where
       desks.Steps g old (Open c) (Err fault) new × Keeps clients next
       × ((told : List Deed) × channels.SendsFault (name socket) fault told × (deeds ≡ told ++ left (name socket) ∷ []))
 
-  -- connection c has a turn, by its own channel, its own socket and its own number at the desk, and it is kept what came of it; all others are as they were
+  -- connection c has a turn, by its own channel, its own socket and its own number at the desk, and the result is kept; all others are as
+  -- they were
   abbrev pub HasTurn : Desk R → Clients S → Option Turned → Desk R → Clients S → List Deed → Type 0
   HasTurn old clients None new next deeds =
       (client_at clients c ≡ None) × (deeds ≡ []) × (new ≡ old) × Keeps clients next
@@ -85,21 +88,22 @@ module _ {R S : Type 0} (g : Ghosts R) (name : S → ℕ) (c now : ℕ) where
       × HasTurns old clients before mid between front × HasTurn mid between (Some turned) new next last
       × (deeds ≡ front ++ last)
 
-  -- connection c has turns at which it is not over, and then this comes of a turn of it
+  -- connection c has turns at which it is not over, and then a turn with this result
   abbrev pub EndsWith : Desk R → Clients S → Turned → Desk R → Clients S → List Deed → Type 0
   EndsWith old clients last new next deeds =
       (before : List Turned) × HasTurns old clients (last ∷ before) new next deeds × (fed_in before ≤ 1) × (any_over before ≡ false) × (length before < most_turns)
 
-  -- connection c is served by turns of its own, four at most, in which the desk takes one piece at most: as many as it has for now, at none of which it is over, or up to the one at which it is; none, where there is no such connection
+  -- connection c is served by at most four turns of its own, in which the desk takes at most one piece. They are as many as it has for now,
+  -- and it is not over at any of them. Or they go up to the turn at which it is over. There is no turn if there is no such connection.
   abbrev pub IsServed : Desk R → Clients S → Served → Desk R → Clients S → List Deed → Type 0
   IsServed old clients Stays new next deeds =
       (turns : List Turned) × HasTurns old clients turns new next deeds × (fed_in turns ≤ 1) × IsEnough c turns next × (any_over turns ≡ false) × (length turns ≤ most_turns)
   IsServed old clients (Served-Over ending) new next deeds = EndsWith old clients (Over ending) new next deeds
   IsServed old clients Unknown new next deeds = HasTurn old clients None new next deeds
 
--- and when connection c is let go
+-- what is done when connection c is let go
 module _ {R S : Type 0} (g : Ghosts R) (name : S → ℕ) (c : ℕ) where
-  -- connection c is closed at the desk, is not open then, and its socket is let go; nothing is done where it is not open
+  -- connection c is closed at the desk, is not open afterwards, and its socket is let go; if it is not open, nothing is done
   abbrev pub ClosesAt : Option (Client S) → Desk R → Clients S → Desk R → Clients S → List Deed → Type 0
   ClosesAt None old clients new next deeds = (deeds ≡ []) × (new ≡ old) × Keeps clients next
   ClosesAt (Some client) old clients new next deeds = (deeds ≡ left (name client.socket) ∷ []) × channels.Closes g c old new × Changes clients next c None

@@ -1,4 +1,4 @@
-//! What a turn asks of the desk and tells the peer.
+//! What a turn asks of the desk and sends to the peer for a fault.
 
 ghost use Rattle.std.specs.Prelude.{◌≡◌};
 ghost use Rattle.cad_network.specs.Deeds.{AddsSome};
@@ -10,21 +10,21 @@ use cad_network::Network;
 use cad_serve::fixed_head;
 use cad_stream::Responder;
 
-/// Tells the desk that the connection closes.
+/// Closes the connection at the desk.
 pub(crate) fn close<R: Responder>(desk: &mut Desk<R>, c: u32)
     ensures { Closes R.Responder c desk.old desk.new }
 {
     let _ = desk.close(c);
 }
 
-/// Tells the fault at a socket, as far as one write takes that.
+/// Sends the head that reports the fault to a socket, as far as one write takes it.
 pub fn tell_fault<N: Network>(net: &mut N, socket: &N::Socket, fault: DeskFault)
     ensures { AddsSome (N.history net.old) (N.history net.new) (SendsFault (N.name socket.now) fault) }
 {
     let _ = net.write(socket, fixed_head(fault).as_bytes());
 }
 
-/// Tells the fault. Where that cannot be written now, the fault stands all the same.
+/// Sends the head that reports the fault. If it cannot be written now, the result is the fault all the same.
 pub(crate) fn refuse<N: Network>(net: &mut N, socket: &N::Socket, fault: DeskFault) -> Turned
     ensures refused { result ≡ Turned.Over (Ending.Refused fault) }
     ensures head { AddsSome (N.history net.old) (N.history net.new) (SendsFault (N.name socket.now) fault) }

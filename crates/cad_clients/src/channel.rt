@@ -36,7 +36,7 @@ impl Channel {
     ghost use Rattle.cad_clients.specs.Channels.{unfed, unsent, last_fed as last_fed_of, has_ended, IsReady, IsIdle, IsSending, IsTurn};
     ghost use Rattle.cad_clients.specs.Laws.{IsNew};
 
-    /// The channel of a connection of which nothing was read.
+    /// The channel of a connection from which nothing was read.
     pub fn new(alloc: Global) -> Channel
         ensures new { IsNew result }
         ensures goes_on { has_ended result ≡ false }
@@ -96,7 +96,7 @@ impl Channel {
         }
     }
 
-    /// Has the desk take what comes next.
+    /// Gives the next piece to the desk.
     fn feed_some<N: Network, R: Responder>(
         &mut self,
         alloc: Global,
@@ -184,8 +184,8 @@ impl Channel {
         }
     }
 
-    /// Does one thing: where something is to be written, a write; else, where bytes were read that the desk has not taken, the
-    /// desk takes those up to the first empty line; else a read.
+    /// Does one thing. If something is to be written, it is a write. Otherwise, if a reply ended the connection, the connection is over.
+    /// Otherwise, if bytes were read that the desk has not taken, the desk takes those up to the first empty line. Otherwise it is a read.
     pub fn turn<N: Network, R: Responder>(
         &mut self,
         alloc: Global,

@@ -1,4 +1,4 @@
-//! A connection, its socket, and when something was done for it.
+//! A connection, its socket, and when it was last active.
 
 use crate::channel::Channel;
 use crate::limits::Limits;
@@ -8,16 +8,16 @@ use cad_network::Network;
 use cad_stream::Responder;
 use std::alloc::Global;
 
-/// A connection with its socket, and when bytes of it came or went.
+/// A connection with its socket, and when its bytes were read or written.
 #[derive(Drop)]
 pub(crate) struct Client<S> {
     pub(crate) socket: S,
     pub(crate) channel: Channel,
-    /// Its socket may give or take something: it was told so since, or the last turn did not wait.
+    /// Its socket may give or take something: the network reported that since the last turn, or the last turn did not wait.
     pub(crate) is_ready: bool,
     /// When a byte was read or written last.
     moved: u64,
-    /// Since when a request is under way whose reply has not gone out.
+    /// When the request began whose reply has not gone out yet.
     begun: Option<u64>,
 }
 
@@ -44,7 +44,7 @@ impl<S> Client<S> {
         }
     }
 
-    /// Its socket. All else is dropped.
+    /// Its socket. Everything else is dropped.
     pub(crate) fn into_socket(self) -> S
         ensures { result ≡ self.socket }
     {
@@ -58,7 +58,7 @@ impl<S> Client<S> {
         socket
     }
 
-    /// Keeps what came of a turn, and when it was.
+    /// Notes the result of a turn, and when it was.
     fn note(&mut self, turned: Turned, now: u64)
         ensures socket { self.new.socket ≡ self.old.socket }
         ensures channel { self.new.channel ≡ self.old.channel }
@@ -105,7 +105,7 @@ impl<S> Client<S> {
         turned
     }
 
-    /// Whether it did nothing for too long, or a request of it takes too long.
+    /// Whether it did nothing for too long, or one of its requests takes too long.
     pub(crate) fn is_overdue(&self, now: u64, limits: &Limits) -> bool
         ensures { IsTrue result ↔ IsOverdue now limits.now self.now }
     {

@@ -16,7 +16,7 @@ use std::alloc::{AllocError, Global};
 /// The most connections that are open.
 pub const ROOM: u32 = 64;
 
-/// The most turns of a connection before the others have theirs: the rest of a reply, a read, a piece for the desk and its reply.
+/// The most turns of a connection before the others have their turns: the rest of a reply, a read, a piece for the desk and its reply.
 const TURNS: u32 = 4;
 
 /// The open connections by their numbers, which are below 64.
@@ -78,7 +78,7 @@ impl<S: Drop> Clients<S> {
         None
     }
 
-    /// Opens a connection by this number, for a socket. One that the desk refuses is told so, and let go.
+    /// Opens a connection by this number, for a socket. If the desk refuses, the fault is reported to the socket, which is let go.
     pub fn open<N: Network<Socket = S>, R: Responder>(
         &mut self,
         alloc: Global,
@@ -105,7 +105,7 @@ impl<S: Drop> Clients<S> {
         }
     }
 
-    /// A turn of the connection of this number, if there is one. Where it is over, its number is free, and its socket is let go.
+    /// A turn of the connection of this number, if there is one. If it is over, its number is free, and its socket is let go.
     pub fn turn<N: Network<Socket = S>, R: Responder>(
         &mut self,
         alloc: Global,
@@ -178,7 +178,7 @@ impl<S: Drop> Clients<S> {
             .is_some_and(|client| !client.channel.sending().is_empty())
     }
 
-    /// Whether the connection did nothing for too long, or a request of it takes too long.
+    /// Whether the connection did nothing for too long, or one of its requests takes too long.
     pub fn is_overdue(&self, c: u32, now: u64, limits: &Limits) -> bool
         ensures { IsTrue result ↔ IsSomeAnd (client_at self.now c) (IsOverdue now limits.now) }
     {
@@ -186,15 +186,15 @@ impl<S: Drop> Clients<S> {
             .is_some_and(|client| client.is_overdue(now, limits))
     }
 
-    /// Tells what the desk took of a connection and sends for it.
+    /// Logs what the desk took of a connection and what it sends for that.
     fn tell<L: AccessLog<S>>(&self, c: u32, log: &mut L) {
         if let Some(client) = self.client(c) {
             log.note(c, client.channel.last_fed(), client.channel.sending());
         }
     }
 
-    /// Serves the connection of this number: some turns, up to one at which its socket gives or takes nothing, and not beyond
-    /// the reply to one piece, so that each other connection waits for one reply at most.
+    /// Serves the connection of this number: some turns, up to one at which its socket gives or takes nothing, and not beyond the reply to
+    /// one piece. So each other connection waits for at most one reply.
     pub fn serve<N: Network<Socket = S>, R: Responder, L: AccessLog<S>>(
         &mut self,
         alloc: Global,

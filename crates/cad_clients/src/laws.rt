@@ -5,8 +5,8 @@ ghost use Rattle.cad_clients.specs.Laws.{ChannelsAreTheirOwn};
 use cad_desk::laws::{connections_are_their_own, steps_are_a_run};
 use cad_stream::Responder;
 
-/// From its opening on, what was written to a connection, and then what it holds to be written, are the replies to what was
-/// read from it, as far as the desk took that, whatever the other connections and the land office do.
+/// From its opening on, what was written to a connection, followed by what it holds to be written, are the replies to what was read from
+/// it, as far as the desk took that. It does not matter what the other connections and the land office do.
 pub fn channels_are_their_own<R: Responder>()
     ensures { ChannelsAreTheirOwn R.Responder }
 {

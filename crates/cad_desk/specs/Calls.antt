@@ -1,4 +1,4 @@
--- The answers of a desk's calls, as its answers to the events that they are (own profile).
+-- The answers of a desk's calls, as its answers to the corresponding events (own profile).
 use Rattle.std.specs.Prelude.{ℕ, Result, Ok, Err}
 use Rattle.cad_versions.specs.declared.fault.RegisterFault.{RegisterFault}
 use Rattle.cad_desk.specs.declared.event.Outgoing.{Outgoing}

@@ -1,4 +1,4 @@
--- What clauses see of a desk, and what its step does (own profile).
+-- The parts of a desk that clauses use, and what its step does (own profile).
 use Rattle.std.specs.Prelude.{◌≡◌, ◌⊎◌, ℕ, ℤ, List, ◌++◌, length, Some, Result, IfErr, OnOk}
 use Rattle.cad_versions.specs.declared.command.Command.{Command}
 use Rattle.cad_versions.specs.declared.fault.RegisterFault.TheVariants.{Store}
@@ -14,7 +14,7 @@ use Rattle.cad_desk.specs.Connections.{Connections, rest_at}
 use Rattle.cad_desk.specs.Events.{Rules, StepOf, commands_after}
 use Rattle.cad_desk.specs.Faults.{MayCloseDesk, NamesDamageAtDesk}
 
--- what answers the requests
+-- the responder that answers the requests
 abbrev pub responder_of : {R : Type 0} → Desk R → R
 responder_of desk = desk.responder
 
@@ -34,14 +34,14 @@ module _ {R : Type 0} (g : Ghosts R) where
     FailsToEnter = g.fails_to_enter;
   }
 
-  -- what keeps the commands refused a part of the event
+  -- the ledger refused a part of the event
   abbrev pub IsRefused : Desk R → Event → R → Type 0
   IsRefused old (Open c) new = ⊥
   IsRefused old (Bytes c piece) new = (held : List ℕ) × (rest_at (connections_of old) c ≡ Some held) × RefusesLater g (held ++ piece.items) (responder_of old) new
   IsRefused old (Close c) new = ⊥
   IsRefused old (Office command) new = (commands : List Command) → g.stands_for (responder_of old) commands → g.refuses_command (responder_of old) new command (length commands)
 
-  -- a row of this object and this number is damaged that is shown for a part of the event
+  -- for a part of the event, a damaged row of this object and this number is shown
   abbrev pub IsDamagedFor : Desk R → Event → R → ℤ → ℤ → Type 0
   IsDamagedFor old (Open c) new object number = ⊥
   IsDamagedFor old (Bytes c piece) new object number =
@@ -49,11 +49,12 @@ module _ {R : Type 0} (g : Ghosts R) where
   IsDamagedFor old (Close c) new object number = ⊥
   IsDamagedFor old (Office command) new object number = g.damaged_for_command (responder_of old) new command object number
 
-  -- what keeps the commands is closed after this fault, since it failed meanwhile
+  -- the ledger is closed after this fault, since it failed meanwhile
   abbrev pub IsShutAtDesk : Desk R → DeskFault → Desk R → Type 0
   IsShutAtDesk old fault new = MayCloseDesk fault × ¬ g.lives (responder_of new) × g.fails (responder_of old) (responder_of new)
 
-  -- an event is answered by the definition, over the commands for which the responder stands; after a refusal it stands for the same ones, or what keeps them failed and is closed; a row that is named as damaged is such a one, whatever it stands for
+  -- an event is answered by the definition, over the commands that the responder holds. After a refusal it holds the same ones, or the
+  -- ledger failed and is closed. A row that is named as damaged is a damaged one, for any commands.
   pub record Steps (old : Desk R) (event : Event) (result : Result Reply DeskFault) (new : Desk R) : Type 0 where
     pub stepped : StepOf rules_of (Under g (responder_of old) (responder_of new)) (connections_of old) event result (connections_of new)
     pub kept : g.counts (responder_of new) → OnOk result ((commands : List Command) → g.stands_for (responder_of old) commands → g.stands_for (responder_of new) (commands_after commands event result))

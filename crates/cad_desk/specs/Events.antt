@@ -19,7 +19,8 @@ use Rattle.cad_desk.specs.declared.fault.DeskFault.{DeskFault}
 use Rattle.cad_desk.specs.declared.fault.DeskFault.TheVariants.{UnknownConnection, KnownConnection, TooManyConnections, Memory, Register}
 use Rattle.cad_desk.specs.Connections.{Connections, rest_at, count_of, connection_room, Changes, Keeps}
 
--- what the answers of a desk follow from: which bytes are the reply to each request, which requests close their connection, the reply where no request can come, which requests ask for what the commands say, and why there is no reply or a command is not entered
+-- the rules that the answers of a desk follow: which bytes are the reply to each request, which requests close their connection, and the
+-- reply if no request can come. They also give which requests query the ledger, and why there is no reply or a command is not entered.
 pub record Rules : Type 1 where
   pub replies : List Command → Request → List ℕ → Type 0
   pub closes : Request → Bool
@@ -28,9 +29,10 @@ pub record Rules : Type 1 where
   pub FailsToAnswer : List Command → Request → RegisterFault → Type 0
   pub FailsToEnter : List Command → Command → RegisterFault → Type 0
 
--- what an event finds of the connections, what is answered, and what it leaves; InForce Holds says that Holds is true of the commands in force
+-- the connections before an event, what is answered, and the connections after it; InForce Holds says that Holds is true of the commands in
+-- force
 module _ (rules : Rules) (InForce : (List Command → Type 0) → Type 0) where
-  -- a connection opens, unless it is open, or as many are as may be; where memory is refused it is not open
+  -- a connection opens, unless it is already open, or as many are open as allowed; if memory runs out, it is not open
   abbrev pub IsOpened : Connections → ℕ → Result Reply DeskFault → Connections → Type 0
   IsOpened old c (Ok Opened) new = (rest_at old c ≡ None) × (count_of old < connection_room) × Changes old new c (Some [])
   IsOpened old c (Ok other) new = ⊥
@@ -39,7 +41,9 @@ module _ (rules : Rules) (InForce : (List Command → Type 0) → Type 0) where
   IsOpened old c (Err Memory) new = (rest_at old c ≡ None) × (count_of old < connection_room) × Keeps old new
   IsOpened old c (Err other) new = ⊥
 
-  -- bytes of an open connection get the replies to the requests that they make whole, those that do not ask for what the commands say whatever these are, and what waits is kept; where they can't settle a head nothing goes out, and all of them are kept; where they are refused the connection is closed
+  -- bytes of an open connection get the replies to the requests that they complete, and the rest is kept. If a request does not query the
+  -- ledger, its reply is one with any commands. If the bytes cannot settle a head, nothing goes out, and all of them are kept. If they are
+  -- refused, the connection is closed.
   abbrev pub IsTaken : Connections → ℕ → List ℕ → Result Reply DeskFault → Connections → Type 0
   IsTaken old c piece (Ok (Sent out ends)) new =
       (held : List ℕ) × (heads : List RequestHead) × (last : Outcome)
@@ -64,7 +68,7 @@ module _ (rules : Rules) (InForce : (List Command → Type 0) → Type 0) where
   IsClosed old c (Err UnknownConnection) new = (rest_at old c ≡ None) × Keeps old new
   IsClosed old c (Err other) new = ⊥
 
-  -- a command is entered and told with the revision since, or refused; the connections have no part in it
+  -- a command is entered and answered with the revision after it, or refused; the connections do not change
   abbrev pub IsEntered : Connections → Command → Result Reply DeskFault → Connections → Type 0
   IsEntered old command (Ok (Entered revision)) new =
       Keeps old new × InForce (λ commands. (refusal (versions commands) command ≡ None) × (revision ≡ length commands + 1))
@@ -75,7 +79,7 @@ module _ (rules : Rules) (InForce : (List Command → Type 0) → Type 0) where
       × InForce (λ commands. (refusal (versions commands) command ≡ Some fault) ⊎ rules.FailsToEnter commands command fault)
   IsEntered old command (Err other) new = ⊥
 
-  -- from the old connections the event may bring this answer and leave the new ones
+  -- with the old connections, the event may give this answer and leave the new connections
   abbrev pub StepOf : Connections → Event → Result Reply DeskFault → Connections → Type 0
   StepOf old (Open c) result new = IsOpened old c result new
   StepOf old (Bytes c piece) result new = IsTaken old c piece.items result new

@@ -1,4 +1,4 @@
--- Runs of a desk, and what a connection sends and gets in them (own profile).
+-- Runs of a desk, and what a connection sends and receives in them (own profile).
 use Rattle.std.specs.Prelude.{◌≡◌, ℕ, nat_eq, List, [], ◌∷◌, map, Result, Ok, Err, if◌then◌else◌, IfErr}
 use Rattle.std.specs.List.{flat_map}
 use Rattle.cad_versions.specs.declared.command.Command.{Command}
@@ -24,7 +24,7 @@ RunOf rules commands old (event ∷ events) (answer ∷ answers) =
     (new : Connections) × StepOf rules (λ Holds. Holds commands) old event answer new
     × RunOf rules (commands_after commands event answer) new events answers
 
--- the desk took these events, one after the other, and answered so; what keeps the commands was closed by none of them
+-- the desk took these events, one after the other, and gave these answers; none of them closed the ledger
 abbrev pub Takes : {R : Type 0} → Ghosts R → Desk R → List Event → List (Result Reply DeskFault) → Desk R → Type 0
 Takes g old [] [] new = new ≡ old
 Takes g old [] (answer ∷ answers) new = ⊥
@@ -42,7 +42,8 @@ out_of Opened = []
 out_of Closed = []
 out_of (Entered revision) = []
 
--- what an event adds before later exchanges of connection c: after the end its bytes are dropped, and where it is closed or refused nothing follows
+-- what an event adds before later exchanges of connection c: after the end its bytes are dropped, and if it is closed or refused, nothing
+-- follows
 abbrev pub exchange : ℕ → List Command → Event → Result Reply DeskFault → List Exchange → List Exchange
 exchange c commands (Open d) (Ok reply) later = if nat_eq d c then [] else later
 exchange c commands (Open d) (Err fault) later = later

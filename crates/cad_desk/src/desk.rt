@@ -10,7 +10,7 @@ use std::collections::HashMap;
 /// The most connections that may be open.
 const CONNECTION_ROOM: usize = 64;
 
-/// The open connections, and what answers their requests.
+/// The open connections, and the responder that answers their requests.
 pub struct Desk<R: Responder> {
     responder: R,
     connections: HashMap<u32, Connection>,
@@ -46,7 +46,7 @@ impl<R: Responder> Desk<R> {
         }
     }
 
-    /// What answered the requests. All connections are dropped.
+    /// The responder that answered the requests. All connections are dropped.
     pub fn release(self) -> R
         ensures { result ≡ responder_of self }
     {
@@ -75,7 +75,7 @@ impl<R: Responder> Desk<R> {
         }
     }
 
-    /// Takes a piece of a connection's bytes. Where it is refused the connection is closed.
+    /// Takes a piece of a connection's bytes. If the piece is refused, the connection is closed.
     pub fn feed(&mut self, c: u32, piece: Vec<u8>) -> Result<Outgoing, DeskFault>
         ensures { Steps R.Responder self.old (Bytes c piece) (sent result) self.new }
     {
@@ -99,7 +99,7 @@ impl<R: Responder> Desk<R> {
         }
     }
 
-    /// Closes a connection: no request comes of its bytes any more.
+    /// Closes a connection: its bytes no longer become a request.
     pub fn close(&mut self, c: u32) -> Result<(), DeskFault>
         ensures { Steps R.Responder self.old (Close c) (closed result) self.new }
     {
@@ -109,7 +109,7 @@ impl<R: Responder> Desk<R> {
         }
     }
 
-    /// Enters a command of the land office, and gives the revision since.
+    /// Enters a command of the land office, and gives the revision after it.
     pub fn enter(&mut self, command: Command) -> Result<u64, RegisterFault>
         ensures { Steps R.Responder self.old (Office command) (entered result) self.new }
     {
@@ -117,7 +117,7 @@ impl<R: Responder> Desk<R> {
         Ok(revision)
     }
 
-    /// Takes an event, and answers it whole. Bytes that are refused close their connection; all else stays as it was.
+    /// Takes an event, and answers it completely. Bytes that are refused close their connection; everything else stays as it was.
     pub fn step(&mut self, event: Event) -> Result<Reply, DeskFault>
         ensures { Steps R.Responder self.old event result self.new }
     {

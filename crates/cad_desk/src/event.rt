@@ -2,7 +2,7 @@
 
 use cad_versions::Command;
 
-/// What happens to a desk. Connections are told apart by their numbers.
+/// What happens to a desk. Connections are identified by their numbers.
 #[derive(Debug, Drop)]
 pub enum Event {
     /// A connection opens.
@@ -18,7 +18,7 @@ pub enum Event {
 /// What goes out to a connection for a piece of its bytes.
 #[derive(Debug, Drop)]
 pub struct Outgoing {
-    /// The replies to the requests that the piece made whole, one after the other.
+    /// The replies to the requests that the piece completed, one after the other.
     pub bytes: Vec<u8>,
     /// Whether the connection ended with the last of them.
     pub ends: bool,
@@ -33,11 +33,11 @@ pub enum Reply {
     Closed,
     /// What goes out to the connection.
     Sent {
-        /// The replies to the requests that these bytes made whole, one after the other.
+        /// The replies to the requests that these bytes completed, one after the other.
         bytes: Vec<u8>,
         /// Whether the connection ended with the last of them.
         ends: bool,
     },
-    /// The command was accepted, and this is the revision since.
+    /// The command was accepted, and this is the revision after it.
     Entered(u64),
 }

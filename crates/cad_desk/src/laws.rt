@@ -8,19 +8,19 @@ use cad_stream::laws::{
     cuts_make_no_difference as cuts_make_one_stream, pieces_have_one_conversation,
 };
 
-/// An event of another connection, or of the office, leaves a connection as it is, whatever is answered.
+/// An event of another connection, or of the office, leaves a connection as it is, no matter what is answered.
 pub fn others_stay<R: Responder>()
     ensures { OthersStay R.Responder }
 {}
 
-/// From its opening on, what goes out to a connection follows from its own bytes and the commands in force at each of its
-/// requests, whatever the other connections and the land office do.
+/// From its opening on, its own bytes and the commands in force at each of its requests determine what goes out to a connection, no matter
+/// what the other connections and the land office do.
 pub fn connections_are_their_own<R: Responder>()
     ensures { ConnectionsAreTheirOwn (rules_of R.Responder) }
 {}
 
-/// Two ways of cutting a connection's bytes, with the same commands in force at each request, give the same replies,
-/// joined, the moment aside at which it is told that no request can come.
+/// Two ways of cutting a connection's bytes, with the same commands in force at each request, give the same replies, joined, except for the
+/// moment of the reply that no request can come.
 pub fn cuts_make_no_difference<R: Responder>()
     ensures { CutsMakeNoDifference (rules_of R.Responder) }
 {
@@ -30,7 +30,7 @@ pub fn cuts_make_no_difference<R: Responder>()
     R::one_reply();
 }
 
-/// What a desk answers to events, one after the other, is a run: that of its definition.
+/// The answers of a desk to events, one after the other, are a run by its definition.
 pub fn steps_are_a_run<R: Responder>()
     ensures { StepsAreARun R.Responder }
 {}

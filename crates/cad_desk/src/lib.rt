@@ -1,4 +1,4 @@
-//! A desk for many connections and one land office: one event at a time, each answered whole.
+//! A desk for many connections and one land office: one event at a time, each answered completely.
 //!
 //! - `Desk`: the open connections, over anything that answers requests; `open`, `feed`, `close` and `enter` are its calls, and
 //!   `Outgoing` is what goes out for a piece of bytes

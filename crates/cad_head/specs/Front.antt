@@ -12,30 +12,30 @@ use Rattle.cad_head.specs.declared.parsing.HeadState.TheVariants.{Complete, Inco
 abbrev pub front_bytes : List ℕ → List ℕ
 front_bytes bytes = take front_len bytes
 
--- the spans are the places of this head, which keeps to the limits
+-- the spans are the places of this head, which is within the limits
 pub record IsHeadAt (bytes : List ℕ) (headers : List HeaderSpan) (spans : RequestSpans) (head : RequestHead) : Type 0 where
   pub at : IsRequestAt (front_bytes bytes) headers spans head
   pub fits : Fits bytes head (drop spans.len bytes)
 
--- what stands at the front of the bytes
+-- what is at the front of the bytes
 abbrev pub IsFrontOf : List ℕ → List HeaderSpan → HeadState → Type 0
 IsFrontOf bytes headers (Complete spans) = (head : RequestHead) × IsHeadAt bytes headers spans head
 IsFrontOf bytes headers Incomplete = IsIncomplete bytes
 IsFrontOf bytes headers Invalid = IsHopeless bytes
 
--- the places lie in the bytes
+-- the places are in the bytes
 abbrev pub IsFrontWithin : List ℕ → List HeaderSpan → HeadState → Type 0
 IsFrontWithin bytes headers (Complete spans) = IsRequestWithin (front_bytes bytes) headers spans
 IsFrontWithin bytes headers Incomplete = ⊤
 IsFrontWithin bytes headers Invalid = ⊤
 
--- what waits may still become a head of the grammar
+-- incomplete bytes may still become a head of the grammar
 abbrev pub IsFrontUnfinished : List ℕ → HeadState → Type 0
 IsFrontUnfinished bytes (Complete spans) = ⊤
 IsFrontUnfinished bytes Incomplete = MayBecomeRequest bytes
 IsFrontUnfinished bytes Invalid = ⊤
 
--- where a head is found, one is there, and the bytes are not hopeless
+-- if a head is found, the bytes begin with one, and they are not hopeless
 abbrev pub HeadsExcludeAll : Type 0
 HeadsExcludeAll =
     (bytes : List ℕ) (headers : List HeaderSpan) (spans : RequestSpans)

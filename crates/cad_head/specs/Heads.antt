@@ -10,17 +10,17 @@ front_len = 32768
 abbrev pub field_room : ℕ
 field_room = 64
 
--- the bytes begin with this head, which keeps to both limits, and go on with the rest
+-- the bytes are this head, which is within both limits, and the rest after it
 pub record Fits (bytes : List ℕ) (head : RequestHead) (rest : List ℕ) : Type 0 where
   pub reads : ReadsRequest bytes head rest
   pub in_front : length (print_request head) ≤ front_len
   pub in_room : length head.fields ≤ field_room
 
--- the bytes begin with no head that keeps to the limits
+-- the bytes begin with no head that is within the limits
 abbrev pub HasNone : List ℕ → Type 0
 HasNone bytes = (head : RequestHead) (rest : List ℕ) → ¬ (Fits bytes head rest)
 
--- whatever bytes follow these, they begin with no head that keeps to the limits
+-- these bytes, with any bytes after them, begin with no head that is within the limits
 abbrev pub IsHopeless : List ℕ → Type 0
 IsHopeless bytes = (more : List ℕ) → HasNone (bytes ++ more)
 
@@ -34,13 +34,13 @@ MayWait bytes =
 abbrev pub IsIncomplete : List ℕ → Type 0
 IsIncomplete bytes = HasNone bytes × MayWait bytes
 
--- bytes begin with one head at most
+-- bytes begin with at most one head
 abbrev pub HaveOneHead : Type 0
 HaveOneHead =
     (bytes : List ℕ) (head other : RequestHead) (rest left : List ℕ)
     → Fits bytes head rest → Fits bytes other left → (head ≡ other) × (rest ≡ left)
 
--- bytes that follow go to the rest
+-- bytes that follow become part of the rest
 abbrev pub HeadsStay : Type 0
 HeadsStay =
     (bytes : List ℕ) (head : RequestHead) (rest more : List ℕ)

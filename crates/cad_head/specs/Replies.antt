@@ -14,14 +14,14 @@ status_text status.BadRequest = codes "400 Bad Request"
 status_text status.NotFound = codes "404 Not Found"
 status_text status.MethodNotAllowed = codes "405 Method Not Allowed"
 
--- the line of the methods that a resource has, which one status needs (RFC 9110, section 15.5.6)
+-- the line of the methods that a resource has, which only one status needs (RFC 9110, section 15.5.6)
 abbrev pub allow_line : Status → List ℕ
 allow_line status.Ok = []
 allow_line status.BadRequest = []
 allow_line status.NotFound = []
 allow_line status.MethodNotAllowed = line (codes "Allow: GET")
 
--- the line where the connection ends after the reply (RFC 9112, section 9.6: tear-down)
+-- the line that says that the connection ends after the reply, if it does (RFC 9112, section 9.6: tear-down)
 abbrev pub close_line : Bool → List ℕ
 close_line ends = if ends then line (codes "Connection: close") else []
 

@@ -1,14 +1,14 @@
--- What the definition of replies says of streams of them (RFC 9112, section 6.3: message body length).
+-- What the definition of replies says of streams of replies (RFC 9112, section 6.3: message body length).
 use Rattle.std.specs.Prelude.{◌≡◌, ℕ, ◌<◌, ◌^◌, List, ◌++◌, length, Bool}
 use Rattle.cad_head.specs.declared.status.Status.{Status}
 use Rattle.cad_head.specs.Replies.{reply_text}
 
--- a reply with a body of this text that a machine can hold, and these bytes after it, are all of the bytes
+-- the bytes are a reply with this body, which is shorter than 2^64 bytes, and these bytes after it
 pub record BeginsWith (bytes : List ℕ) (status : Status) (ends : Bool) (body : List ℕ) (after : List ℕ) : Type 0 where
   pub is_all : bytes ≡ reply_text status ends body ++ after
   pub in_memory : length body < 2 ^ 64
 
--- bytes begin with one reply at most
+-- bytes begin with at most one reply
 abbrev pub RepliesAreUnambiguous : Type 0
 RepliesAreUnambiguous =
     (bytes : List ℕ) (status other : Status) (ends closes : Bool) (body text after more : List ℕ)

@@ -1,4 +1,4 @@
--- What a reply depends on of a request's head (RFC 9112, section 3: request line).
+-- The parts of a request's head that a reply depends on (RFC 9112, section 3: request line).
 use Rattle.std.specs.Prelude.{ℕ, List, [], ◌∷◌, map, take, codes, Bool, ◌&&◌, ◌||◌, ◌==◌, if◌then◌else◌}
 use Rattle.std.specs.List.{list_any, before_first, after_first}
 use Rattle.std.specs.Str.{str_eq_ignore_ascii_case}
@@ -27,7 +27,7 @@ request_of head = record {
   fields = map name_and_value head.fields;
 }
 
--- the request that spans over these bytes show
+-- the request that these spans show in these bytes
 abbrev pub request_at : List ℕ → List HeaderSpan → RequestSpans → Request
 request_at bytes headers spans = record {
   method = span_bytes bytes spans.method;
@@ -36,12 +36,12 @@ request_at bytes headers spans = record {
   fields = map (header_bytes bytes) (take spans.headers headers);
 }
 
--- a byte goes before the first member of a list
+-- the list with a byte put before its first member
 abbrev pub onto_first : ℕ → List (List ℕ) → List (List ℕ)
 onto_first b [] = (b ∷ []) ∷ []
 onto_first b (member ∷ members) = (b ∷ member) ∷ members
 
--- what stands between the commas of a field's value (RFC 9110, section 5.6.1: lists)
+-- the texts between the commas of a field's value (RFC 9110, section 5.6.1: lists)
 abbrev pub members : List ℕ → List (List ℕ)
 members [] = [] ∷ []
 members (b ∷ bytes) = if b == 44 then [] ∷ members bytes else onto_first b (members bytes)
@@ -55,7 +55,7 @@ abbrev pub asks_to_close : FieldText → Bool
 asks_to_close field =
     str_eq_ignore_ascii_case field.0 (codes "connection") && list_any is_close (members field.1)
 
--- the connection closes after the reply (RFC 9112, section 9.3: persistence; HTTP/1.0 keeps none: own profile)
+-- the connection closes after the reply (RFC 9112, section 9.3: persistence; HTTP/1.0 keeps no connection open: own profile)
 abbrev pub closes_connection : Request → Bool
 closes_connection r = r.minor == 0 || list_any asks_to_close r.fields
 

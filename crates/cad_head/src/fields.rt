@@ -99,7 +99,7 @@ fn has_closing_field(bytes: &[u8], headers: &[HeaderSpan]) -> bool
     is_found
 }
 
-/// Whether the connection closes after the reply to this request: an HTTP/1.0 one does, and one that asks for it.
+/// Whether the connection closes after the reply to this request: it does for HTTP/1.0, and if the request asks for it.
 pub fn closes_connection(bytes: &[u8], headers: &[HeaderSpan], spans: &RequestSpans) -> bool
     requires { IsRequestWithin bytes.now headers.now spans.now }
     ensures { result ≡ closes_connection_of (request_at bytes.now headers.now spans.now) }

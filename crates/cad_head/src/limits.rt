@@ -9,7 +9,7 @@ pub const FRONT_LEN: usize = 32_768;
 /// The most fields that a head may have.
 pub const FIELD_ROOM: usize = 64;
 
-/// The bytes that a head may take: the first `FRONT_LEN`, or all where there are fewer.
+/// The bytes that a head may take: the first `FRONT_LEN`, or all if there are fewer.
 pub fn front_bytes(bytes: &[u8]) -> &[u8]
     ensures { result.now ≡ front_bytes_of bytes.now }
 {

@@ -1,4 +1,4 @@
-//! What stands at the front of a connection's bytes.
+//! What is at the front of a connection's bytes.
 
 ghost use Rattle.cad_head.specs.Front.{IsFrontOf, IsFrontWithin, IsFrontUnfinished};
 
@@ -6,18 +6,18 @@ use crate::limits::{FIELD_ROOM, FRONT_LEN, front_bytes};
 use httparse::Status;
 use httparse::spans::{HeaderSpan, RequestSpans, parse_request};
 
-/// How far the head at the front of a connection's bytes has come.
+/// The state of the head at the front of a connection's bytes.
 #[derive(Clone, Copy, Debug, PartialEq, Eq)]
 pub enum HeadState {
     /// A whole head, by the places of its parts in `front_bytes`.
     Complete(RequestSpans),
     /// No whole head yet.
     Incomplete,
-    /// No head, whatever bytes come.
+    /// No head, no matter which bytes follow.
     Invalid,
 }
 
-/// What stands at the front of these bytes. The places of a head's fields are written to the
+/// What is at the front of these bytes. The places of a head's fields are written to the
 /// first `headers` entries.
 pub fn front_of(bytes: &[u8], headers: &mut [HeaderSpan; FIELD_ROOM]) -> HeadState
     ensures front { IsFrontOf bytes.now headers.new result }

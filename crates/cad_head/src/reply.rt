@@ -6,7 +6,7 @@ ghost use Rattle.cad_head.specs.Replies.{line, close_line as close_line_of, repl
 use crate::status::Status;
 use std::alloc::{AllocError, Global};
 
-/// The bytes of a reply with this JSON body, which tells that the connection ends after it where `ends` says so.
+/// The bytes of a reply with this JSON body. If `ends` is true, the reply says that the connection ends after it.
 /// An error means out of memory.
 pub fn reply_bytes(
     alloc: Global,

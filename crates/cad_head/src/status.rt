@@ -3,7 +3,7 @@
 /// The status of a reply with a body (RFC 9110, section 15).
 #[derive(Clone, Copy, Debug, PartialEq, Eq)]
 pub enum Status {
-    /// 200: what was asked for.
+    /// 200: the reply has what was asked for.
     Ok,
     /// 400: the head, the target or the parameters are refused.
     BadRequest,
@@ -29,7 +29,7 @@ impl Status {
         }
     }
 
-    /// The line that names the methods of the resource, where the status asks for it.
+    /// The line that names the methods of the resource, if the status requires it.
     pub(crate) fn allow_line(self) -> &'static str
         ensures { result.now ≡ allow_line self }
     {

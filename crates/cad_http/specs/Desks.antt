@@ -1,4 +1,4 @@
--- What clauses see of a desk over a register (own profile).
+-- The parts of a desk over a register that clauses use (own profile).
 use Rattle.std.specs.Prelude.{◌≡◌, ℕ, List, None}
 use Rattle.cad_versions.specs.declared.command.Command.{Command}
 use Rattle.cad_versions.specs.declared.ledger.Ledger.{Ghosts}
@@ -17,7 +17,7 @@ server_desk desk = desk.connections
 abbrev pub register_of : {L : Type 0} → Desk L → L
 register_of desk = ledger_of (responder_of (server_desk desk))
 
--- its requests are answered over these commands
+-- its requests are answered with these commands in force
 abbrev pub IsDeskOf : {L : Type 0} → Ghosts L → Desk L → List Command → Type 0
 IsDeskOf g desk commands = IsServerOf g (responder_of (server_desk desk)) commands
 

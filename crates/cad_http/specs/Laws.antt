@@ -21,20 +21,21 @@ use Rattle.cad_http.specs.Walks.{Visit, AsksFor, revision_requested, snapshot_re
 use Rattle.cad_http.specs.Visits.{AreVisits, IsBefore, revision_at, Run, in_force, IsVisitIn, GetsNext}
 use Rattle.cad_http.specs.Restarts.{AreStarts, in_force_after, OpensInOne, IsVisitInOne}
 
--- the features that come after the one that is named stand on as many pages as their number asks for
+-- the features that come after the one that is named take as many pages as their number requires
 abbrev pub WalksHaveThatManyPages : Type 0
 WalksHaveThatManyPages =
     (limit : ℕ) (xs : List Item) (last : Option (ℤ × ℤ)) (pages : List (List Item)) → 1 ≤ limit → IsStrictlySortedBy by_identifier xs
     → AreWalk limit xs last pages → length pages ≡ pages_of limit (length (later last xs))
 
--- a walk over a register of accepted commands, from a request for a revision that was made: its pages, joined, are the whole answer of that revision, whatever commands come between
+-- a walk over a register of accepted commands, from a request for an existing revision: its pages, joined, are the whole answer of that
+-- revision, for any commands between its requests
 abbrev pub WalksShowTheAnswer : Type 0
 WalksShowTheAnswer =
     (visit : Visit) (visits : List Visit) (ask : Ask) → AreAccepted [] visit.commands → AsksFor visit.request ask
     → revision_requested ask visit.commands ≤ length visit.commands → IsWalk (visit ∷ visits)
     → (pages : List (List Item)) × ShowTheAnswer ask (snapshot_requested ask visit.commands) (visit ∷ visits) pages
 
--- where the commands at the start of a run were accepted, so were those that are in force after it
+-- if the commands at the start of a run were accepted, so were those that are in force after it
 abbrev pub RunsKeepAccepted : Rules → Type 0
 RunsKeepAccepted rules = (run : Run rules) → AreAccepted [] run.commands → AreAccepted [] (in_force run.commands run.events run.answers)
 
@@ -42,18 +43,20 @@ RunsKeepAccepted rules = (run : Run rules) → AreAccepted [] run.commands → A
 abbrev pub ConnectionsAreVisits : Rules → Type 0
 ConnectionsAreVisits rules = (c : ℕ) (own : List Exchange) → Opens rules c own → (visits : List Visit) × AreVisits rules own visits × AllPairs IsBefore visits
 
--- by such visits a client asks for a revision that was made and then follows each link next, never where fewer commands are in force than before: its pages, joined, are the whole answer of that revision
+-- by such visits a client asks for an existing revision and then follows each link next. At each visit at least as many commands are in
+-- force as at the one before. Then its pages, joined, are the whole answer of that revision.
 abbrev pub FollowedShowTheAnswer : (Visit → Type 0) → Type 0
 FollowedShowTheAnswer IsVisit =
     (visit : Visit) (visits : List Visit) (ask : Ask) → All IsVisit (visit ∷ visits) → IsNonDecreasingBy revision_at (visit ∷ visits)
     → AsksFor visit.request ask → revision_requested ask visit.commands ≤ length visit.commands → GetsNext (visit ∷ visits)
     → (pages : List (List Item)) × ShowTheAnswer ask (snapshot_requested ask visit.commands) (visit ∷ visits) pages
 
--- in a run over accepted commands, on any of its connections, whatever else happens in the run
+-- this holds in a run over accepted commands, on any of its connections, no matter what else happens in the run
 abbrev pub WalksInRunsShowTheAnswer : Rules → Type 0
 WalksInRunsShowTheAnswer rules = (run : Run rules) → AreAccepted [] run.commands → FollowedShowTheAnswer (IsVisitIn rules run)
 
--- so it is in what a desk answers to events, one after the other: that is a run over the commands for which its responder stands at the start
+-- this holds for the answers of a desk to events, one after the other: they are a run over the commands that its responder holds at the
+-- start
 abbrev pub WalksOfDesksShowTheAnswer : {R : Type 0} → Ghosts R → Type 0
 WalksOfDesksShowTheAnswer {R} g =
     (commands : List Command) (old new : Desk R) (events : List Event) (answers : List (Result Reply DeskFault))
@@ -64,7 +67,7 @@ WalksOfDesksShowTheAnswer {R} g =
 
 -- ---- stopped and started anew
 
--- where the commands at the first start were accepted, so were those in force after any number of starts
+-- if the commands at the first start were accepted, so were those in force after any number of starts
 abbrev pub RestartsKeepAccepted : Rules → Type 0
 RestartsKeepAccepted rules = (first : List Command) (runs : List (Run rules)) → AreStarts rules first runs → AreAccepted [] first → AreAccepted [] (in_force_after rules first runs)
 
@@ -74,12 +77,13 @@ ConnectionsAmongRestartsAreVisits rules =
     (first : List Command) (runs : List (Run rules)) (c : ℕ) (own : List Exchange) → AreStarts rules first runs → OpensInOne rules runs c own
     → (visits : List Visit) × AreVisits rules own visits × AllPairs IsBefore visits
 
--- over accepted commands, on any connection of any start, however often the server is stopped and started between the requests
+-- the same over accepted commands, on any connection of any start, no matter how often the server is stopped and started between the
+-- requests
 abbrev pub WalksAmongRestartsShowTheAnswer : Rules → Type 0
 WalksAmongRestartsShowTheAnswer rules =
     (first : List Command) (runs : List (Run rules)) → AreAccepted [] first → AreStarts rules first runs → FollowedShowTheAnswer (IsVisitInOne rules runs)
 
--- so it is from a start on at which a desk's responder stands for the commands that it finds
+-- the same from a start on at which a desk's responder holds the commands that the start finds
 abbrev pub WalksOfDesksAmongRestartsShowTheAnswer : {R : Type 0} → Ghosts R → Type 0
 WalksOfDesksAmongRestartsShowTheAnswer {R} g =
     (first : List Command) (runs : List (Run (rules_of g))) (desk : Desk R) → g.stands_for (responder_of desk) first → AreStarts (rules_of g) first runs

@@ -19,11 +19,12 @@ use Rattle.cad_http.specs.Walks.{Visit, next_of}
 
 -- ---- of a connection
 
--- the head brings this visit's request, with its commands in force
+-- the head is that of this visit's request, with its commands in force
 abbrev pub Brings : HeadAt → Visit → Type 0
 Brings head visit = (visit.commands ≡ head.0) × (visit.request ≡ request_of head.1)
 
--- one visit for each request of a connection, in their order; what goes out to it are their replies, joined, and then what is told where no request can come
+-- one visit for each request of a connection, in their order; what goes out to it are their replies, joined, and then the reply if no
+-- request can come
 pub record AreVisits (rules : Rules) (own : List Exchange) (visits : List Visit) : Type 0 where
   pub heads : List HeadAt
   pub last : Outcome
@@ -31,7 +32,7 @@ pub record AreVisits (rules : Rules) (own : List Exchange) (visits : List Visit)
   pub each : AllZip Brings heads visits
   pub out : outs_of own ≡ flat_map (λ visit. visit.bytes) visits ++ last_reply rules.bad_head last
 
--- the commands in force at the next visit are those at this one, followed by what was added since
+-- the commands in force at the next visit are those at this one, followed by those that were added since
 abbrev pub IsBefore : Visit → Visit → Type 0
 IsBefore visit next = (added : List Command) × (next.commands ≡ visit.commands ++ added)
 
@@ -54,7 +55,7 @@ abbrev pub in_force : List Command → List Event → List (Result Reply DeskFau
 in_force commands (event ∷ events) (answer ∷ answers) = in_force (commands_after commands event answer) events answers
 in_force commands events answers = commands
 
--- among these events connection c is opened, and then it has these exchanges
+-- one of these events opens connection c, which then has these exchanges
 abbrev pub OpensAmong : ℕ → List Exchange → List Command → List Event → List (Result Reply DeskFault) → Type 0
 OpensAmong c own commands (event ∷ events) (answer ∷ answers) =
     ((event ≡ Open c) × (answer ≡ Ok Opened) × (own ≡ exchanges_of c commands events answers))
@@ -77,7 +78,7 @@ pub record Gets (visit next : Visit) : Type 0 where
   pub linked : next_of visit ≡ Some next.request.target
   pub get : IsGet next.request
 
--- from reply to reply, until one has no link next
+-- the client follows the link next from reply to reply, until one has none
 abbrev pub GetsNext : List Visit → Type 0
 GetsNext [] = ⊥
 GetsNext (visit ∷ []) = next_of visit ≡ None

@@ -41,13 +41,13 @@ pub record AsksFor (request : Request) (ask : Ask) : Type 0 where
 abbrev pub revision_requested : Ask → List Command → ℕ
 revision_requested ask commands = unwrap_or ask.continuation.revision (length commands)
 
--- its features
+-- the features of that revision
 abbrev pub snapshot_requested : Ask → List Command → RevisionFeatures
 snapshot_requested ask commands = snapshot_at (revision_requested ask commands) commands
 
 -- ---- the links
 
--- the target of the link next of what is told; a refusal has none, and what is no page has none
+-- the target of the link next of a response; a refusal has none, and a response that is not a page has none
 abbrev pub next_link_in : ParsedRequest → List Command → Option (List ℕ)
 next_link_in (parsed.Immediate told) commands = None
 next_link_in (parsed.Features (features.Feature collection identifier)) commands = None
@@ -80,15 +80,16 @@ pub record Shows (snapshot : RevisionFeatures) (visit : Visit) (page : List Item
   pub link_is : next_of visit ≡ next_in ask snapshot
   pub told : visit.bytes ≡ reply_of visit.request (Ok, compact_text (page_data ask snapshot))
 
--- one after the other
+-- the features of the pages, one page after the other
 abbrev pub joined : List (List Item) → List Item
 joined pages = flat_map (λ page. page) pages
 
--- of so many features with so many on a page: at least one, else their quotient rounded up
+-- how many pages this many features take, with this many on a page: their quotient rounded up, and at least one
 abbrev pub pages_of : ℕ → ℕ → ℕ
 pages_of limit features = max 1 ((features + (limit - 1)) / limit)
 
--- the visits are shown these pages; joined, they are the whole answer from where the first request begins, each feature once and in the order of identifiers
+-- the visits show these pages; joined, they are the whole answer from where the first request begins, each feature once and in the order of
+-- identifiers
 pub record ShowTheAnswer (ask : Ask) (snapshot : RevisionFeatures) (visits : List Visit) (pages : List (List Item)) : Type 0 where
   pub shown : AllZip (Shows snapshot) visits pages
   pub whole : joined pages ≡ later (beginning ask) (answer_in ask snapshot)

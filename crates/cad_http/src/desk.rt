@@ -6,7 +6,7 @@ use cad_stream::Responder;
 use cad_versions::Ledger;
 use std::alloc::Global;
 
-/// Many connections and one land office over a register, which is any ledger of commands.
+/// Many connections and one land office over a register. Here a register is any ledger of commands.
 pub struct Desk<L: Ledger> {
     /// The connections, with the server that answers their requests: `serve` and `listen` are called on these.
     pub connections: cad_desk::Desk<Server<L>>,
@@ -24,7 +24,7 @@ impl<L: Ledger> Desk<L> {
     ghost use Rattle.cad_desk.specs.Desks.{responder_of, Steps};
     ghost use Rattle.cad_http.specs.Desks.{server_desk, register_of, IsDeskOf, IsIdle};
 
-    /// A desk without connections over the register, or the register back where there is no memory.
+    /// A desk without connections over the register, or the register back if there is no memory.
     pub fn new(alloc: Global, register: L) -> Result<Desk<L>, L>
         ensures made { IfOk result (λ desk. (commands : List CommandOf) → L.Ledger.stands_for register commands →
             IsDeskOf L.Ledger desk commands) }
@@ -36,7 +36,7 @@ impl<L: Ledger> Desk<L> {
         Ok(Desk::over(alloc, server))
     }
 
-    /// A desk without connections over a server that stands already.
+    /// A desk without connections over an existing server.
     pub fn over(alloc: Global, server: Server<L>) -> Desk<L>
         ensures server { responder_of (server_desk result) ≡ server }
         ensures idle { IsIdle result }
@@ -46,14 +46,14 @@ impl<L: Ledger> Desk<L> {
         }
     }
 
-    /// Takes an event, and answers it whole. Bytes that are refused close their connection; all else stays as it was.
+    /// Takes an event, and answers it completely. Bytes that are refused close their connection; everything else stays as it was.
     pub fn step(&mut self, event: Event) -> Result<Reply, DeskFault>
         ensures { Steps ⟦<Server<L> as Responder>⟧ (server_desk self.old) event result (server_desk self.new) }
     {
         self.connections.step(event)
     }
 
-    /// The register. All connections are dropped, and no memory is asked for.
+    /// The register. All connections are dropped, and no memory is allocated.
     pub fn release(self) -> L
         ensures { result ≡ register_of self }
     {

@@ -30,15 +30,15 @@ use cad_stream::Responder;
 use cad_versions::Ledger;
 use cad_versions::laws::revisions_stay;
 
-/// The features that come after the one that is named stand on as many pages as their number asks for.
+/// The features that come after the one that is named take as many pages as their number requires.
 pub fn walks_have_that_many_pages()
     ensures { WalksHaveThatManyPages }
 {
     walks_are_whole();
 }
 
-/// The pages of a walk, joined, are the whole answer of the revision that its first request asks for, whatever commands
-/// come between.
+/// The pages of a walk, joined, are the whole answer of the revision that its first request asks for, for any commands between its
+/// requests.
 pub fn walks_show_the_answer()
     ensures { WalksShowTheAnswer }
 {
@@ -55,7 +55,7 @@ pub fn walks_show_the_answer()
     accepted_are_few();
 }
 
-/// Where the commands in force at the start of a run were accepted one after the other, so were those in force after it.
+/// If the commands in force at the start of a run were accepted one after the other, so were those in force after it.
 pub fn runs_keep_accepted<R: Responder>()
     ensures { RunsKeepAccepted (rules_of R.Responder) }
 {}
@@ -68,9 +68,8 @@ pub fn connections_are_visits<L: Ledger>()
     connections_are_their_own::<Server<L>>();
 }
 
-/// In any run of a desk over the server, the pages of a walk, joined, are the whole answer of the revision that its first
-/// request asks for, on whichever connections its requests come, in whatever pieces, and whatever others and the office
-/// do between them.
+/// In any run of a desk over the server, the pages of a walk, joined, are the whole answer of the revision that its first request asks for.
+/// It does not matter on which connections its requests come, in which pieces, or what others and the office do between them.
 pub fn walks_in_runs_show_the_answer<L: Ledger>()
     ensures { WalksInRunsShowTheAnswer (rules_of ⟦<Server<L> as Responder>⟧) }
 {
@@ -78,8 +77,8 @@ pub fn walks_in_runs_show_the_answer<L: Ledger>()
     runs_keep_accepted::<Server<L>>();
 }
 
-/// What a desk over the server answers to events, one after the other, is a run, and the pages of a walk in it, joined, are
-/// the whole answer. No premise says that the commands were accepted: a ledger stands for no others.
+/// The answers of a desk over the server to events, one after the other, are a run, and the pages of a walk in it, joined, are the whole
+/// answer. No premise says that the commands were accepted: a ledger holds no others.
 pub fn walks_of_desks_show_the_answer<L: Ledger>()
     ensures { WalksOfDesksShowTheAnswer ⟦<Server<L> as Responder>⟧ }
 {
@@ -87,8 +86,8 @@ pub fn walks_of_desks_show_the_answer<L: Ledger>()
     walks_in_runs_show_the_answer::<L>();
 }
 
-/// Where the commands that the first start of a server finds were accepted one after the other, so were those in force
-/// after any number of starts, also where a command was being entered at a stop.
+/// If the commands that the first start of a server finds were accepted one after the other, so were those in force after any number of
+/// starts. This also holds if a command was being entered at a stop.
 pub fn restarts_keep_accepted<R: Responder>()
     ensures { RestartsKeepAccepted (rules_of R.Responder) }
 {}
@@ -101,8 +100,8 @@ pub fn connections_among_restarts_are_visits<L: Ledger>()
     connections_are_visits::<L>();
 }
 
-/// The pages of a walk, joined, are the whole answer of the revision that its first request asks for, on whichever
-/// connections its requests come, and however often the server is stopped and started between them.
+/// The pages of a walk, joined, are the whole answer of the revision that its first request asks for. It does not matter on which
+/// connections its requests come, or how often the server is stopped and started between them.
 pub fn walks_among_restarts_show_the_answer<L: Ledger>()
     ensures { WalksAmongRestartsShowTheAnswer (rules_of ⟦<Server<L> as Responder>⟧) }
 {
@@ -110,7 +109,7 @@ pub fn walks_among_restarts_show_the_answer<L: Ledger>()
     restarts_keep_accepted::<Server<L>>();
 }
 
-/// So they are from a start on at which a ledger stands for the commands that it finds.
+/// The same holds from a start on at which a ledger holds the commands that the start finds.
 pub fn walks_of_desks_among_restarts_show_the_answer<L: Ledger>()
     ensures { WalksOfDesksAmongRestartsShowTheAnswer ⟦<Server<L> as Responder>⟧ }
 {

@@ -5,7 +5,9 @@ use Rattle.std.specs.declared.io.Error.{Error}
 use Rattle.std.specs.declared.io.ErrorKind.{ErrorKind}
 use Rattle.std.specs.declared.io.ErrorKind.TheVariants.{WouldBlock}
 
--- a client's socket is taken, or the land office's; the network tells that the socket at a place may give or take something; a read of a socket gives bytes, none where its peer sends no more; a write to it takes bytes; a read or a write can't be done now, or fails; a socket is let go
+-- a client's socket is taken, or the land office's. The network reports that the socket at a place may give or take something. A read of a
+-- socket gives bytes, or none if its peer sends no more. A write to it takes bytes. A read or a write can't be done now, or fails. A socket
+-- is let go.
 pub data Deed : Type 0 where
   came : ℕ → Deed
   office_came : ℕ → Deed
@@ -16,13 +18,14 @@ pub data Deed : Type 0 where
   failed : ℕ → Deed
   left : ℕ → Deed
 
--- what was done before, and then these, where that is known; once it is not known any more, as where there is no memory to keep it, it stays so
+-- what was done before, and then these, if that is known. Once the history is unknown, for example since there is no memory to keep it, it
+-- stays unknown.
 abbrev pub Adds : Option (List Deed) → Option (List Deed) → List Deed → Type 0
 Adds before None deeds = ⊤
 Adds None (Some after) deeds = ⊥
 Adds (Some before) (Some after) deeds = after ≡ before ++ deeds
 
--- and then such deeds
+-- what was done before, and then such deeds
 abbrev pub AddsSome : Option (List Deed) → Option (List Deed) → (List Deed → Type 0) → Type 0
 AddsSome before after P = (deeds : List Deed) × Adds before after deeds × P deeds
 
@@ -70,7 +73,7 @@ taken_by s [] = []
 taken_by s (took d bytes ∷ later) = if nat_eq d s then bytes ++ taken_by s later else taken_by s later
 taken_by s (other ∷ later) = taken_by s later
 
--- socket s comes among these
+-- one of these deeds takes socket s
 abbrev pub comes : ℕ → List Deed → Bool
 comes s [] = false
 comes s (came d ∷ later) = nat_eq d s || comes s later

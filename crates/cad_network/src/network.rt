@@ -2,7 +2,7 @@
 
 use std::io::Result;
 
-/// A network at whose doors sockets come. None of its calls waits for a peer but `wait` and `drain`.
+/// A network that takes sockets at its doors. None of its calls waits for a peer, except `wait` and `drain`.
 pub trait Network {
     ghost use Rattle.std.specs.Prelude.{◌≡◌, ℕ, List, [], ◌∷◌, Option};
     ghost use Rattle.std.specs.Io.{ReadsAtMost, WritesAtMost};
@@ -14,7 +14,7 @@ pub trait Network {
     // What was done at its sockets so far, as long as that is known.
     ghost history: { Self → Option (List Deed) };
 
-    // By what number the history tells a socket from all others.
+    // The number by which the history identifies a socket.
     ghost name: { Self.Socket → ℕ };
 
     /// Takes a client's socket.
@@ -25,7 +25,7 @@ pub trait Network {
     fn accept_office(&mut self) -> Result<Self::Socket>
         ensures { Adds (history self.old) (history self.new) (accepting_office name result) };
 
-    /// Tells from now on when this socket may give or take something, by this place.
+    /// From now on, reports by this place when this socket may give or take something.
     fn watch(&mut self, socket: &mut Self::Socket, place: usize) -> Result<()>
         ensures same { name socket.new ≡ name socket.old }
         ensures done { Adds (history self.old) (history self.new) [] };
@@ -44,11 +44,11 @@ pub trait Network {
     fn let_go(&mut self, socket: Self::Socket)
         ensures { Adds (history self.old) (history self.new) (left (name socket) ∷ []) };
 
-    /// Waits until a socket may give or take something, or for so many milliseconds. The seconds since the start.
+    /// Waits until a socket may give or take something, or for this many milliseconds. The result is the seconds since the start.
     fn wait(&mut self, milliseconds: u64) -> Result<u64>
         ensures { Adds (history self.old) (history self.new) [] };
 
-    /// The place of a socket that may give or take something, of those that the last wait told.
+    /// The place of a socket that may give or take something, one of those that the last wait found.
     fn next_ready(&mut self) -> Option<usize>
         ensures { Adds (history self.old) (history self.new) (waking result) };
 

@@ -16,15 +16,15 @@ use Rattle.cad_page.specs.Pages.{rows_in, is_more_in}
 abbrev pub pairs_of : Ask → List PairText
 pairs_of ask = map pair_text ask.pairs.items
 
--- of the page at the revision that begins after the feature
+-- the target of the page at the revision that begins after the feature
 abbrev pub target_after : Ask → ℕ → Item → List ℕ
 target_after ask revision last = next_target (items_path ask.collection) (pairs_of ask) revision (numbers_of last)
 
--- of the page after these features, where more are left
+-- the target of the page after these features, if more are left
 abbrev pub next_after : Ask → ℕ → List Item → Bool → Option (List ℕ)
 next_after ask revision rows more = if more then option_map (target_after ask revision) (slice_get rows (length rows - 1)) else None
 
--- of the page after the one that is asked for, where there is one
+-- the target of the page after the one that is asked for, if there is one
 abbrev pub next_in : Ask → RevisionFeatures → Option (List ℕ)
 next_in ask snapshot = next_after ask snapshot.revision (rows_in ask snapshot) (is_more_in ask snapshot)
 
@@ -32,7 +32,7 @@ abbrev pub next_links : Option (List ℕ) → Items
 next_links None = no_items
 next_links (Some target) = item (link_data target (codes "next")) no_items
 
--- to the page itself, and to the one after it
+-- the links to the page itself, and to the one after it
 abbrev pub links_data : Ask → Option (List ℕ) → Data
 links_data ask next = array (item (link_data (self_target (items_path ask.collection) (pairs_of ask)) (codes "self")) (next_links next))
 

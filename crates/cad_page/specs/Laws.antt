@@ -19,23 +19,23 @@ use Rattle.cad_run.specs.Slices.{slice, is_more}
 use Rattle.cad_page.specs.Pages.{restrictions, beginning, answer_in, rows_in, is_more_in}
 use Rattle.cad_page.specs.Plans.{CoversAnswer, IsChosen, IsOfMenu, candidates_in}
 
--- what asks the same is answered by the same page
+-- requests that ask the same are answered by the same page
 abbrev pub TheSameIsAnswered : Type 0
 TheSameIsAnswered = (a b : Ask) (snapshot : RevisionFeatures) → AskTheSame a b → page_data a snapshot ≡ page_data b snapshot
 
--- and the same features answer it, of which the page is a part
+-- requests that ask the same have the same answer, of which the page is a part
 abbrev pub TheSameHasOneAnswer : Type 0
 TheSameHasOneAnswer = (a b : Ask) (snapshot : RevisionFeatures) → AskTheSame a b → answer_in a snapshot ≡ answer_in b snapshot
 
--- ---- whatever plan was chosen
+-- ---- for any plan
 
--- the plan's candidates have the whole answer: a page among them has exactly the asked slice, and tells truly whether more is left
+-- the plan's candidates have the whole answer: a page among them has exactly the asked slice, and says correctly whether more is left
 pub record FindsThePage (plan : Plan) (ask : Ask) (snapshot : RevisionFeatures) : Type 0 where
   pub covers : CoversAnswer plan ask snapshot
   pub rows : slice (beginning ask) ask.selection.limit (answer ask.collection (restrictions ask) (candidates_in plan ask snapshot)) ≡ rows_in ask snapshot
   pub more : is_more (beginning ask) ask.selection.limit (answer ask.collection (restrictions ask) (candidates_in plan ask snapshot)) ≡ is_more_in ask snapshot
 
--- each plan of the menu does, whichever form of what is asked the menu is made of; the plan that is chosen is one of them
+-- each plan of the menu finds the page, for any form of what is asked that the menu is made of; the plan that is chosen is one of them
 abbrev pub PlansOfTheMenuFindThePage : Type 0
 PlansOfTheMenuFindThePage =
     (plan : Plan) (ask : Ask) (snapshot : RevisionFeatures) → AreFeaturesOf ask.collection (features_at snapshot ask.collection)
@@ -43,7 +43,7 @@ PlansOfTheMenuFindThePage =
 
 -- ---- the next page
 
--- asks for the same features of the same collection, but at this revision and after this feature
+-- the second request asks for the same features of the same collection, but at this revision and after this feature
 pub record GoesOn (ask again : Ask) (revision : ℕ) (last : Item) : Type 0 where
   pub collection : again.collection ≡ ask.collection
   pub limit : again.selection.limit ≡ ask.selection.limit
@@ -53,7 +53,7 @@ pub record GoesOn (ask again : Ask) (revision : ℕ) (last : Item) : Type 0 wher
   pub revision_is : again.continuation.revision ≡ Some revision
   pub after_is : option_map identifiers.numbers_of again.continuation.after ≡ Some (numbers_of last)
 
--- more is left behind the page's last feature, and the target is read as a request that goes on there: its query has no fault
+-- more is left after the page's last feature, and the target is read as a request that continues there: its query has no fault
 pub record IsReadAgain (ask : Ask) (snapshot : RevisionFeatures) (target : List ℕ) : Type 0 where
   pub more : is_more_in ask snapshot ≡ true
   pub last : Item

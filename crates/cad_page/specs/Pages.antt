@@ -15,14 +15,14 @@ restrictions ask = record { days = ask.selection.datetime; bounds = ask.selectio
 abbrev pub beginning : Ask → Option (ℤ × ℤ)
 beginning ask = option_map (λ (last : Identifier). identifier (last.object, last.number)) ask.continuation.after
 
--- of the snapshot's features those that answer
+-- the snapshot's features that answer
 abbrev pub answer_in : Ask → RevisionFeatures → List Item
 answer_in ask snapshot = answer ask.collection (restrictions ask) (features_at snapshot ask.collection)
 
--- of these the part that is asked for
+-- the part of the answer that is asked for
 abbrev pub rows_in : Ask → RevisionFeatures → List Item
 rows_in ask snapshot = slice (beginning ask) ask.selection.limit (answer_in ask snapshot)
 
--- features of the answer are left after them
+-- features of the answer are left after that part
 abbrev pub is_more_in : Ask → RevisionFeatures → Bool
 is_more_in ask snapshot = is_more (beginning ask) ask.selection.limit (answer_in ask snapshot)

@@ -51,26 +51,26 @@ pub record IsOfMenu (plan : Plan) (ask : Ask) (snapshot : RevisionFeatures) : Ty
   pub is_form : IsFormOf ask form
   pub way : Contains (menu (counts_of (features_at snapshot ask.collection)) form) (way_of plan)
 
--- what it costs to look at its candidates
+-- the cost of examining the plan's candidates
 abbrev pub cost_in : Plan → Ask → RevisionFeatures → ℕ
 cost_in plan ask snapshot = cost (counts_of (features_at snapshot ask.collection)) (way_of plan)
 
--- each feature that answers is among them
+-- each feature that answers is among the plan's candidates
 abbrev pub CoversAnswer : Plan → Ask → RevisionFeatures → Type 0
 CoversAnswer plan ask snapshot = Covers plan ask.collection (restrictions ask) (features_at snapshot ask.collection)
 
--- ---- what is looked at
+-- ---- what is examined
 
--- of the snapshot's features those that the plan looks at
+-- the snapshot's features that the plan examines
 abbrev pub candidates_in : Plan → Ask → RevisionFeatures → List Item
 candidates_in plan ask snapshot = candidates plan (features_at snapshot ask.collection)
 
--- how many of them are tested for the page: those after the one that it begins after, up to the one that shows that more are left
+-- how many of them are tested for the page: those after the identifier that it begins after, up to the one that shows that more are left
 abbrev pub examined_in : Plan → Ask → RevisionFeatures → ℕ
 examined_in plan ask snapshot =
     examined_of (answers ask.collection (restrictions ask)) ask.selection.limit (later (beginning ask) (candidates_in plan ask snapshot))
 
--- so many of them are tested, in the subject's words
+-- this many of them are tested, in the words of `AreTested`
 abbrev pub AreTestedIn : Plan → Ask → RevisionFeatures → ℕ → Type 0
 AreTestedIn plan ask snapshot count =
     AreTested (answers ask.collection (restrictions ask)) ask.selection.limit (later (beginning ask) (candidates_in plan ask snapshot)) count
@@ -86,6 +86,6 @@ pub record IsBoxFilter (boxed : Filter) (ask : Ask) : Type 0 where
 abbrev pub FormStands : Normal → Ask → Type 0
 FormStands form ask = (x : Written) → meets x.item form ≡ if_given (is_true_of x.item) ask.filter
 
--- and it is within the filter's bound
+-- the form is within the filter's bound
 abbrev pub FormCosts : Normal → Ask → Type 0
 FormCosts form ask = (t : List Written) → IsWithin t form ask.filter

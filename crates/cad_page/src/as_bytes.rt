@@ -1,4 +1,4 @@
-//! The bodies and the link as bytes, for those who send them: each is the text that is named alike.
+//! The bodies and the link as bytes, for sending: each has the text of the function of the same name in this crate.
 
 ghost use Rattle.std.specs.Prelude.{◌≡◌, IfOk, option_map};
 ghost use Rattle.serde_json.specs.Written.{compact_text};
@@ -21,7 +21,7 @@ pub fn body(alloc: Global, ask: &Ask, snapshot: &Snapshot) -> Result<Vec<u8>, Al
     Ok(text.into_bytes())
 }
 
-/// The target of that body's link to the next page; none where no features are left. An error means out of memory.
+/// The target of that body's link to the next page; `None` if no features are left. An error means out of memory.
 pub fn next_link(
     alloc: Global,
     ask: &Ask,
@@ -47,7 +47,7 @@ pub fn feature_body(
     Ok(text.into_bytes())
 }
 
-/// The body that tells the fault of a query. An error means out of memory.
+/// The body for the fault of a query. An error means out of memory.
 pub fn fault_body(alloc: Global, fault: &AskFault) -> Result<Vec<u8>, AllocError>
     ensures { IfOk result (λ bytes. bytes.items ≡ compact_text (fault_data fault.now)) }
 {

@@ -12,16 +12,16 @@ use cad_run::candidate_count;
 use cad_snapshot::Snapshot;
 use std::alloc::{AllocError, Global};
 
-/// What is looked at for a page.
+/// What is examined for a page.
 #[derive(Drop)]
 pub struct Report {
-    /// Which features are looked at.
+    /// Which features are examined.
     pub plan: Plan,
-    /// What that costs, as it was estimated for the choice.
+    /// What that costs, as estimated for the choice.
     pub cost: u64,
-    /// How many features they are.
+    /// How many candidates the plan has.
     pub candidates: u64,
-    /// How many of them are tested for this page.
+    /// How many of the candidates are tested for this page.
     pub examined: u64,
 }
 

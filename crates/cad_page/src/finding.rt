@@ -26,7 +26,7 @@ pub(crate) struct Planned<'a> {
     pub(crate) page: Page<'a>,
 }
 
-// The query, with the form of what is asked.
+// The query, with the normal form of what is asked.
 fn query<'a, 'f>(ask: &'f Ask, form: &'a Normal<'f>) -> PageQuery<'a, 'f>
     ensures asked { restrictions_of result ≡ restrictions ask.now }
     ensures form { result.normal.now ≡ form.now }
@@ -47,7 +47,7 @@ fn query<'a, 'f>(ask: &'f Ask, form: &'a Normal<'f>) -> PageQuery<'a, 'f>
     }
 }
 
-// The page of the plan's candidates that meet the form too.
+// The page of the plan's candidates that also meet the form.
 fn page_where<'a, 'f>(
     alloc: Global,
     ask: &'f Ask,
@@ -68,7 +68,7 @@ fn page_where<'a, 'f>(
     Ok(page)
 }
 
-// The page that is asked for, by this form of what is asked, with the plan that was chosen for it.
+// The page that is asked for, with the plan that was chosen for it, by this normal form of what is asked.
 fn planned_by<'a, 'f>(
     alloc: Global,
     ask: &'f Ask,
@@ -87,7 +87,7 @@ fn planned_by<'a, 'f>(
     Ok(Planned { plan, page })
 }
 
-// The same where a box is asked for, by the filter that it is, whose form is joined to that of the filter.
+// The same if a box is asked for: `boxed` is the box as a filter, and its form is joined to that of the filter.
 fn planned_with<'a>(
     alloc: Global,
     ask: &Ask,
@@ -107,7 +107,7 @@ fn planned_with<'a>(
     Ok(planned)
 }
 
-// The same where this box is asked for.
+// The same if this box is asked for.
 fn planned_in_box<'a>(
     alloc: Global,
     ask: &Ask,

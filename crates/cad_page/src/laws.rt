@@ -12,21 +12,21 @@ use cad_schema::Collection;
 use cql_meaning::laws::filters_of_one_condition_agree;
 use cql_rewrite::laws::{choices_are_the_first_of_least, features_are_written, menus_cover};
 
-/// What asks the same is answered by the same page, wherever its filter lies in memory.
+/// Requests that ask the same are answered by the same page; the place of the filter in memory does not matter.
 pub fn the_same_is_answered()
     ensures { TheSameIsAnswered }
 {
     filters_of_one_condition_agree();
 }
 
-/// And the same features answer it, of which the page is a part.
+/// Requests that ask the same have the same answer, of which the page is a part.
 pub fn the_same_has_one_answer()
     ensures { TheSameHasOneAnswer }
 {
     filters_of_one_condition_agree();
 }
 
-// The features of every collection hold characters alone.
+// The texts of the features of every collection consist of characters.
 fn all_features_are_written()
     ensures { (collection : CollectionOf) → FeaturesAreWritten collection }
 {
@@ -38,8 +38,8 @@ fn all_features_are_written()
     features_are_written(Collection::Responsibilities);
 }
 
-/// By each plan of the menu the page is the same: exactly the asked slice, with the truth of whether more is left. The plan that
-/// is chosen is one of the menu.
+/// Each plan of the menu gives the same page: exactly the asked slice, with the correct answer to whether more is left. The plan that is
+/// chosen is one of the menu.
 pub fn plans_of_the_menu_find_the_page()
     ensures { PlansOfTheMenuFindThePage }
 {

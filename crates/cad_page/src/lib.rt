@@ -2,15 +2,15 @@
 //!
 //! - [`body`]: the page that a request asks for, of a snapshot of its revision
 //! - [`next_link`]: the target of the link to the page after it
-//! - [`explain`]: which features are looked at for it: a [`Report`]
+//! - [`explain`]: which features are examined for it: a [`Report`]
 //! - [`feature_body`]: one feature
-//! - [`Ask`], [`fault_body`], [`Snapshot`], and the bodies that show no features (`landing_body` and its like): from the crates below
+//! - [`Ask`], [`fault_body`], [`Snapshot`], and the bodies that show no features (such as `landing_body`): from the crates below
 //! - [`as_bytes`]: the same bodies and link as bytes
-//! - `laws`: that what asks the same is answered by the same page, and has the same answer; that the link's target is read again as the
-//!   same request, at the page's revision and after its last feature
+//! - `laws`: that requests that ask the same have the same page and the same answer; that the link's target is read back as the same
+//!   request, at the page's revision and after its last feature
 //!
-//! Each body is compact text, with the members of each object in byte order of their names. What a body holds is said as
-//! a tree of JSON. Of an empty register `/collections/parcels/items` has the body
+//! Each body is compact text, with the members of each object in byte order of their names. The contracts give the content of a body as a
+//! tree of JSON. With an empty register, `/collections/parcels/items` has the body
 //! `{"features":[],"links":[{"href":"/collections/parcels/items","rel":"self","type":"application/json"}],"numberReturned":0,"revision":0,"type":"FeatureCollection"}`.
 #![tactic(auto)]
 

@@ -12,7 +12,7 @@ use cad_ask::Ask;
 use cad_snapshot::Snapshot;
 use std::alloc::{AllocError, Global};
 
-/// The text, lent.
+/// The text, borrowed.
 fn lent(text: &Option<String>) -> Option<&str>
     ensures { option_copied result ≡ option_map string_bytes text.now }
 {
@@ -45,7 +45,7 @@ pub fn body(alloc: Global, ask: &Ask, snapshot: &Snapshot) -> Result<String, All
     }
 }
 
-/// The target of that body's link to the next page; none where no features are left. An error means out of memory.
+/// The target of that body's link to the next page; `None` if no features are left. An error means out of memory.
 pub fn next_link(
     alloc: Global,
     ask: &Ask,

@@ -14,7 +14,7 @@ use cql_rewrite::{Normal, both, normal};
 use cql_types::Filter;
 use std::alloc::{AllocError, Global};
 
-/// The normal form of the filter; without one, what every feature meets.
+/// The normal form of the filter; without a filter, the form that every feature meets.
 pub(crate) fn form_of(alloc: Global, ask: &Ask) -> Result<Normal<'_>, AllocError>
     ensures stands { IfOk result (λ form. FormStands form ask.now) }
     ensures costs { IfOk result (λ form. FormCosts form ask.now) }
@@ -28,7 +28,7 @@ pub(crate) fn form_of(alloc: Global, ask: &Ask) -> Result<Normal<'_>, AllocError
     }
 }
 
-/// The place of the geometry in the schema of a collection, where it has one.
+/// The place of the geometry in the schema of a collection, if it has one.
 pub(crate) fn geometry_place(collection: Collection) -> Option<usize>
     ensures { result ≡ place_named collection (codes "geometry") }
 {
@@ -36,7 +36,7 @@ pub(crate) fn geometry_place(collection: Collection) -> Option<usize>
     Some(place)
 }
 
-/// The form of a filter, joined to that of the box, which is a filter too: one more part of an AND.
+/// The form of a filter, joined by AND to that of the box, which is a filter too.
 pub(crate) fn boxed_form<'a>(
     alloc: Global,
     ask: &Ask,

@@ -1,4 +1,4 @@
--- Boxes as they are asked for (OGC 17-069r4, 7.15.3: parameter bbox; whole millimetres: own profile).
+-- Boxes in requests (OGC 17-069r4, 7.15.3: parameter bbox; whole millimetres: own profile).
 use Rattle.std.specs.Prelude.{ℕ, ℤ, pos, neg_ℤ, int_le, nat_le, ◌&&◌, List, drop, Option, Some, None, option_map, if◌then◌else◌}
 use Rattle.std.specs.Option.{option_and_then}
 use Rattle.std.specs.List.{list_all}
@@ -15,12 +15,12 @@ BoxNumbers = ℤ × ℤ × ℤ × ℤ
 abbrev pub box_numbers : Bounds → BoxNumbers
 box_numbers bounds = (bounds.x_min, bounds.y_min, bounds.x_max, bounds.y_max)
 
--- what stands before a point that has only zeros after it, or all where there is no point
+-- the text before a point that has only zeros after it, or the whole text if it has no point
 abbrev pub whole_part : List ℕ → Option (List ℕ × List ℕ) → Option (List ℕ)
 whole_part text None = Some text
 whole_part text (Some parts) = if list_all (is_byte 48) parts.1 then Some parts.0 else None
 
--- no farther than any coordinate
+-- at most the farthest coordinate
 abbrev pub within_reach : ℕ → Option ℕ
 within_reach n = if nat_le n farthest then Some n else None
 

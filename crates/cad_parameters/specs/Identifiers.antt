@@ -8,12 +8,12 @@ use Rattle.cad_parameters.specs.Parts.{parted}
 abbrev pub both_numbers : List ℕ × List ℕ → Option Numbers
 both_numbers parts = option_zip (counting_number parts.0) (counting_number parts.1)
 
--- the version that the text identifies: two numbers without leading zeros, parted by a point
+-- the version that the text identifies: two numbers without leading zeros, separated by a point
 abbrev pub identifier_named : List ℕ → Option Numbers
 identifier_named text = option_and_then both_numbers (parted 46 text)
 
 -- ---- law
 
--- the function is the relation: a text is read as what it identifies, and as nothing else
+-- the function and the relation agree: a text is read as what it identifies, and as nothing else
 abbrev pub ReadsWhatIsIdentified : Type 0
 ReadsWhatIsIdentified = (text : List ℕ) (numbers : Numbers) → (identifier_named text ≡ Some numbers) ↔ Identifies text numbers

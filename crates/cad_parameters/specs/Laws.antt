@@ -12,7 +12,7 @@ use Rattle.cad_parameters.specs.Links.{continued, self_target, next_target}
 
 -- ---- faults
 
--- none is told exactly where the pairs have none
+-- no fault is reported exactly if the pairs have none
 abbrev pub NoFirstFaultMeansNoFault : Type 0
 NoFirstFaultMeansNoFault =
     (pairs : List PairText) → (first_fault pairs ≡ None) ↔ ((fault : ParameterFault) → have fault pairs ≡ false)
@@ -31,7 +31,7 @@ PairsAreReadBack = (pairs : List PairText) → All IsPairOfTexts pairs → pairs
 abbrev pub PairsAreTexts : Type 0
 PairsAreTexts = (query : List ℕ) → All IsPairOfTexts (pairs_of query)
 
--- what a target asks for: its path and the pairs of its query (RFC 9110, section 4.2: http URI; the first `?` parts them)
+-- what a target asks for: its path and the pairs of its query (RFC 9110, section 4.2: http URI; the first `?` separates them)
 abbrev pub path_of : List ℕ → List ℕ
 path_of target = before_first (is_byte 63) target
 
@@ -65,7 +65,7 @@ pub record AsksToGoOn (pairs : List PairText) (revision : ℕ) (last : Numbers) 
   pub revision_is : value_of_parameter revision_of (codes "revision") again ≡ Some revision
   pub after_is : value_of_parameter identifier_named (codes "after") again ≡ Some last
 
--- the continued pairs of a page that was asked for without a fault go on with it
+-- if the pairs of a page have no fault, the continued pairs continue it
 abbrev pub ContinuedGoesOn : Type 0
 ContinuedGoesOn =
     (pairs : List PairText) (revision : ℕ) (last : Numbers)

@@ -4,12 +4,12 @@ use Rattle.std.specs.Str.{bytes_eq}
 use Rattle.cad_parameters.specs.Pairs.{PairText, written}
 use Rattle.cad_parameters.specs.Identifiers.{Numbers, identifier_text}
 
--- the path, and the pairs where there are any
+-- the path, and the pairs if there are any
 abbrev pub self_target : List ℕ → List PairText → List ℕ
 self_target path [] = path
 self_target path (pair ∷ pairs) = path ++ codes "?" ++ written (pair ∷ pairs)
 
--- where a page begins: the revision that it shows, and the identifier that it starts after
+-- the parameters that say where a page begins: the revision that it shows, and the identifier that it starts after
 abbrev pub is_beginning : PairText → Bool
 is_beginning pair = bytes_eq pair.0 (codes "revision") || bytes_eq pair.0 (codes "after")
 

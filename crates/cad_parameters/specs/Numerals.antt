@@ -1,4 +1,4 @@
--- Numbers as they are asked for (own profile).
+-- Numbers in requests (own profile).
 use Rattle.std.specs.Prelude.{ℕ, ◌==◌, ◌&&◌, nat_le, min, List, length, slice_index, Option, Some, None, if◌then◌else◌}
 use Rattle.std.specs.Option.{option_and_then}
 use Rattle.cad_io.specs.Decimals.{number_in}

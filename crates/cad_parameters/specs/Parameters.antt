@@ -27,7 +27,7 @@ abbrev pub has_twice : List PairText → Bool
 has_twice [] = false
 has_twice (pair ∷ others) = is_some (given pair.0 others) || has_twice others
 
--- the days of a text, where it asks for some
+-- the days that a text asks for, if it asks for any
 abbrev pub days_of : List ℕ → Option Ends
 days_of text = result_ok (asked text)
 
@@ -55,18 +55,18 @@ have After pairs = is_wrong (λ text. is_some (identifier_named text)) (given (c
 abbrev pub first_of : List ParameterFault → List PairText → Option ParameterFault
 first_of faults pairs = find (λ fault. have fault pairs) faults
 
--- those that are looked for before the filter, and those after it
+-- the faults that are looked for before the filter, and those after it
 abbrev pub selection_faults : List ParameterFault
 selection_faults = Unknown ∷ Repeated ∷ Limit ∷ Datetime ∷ Bbox ∷ FilterLang ∷ []
 
 abbrev pub continuation_faults : List ParameterFault
 continuation_faults = Revision ∷ After ∷ []
 
--- the first fault of the pairs, whatever their filter is
+-- the first fault of the pairs, without regard to their filter
 abbrev pub first_fault : List PairText → Option ParameterFault
 first_fault pairs = first_of (selection_faults ++ continuation_faults) pairs
 
--- what the value under a name stands for, if one is given
+-- the meaning of the value under a name, if one is given
 abbrev pub value_of_parameter : {V : Type 0} → (List ℕ → Option V) → List ℕ → List PairText → Option V
 value_of_parameter read name pairs = option_and_then read (given name pairs)
 

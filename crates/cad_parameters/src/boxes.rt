@@ -64,7 +64,7 @@ fn magnitude(text: &[u8]) -> Option<u64>
     }
 }
 
-/// What stands before a point that has only zeros after it, or all where there is no point.
+/// The text before a point that has only zeros after it, or the whole text if it has no point.
 fn whole_part(text: &[u8]) -> Option<&[u8]>
     ensures { option_copied result ≡ spec.whole_part text.now (parted 46 text.now) }
 {

@@ -17,9 +17,9 @@ use cad_versions::Identifier;
 /// Where a page begins: the pages of one walk show one revision, each after the last feature of the one before.
 #[derive(Clone, Copy, Debug, PartialEq, Eq)]
 pub struct Continuation {
-    /// The revision that the page shows; the one in force where it is `None`.
+    /// The revision that the page shows; if it is `None`, the one in force.
     pub revision: Option<u64>,
-    /// Only features after this one are given. It need not be there.
+    /// Only features after this one are given. It need not exist.
     pub after: Option<Identifier>,
 }
 

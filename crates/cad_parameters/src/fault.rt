@@ -1,9 +1,9 @@
-//! Why parameters are refused, but for the filter.
+//! Why parameters are refused, except for the filter.
 
 use thiserror::Error;
 
-/// Why parameters are refused, but for the filter, of which who reads filters tells. The faults are looked for in this order: those
-/// before `Revision`, then the filter's, then the others.
+/// Why parameters are refused, except for the filter, whose faults are those of `cql_filter`. The faults are looked for in this order:
+/// those before `Revision`, then the filter's, then the others.
 #[derive(Clone, Copy, Debug, PartialEq, Eq, Error)]
 pub enum ParameterFault {
     /// A parameter has an unknown name.

@@ -1,4 +1,4 @@
-//! Identifiers as they are asked for.
+//! Identifiers in requests.
 
 ghost use Rattle.std.specs.Prelude.{◌≡◌, option_map};
 ghost use Rattle.cad_parameters.specs.Identifiers.{identifier_named, numbers_of};
@@ -7,7 +7,7 @@ use crate::numerals::counting_number;
 use crate::parts::part;
 use cad_versions::{Identifier, ObjectId};
 
-/// The identifier that a text names: two numbers without leading zeros, joined by a point.
+/// The identifier that a text names: two numbers without leading zeros, separated by a point.
 pub fn read_identifier(text: &str) -> Option<Identifier>
     ensures { option_map numbers_of result ≡ identifier_named text.now }
 {

@@ -3,7 +3,7 @@
 ghost use Rattle.cad_parameters.specs.Identifiers.{ReadsWhatIsIdentified};
 ghost use Rattle.cad_parameters.specs.Laws.{NoFirstFaultMeansNoFault, PairsAreReadBack, PairsAreTexts, SelfIsReadBack, NextIsReadBack, ContinuedGoesOn};
 
-/// No fault is told exactly where the pairs have none.
+/// No fault is reported exactly if the pairs have none.
 pub fn no_first_fault_means_no_fault()
     ensures { NoFirstFaultMeansNoFault }
 {}

@@ -10,7 +10,7 @@ ghost use Rattle.cad_parameters.specs.Parameters.{first_of};
 use crate::fault::ParameterFault;
 use crate::pairs::Pair;
 
-/// Refuses a name that is unknown, and then one that comes twice.
+/// Refuses an unknown name, and then a name that comes twice.
 pub(crate) fn check_names(pairs: &[Pair]) -> Result<(), ParameterFault>
     ensures { result_err result
         ≡ first_of (ParameterFault.Unknown ∷ ParameterFault.Repeated ∷ []) (map pair_text pairs.now) }
@@ -61,7 +61,7 @@ fn has_twice(pairs: &[Pair]) -> bool
     false
 }
 
-/// The value that is given under a name, if one is.
+/// The value that is given under a name, if there is one.
 pub(crate) fn value_under<'a>(pairs: &'a [Pair], name: &str) -> Option<&'a str>
     ensures { option_copied result ≡ given name.now (map pair_text pairs.now) }
 {

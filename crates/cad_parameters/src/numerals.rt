@@ -1,4 +1,4 @@
-//! Numbers that are asked for.
+//! Numbers in requests.
 
 ghost use Rattle.std.specs.Prelude.{◌≡◌, IfSome};
 ghost use Rattle.cad_versions.specs.Objects.{IsObjectNumber};
@@ -27,7 +27,7 @@ pub(crate) fn counting_number(digits: &[u8]) -> Option<u32>
     }
 }
 
-/// The most features of a page: a number from 1, where more than 1,000 means 1,000.
+/// The most features of a page: a number from 1; more than 1,000 means 1,000.
 pub(crate) fn limit_in(text: &str) -> Option<u32>
     ensures { result ≡ limit_of text.now }
 {

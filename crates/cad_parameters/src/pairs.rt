@@ -6,7 +6,7 @@ ghost use Rattle.cad_parameters.specs.Pairs.{text_of, pairs_of, pair_text, writt
 use form_urlencoded::{Serializer, decode, raw_pairs};
 use std::alloc::{AllocError, Global};
 
-/// A parameter, read.
+/// A parameter, decoded.
 #[derive(Debug, Drop)]
 pub struct Pair {
     /// The name, without escapes.

@@ -1,4 +1,4 @@
-//! Which features are asked for, but for the filter.
+//! Which features are asked for, except for the filter.
 
 ghost use Rattle.std.specs.Prelude.{◌≡◌, [], ◌∷◌, map, codes, IfOk, option_map, unwrap_or};
 ghost use Rattle.std.specs.Result.{result_err};
@@ -16,10 +16,10 @@ use crate::pairs::Pair;
 use cad_day::{Interval, asked};
 use cad_shape::Bounds;
 
-/// Which features are asked for, but for the filter.
+/// Which features are asked for, except for the filter.
 #[derive(Clone, Copy, Debug, PartialEq, Eq)]
 pub struct Selection {
-    /// How many at most, from 1 to 1,000.
+    /// The most features, from 1 to 1,000.
     pub limit: u32,
     /// The days that a version's lifespan has to meet.
     pub datetime: Option<Interval>,

@@ -1,4 +1,4 @@
--- What a request wants of the register, or the reply that is told without it (own profile of OGC 17-069r4, section 7).
+-- What a request wants of the register, or the response that is made without it (own profile of OGC 17-069r4, section 7).
 use Rattle.std.specs.Prelude.{◌≡◌, ℕ, List, [], ◌∷◌, codes, string_bytes, Bool, true, false, Result, Ok, Err, MatchOption}
 use Rattle.std.specs.Bool.{MatchBool}
 use Rattle.serde_json.specs.Written.{compact_text}
@@ -39,7 +39,7 @@ has_pairs (pair ∷ pairs) = true
 abbrev pub IsPlain : List PairText → List ℕ → Response → Type 0
 IsPlain pairs text response = MatchBool (has_pairs pairs) (IsRefusal status.BadRequest (codes "unknown") response) (IsResponse status.Ok text response)
 
--- the reply is told without the register
+-- the response is made without the register
 abbrev pub IsAnsweredBy : (Response → Type 0) → ParsedRequest → Type 0
 IsAnsweredBy P (parsed.Immediate response) = P response
 IsAnsweredBy P (parsed.Features sought) = ⊥
@@ -60,12 +60,12 @@ IsFeatureOf c numbers (parsed.Features (features.Feature d i)) = (d ≡ c) × (n
 IsFeatureOf c numbers (parsed.Immediate response) = ⊥
 IsFeatureOf c numbers (parsed.Features (features.Page ask)) = ⊥
 
--- the feature that a text identifies; where the text is no identifier, none is there
+-- the feature that a text identifies; if the text is no identifier, there is no such feature
 abbrev pub IsIdentified : Collection → List ℕ → ParsedRequest → Type 0
 IsIdentified c text w =
     MatchOption (identifier_named text) (IsAnsweredBy (IsRefusal status.NotFound (codes "no-feature")) w) (λ numbers. IsFeatureOf c numbers w)
 
--- the same, where there are no parameters
+-- the same, if there are no parameters
 abbrev pub IsFeatureRequest : Collection → List PairText → List ℕ → ParsedRequest → Type 0
 IsFeatureRequest c pairs text w =
     MatchBool (has_pairs pairs) (IsAnsweredBy (IsRefusal status.BadRequest (codes "unknown")) w) (IsIdentified c text w)
@@ -79,7 +79,7 @@ IsRequestAt (queryables c) pairs w = IsAnsweredBy (IsPlain pairs (compact_text (
 IsRequestAt (items c) pairs w = IsPageRequest c pairs w
 IsRequestAt (item c id) pairs w = IsFeatureRequest c pairs id w
 
--- what a request wants that asks for this, or fails this check
+-- what a request wants if it asks for this, or fails this check
 abbrev pub IsParsedRequest : Result RequestedText Check → ParsedRequest → Type 0
 IsParsedRequest (Ok requested) w = IsRequestAt requested.0 (pairs_of requested.1) w
 IsParsedRequest (Err check) w = IsAnsweredBy (IsRefusal (status_of check) (word_of check)) w

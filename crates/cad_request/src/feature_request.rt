@@ -9,9 +9,9 @@ use cad_schema::Collection;
 pub enum FeatureRequest {
     /// A page of a collection's features.
     Page(Ask),
-    /// One feature, if it is there.
+    /// One feature, if it exists.
     Feature {
-        /// The collection that it is asked for in.
+        /// The collection in which it is asked for.
         collection: Collection,
         /// Which version of which object it is.
         identifier: Identifier,

@@ -19,7 +19,7 @@ pub(crate) fn has_pairs(alloc: Global, query: &str) -> Result<bool, AllocError>
     Ok(has)
 }
 
-/// The refusal of a parameter where none is taken.
+/// The refusal of a parameter if none is taken.
 pub(crate) fn unknown(alloc: Global) -> Result<Response, AllocError>
     ensures { IfOk result (IsRefusal BadRequest (codes "unknown")) }
 {

@@ -17,7 +17,7 @@ use std::alloc::{AllocError, Global};
 /// What a request wants of the register.
 #[derive(Drop)]
 pub enum ParsedRequest {
-    /// Nothing: this is its reply.
+    /// Nothing: this is the response.
     Immediate(Response),
     /// Features of a revision.
     Features(FeatureRequest),
@@ -28,7 +28,7 @@ impl ParsedRequest {
     ghost use Rattle.cad_resource.specs.Requested.{requested_text};
     ghost use Rattle.cad_request.specs.ParsedRequests.{IsParsedRequest};
 
-    /// What a request wants that asks for this, or fails this check. An error means out of memory.
+    /// What a request wants if it asks for this, or fails this check. An error means out of memory.
     pub fn of(
         alloc: Global,
         requested: &Result<ResourceQuery<'_>, Check>,

@@ -1,4 +1,4 @@
-//! Replies that are told without the register.
+//! Responses that are made without the register.
 
 ghost use Rattle.std.specs.Prelude.{IfOk};
 ghost use Rattle.cad_request.specs.ParsedRequests.{IsRefusal};

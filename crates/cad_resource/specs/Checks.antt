@@ -5,7 +5,7 @@ use Rattle.cad_head.specs.declared.status.Status.TheVariants.{BadRequest, NotFou
 use Rattle.cad_resource.specs.declared.check.Check.{Check}
 use Rattle.cad_resource.specs.declared.check.Check.TheVariants.{BadHead, Host, Body, Target, NoResource, Method, NoCollection}
 
--- the word that the body of the refusal tells
+-- the word in the body of the refusal
 abbrev pub word_of : Check → List ℕ
 word_of BadHead = codes "bad-head"
 word_of Host = codes "host"
@@ -25,7 +25,7 @@ status_of NoResource = NotFound
 status_of Method = MethodNotAllowed
 status_of NoCollection = NotFound
 
--- where the next request begins is not known after these, so the connection ends
+-- after these checks it is not known where the next request begins, so the connection ends
 abbrev pub ends_connection : Check → Bool
 ends_connection BadHead = true
 ends_connection Host = true

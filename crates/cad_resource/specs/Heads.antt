@@ -1,4 +1,4 @@
--- What a request's head has to be, whatever it asks for (RFC 9112).
+-- What a request's head has to be, no matter what it asks for (RFC 9112).
 use Rattle.std.specs.Prelude.{ℕ, List, codes, Bool, not, get_or, ◌&&◌, ◌||◌, ◌==◌, nat_le, count_by}
 use Rattle.std.specs.List.{list_any, list_all}
 use Rattle.std.specs.Str.{bytes_eq, str_eq_ignore_ascii_case}
@@ -12,20 +12,21 @@ is_named name field = str_eq_ignore_ascii_case field.0 name
 abbrev pub lacks_host : Request → Bool
 lacks_host r = r.minor == 1 && not (count_by (is_named (codes "host")) r.fields == 1)
 
--- the field announces a body, if it were empty (RFC 9112, section 6.1: transfer-encoding, 6.2: content-length)
+-- the field announces a body: any Transfer-Encoding, or a Content-Length other than `0` (RFC 9112, section 6.1: transfer-encoding, 6.2:
+-- content-length)
 abbrev pub announces_body : FieldText → Bool
 announces_body field =
     is_named (codes "transfer-encoding") field
     || (is_named (codes "content-length") field && not (bytes_eq field.1 (codes "0")))
 
--- a body is announced, and no resource takes one (own profile)
+-- a body is announced, which no resource takes (own profile)
 abbrev pub has_body : Request → Bool
 has_body r = list_any announces_body r.fields
 
--- a character that may stand in a target, as ASCII has it without blanks and controls (own profile)
+-- a character that is allowed in a target: ASCII without blanks and control characters (own profile)
 abbrev pub is_visible : ℕ → Bool
 is_visible b = nat_le 33 b && nat_le b 126
 
--- a target that begins with a slash, and has such characters alone (RFC 9112, section 3.2.1: origin form)
+-- a target that begins with a slash, and has only such characters (RFC 9112, section 3.2.1: origin form)
 abbrev pub is_target : List ℕ → Bool
 is_target target = get_or target 0 0 == 47 && list_all is_visible target

@@ -7,16 +7,16 @@ use Rattle.cad_resource.specs.Heads.{lacks_host, has_body, is_target}
 use Rattle.cad_resource.specs.Places.{Place, landing, collections, collection, queryables, items, item, place_of, resource_of, path_of, named}
 use Rattle.cad_resource.specs.Requested.{requested}
 
--- the head is as it has to be, whatever is asked for
+-- the head is as it has to be, no matter what is asked for
 pub record IsSound (r : Request) : Type 0 where
   pub has_host : lacks_host r ≡ false
   pub bodiless : has_body r ≡ false
 
--- hosts are looked at first
+-- hosts are checked first
 abbrev pub HostIsFirst : Type 0
 HostIsFirst = (r : Request) → lacks_host r ≡ true → requested r ≡ Err Host
 
--- then bodies, whatever the target is
+-- then bodies, for any target
 abbrev pub BodyIsSecond : Type 0
 BodyIsSecond = (r : Request) → lacks_host r ≡ false → has_body r ≡ true → requested r ≡ Err Body
 
@@ -24,11 +24,11 @@ BodyIsSecond = (r : Request) → lacks_host r ≡ false → has_body r ≡ true 
 abbrev pub TargetIsThird : Type 0
 TargetIsThird = (r : Request) → IsSound r → is_target r.target ≡ false → requested r ≡ Err Target
 
--- then paths, whatever the method is
+-- then paths, for any method
 abbrev pub PathIsFourth : Type 0
 PathIsFourth = (r : Request) → IsSound r → is_target r.target ≡ true → place_of (path r) ≡ None → requested r ≡ Err NoResource
 
--- then methods, whatever the collection is
+-- then methods, for any collection
 abbrev pub MethodIsFifth : Type 0
 MethodIsFifth =
     (r : Request) (place : Place (List ℕ)) → IsSound r → is_target r.target ≡ true → place_of (path r) ≡ Some place
@@ -46,17 +46,17 @@ CollectionIsSixth =
     (r : Request) (place : Place (List ℕ)) → IsGet r → place_of (path r) ≡ Some place → resource_of (path r) ≡ None
     → requested r ≡ Err NoCollection
 
--- a GET of a resource's path asks for it, with whatever query
+-- a GET of a resource's path asks for it, with any query
 abbrev pub ResourcesAreRequested : Type 0
 ResourcesAreRequested =
     (r : Request) (place : Place Collection) → IsGet r → resource_of (path r) ≡ Some place → requested r ≡ Ok (place, query r)
 
--- a text that may stand between slashes
+-- a text that may be between slashes
 pub record IsSegment (text : List ℕ) : Type 0 where
   pub some : 0 < length text
   pub no_slash : All (λ b. b ≢ 47) text
 
--- the texts of a place may stand between slashes
+-- the texts of a place may be between slashes
 abbrev pub IsPlace : Place (List ℕ) → Type 0
 IsPlace landing = ⊤
 IsPlace collections = ⊤

@@ -6,7 +6,7 @@ use Rattle.std.specs.Str.{bytes_eq}
 use Rattle.cad_schema.specs.declared.collection.Collection.{Collection}
 use Rattle.cad_schema.specs.Collections.{collection_named, name_of}
 
--- what a path names, with the collection as the path has it or as it is known
+-- what a path names, with the collection as a text of the path or as a known collection
 pub data Place (C : Type 0) : Type 0 where
   landing : Place C
   collections : Place C
@@ -24,27 +24,27 @@ abbrev pub below_queryables : List ℕ → List (List ℕ) → Option (Place (Li
 below_queryables c [] = Some (queryables c)
 below_queryables c (s ∷ rest) = None
 
--- below the features of a collection stands each of them, under its identifier
+-- below the features of a collection is each of them, under its identifier
 abbrev pub below_items : List ℕ → List (List ℕ) → Option (Place (List ℕ))
 below_items c [] = Some (items c)
 below_items c ([] ∷ rest) = None
 below_items c ((b ∷ id) ∷ []) = Some (item c (b ∷ id))
 below_items c ((b ∷ id) ∷ s ∷ rest) = None
 
--- below a collection stand its features and its queryables
+-- below a collection are its features and its queryables
 abbrev pub below_collection : List ℕ → List (List ℕ) → Option (Place (List ℕ))
 below_collection c [] = Some (collection c)
 below_collection c (s ∷ rest) =
     if bytes_eq s (codes "items") then below_items c rest
     else (if bytes_eq s (codes "queryables") then below_queryables c rest else None)
 
--- below the collections stands each of them, under its name
+-- below the collections is each of them, under its name
 abbrev pub below_collections : List (List ℕ) → Option (Place (List ℕ))
 below_collections [] = Some collections
 below_collections ([] ∷ rest) = None
 below_collections ((b ∷ c) ∷ rest) = below_collection (b ∷ c) rest
 
--- below the first slash
+-- what is below the first slash
 abbrev pub below_root : List (List ℕ) → Option (Place (List ℕ))
 below_root [] = None
 below_root ([] ∷ []) = Some landing

@@ -17,17 +17,17 @@ use Rattle.cad_resource.specs.Checks.{ends_connection}
 abbrev pub RequestedText : Type 0
 RequestedText = Place Collection × List ℕ
 
--- of the collections that there are
+-- the resource of a known collection, if the path names one
 abbrev pub requested_resource : Option (Place Collection) → List ℕ → Result RequestedText Check
 requested_resource None text = Err NoCollection
 requested_resource (Some place) text = Ok (place, text)
 
--- by the one method that there is (RFC 9110, section 9.3.1: GET)
+-- what is asked for at a place, by the only method that exists (RFC 9110, section 9.3.1: GET)
 abbrev pub requested_at_place : Option (Place (List ℕ)) → List ℕ → List ℕ → Result RequestedText Check
 requested_at_place None method text = Err NoResource
 requested_at_place (Some place) method text = if not (bytes_eq method (codes "GET")) then Err Method else requested_resource (known place) text
 
--- by the target's path and query, which its first question mark parts (RFC 9112, section 3.2.1: origin form)
+-- what is asked for by the target's path and query, which its first question mark separates (RFC 9112, section 3.2.1: origin form)
 abbrev pub requested_by_target : List ℕ → List ℕ → Result RequestedText Check
 requested_by_target method target =
     if not (is_target target) then Err Target

@@ -13,11 +13,11 @@ use Rattle.cad_resource.specs.Places.{Place, landing, collections, collection, q
 abbrev pub RouteRows : Type 0
 RouteRows = RowsOf (RouteOf Route)
 
--- the text is a route's, and no other route is in its way
+-- the text is that of a route, and no other route conflicts with it
 abbrev pub CanAdd : List ℕ → RouteRows → Type 0
 CanAdd text rows = MatchResult (parse_route text) (λ scan. nearest scan.pattern rows ≡ None) (λ error. ⊥)
 
--- the rows with what was read of a route's text
+-- the rows with the route that was read from a text
 abbrev pub with_scan : Result Scan InsertError → Route → RouteRows → RouteRows
 with_scan (Ok scan) route rows = placed (scan.pattern, route_from scan route) rows
 with_scan (Err error) route rows = rows
@@ -45,7 +45,7 @@ route_of (queryables c) = Queryables
 route_of (items c) = Items
 route_of (item c id) = Item
 
--- what a parameter took, if a route has it
+-- the text that a parameter took, if the route has the parameter
 abbrev pub taken : Option (List ℕ) → List ℕ
 taken None = []
 taken (Some text) = text

@@ -6,7 +6,7 @@ use thiserror::Error;
 /// The checks that a request can fail before its query is read, in the order in which they are made.
 #[derive(Clone, Copy, Debug, PartialEq, Eq, Error)]
 pub enum Check {
-    /// The bytes begin with no head, whatever follows them.
+    /// The bytes begin with no head, no matter what follows them.
     #[error("the bytes are no request head")]
     BadHead,
     /// A request of HTTP/1.1 has no Host field, or more than one.
@@ -15,7 +15,7 @@ pub enum Check {
     /// A body is announced.
     #[error("a body is announced")]
     Body,
-    /// The target does not begin with a slash, or has a character that may not stand there.
+    /// The target does not begin with a slash, or has a character that is not allowed there.
     #[error("the target is no path")]
     Target,
     /// The path names no resource.
@@ -34,7 +34,7 @@ impl Check {
     ghost use Rattle.cad_resource.specs.Checks as spec;
     ghost use Rattle.cad_resource.specs.Checks.{word_of, status_of};
 
-    /// The word that the body of the refusal tells.
+    /// The word in the body of the refusal.
     pub fn word(self) -> &'static str
         ensures { result.now ≡ word_of self }
     {
@@ -60,7 +60,7 @@ impl Check {
         }
     }
 
-    /// Whether the connection ends after the refusal, since where the next request begins is not known.
+    /// Whether the connection ends after the refusal, since it is not known where the next request begins.
     pub fn ends_connection(self) -> bool
         ensures { result ≡ spec.ends_connection self }
     {

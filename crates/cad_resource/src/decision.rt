@@ -19,12 +19,12 @@ use crate::target::target_text;
 use cad_head::closes_connection;
 use httparse::spans::{HeaderSpan, RequestSpans};
 
-/// What a request asks for or fails, and what comes of its connection.
+/// What a request asks for or fails, and whether its connection ends.
 #[derive(Clone, Copy, Debug)]
 pub struct Decision<'a> {
     /// What it asks for, or the first check that it fails.
     pub requested: Result<ResourceQuery<'a>, Check>,
-    /// Whether the connection ends after the reply: that of HTTP/1.0 does, one that asks for it, and after some checks.
+    /// Whether the connection ends after the reply: it does for HTTP/1.0, if the request asks for it, and after some failed checks.
     pub ends: bool,
 }
 
@@ -71,7 +71,7 @@ fn requested<'a>(
     requested_by_target(routes, spans.method.of(bytes), spans.path.of(bytes))
 }
 
-/// What a request with this method and target asks for, where its head is sound.
+/// What a request with this method and target asks for, if its head is sound.
 fn requested_by_target<'a>(
     routes: &Routes,
     method: &[u8],

@@ -3,7 +3,7 @@
 ghost use Rattle.cad_resource.specs.Laws.{HostIsFirst, BodyIsSecond, TargetIsThird, PathIsFourth, MethodIsFifth, CollectionIsSixth, ResourcesAreRequested};
 ghost use Rattle.cad_resource.specs.Laws.{PathsAreReadBack, PlacesHaveOnePath, KnownPathsAreReadBack, ResourcesHaveOnePath};
 
-/// Each check decides where those before it pass, whatever those after it say.
+/// Each check decides if those before it pass, no matter what those after it say.
 pub fn checks_come_in_order()
     ensures host { HostIsFirst }
     ensures body { BodyIsSecond }
@@ -13,7 +13,7 @@ pub fn checks_come_in_order()
     ensures collection { CollectionIsSixth }
 {}
 
-/// A GET of a resource's path asks for that resource, with whatever query.
+/// A GET of a resource's path asks for that resource, with any query.
 pub fn resources_are_requested()
     ensures { ResourcesAreRequested }
 {}
@@ -24,7 +24,7 @@ pub fn paths_are_read_back()
     ensures resources { KnownPathsAreReadBack }
 {}
 
-/// Nothing but its path names a place, so a path has one resource at most, and a resource one path.
+/// Nothing but its path names a place, so a path has at most one resource, and a resource has one path.
 pub fn places_have_one_path()
     ensures places { PlacesHaveOnePath }
     ensures resources { ResourcesHaveOnePath }

@@ -3,11 +3,11 @@
 //!
 //! - `Routes`: the routes of the server, made once
 //! - `decide`: what a request asks for or fails, and whether its connection ends after the reply
-//! - `Resource`: what a path names; `ResourceQuery`: with the text of the query beside it
+//! - `Resource`: what a path names; `ResourceQuery`: the same with the text of the query
 //! - `Check`: what a request can fail before its query is read: its word, its status, and whether it ends the connection
 //! - `laws`: the checks one after the other, and paths written and read again
 //!
-//! Of the head `GET /collections/parcels/items/3.1?f=json HTTP/1.1`, with one Host field, `decide` answers
+//! For the head `GET /collections/parcels/items/3.1?f=json HTTP/1.1`, with one Host field, `decide` answers
 //! `Resource::Item { collection: Collection::Parcels, identifier: "3.1" }` and the query `f=json`. With `POST` it answers `Check::Method`,
 //! with `/collections/lakes/items` `Check::NoCollection`, and without Host `Check::Host`, after which the connection
 //! ends.

@@ -3,7 +3,7 @@
 ghost use Rattle.std.specs.Prelude.{◌≡◌, ◌==◌, ◌<◌};
 ghost use Rattle.std.specs.List.{before_first, after_first};
 
-/// What stands before the first such character, or all, and what stands after it, or nothing.
+/// The text before the first such character and the text after it; without such a character, the whole text and nothing.
 pub(crate) fn cut(text: &str, mark: char) -> (&str, &str)
     requires { mark < 128 }
     ensures before { result.0.now ≡ before_first (λ b. b == mark) text.now }

@@ -21,7 +21,7 @@ pub enum Resource<'a> {
     Queryables(Collection),
     /// `/collections/{c}/items`: the features of a collection.
     Items(Collection),
-    /// `/collections/{c}/items/{id}`: one feature, by the text of its identifier, which may be none.
+    /// `/collections/{c}/items/{id}`: one feature, by the text of its identifier, which need not be a valid one.
     Item {
         /// The collection.
         collection: Collection,
@@ -30,7 +30,7 @@ pub enum Resource<'a> {
     },
 }
 
-/// The resource that a path of this route names, where its collection is known.
+/// The resource that a path of this route names, if its collection is known.
 pub(crate) fn resource_at(routed: Routed<'_>) -> Option<Resource<'_>>
     ensures { option_map place_held result ≡ known (place_routed routed.entry) }
 {

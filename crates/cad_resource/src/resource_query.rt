@@ -7,6 +7,6 @@ use crate::resource::Resource;
 pub struct ResourceQuery<'a> {
     /// What the path names.
     pub resource: Resource<'a>,
-    /// The target after its first question mark, as it was sent; empty where there is none.
+    /// The target after its first question mark, as it was sent; empty if it has no question mark.
     pub query: &'a str,
 }

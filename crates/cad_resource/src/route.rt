@@ -17,7 +17,7 @@ pub enum Route {
     Item,
 }
 
-/// The route of a path, with what its parameters took of the path: nothing where it has no such parameter.
+/// The route of a path, with the text that each parameter took of the path. The text is empty if the route has no such parameter.
 #[derive(Clone, Copy)]
 pub(crate) struct Routed<'p> {
     pub(crate) route: Route,

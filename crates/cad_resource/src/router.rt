@@ -9,7 +9,7 @@ use crate::route::{Route, Routed};
 use matchit::{InsertError, Params, Router};
 use std::alloc::{AllocError, Global};
 
-/// The routes of the server. They are made once, and then asked for each request.
+/// The routes of the server. They are made once, and then looked up for each request.
 #[derive(Drop)]
 pub struct Routes {
     router: Router<Route>,
@@ -28,7 +28,7 @@ impl Routes {
         })
     }
 
-    /// The route of a path, if it has one, with what its parameters took.
+    /// The route of a path, if it has one, with the texts that its parameters took.
     pub(crate) fn routed<'p>(&self, path: &'p str) -> Option<Routed<'p>>
         ensures { option_map place_routed result ≡ place_of path.now }
     {
@@ -36,7 +36,7 @@ impl Routes {
     }
 }
 
-/// What the parameter of this name took of the path, or nothing.
+/// The text that the parameter of this name took of the path, or nothing.
 fn taken<'p>(params: &Params<'_, 'p>, name: &str) -> &'p str
     ensures { AllText (walk params.now.pattern.now params.now.text.now params.now.path.now params.now.names.now 0 0) →
         result.now ≡ taken_of (named name.now (walk params.now.pattern.now params.now.text.now params.now.path.now params.now.names.now 0 0)) }
@@ -88,7 +88,7 @@ fn add(router: &mut Router<Route>, text: &str, route: Route) -> Result<(), Alloc
     }
 }
 
-/// Well-formed routes that differ are refused for memory alone.
+/// Well-formed routes that differ are refused only if memory runs out.
 fn no_memory(error: InsertError) -> AllocError
     requires { error ≡ InsertError.OutOfMemory }
 {

@@ -5,7 +5,7 @@ ghost use Rattle.std.specs.List.{list_all};
 ghost use Rattle.std.specs.Option.{option_copied};
 ghost use Rattle.cad_resource.specs.Heads as spec;
 
-/// The text of a target that begins with a slash and has no blank, no control and nothing past ASCII.
+/// The text of a target that begins with a slash and has only ASCII, without blanks and control characters.
 #[tactic(auto, using(crate::proofs::TargetLemmas::target_utf8))]
 pub(crate) fn target_text(target: &[u8]) -> Option<&str>
     ensures { option_copied result ≡ (if spec.is_target target.now then Some target.now else None) }

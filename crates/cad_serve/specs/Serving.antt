@@ -27,7 +27,7 @@ most_turns = 100000
 abbrev pub IsPiece : List ℕ → Type 0
 IsPiece piece = (0 < length piece) × (length piece ≤ piece_len)
 
--- no more than the most bytes of the most reads
+-- at most the bytes that the most reads can give
 abbrev pub IsPaced : List ℕ → Type 0
 IsPaced read = length read ≤ piece_len * most_turns
 
@@ -39,23 +39,23 @@ bytes_read pieces = flat_map (λ piece. piece.items) pieces
 abbrev pub IsOpen : {R : Type 0} → ℕ → Desk R → Type 0
 IsOpen c desk = IsSome (rest_at (connections_of desk) c)
 
--- what was written for a refusal: the head that tells it, or a front of that where its write failed
+-- what was written for a refusal: the head that reports it, or a front of the head if its write failed
 abbrev pub IsRefusedSo : DeskFault → List ℕ → Type 0
 IsRefusedSo fault written = IsFront written (fixed_head fault)
 
--- what a writer holds before and after, of whose writes so many have failed
+-- what a writer holds before and after, and how many of its writes have failed
 module _ (failures : ℕ) (before after : Option (List ℕ)) where
-  -- unless one has, the last that was written is the whole head that tells this fault
+  -- if none has failed, what was written ends with the whole head that reports this fault
   abbrev pub IsToldWhole : DeskFault → Type 0
   IsToldWhole fault = failures ≡ 0 → Writes before after (λ written. (front : List ℕ) × (written ≡ front ++ fixed_head fault))
 
-  -- the desk refused, and the head that tells it is written whole
+  -- if the desk refused, the head that reports it is written completely, unless a write has failed
   abbrev pub TellsEnding : Ending → Type 0
   TellsEnding PeerEnded = ⊤
   TellsEnding WeEnded = ⊤
   TellsEnding (Refused fault) = IsToldWhole fault
 
-  -- the same of what came of serving, and of a turn
+  -- the same for the result of serving, and for that of a turn
   abbrev pub TellsRefusal : Result Ending ServeFault → Type 0
   TellsRefusal (Ok ending) = TellsEnding ending
   TellsRefusal (Err fault) = ⊤
@@ -74,14 +74,14 @@ module _ {R : Type 0} (g : Ghosts R) (c : ℕ) where
   abbrev pub Sends : Desk R → Vec ℕ → Vec ℕ → Bool → Desk R → Type 0
   Sends old piece out ends new = IsPiece piece.items × Steps g old (Bytes c piece) (Ok (Sent out ends)) new
 
-  -- the desk takes these pieces one after the other, sends this for them, and the connection goes on
+  -- the desk takes these pieces one after the other, sends this for them, and the connection stays open
   abbrev pub GoesOn : Desk R → List (Vec ℕ) → List ℕ → Desk R → Type 0
   GoesOn old [] out new = (out ≡ []) × (new ≡ old)
   GoesOn old (piece ∷ pieces) out new =
       (sent : Vec ℕ) × (later : List ℕ) × (next : Desk R)
       × Sends old piece sent false next × (out ≡ sent.items ++ later) × GoesOn next pieces later new
 
-  -- the desk opened the connection and took all that was read, all that it sent was written, and the connection goes on
+  -- the desk opened the connection and took all that was read, all that it sent was written, and the connection stays open
   pub record IsUnderWay (old : Desk R) (read written : List ℕ) (new : Desk R) : Type 0 where
     pub opened : Desk R
     pub pieces : List (Vec ℕ)
@@ -93,7 +93,7 @@ module _ {R : Type 0} (g : Ghosts R) (c : ℕ) where
   abbrev pub IsNotOpened : Desk R → DeskFault → List ℕ → List ℕ → Desk R → Type 0
   IsNotOpened old fault read written new = (read ≡ []) × IsRefusedSo fault written × Steps g old (Open c) (Err fault) new
 
-  -- a piece is refused: by the desk, or since there is no memory to hand it to the desk
+  -- a piece is refused: by the desk, or since there is no memory to give it to the desk
   abbrev pub IsNotTaken : Desk R → DeskFault → List ℕ → List ℕ → Desk R → Type 0
   IsNotTaken old fault piece written new =
       IsPiece piece × IsRefusedSo fault written
@@ -104,7 +104,7 @@ module _ {R : Type 0} (g : Ghosts R) (c : ℕ) where
   IsOver true old new = new ≡ old
   IsOver false old new = Closes old new
 
-  -- what came of writing what the desk sent, where it knows whether that ended the connection
+  -- the result of writing what the desk sent; the desk says whether that ended the connection
   abbrev pub IsSent : List ℕ → Bool → Desk R → Result (Option Ending) ServeFault → Desk R → List ℕ → Type 0
   IsSent out ends old (Ok None) new written = (ends ≡ false) × (written ≡ out) × (new ≡ old)
   IsSent out ends old (Ok (Some PeerEnded)) new written = ⊥
@@ -114,18 +114,18 @@ module _ {R : Type 0} (g : Ghosts R) (c : ℕ) where
   IsSent out ends old (Err Write) new written = IsCutShort written out × IsOver ends old new
   IsSent out ends old (Err TurnsSpent) new written = ⊥
 
-  -- the desk takes a piece and sends something, of which a part is written
+  -- the desk takes a piece and sends something, and a part of that is written
   abbrev pub IsCutOff : Desk R → List ℕ → List ℕ → Desk R → Type 0
   IsCutOff old piece written new =
       (bytes : Vec ℕ) × (out : Vec ℕ) × (ends : Bool) × (next : Desk R)
       × (bytes.items ≡ piece) × Sends old bytes out ends next × IsCutShort written out.items × IsOver ends next new
 
-  -- the desk takes a piece and sends this, all of which is written
+  -- the desk takes a piece and sends this, and all of it is written
   abbrev pub IsWhole : Bool → Desk R → List ℕ → List ℕ → Desk R → Type 0
   IsWhole ends old piece written new =
       (bytes : Vec ℕ) × (out : Vec ℕ) × (bytes.items ≡ piece) × Sends old bytes out ends new × (written ≡ out.items)
 
-  -- what came of a piece
+  -- the result of a piece
   abbrev pub IsTaken : Desk R → Result (Option Ending) ServeFault → Desk R → List ℕ → List ℕ → Type 0
   IsTaken old (Ok None) new piece written = IsWhole false old piece written new
   IsTaken old (Ok (Some PeerEnded)) new piece written = ⊥
@@ -139,7 +139,7 @@ module _ {R : Type 0} (g : Ghosts R) (c : ℕ) where
   abbrev pub IsLeft : Desk R → Desk R → List ℕ → List ℕ → Type 0
   IsLeft old new read written = (read ≡ []) × (written ≡ []) × Closes old new
 
-  -- what came of a read
+  -- the result of a read
   abbrev pub IsTurn : Desk R → Result (Option Ending) ServeFault → Desk R → List ℕ → List ℕ → Type 0
   IsTurn old (Ok None) new read written = IsTaken old (Ok None) new read written
   IsTurn old (Ok (Some PeerEnded)) new read written = IsLeft old new read written
@@ -149,7 +149,7 @@ module _ {R : Type 0} (g : Ghosts R) (c : ℕ) where
   IsTurn old (Err Write) new read written = IsTaken old (Err Write) new read written
   IsTurn old (Err TurnsSpent) new read written = ⊥
 
-  -- the connection is under way, and with the last piece and what was written for it comes this
+  -- the connection is under way, and then this happens with the last piece and what was written for it
   abbrev pub EndsWith : Desk R → (Desk R → List ℕ → List ℕ → Type 0) → List ℕ → List ℕ → Type 0
   EndsWith old Last read written =
       (before : Desk R) × (front : List ℕ) × (piece : List ℕ) × (out : List ℕ) × (last : List ℕ)
@@ -168,7 +168,7 @@ module _ {R : Type 0} (g : Ghosts R) (c : ℕ) where
       IsNotOpened old Memory read written new ⊎ EndsWith old (λ before piece last. IsNotTaken before Memory piece last new) read written
   IsRefused old (Register fault) new read written = EndsWith old (λ before piece last. IsNotTaken before (Register fault) piece last new) read written
 
-  -- what was read and written, and what the desk was asked, by how serving ended
+  -- what was read and written, and what the desk was asked, for each way in which serving ends
   abbrev pub EndsSo : Desk R → Result Ending ServeFault → Desk R → List ℕ → List ℕ → Type 0
   -- all replies were written
   EndsSo old (Ok PeerEnded) new read written = EndsClosed old new read written
@@ -180,9 +180,9 @@ module _ {R : Type 0} (g : Ghosts R) (c : ℕ) where
   EndsSo old (Err Read) new read written = EndsClosed old new read written
   -- all replies before the last ones were written, and a part of those
   EndsSo old (Err Write) new read written = EndsWith old (λ before piece last. IsCutOff before piece last new) read written
-  -- all replies were written; each read gave a byte at least
+  -- all replies were written; each read gave at least one byte
   EndsSo old (Err TurnsSpent) new read written = EndsClosed old new read written × (most_turns ≤ length read)
 
-  -- and no more was read than so many pieces hold
+  -- serving ends in one of these ways, and no more was read than the most pieces hold
   abbrev pub IsServed : Desk R → Result Ending ServeFault → Desk R → List ℕ → List ℕ → Type 0
   IsServed old result new read written = EndsSo old result new read written × IsPaced read

@@ -17,7 +17,7 @@ const MOST_DIGITS: usize = 7;
 /// The most connections of a run.
 const MOST_CONNECTIONS: u64 = 1_000_000;
 
-/// How many connections the text asks for: one to seven digits that spell a number from 1 to 1,000,000.
+/// How many connections the text asks for: one to seven digits that make a number from 1 to 1,000,000.
 pub fn read_count(text: &str) -> Option<u32>
     ensures { result ≡ count_of text.now }
 {
@@ -32,14 +32,14 @@ pub fn read_count(text: &str) -> Option<u32>
     }
 }
 
-/// The address that the text writes: of IPv4 or IPv6, with a port.
+/// The address in the text: of IPv4 or IPv6, with a port.
 pub fn read_address(text: &str) -> Option<SocketAddr>
     ensures { MatchOption result ((address : Address) → ¬ (IsSocketText text.now address)) (IsSocketText text.now) }
 {
     text.parse::<SocketAddr>().ok()
 }
 
-/// The words of the command line, the program's name first, or why they cannot be had.
+/// The words of the command line, the program's name first, or why they cannot be read.
 pub fn read_words<R: Env + AllocGlobal>(rt: &R) -> Result<Vec<String>, ErrorKind> {
     let mut words = Vec::new(rt.alloc());
     let found = match args(rt) {

@@ -24,7 +24,7 @@ fn close<R: Responder>(desk: &mut Desk<R>, c: u32)
     let _ = desk.close(c);
 }
 
-/// Tells the fault, if it has a head. Where that write fails, the fault stands all the same.
+/// Writes the head for the fault, if it has one. If that write fails, the result is the fault all the same.
 fn refuse<W: CountedWrite>(writer: &mut W, fault: DeskFault) -> Ending
     ensures refused { result ≡ Ending.Refused fault }
     ensures head { Writes (W.contents writer.old) (W.contents writer.new) (IsRefusedSo fault) }
@@ -34,7 +34,7 @@ fn refuse<W: CountedWrite>(writer: &mut W, fault: DeskFault) -> Ending
     Ending::Refused(fault)
 }
 
-/// Writes what the desk sends. Where that fails, a connection that goes on is closed.
+/// Writes what the desk sends. If that fails, a connection that is still open is closed.
 fn send<W: CountedWrite, R: Responder>(
     writer: &mut W,
     desk: &mut Desk<R>,
@@ -58,7 +58,7 @@ fn send<W: CountedWrite, R: Responder>(
     Ok(None)
 }
 
-/// Has the desk take a piece, and writes what it sends. `None`: the connection goes on.
+/// Gives a piece to the desk, and writes what the desk sends. `None`: the connection stays open.
 fn take_piece<W: CountedWrite, R: Responder>(
     alloc: Global,
     writer: &mut W,
@@ -82,7 +82,7 @@ fn take_piece<W: CountedWrite, R: Responder>(
     }
 }
 
-/// One read, and what the desk sends for it. `None`: the connection goes on.
+/// One read, and what the desk sends for it. `None`: the connection stays open.
 fn turn<I: CountedRead, W: CountedWrite, R: Responder>(
     alloc: Global,
     reader: &mut I,
@@ -111,10 +111,10 @@ fn turn<I: CountedRead, W: CountedWrite, R: Responder>(
     }
 }
 
-/// Serves connection `c` of the desk: opens it, reads its bytes in pieces of at most 4,096, has the desk take each
-/// and writes what it sends, until the peer sends no more, a reply ends the connection, the desk refuses, a read or a
-/// write fails, or 100,000 reads were made. The connection is closed then, if the desk opened it and it is still open.
-/// Where memory is refused or the register refuses, a fixed head tells it: the whole of it, unless a write failed.
+/// Serves connection `c` of the desk: opens it, reads its bytes in pieces of at most 4,096 bytes, gives each to the desk and writes what
+/// the desk sends. It continues until the peer sends no more, a reply ends the connection, the desk refuses, a read or a write fails, or
+/// 100,000 reads were made. The connection is closed then, if the desk opened it and it is still open. If memory runs out or the register
+/// refuses, a fixed head reports it, completely unless a write failed.
 pub fn serve<I: CountedRead, W: CountedWrite, R: Responder>(
     alloc: Global,
     reader: &mut I,

@@ -1,4 +1,4 @@
--- What replies tell over the commands in force (OGC 17-069r4, 7.15: items, 7.16: feature; revisions: own profile).
+-- What replies contain with the commands in force (OGC 17-069r4, 7.15: items, 7.16: feature; revisions: own profile).
 use Rattle.std.specs.Prelude.{ℕ, Bool, ◌==◌, ◌&&◌, nat_lt, if◌then◌else◌, List, length, codes, string_bytes, Option, Some, None, unwrap_or}
 use Rattle.std.specs.List.{find}
 use Rattle.serde_json.specs.Written.{compact_text}
@@ -33,7 +33,7 @@ content_in_response response = (response.status, string_bytes response.body)
 abbrev pub refusal : Status → List ℕ → Content
 refusal status word = (status, compact_text (word_data word))
 
--- the features of each collection among these versions, which are those of the revision
+-- the features of each collection among these versions, which are the versions of the revision
 abbrev pub snapshot_of : ℕ → List VersionedObject → RevisionFeatures
 snapshot_of revision versions = with_features revision (features_in versions)
 
@@ -48,7 +48,7 @@ has_numbers numbers x = object_number x.object == numbers.0 && x.number == numbe
 abbrev pub feature_with : Numbers → List Item → Option Item
 feature_with numbers xs = find (has_numbers numbers) xs
 
--- one feature, if it is there
+-- one feature, if it exists
 abbrev pub feature_content : Collection → Option Item → Content
 feature_content collection None = refusal status.NotFound (codes "no-feature")
 feature_content collection (Some x) = (status.Ok, compact_text (linked_feature_data collection x))
@@ -64,13 +64,13 @@ abbrev pub revision_sought : FeatureRequest → ℕ → ℕ
 revision_sought (Page ask) newest = unwrap_or ask.continuation.revision newest
 revision_sought (Feature collection identifier) newest = newest
 
--- the same over the commands in force; a revision above theirs is refused
+-- the same with the commands in force; a revision above theirs is refused
 abbrev pub content_of : FeatureRequest → List Command → Content
 content_of sought commands =
     if nat_lt (length commands) (revision_sought sought (length commands)) then refusal status.BadRequest (codes "revision")
     else content_in sought (snapshot_at (revision_sought sought (length commands)) commands)
 
--- what is wanted, over the commands in force
+-- what is wanted, with the commands in force
 abbrev pub content_requested : ParsedRequest → List Command → Content
 content_requested (parsed.Immediate response) commands = content_in_response response
 content_requested (parsed.Features sought) commands = content_of sought commands

@@ -1,4 +1,4 @@
--- What a server fails for (own profile).
+-- The faults for which a server fails (own profile).
 use Rattle.std.specs.Prelude.{ℕ, List}
 use Rattle.cad_versions.specs.declared.command.Command.{Command}
 use Rattle.cad_versions.specs.declared.fault.RegisterFault.{RegisterFault}
@@ -8,7 +8,7 @@ use Rattle.cad_request.specs.declared.request.ParsedRequest.{ParsedRequest}
 use Rattle.cad_request.specs.declared.request.ParsedRequest.TheVariants as parsed
 use Rattle.cad_server.specs.Replies.{FailsToTell, FailsToAnswer}
 
--- a request fails to be answered for a fault of what keeps the ledger
+-- a request fails to be answered only for a fault of the ledger
 module _ {FailsToList : ℕ → List Command → RegisterFault → Type 0} (keeps : (revision : ℕ) (commands : List Command) (fault : RegisterFault) → FailsToList revision commands fault → IsOfKeeping fault) where
   failing_to_tell : (commands : List Command) (wanted : ParsedRequest) (fault : RegisterFault) → FailsToTell FailsToList commands wanted fault → IsOfKeeping fault
   failing_to_tell commands (parsed.Immediate response) fault f = absurd f

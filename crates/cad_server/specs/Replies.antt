@@ -1,4 +1,4 @@
--- The reply to a request over the commands in force (OGC 17-069r4, section 7; RFC 9110, section 15).
+-- The reply to a request with the commands in force (OGC 17-069r4, section 7; RFC 9110, section 15).
 use Rattle.std.specs.Prelude.{◌≡◌, ◌≤◌, ℕ, true, List, length, ⊤}
 use Rattle.cad_versions.specs.declared.command.Command.{Command}
 use Rattle.cad_versions.specs.declared.fault.RegisterFault.{RegisterFault}
@@ -17,7 +17,7 @@ use Rattle.cad_server.specs.Contents.{Content, refusal, revision_sought, content
 abbrev pub reply_of : Request → Content → List ℕ
 reply_of request content = reply_text content.0 (ends_after request) content.1
 
--- the reply tells what the request wants, over the commands in force
+-- the reply gives what the request wants, with the commands in force
 abbrev pub IsReply : List Command → Request → List ℕ → Type 0
 IsReply commands request bytes =
     (wanted : ParsedRequest) × IsParsedRequest (requested request) wanted × (bytes ≡ reply_of request (content_requested wanted commands))
@@ -26,7 +26,7 @@ IsReply commands request bytes =
 abbrev pub bad_head_reply : List ℕ
 bad_head_reply = reply_text (status_of BadHead) true (refusal (status_of BadHead) (word_of BadHead)).1
 
--- ---- requests that the ledger has a part in
+-- ---- requests that query the ledger
 
 -- a page or a feature is wanted, so a revision is listed
 abbrev pub AsksForFeatures : ParsedRequest → Type 0
@@ -37,16 +37,16 @@ AsksForFeatures (parsed.Features sought) = ⊤
 abbrev pub Asks : Request → Type 0
 Asks request = (wanted : ParsedRequest) × IsParsedRequest (requested request) wanted × AsksForFeatures wanted
 
--- ---- why there is none
+-- ---- why there is no reply
 
 module _ (FailsToList : ℕ → List Command → RegisterFault → Type 0) where
-  -- the revision was made, and what keeps the ledger fails to list it
+  -- the revision exists, and the ledger fails to list it
   abbrev pub FailsToFind : List Command → FeatureRequest → RegisterFault → Type 0
   FailsToFind commands sought fault =
       (revision_sought sought (length commands) ≤ length commands)
       × FailsToList (revision_sought sought (length commands)) commands fault
 
-  -- only what is sought in the ledger
+  -- only what is sought in the ledger can fail
   abbrev pub FailsToTell : List Command → ParsedRequest → RegisterFault → Type 0
   FailsToTell commands (parsed.Immediate response) fault = ⊥
   FailsToTell commands (parsed.Features sought) fault = FailsToFind commands sought fault

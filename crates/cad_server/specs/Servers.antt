@@ -1,4 +1,4 @@
--- What clauses see of a server, and what its calls do (own profile).
+-- The parts of a server that clauses use, and what its calls do (own profile).
 use Rattle.std.specs.Prelude.{◌≡◌, ◌≤◌, ◌⊎◌, ℕ, ℤ, List, length, Option, None, IfSome, Result, IfOk, IfErr, OnOk}
 use Rattle.cad_versions.specs.declared.command.Command.{Command}
 use Rattle.cad_versions.specs.declared.fault.RegisterFault.{RegisterFault}
@@ -41,47 +41,49 @@ module _ {L : Type 0} (g : Ghosts L) where
     pub ledger : g.stands_for records.ledger commands
     pub kept : KeepsOf commands records.kept
 
-  -- so are those of the server
+  -- the records of the server are those of the commands
   abbrev pub IsServerOf : Server L → List Command → Type 0
   IsServerOf server commands = AreRecordsOf server.records commands
 
-  -- what keeps the ledger refuses to list the revision at which this is sought
+  -- the ledger refuses to list the revision at which this is sought
   abbrev pub RefusesToFind : FeatureRequest → Records L → Records L → Type 0
   RefusesToFind sought old new =
       (revision : ℕ) × g.refuses_listing (ledger_in old) (ledger_in new) revision
       × ((commands : List Command) → AreRecordsOf old commands → revision ≡ revision_sought sought (length commands))
 
-  -- the same of what is wanted; nothing is listed for what is told without the ledger
+  -- the same for what is wanted; nothing is listed for a response that is made without the ledger
   abbrev pub RefusesToTell : ParsedRequest → Records L → Records L → Type 0
   RefusesToTell (parsed.Immediate response) old new = ⊥
   RefusesToTell (parsed.Features sought) old new = RefusesToFind sought old new
 
-  -- the same of what a request asks for
+  -- the same for what a request asks for
   abbrev pub RefusesToAnswer : Server L → Server L → Request → Type 0
   RefusesToAnswer old new request = (wanted : ParsedRequest) × IsParsedRequest (requested request) wanted × RefusesToTell wanted old.records new.records
 
-  -- asked for the revision at which this is sought, the one that is asked for or the newest as the ledger tells it, what keeps the ledger shows a damaged row of this object and this number
+  -- the ledger shows a damaged row of this object and this number when it lists the revision at which this is sought: the one that is asked
+  -- for, or the newest according to the ledger
   abbrev pub DamagedForFinding : FeatureRequest → Records L → Records L → ℤ → ℤ → Type 0
   DamagedForFinding sought old new object number =
       g.damaged_for_listing (ledger_in old) (ledger_in new) (revision_sought sought (g.newest (ledger_in old))) object number
 
-  -- the same of what is wanted
+  -- the same for what is wanted
   abbrev pub DamagedForTelling : ParsedRequest → Records L → Records L → ℤ → ℤ → Type 0
   DamagedForTelling (parsed.Immediate response) old new object number = ⊥
   DamagedForTelling (parsed.Features sought) old new object number = DamagedForFinding sought old new object number
 
-  -- the same of what a request asks for
+  -- the same for what a request asks for
   abbrev pub DamagedForAnswer : Server L → Server L → Request → ℤ → ℤ → Type 0
   DamagedForAnswer old new request object number =
       (wanted : ParsedRequest) × IsParsedRequest (requested request) wanted × DamagedForTelling wanted old.records new.records object number
 
-  -- a command is entered into the records as into their ledger
+  -- a command is entered into the records in the same way as into their ledger
   abbrev pub Enters : Records L → Command → Result ℕ RegisterFault → Records L → Type 0
   Enters =
       Applied AreRecordsOf (λ records. g.counts (ledger_in records)) (λ records. g.lives (ledger_in records)) (λ old new. g.fails (ledger_in old) (ledger_in new))
       g.fails_to_apply (λ old new. g.refuses_command (ledger_in old) (ledger_in new)) (λ old new. g.damaged_for_command (ledger_in old) (ledger_in new))
 
-  -- reading what is kept changes nothing, or what keeps the ledger failed and is closed; where something is read the ledger remains what it was; the store refuses that alone, and a row that is named as damaged is such a one
+  -- reading changes nothing, or the ledger failed and is closed. If something is read, the ledger remains what it was. The store refuses
+  -- only this, and a row that is named as damaged is a damaged one.
   pub record Reads {T : Type 0} (Refused : Type 0) (IsDamaged : ℤ → ℤ → Type 0) (old : Records L) (result : Result T RegisterFault) (new : Records L) : Type 0 where
     pub store : g.counts (ledger_in new) → IfErr result (λ fault. fault ≡ Store → Refused)
     pub damaged : IfErr result (NamesDamage IsDamaged)
@@ -100,27 +102,27 @@ module _ {L : Type 0} (g : Ghosts L) where
     pub same : ledger_in new ≡ ledger_in old
     pub kept : StaysWith snapshot old.kept new.kept
 
-  -- what is kept of a revision tells what is sought, and nothing does where nothing of the revision is kept; only the order of what is
-  -- kept changes
+  -- the response is what is sought, from what is kept of the revision. A response is missing only if nothing of the revision is kept. Only
+  -- the order of what is kept changes.
   pub record Recalls {E : Type 0} (revision : ℕ) (sought : FeatureRequest) (old : Records L) (result : Result (Option Response) E) (new : Records L) : Type 0 where
     pub response : IfOk result (λ found. IfSome found (λ response. (commands : List Command) → KeepsOf commands old.kept → content_in_response response ≡ content_in sought (snapshot_at revision commands)))
     pub none : IfOk result (λ found. found ≡ None → cached_at revision old.kept ≡ None)
     pub same : ledger_in new ≡ ledger_in old
     pub kept : StaysCached old.kept new.kept
 
-  -- what is sought at a revision that was made is told
+  -- the response is what is sought at an existing revision
   pub record Finds (revision : ℕ) (sought : FeatureRequest) (old : Records L) (result : Result Response RegisterFault) (new : Records L) : Type 0 where
     pub response : g.counts (ledger_in new) → IfOk result (λ response. (commands : List Command) → AreRecordsOf old commands → revision ≤ length commands → content_in_response response ≡ content_in sought (snapshot_at revision commands))
     pub cause : g.counts (ledger_in new) → IfErr result (λ fault. (commands : List Command) → AreRecordsOf old commands → revision ≤ length commands → (fault ≡ Memory) ⊎ g.fails_to_list revision commands fault)
     pub reads : Reads (g.refuses_listing (ledger_in old) (ledger_in new) revision) (g.damaged_for_listing (ledger_in old) (ledger_in new) revision) old result new
 
-  -- what is sought is told, at the revision that is asked for or the newest
+  -- the response is what is sought, at the revision that is asked for or the newest
   pub record Seeks (sought : FeatureRequest) (old : Records L) (result : Result Response RegisterFault) (new : Records L) : Type 0 where
     pub response : g.counts (ledger_in new) → IfOk result (λ response. (commands : List Command) → AreRecordsOf old commands → content_in_response response ≡ content_of sought commands)
     pub cause : g.counts (ledger_in new) → IfErr result (λ fault. (commands : List Command) → AreRecordsOf old commands → (fault ≡ Memory) ⊎ FailsToFind g.fails_to_list commands sought fault)
     pub reads : Reads (RefusesToFind sought old new) (DamagedForFinding sought old new) old result new
 
-  -- what is wanted is told, and where no features are wanted, whatever tables stand there
+  -- the response is what is wanted; if no features are wanted, it is so with any commands
   pub record Tells (wanted : ParsedRequest) (old : Records L) (result : Result Response RegisterFault) (new : Records L) : Type 0 where
     pub response : g.counts (ledger_in new) → IfOk result (λ response. (commands : List Command) → AreRecordsOf old commands → content_in_response response ≡ content_requested wanted commands)
     pub cause : g.counts (ledger_in new) → IfErr result (λ fault. (commands : List Command) → AreRecordsOf old commands → (fault ≡ Memory) ⊎ FailsToTell g.fails_to_list commands wanted fault)

@@ -9,11 +9,11 @@ use lru::LruCache;
 use std::alloc::{AllocError, Global};
 use std::num::NonZeroUsize;
 
-/// Of how many revisions that were entered last the features are kept at most. Where commands touch few features each, more would be
-/// kept for what they take.
+/// The most revisions that were entered last whose features are kept. If each command touches few features, the bound on what they take
+/// would allow more.
 const MOST_ENTERED: usize = 6160;
 
-/// Of how many old revisions that were read of the ledger the features are kept at most, each on bases of its own.
+/// The most old revisions read from the ledger whose features are kept, each with its own bases.
 const MOST_READ: usize = 2;
 
 impl SnapshotCache {
@@ -33,14 +33,14 @@ impl SnapshotCache {
         Ok(SnapshotCache { entered, read })
     }
 
-    /// The features of the revision, where it is one of those that were entered last.
+    /// The features of the revision, if it is one of those that were entered last and are kept.
     pub(crate) fn entered_at(&self, revision: u64) -> Option<&Snapshot>
         ensures { option_copied result ≡ lookup (nat_eq revision) self.now.entered.entries }
     {
         self.entered.peek(&revision)
     }
 
-    /// The features of the revision, where they are kept.
+    /// The features of the revision, if they are kept.
     pub(crate) fn at(&self, revision: u64) -> Option<&Snapshot>
         ensures { option_copied result ≡ cached_at revision self.now }
     {
@@ -50,41 +50,41 @@ impl SnapshotCache {
         }
     }
 
-    /// Of how many revisions that were entered last something is kept.
+    /// How many of the revisions that were entered last are kept.
     pub(crate) fn entered_count(&self) -> usize
         ensures { result ≡ length self.now.entered.entries }
     {
         self.entered.len()
     }
 
-    /// What had been spent on the features of the oldest of them.
+    /// What had been spent on the features of the oldest of these revisions.
     pub(crate) fn oldest_spent(&self) -> Option<usize> {
         let (_, oldest) = self.entered.peek_lru()?;
         Some(oldest.spent())
     }
 
-    /// The revision was asked for: of the old ones that were read those go first that were not asked for longest.
+    /// Notes that the revision was asked for. Of the old revisions that were read, the least recently asked for is dropped first.
     pub(crate) fn touch(&mut self, revision: u64)
         ensures { StaysCached self.old self.new }
     {
         let _ = self.read.promote(&revision);
     }
 
-    /// Lets the oldest of the revisions go that were entered last.
+    /// Drops the oldest of the revisions that were entered last.
     pub(crate) fn let_oldest_go(&mut self)
         ensures { LetsOldestGo self.old self.new }
     {
         drop(self.entered.pop_lru());
     }
 
-    /// Lets all of them go.
+    /// Drops all revisions that were entered last.
     pub(crate) fn let_entered_go(&mut self)
         ensures { LetsEnteredGo self.old self.new }
     {
         self.entered.clear();
     }
 
-    /// Lets an old revision go that was read of the ledger, where no other can be kept beside those that are.
+    /// Drops an old revision that was read from the ledger, if there is no room for another one.
     pub(crate) fn make_room(&mut self)
         ensures kept { StaysCached self.old self.new }
         ensures room { length self.new.read.entries < most_read }
@@ -103,7 +103,7 @@ impl SnapshotCache {
         drop(self.entered.put(revision, snapshot));
     }
 
-    /// Keeps features of an old revision that were read of the ledger, if there is memory.
+    /// Keeps features of an old revision that were read from the ledger, if there is memory.
     pub(crate) fn add_read(&mut self, snapshot: Snapshot)
         ensures { StaysWith snapshot self.old self.new }
     {
@@ -112,7 +112,7 @@ impl SnapshotCache {
     }
 }
 
-/// A cache of so many features by revision, for which no room is taken yet.
+/// A cache of the features of at most this many revisions, for which no memory is taken yet.
 fn cache(alloc: Global, most: usize) -> Result<LruCache<u64, Snapshot>, AllocError>
     requires { 0 < most }
     ensures { IfOk result (λ cache. cache ≡ lru_cache [] most) }

@@ -1,4 +1,4 @@
-//! A ledger, and what was read of it.
+//! A ledger, and what was read from it.
 
 ghost use Rattle.std.specs.Prelude.{◌≡◌, codes, IfOk};
 ghost use Rattle.cad_head.specs.declared.status.Status.TheVariants.{BadRequest};
@@ -15,17 +15,17 @@ use cad_versions::laws::revisions_stay;
 use cad_versions::{Command, Ledger, RegisterFault};
 use std::alloc::{AllocError, Global};
 
-/// How many changes the bases of a collection get before new ones are made, where nothing else is asked for.
+/// How many changes the bases of a collection get before new ones are made, by default.
 pub(crate) const MOST_CHANGES: usize = 2048;
 
 /// How many features a segment of a collection has for each of these changes: as many are put into a new base when one is due.
 const FEATURES_FOR_A_CHANGE: usize = 4;
 
-/// How many features are put into indexes, and what takes as much, for each of these changes, before a revision goes: what is kept beside
-/// the newest features is bounded by this.
+/// How many features are put into indexes, counting what takes as much, for each of these changes before a revision is dropped. This
+/// bounds what is kept in addition to the newest features.
 const SPENT_FOR_A_CHANGE: usize = 32;
 
-/// How many revisions before the newest are kept at least, however much is changed, where the bases get that many changes.
+/// How many revisions before the newest are kept at least, no matter how much is changed, if the bases get that many changes.
 const LEAST_REVISIONS: usize = 16;
 
 /// A ledger, and the features at the revisions that were asked for last or entered last.
@@ -55,7 +55,7 @@ impl<L: Ledger> Records<L> {
     ghost use Rattle.cad_server.specs.Keeping.{IsCached, cached_at};
     ghost use Rattle.cad_server.specs.Servers.{bound_in, ledger_in, AreRecordsOf, Enters, Forgets, Keeps, Recalls, Finds, Seeks, Tells};
 
-    /// A ledger of which nothing was read yet, or the ledger back where there is no memory.
+    /// A ledger from which nothing was read yet, or the ledger back if there is no memory.
     pub(crate) fn new(alloc: Global, ledger: L, most_changes: usize) -> Result<Records<L>, L>
         ensures made { IfOk result (λ records. (commands : List CommandOf) → L.Ledger.stands_for ledger commands →
             AreRecordsOf L.Ledger records commands) }
@@ -87,7 +87,7 @@ impl<L: Ledger> Records<L> {
         ledger
     }
 
-    /// Enters a command, and answers the revision since, or refuses it and stays as it was.
+    /// Enters a command, and gives the revision after it, or refuses the command and stays as it was.
     pub(crate) fn enter(&mut self, command: Command) -> Result<u64, RegisterFault>
         ensures { Enters L.Ledger self.old command result self.new }
     {
@@ -99,7 +99,7 @@ impl<L: Ledger> Records<L> {
         Ok(revision)
     }
 
-    /// Has the ledger apply the command: what is kept stays right.
+    /// Lets the ledger apply the command; what is kept stays correct.
     fn apply(&mut self, command: Command) -> Result<u64, RegisterFault>
         ensures { Enters L.Ledger self.old command result self.new }
     {
@@ -107,7 +107,7 @@ impl<L: Ledger> Records<L> {
         self.ledger.apply(command)
     }
 
-    /// The features after the command, by those of the revision in force: none where these are not kept, or memory is wanting.
+    /// The features after the command, made from those of the revision in force; `None` if these are not kept, or memory runs out.
     fn next_snapshot(&self, command: &Command) -> Option<Snapshot>
         ensures { IfSome result (λ next. (commands : List CommandOf) → AreRecordsOf L.Ledger self.now commands → AreAccepted [] (commands ++ command.now ∷ [])
             → IsCached (commands ++ command.now ∷ []) (next.revision, next)) }
@@ -118,7 +118,7 @@ impl<L: Ledger> Records<L> {
         snapshot_after(self.alloc, snapshot, command, revision).ok()
     }
 
-    /// Whether more revisions are kept than at least, and much was spent since the oldest of those that were entered last.
+    /// Whether more revisions are kept than the minimum, and too much was spent since the oldest of those that were entered last.
     fn is_spent(&self, spent: usize) -> bool {
         let Some(before) = self.kept.oldest_spent() else {
             return false;
@@ -128,7 +128,7 @@ impl<L: Ledger> Records<L> {
         least < self.kept.entered_count() && most < spent.saturating_sub(before)
     }
 
-    /// Lets the revisions go since which much was spent.
+    /// Drops the revisions since which too much was spent.
     fn let_spent_go(&mut self, spent: usize)
         ensures { Forgets L.Ledger self.old self.new }
     {
@@ -140,7 +140,7 @@ impl<L: Ledger> Records<L> {
         }
     }
 
-    /// The same features, with new bases where these are due and there is memory for them.
+    /// The same features, with new bases if these are due and there is memory for them.
     fn settled(&self, next: Snapshot) -> Snapshot
         ensures { result ≡ next }
     {
@@ -157,13 +157,13 @@ impl<L: Ledger> Records<L> {
     fn keep_entered(&mut self, next: Snapshot)
         ensures { Keeps L.Ledger next self.old self.new }
     {
-        // What goes does so first.
+        // Old revisions are dropped first.
         self.let_spent_go(next.spent());
         let settled = self.settled(next);
         self.kept.add(settled);
     }
 
-    /// Lets go what is kept in whose place the features of the revision are to be kept.
+    /// Drops kept features to make room for those of the revision.
     fn make_room(&mut self, revision: u64)
         ensures { Forgets L.Ledger self.old self.new }
     {
@@ -174,7 +174,7 @@ impl<L: Ledger> Records<L> {
         self.kept.let_entered_go();
     }
 
-    /// Keeps features that were read of the ledger.
+    /// Keeps features that were read from the ledger.
     fn keep_read(&mut self, snapshot: Snapshot)
         ensures { Keeps L.Ledger snapshot self.old self.new }
     {
@@ -185,7 +185,7 @@ impl<L: Ledger> Records<L> {
         self.kept.add_read(snapshot);
     }
 
-    /// What is kept of the revision tells what is sought, if it is kept.
+    /// What is sought, from the kept features of the revision, if they are kept.
     fn recall(
         &mut self,
         revision: u64,
@@ -201,7 +201,7 @@ impl<L: Ledger> Records<L> {
         Ok(Some(response))
     }
 
-    /// What the ledger lists at the revision tells what is sought, and is kept, if there is memory.
+    /// What is sought, from what the ledger lists at the revision. The features are kept, if there is memory.
     fn read(&mut self, revision: u64, sought: &FeatureRequest) -> Result<Response, RegisterFault>
         ensures { Finds L.Ledger revision sought.now self.old result self.new }
     {
@@ -214,7 +214,7 @@ impl<L: Ledger> Records<L> {
         Ok(response)
     }
 
-    /// What is sought at a revision that was made. The ledger is asked where nothing of the revision is kept, and else not.
+    /// What is sought at an existing revision. The ledger is queried only if nothing of the revision is kept.
     fn find(&mut self, revision: u64, sought: &FeatureRequest) -> Result<Response, RegisterFault>
         ensures found { Finds L.Ledger revision sought.now self.old result self.new }
         ensures unasked { ¬ (cached_at revision self.old.kept ≡ None) → ledger_in self.new ≡ ledger_in self.old }
@@ -237,7 +237,7 @@ impl<L: Ledger> Records<L> {
         self.find(revision, sought)
     }
 
-    /// What is sought, which ends with its answer.
+    /// What is sought; the request is dropped after its answer.
     fn answer(&mut self, sought: FeatureRequest) -> Result<Response, RegisterFault>
         ensures { Seeks L.Ledger sought self.old result self.new }
     {
@@ -246,7 +246,7 @@ impl<L: Ledger> Records<L> {
         response
     }
 
-    /// What a request wants. An error means out of memory, or of the ledger.
+    /// What a request wants. An error means out of memory, or a fault of the ledger.
     pub(crate) fn tell(&mut self, wanted: ParsedRequest) -> Result<Response, RegisterFault>
         ensures { Tells L.Ledger wanted self.old result self.new }
     {

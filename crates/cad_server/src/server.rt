@@ -11,8 +11,8 @@ use cad_versions::{Command, Ledger, RegisterFault};
 use httparse::spans::{HeaderSpan, RequestSpans};
 use std::alloc::{AllocError, Global};
 
-/// Answers requests over a ledger. It keeps the features of the revisions that were asked for last or entered last: those of the
-/// newest revision follow those of the one before it, and only of a revision that is older than what is kept is the ledger read.
+/// Answers requests over a ledger. It keeps the features of the revisions that were asked for last or entered last. Those of the newest
+/// revision are made from those of the one before it, and the ledger is read only for a revision of which nothing is kept.
 pub struct Server<L: Ledger> {
     records: Records<L>,
     routes: Routes,
@@ -34,7 +34,7 @@ impl<L: Ledger> Server<L> {
     ghost use Rattle.cad_versions.specs.declared.command.Command.{Command as CommandOf};
     ghost use Rattle.cad_server.specs.Servers.{bound_of, ledger_of, IsServerOf};
 
-    /// A server over the ledger, or the ledger back where there is no memory.
+    /// A server over the ledger, or the ledger back if there is no memory.
     pub fn new(alloc: Global, ledger: L) -> Result<Server<L>, L>
         ensures made { IfOk result (λ server. (commands : List CommandOf) → L.Ledger.stands_for ledger commands →
             IsServerOf L.Ledger server commands) }
@@ -45,7 +45,7 @@ impl<L: Ledger> Server<L> {
         Server::with_changes(alloc, ledger, MOST_CHANGES)
     }
 
-    /// The same, where the bases of a collection get at most so many changes before new ones are made.
+    /// The same, but the bases of a collection get at most this many changes before new ones are made.
     pub fn with_changes(alloc: Global, ledger: L, most_changes: usize) -> Result<Server<L>, L>
         ensures made { IfOk result (λ server. (commands : List CommandOf) → L.Ledger.stands_for ledger commands →
             IsServerOf L.Ledger server commands) }

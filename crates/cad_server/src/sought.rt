@@ -16,7 +16,7 @@ use cad_schema::Collection;
 use cad_snapshot::Snapshot;
 use std::alloc::{AllocError, Global};
 
-/// The revision at which it is sought: the one that is asked for, or the newest.
+/// The revision of a feature request: the one that is asked for, or the newest.
 pub(crate) fn revision_of(sought: &FeatureRequest, newest: u64) -> u64
     ensures { result ≡ revision_sought sought.now newest }
 {
@@ -26,7 +26,7 @@ pub(crate) fn revision_of(sought: &FeatureRequest, newest: u64) -> u64
     }
 }
 
-/// What is told of it. An error means out of memory.
+/// The response to a feature request. An error means out of memory.
 pub(crate) fn response_in(
     alloc: Global,
     sought: &FeatureRequest,
@@ -64,7 +64,7 @@ fn feature_in(
     snapshot.feature(collection, identifier.object, identifier.number)
 }
 
-/// What is told of the feature, or that there is none.
+/// The response with the feature, or that no such feature exists.
 fn feature_response(
     alloc: Global,
     collection: Collection,

@@ -9,7 +9,9 @@ use Rattle.cad_stream.specs.Replies.{IsPlainReply}
 use Rattle.cad_stream.specs.declared.answer.Answer.{Answer}
 
 module _ {R : Type 0} (StandsFor : R → List Command → Type 0) (Counts Lives : R → Type 0) (Fails : R → R → Type 0) where
-  -- the answer is a reply with the commands in force, and where the request does not ask for what they say, whatever they are; what answers remains what it was; there is none for want of memory, or for what keeps the commands, and for that only where the request asks for what they say; nothing changes, or what keeps them failed and is closed; a row that is named as damaged is such a one, whatever the commands are
+  -- the answer is a reply with the commands in force; if the request does not query the ledger, it is a reply with any commands. The
+  -- responder remains what it was. An answer is missing only if memory runs out, or if the request queries the ledger and the ledger fails.
+  -- Then nothing changes, or the ledger failed and is closed. A row that is named as damaged is a damaged one, for any commands.
   pub record Answered (IsReply : List Command → Request → List ℕ → Type 0) (Closes : Request → Bool) (Asks : Request → Type 0) (FailsToAnswer : List Command → Request → RegisterFault → Type 0) (Refuses : R → R → Request → Type 0) (IsDamaged : R → R → Request → ℤ → ℤ → Type 0) (Remains : R → R → Type 0) (old : R) (request : Request) (result : Result Answer RegisterFault) (new : R) : Type 0 where
     pub replied : Counts new → IfOk result (λ answer. (commands : List Command) → StandsFor old commands → IsReply commands request answer.bytes.items)
     pub plain : IfOk result (λ answer. IsPlainReply Asks IsReply request answer.bytes.items)

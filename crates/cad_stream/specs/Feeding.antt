@@ -1,4 +1,4 @@
--- What a piece of a connection's bytes brings (RFC 9112, section 9.3.2: pipelining; own profile: refusals).
+-- The result of a piece of a connection's bytes (RFC 9112, section 9.3.2: pipelining; own profile: refusals).
 use Rattle.std.specs.Prelude.{◌≡◌, ◌⊎◌, ℕ, ℤ, ◌≤◌, false, List, [], ◌++◌, length, drop, Option, Some, option_map, Result, IfOk, IfErr, OnOk}
 use Rattle.httparse.specs.Grammar.{RequestHead, print_request}
 use Rattle.cad_head.specs.Heads.{Fits, IsHopeless, IsIncomplete}
@@ -27,23 +27,26 @@ abbrev pub bytes_left : Option Connection → Option (List ℕ)
 bytes_left connection = option_map bytes_held connection
 
 module _ {R : Type 0} (g : Ghosts R) where
-  -- what holds of all commands for which the responder stands before and after
+  -- if what is answered counts, this holds of all commands that the responder holds before
   abbrev pub Under : R → R → (List Command → Type 0) → Type 0
   Under old new Holds = g.counts new → (commands : List Command) → g.stands_for old commands → Holds commands
 
-  -- what keeps the commands refuses to tell what a request asks for to which the bytes come, once those before it were answered: asked of what stands for the same commands, and remains what it was
+  -- the bytes come to a request that the ledger refuses to answer, after the requests before it were answered. At that request the
+  -- responder holds the same commands and remains what it was.
   abbrev pub RefusesLater : List ℕ → R → R → Type 0
   RefusesLater bytes old new =
       (before : R) × ((commands : List Command) → g.stands_for old commands → g.stands_for before commands) × g.remains old before
       × ComeTo g.closes (g.refuses_answer before new) bytes
 
-  -- a row of this object and this number is damaged that is shown for a request to which the bytes come, once those before it were answered and changed nothing
+  -- the bytes come to a request for which a damaged row of this object and this number is shown, after the requests before it were answered
+  -- and changed nothing
   abbrev pub DamagedLater : List ℕ → R → R → ℤ → ℤ → Type 0
   DamagedLater bytes old new object number =
       (before : R) × (g.counts new → g.remains old before)
       × ComeTo g.closes (λ request. g.damaged_for_answer before new request object number) bytes
 
-  -- a call for the requests of these bytes stays with the commands, or what keeps them failed and is closed; what is answered counts if what is answered later does
+  -- a call for the requests of these bytes keeps the commands, or the ledger failed and is closed. What is answered counts if what is
+  -- answered later does.
   pub record Stays {T : Type 0} (bytes : List ℕ) (old : R) (result : Result T RegisterFault) (new : R) : Type 0 where
     pub kept : g.counts new → OnOk result ((commands : List Command) → g.stands_for old commands → g.stands_for new commands)
     pub unchanged : g.counts new → IfErr result (λ fault. (commands : List Command) → g.stands_for old commands → g.stands_for new commands ⊎ IsShut g.lives g.fails old fault new)
@@ -52,14 +55,15 @@ module _ {R : Type 0} (g : Ghosts R) where
     pub still : g.counts new → OnOk result (g.remains old new)
     pub clean : g.counts new → g.counts old
 
-  -- these are the replies, and that comes of the connection; those to requests that do not ask for what the commands say are so whatever the responder stands for
+  -- these are the replies, and this is the outcome of the connection. Replies to requests that do not query the ledger are replies with any
+  -- commands.
   abbrev pub IsReplied : R → R → List ℕ → List ℕ → Outcome → Type 0
   IsReplied old new bytes out last =
       (heads : List RequestHead) × IsStream g.closes heads bytes last
       × Under old new (λ commands. AreReplies g.replies (heads_at commands heads) (last_reply g.bad_head last) out)
       × ArePlainReplies g.asks g.replies heads (last_reply g.bad_head last) out
 
-  -- a piece that follows the bytes held; where it cannot settle a head nothing goes out, and all bytes are held
+  -- a piece that follows the bytes held; if it cannot settle a head, nothing goes out, and all bytes are held
   pub record Feeds (held piece : List ℕ) (old : R) (result : Result Fed RegisterFault) (new : R) : Type 0 where
     pub replied : IfOk result (λ fed. (last : Outcome) × IsReplied old new (held ++ piece) fed.bytes.items last × (bytes_left fed.connection ≡ rest_of last))
     pub cause : IfErr result (λ fault. Under old new (λ commands. (fault ≡ Memory) ⊎ Fails g.closes g.fails_to_answer (held ++ piece) fault commands))

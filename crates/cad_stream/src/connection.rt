@@ -1,4 +1,4 @@
-//! A connection, and what the next piece of its bytes brings.
+//! A connection, and the result of the next piece of its bytes.
 
 ghost use Rattle.cad_head.specs.Heads.{IsIncomplete};
 
@@ -8,7 +8,7 @@ use cad_head::may_settle;
 use cad_versions::RegisterFault;
 use std::alloc::Global;
 
-/// The bytes of a connection that no request took yet. A request may still come of them.
+/// The bytes of a connection that no request took yet. They may still become a request.
 #[derive(Debug, Drop)]
 pub struct Connection {
     held: Vec<u8>,
@@ -16,12 +16,12 @@ pub struct Connection {
     pub ghost waits: { IsIncomplete held.items },
 }
 
-/// What a piece brings.
+/// The result of a piece.
 #[derive(Debug, Drop)]
 pub struct Fed {
     /// The replies, one after the other.
     pub bytes: Vec<u8>,
-    /// The connection since, if it did not end.
+    /// The connection after it, if it did not end.
     pub connection: Option<Connection>,
 }
 
@@ -38,11 +38,11 @@ impl Connection {
         }
     }
 
-    /// Takes the next piece. Each request that is whole now is answered, one after the other. One that ends the
+    /// Takes the next piece. Each request that is now complete is answered, one after the other. One that ends the
     /// connection is the last, and so is the reply to bytes that no request can begin with.
     ///
-    /// Only a piece that can settle what stands at the front is parsed, so that bytes which come a few at a time are not read
-    /// again for each of them.
+    /// The bytes are parsed only if the piece can settle what is at the front. So bytes which come a few at a time are not read again for
+    /// each piece.
     pub fn feed<R: Responder>(
         self,
         alloc: Global,

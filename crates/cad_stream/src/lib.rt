@@ -1,19 +1,19 @@
-//! The replies to the requests of a connection's bytes, in whatever pieces they come.
+//! The replies to the requests of a connection's bytes, for any pieces in which they come.
 //!
 //! - `Responder`: what answers requests, and enters the land office's commands between them
 //! - `Answer`: the reply to one request
-//! - `Connection`: the bytes of a connection that no request took yet, and what the next piece brings
-//! - `Fed`: the replies to a piece, and what is left of the connection
-//! - `laws`: what holds of every connection, however its bytes were cut
+//! - `Connection`: the bytes of a connection that no request took yet, and the result of the next piece
+//! - `Fed`: the replies to a piece, and the connection after it
+//! - `laws`: what holds of every connection, no matter how its bytes were cut
 //!
-//! Of a connection that sends two requests in two pieces, the second of which closes it:
+//! A connection that sends two requests in two pieces, where the second request closes it:
 //!
 //! ```text
 //! let fed = Connection::new(alloc).feed(alloc, b"GET / HTTP/1.1\r\nHost: x\r\n", &mut responder)?;
 //! // fed.bytes is empty, and fed.connection holds the piece.
 //! let Some(connection) = fed.connection else { .. };
 //! let fed = connection.feed(alloc, b"\r\nGET /a HTTP/1.0\r\n\r\nGET /b", &mut responder)?;
-//! // fed.bytes are both replies, and fed.connection is None: what follows the second request is dropped.
+//! // fed.bytes are both replies, and fed.connection equals None: the bytes after the second request are dropped.
 //! ```
 #![tactic(auto)]
 

@@ -26,7 +26,7 @@ pub(crate) enum Next {
 pub(crate) struct Replies {
     /// The replies, one after the other.
     pub(crate) bytes: Vec<u8>,
-    /// How many bytes were answered, if the rest still waits.
+    /// How many bytes were answered, if the connection still waits.
     pub(crate) used: Option<usize>,
 }
 

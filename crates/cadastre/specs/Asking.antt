@@ -17,7 +17,7 @@ use Rattle.cadastre_run.specs.declared.outcome.Outcome.TheVariants as outcome
 use Rattle.cadastre_run.specs.Serving.{AnswersOver, IsUntouched}
 
 module _ {S : Type 0} (g : Ghosts S) (from to before after : Option (List ℕ)) (AtEnd : Type 0) where
-  -- no register is had: the run ends for this cause, nothing is read or written, and the database's connection is given back
+  -- there is no register: the run ends for this cause, nothing is read or written, and the database's connection is given back
   abbrev pub EndsUnfound : RegisterFault × Held S → Outcome × Held S → Type 0
   EndsUnfound refused ended = EndsWithout (IsUntouched (register_as_ledger g) from to before after AtEnd) (outcome.Register refused.0) refused.1 ended
 

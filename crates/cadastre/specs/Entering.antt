@@ -32,6 +32,6 @@ module _ {S : Type 0} (g : Ghosts S) (from to before after : Option (List ℕ)) 
   EntersOver (Err refused) ended = EndsUnfound g from to before after AtEnd refused ended
   EntersOver (Ok register) ended = EntersInto register ended
 
--- the office over a file that held this at first: its register is found, or made where none stands, before anything is read
+-- the office over a file that held this at first: its register is found, or made if it does not exist, before anything is read
 abbrev pub EntersInFile : {D : Type 0} {d : disk.Ghosts D} → Image → (from to before after : Option (List ℕ)) → Type 0 → Outcome × Held (FileStore D d) → Type 0
 EntersInFile image from to before after AtEnd ended = RunsInFileOrNew image (EntersOver over_files from to before after AtEnd) ended

@@ -25,11 +25,11 @@ module _ (service : Service) (before after quiet told : Option (List ℕ)) where
     pub listens : ListensOver service before after quiet told (register_as_ledger g) register (ended.0, left)
     pub back : ended.1 ≡ connection_of left
 
-  -- no register is had: the run ends for this cause and nothing is written
+  -- there is no register: the run ends for this cause and nothing is written
   abbrev pub ServesFound : {S : Type 0} → store.Ghosts S → Result (Register S) (RegisterFault × Held S) → Outcome × Held S → Type 0
   ServesFound g (Err refused) ended = EndsWithout (IsSilent service before after quiet told) (outcome.Register refused.0) refused.1 ended
   ServesFound g (Ok register) ended = ListensOverRegister g register ended
 
-  -- listening over a file that held this at first: its register is found before the address is looked at, and none is made
+  -- listening over a file that held this at first: its register is found before the address is read, and none is made
   abbrev pub ServesInFile : {D : Type 0} {d : disk.Ghosts D} → Image → Outcome × Held (FileStore D d) → Type 0
   ServesInFile image ended = RunsInFile image (ServesFound over_files) ended

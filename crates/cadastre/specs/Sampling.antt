@@ -36,6 +36,6 @@ module _ (from to before after : Option (List ℕ)) (AtEnd : Type 0) (ended : Ou
     pub empty : lent.schema ≡ no_schema
     pub runs : RunsOver (Created over_memory) (SamplesOver over_memory from to before after AtEnd) lent (ended, last)
 
-  -- there is no memory for a database, and nothing is read or written; or so
+  -- there is no memory for a database, and nothing is read or written; or a connection is served over the sample
   abbrev pub RunsSample : Type 0
   RunsSample = ((ended ≡ outcome.Register register.Memory) × (to ≡ from) × (after ≡ before)) ⊎ SamplesInMemory

@@ -20,7 +20,7 @@ use std::io::Write;
 /// A run over a file: how it ended and the file's database, to be closed, or why the file was not opened.
 pub type Ran<S> = Result<(Outcome, Connection<FileStore<FileFrom<S>>>), RegisterFault>;
 
-/// Enters the commands of the lines into the register of a database, which is made where none stands, and gives the connection back.
+/// Enters the commands of the lines into the register of a database, which is made if it does not exist, and gives the connection back.
 fn enter_over<S: Alter, R: CountedRead, W: Write>(
     alloc: Global,
     connection: Connection<S>,
@@ -39,7 +39,7 @@ fn enter_over<S: Alter, R: CountedRead, W: Write>(
     }
 }
 
-/// Enters the commands of the lines into the register of a file, which held this at first, and prints the answers.
+/// Enters the commands of the lines into the register of a file, which at first held what `start` says, and prints the answers.
 pub fn run_office<S: Start, R: CountedRead, W: Write>(
     rt: &HostRuntime,
     file: &str,
@@ -74,7 +74,7 @@ fn ask_over<S: Alter, R: CountedRead, W: CountedWrite>(
     }
 }
 
-/// Serves a connection over the register of a file, which held this at first.
+/// Serves a connection over the register of a file, which at first held what `start` says.
 pub fn run_ask<S: Start, R: CountedRead, W: CountedWrite>(
     rt: &HostRuntime,
     file: &str,
@@ -96,7 +96,7 @@ pub fn close<S: Start>(ran: Ran<S>) -> Outcome
 {
     match ran {
         Ok((outcome, connection)) => {
-            // The log holds what was accepted where closing fails to copy it into the file.
+            // If closing fails to copy what was accepted into the file, the log still holds it.
             let _ = connection.close();
             outcome
         }

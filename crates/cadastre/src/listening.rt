@@ -36,8 +36,8 @@ fn serve_over<N: Net<Listener = TcpListener, Stream = TcpStream>, S: Alter, W: W
     }
 }
 
-/// Listens for connections over the register of a file, which held this at first. The address is told by the writer, and what
-/// goes wrong with a connection by the one of errors.
+/// Listens for connections over the register of a file, which at first held what `start` says. The address is reported on `writer`, and
+/// what goes wrong with a connection on `errors`.
 pub fn run_serve<S: Start, W: Write, E: Write>(
     rt: &HostRuntime,
     file: &str,

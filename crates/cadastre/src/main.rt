@@ -4,13 +4,12 @@
 //! - `listening`: connections taken at an address, over a register file
 //! - `sampling`: one connection served over the sample register, in a database in memory
 //!
-//! What a command line asks for, the same work over any ledger, and how a run ends stand in `cadastre_run`.
+//! What a command line asks for, the same work over any ledger, and how a run ends are in `cadastre_run`.
 //!
 //! - `cadastre sample` serves standard input over the sample register;
 //! - `cadastre ask land.db` serves it over the register of a file;
-//! - `cadastre serve land.db 127.0.0.1:8080 100` takes 100 connections at an address over that register, one after the
-//!   other;
-//! - `cadastre office land.db` enters the commands of standard input into it, and makes the register where none stands.
+//! - `cadastre serve land.db 127.0.0.1:8080 100` takes 100 connections at an address, one after the other, over that register;
+//! - `cadastre office land.db` enters the commands of standard input into it, and makes the register if it does not exist.
 #![tactic(auto)]
 
 mod land;
@@ -57,8 +56,8 @@ fn office(rt: &HostRuntime, file: &str) -> Outcome {
     ))
 }
 
-/// Listens for connections over the register of a file. The address is told on standard output, and what goes wrong with a
-/// connection on standard error.
+/// Listens for connections over the register of a file. The address is reported on standard output, and what goes wrong with a connection
+/// on standard error.
 fn serve(rt: &HostRuntime, file: &str, service: Service<'_>) -> Outcome {
     close(run_serve(
         rt,
@@ -86,7 +85,7 @@ fn run(rt: &HostRuntime) -> Outcome {
 
 fn main(rt: HostRuntime) -> ExitCode {
     let outcome = run(&rt);
-    // Where that cannot be written, the status alone tells it.
+    // If the message cannot be written, only the status reports the outcome.
     let _ = tell(&mut rt.stderr(), outcome.message());
     ExitCode::from(outcome.status())
 }

@@ -1,4 +1,4 @@
-//! The server over the sample register, which lies in a database in memory.
+//! The server over the sample register, which is in a database in memory.
 
 ghost use Rattle.std.specs.Io.KnownBytes.{IsAtEnd};
 ghost use Rattle.cad_register.specs.Opening.{Created};

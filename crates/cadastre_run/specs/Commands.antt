@@ -13,12 +13,12 @@ pub data CommandLine : Type 0 where
   a_service : List ℕ → List ℕ → ℕ → CommandLine
   an_office : List ℕ → CommandLine
 
--- serving a file at an address, for so many connections
+-- serving a file at an address, for this many connections
 abbrev pub service_of : List ℕ → List ℕ → Option ℕ → CommandLine
 service_of file address None = nothing
 service_of file address (Some count) = a_service file address count
 
--- what the words behind the program's name ask for
+-- what the words after the program's name ask for
 abbrev pub command_line_of : List (List ℕ) → CommandLine
 command_line_of [] = nothing
 command_line_of (program ∷ []) = nothing

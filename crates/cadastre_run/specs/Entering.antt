@@ -8,7 +8,7 @@ use Rattle.cad_io.specs.Known.{ReadsAndWrites}
 use Rattle.cadastre_run.specs.declared.outcome.Outcome.{Outcome}
 use Rattle.cadastre_run.specs.Outcomes.{office_outcome_of}
 
--- the bytes written answer the lines read, the run ends as the office's work did, and where that went to its end nothing is left unread
+-- the bytes written answer the lines read, and the run ends as the office's work did; if that reached its end, nothing is left unread
 pub record EndsOffice {L : Type 0} (applies : L → Command → Result ℕ RegisterFault → L → Type 0) (from to before after : Option (List ℕ)) (AtEnd : Type 0) (old : L) (outcome : Outcome) (new : L) : Type 0 where
   pub result : Result Bool OfficeFault
   pub ends : outcome ≡ office_outcome_of result

@@ -26,7 +26,8 @@ module _ (service : Service) (before after quiet told : Option (List ℕ)) where
   abbrev pub IsSilent : Type 0
   IsSilent = (after ≡ before) × (told ≡ quiet)
 
-  -- the address cannot be had, or not be told; or it is told, connections are taken there, and the run ends as listening does
+  -- the address cannot be read or bound, or cannot be reported; or it is reported, connections are taken there, and the run ends as
+  -- listening does
   abbrev pub EndsListening : {P : Type 0} → responder.Ghosts P → Desk P → Outcome → Desk P → Type 0
   EndsListening g old outcome.Address new = (new ≡ old) × IsSilent
   EndsListening g old (outcome.Serve fault) new = (fault ≡ Write) × (new ≡ old) × (told ≡ quiet)

@@ -33,7 +33,7 @@ status_of outcome.Address = no_address
 abbrev pub usage : List ℕ
 usage = codes "usage: cadastre sample | office FILE | ask FILE | serve FILE ADDRESS COUNT"
 
--- what is told of a run on standard error: what failed, by its fault's number and name, or a line of its own
+-- the message about a run on standard error: what failed, by its fault's number and name, or a line of its own
 abbrev pub line_of : Outcome → List ℕ
 line_of outcome.Good = []
 line_of outcome.Refused = []
@@ -45,12 +45,12 @@ line_of (outcome.Office fault) = fault_line of_serving (office_fault_number faul
 line_of (outcome.Desk fault) = fault_line of_desk (desk_fault_number fault, desk_fault_name fault)
 line_of (outcome.Register fault) = fault_line of_register (register_fault_number fault, register_fault_name fault)
 
--- how a run ends whose command line cannot be had, by the cause
+-- how a run ends if its command line cannot be read, by the cause
 abbrev pub outcome_without_arguments : ErrorKind → Outcome
 outcome_without_arguments OutOfMemory = outcome.Register register.Memory
 outcome_without_arguments cause = outcome.Usage
 
--- how serving one connection ends a run; what the database refuses is the register's fault
+-- how serving one connection ends a run; a refusal of the database is the register's fault
 abbrev pub outcome_of : Result Ending ServeFault → Outcome
 outcome_of (Ok PeerEnded) = outcome.Good
 outcome_of (Ok WeEnded) = outcome.Good

@@ -25,7 +25,7 @@ use Rattle.cadastre_run.specs.declared.outcome.Outcome.{Outcome}
 use Rattle.cadastre_run.specs.declared.outcome.Outcome.TheVariants as outcome
 use Rattle.cadastre_run.specs.Outcomes.{outcome_of}
 
--- connection 1 of the desk is served; the run ends as that did, and where the peer ended nothing is left unread
+-- connection 1 of the desk is served; the run ends as that did, and if the peer ended, nothing is left unread
 pub record EndsServing {P : Type 0} (g : responder.Ghosts P) (from to before after : Option (List ℕ)) (AtEnd : Type 0) (old : Desk P) (ended : Outcome) (new : Desk P) : Type 0 where
   pub served : Result Ending ServeFault
   pub ends : ended ≡ outcome_of served
@@ -53,7 +53,7 @@ module _ {L : Type 0} (g : ledger.Ghosts L) where
     remains = λ old new. g.remains (ledger_of old) (ledger_of new);
   }
 
-  -- a desk without connections, whose server stands for what the ledger stands for
+  -- a desk without connections, whose server holds the commands that the ledger holds
   pub record IsDeskOver (lent : L) (desk : Desk (Server L)) : Type 0 where
     pub stands : (commands : List Command) → g.stands_for lent commands → IsServerOf g (responder_of desk) commands
     pub same : ledger_of (responder_of desk) ≡ lent
@@ -76,7 +76,7 @@ module _ {L : Type 0} (g : ledger.Ghosts L) (from to before after : Option (List
   abbrev pub AnswersOver : L → Outcome × L → Type 0
   AnswersOver lent ended = EndsWithout IsUntouched (outcome.Register register.Memory) lent ended ⊎ EndsAsked lent ended
 
-  -- the sample is entered into the ledger; where that is refused nothing is read or written, else a connection is served over it
+  -- the sample is entered into the ledger; if that is refused, nothing is read or written, else a connection is served over the ledger
   abbrev pub AnswersSampleIn : L → L → Result ℕ RegisterFault → Outcome × L → Type 0
   AnswersSampleIn lent filled (Ok revision) ended = IsFilled g lent (Ok revision) filled × AnswersOver filled ended
   AnswersSampleIn lent filled (Err fault) ended = EndsWithout IsUntouched (outcome.Register fault) filled ended

@@ -16,7 +16,7 @@ pub struct Service<'a> {
 pub enum Command<'a> {
     /// Serve one connection from standard input to standard output over the sample register.
     Sample,
-    /// Serve one over the register of the file at this path.
+    /// Serve one connection over the register of the file at this path.
     Ask(&'a str),
     /// Listen for connections, and serve them over the register of the file at this path.
     Serve {
@@ -51,7 +51,7 @@ impl<'a> Command<'a> {
         }
     }
 
-    /// The command to serve a file at an address, if the count is one.
+    /// The command to serve a file at an address, if the count is valid.
     fn of_service(file: &'a str, address: &'a str, count: &str) -> Option<Command<'a>>
         ensures { command_line_read result ≡ service_of file.now address.now (count_of count.now) }
     {

@@ -11,7 +11,7 @@ use cad_versions::Ledger;
 use std::alloc::Global;
 use std::io::Write;
 
-/// Enters the commands of the lines into the ledger, prints the answers, and says how that ends a run.
+/// Enters the commands of the lines into the ledger, prints the answers, and gives the outcome of the run.
 pub fn enter_commands<R: CountedRead, W: Write, L: Ledger>(
     alloc: Global,
     reader: &mut R,

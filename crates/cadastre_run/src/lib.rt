@@ -4,9 +4,9 @@
 //! - `answer_over`, `answer_sample`: one connection, over a reader and a writer, served over a ledger
 //! - `listen_over`: connections taken at an address and served over a ledger
 //! - `enter_commands`: the lines of the land office entered into a ledger
-//! - [`Outcome`]: how a run ended, its status, and what is told of it
+//! - [`Outcome`]: how a run ended, its status, and its message
 //!
-//! No database is known here: `cadastre`, the program, finds the register of a file and lends it to these calls.
+//! This crate uses no database: `cadastre`, the program, finds the register of a file and lends it to these calls.
 //!
 //! ```text
 //! Command::of_words(&["cadastre", "serve", "land.db", "127.0.0.1:0", "3"])

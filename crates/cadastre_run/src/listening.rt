@@ -13,7 +13,7 @@ use std::alloc::Global;
 use std::io::Write;
 use std::net::{Net, TcpListener, TcpStream};
 
-/// Tells the address that is bound, listens there for the desk's connections, and says how that ends a run.
+/// Reports the address that is bound, listens there for the desk's connections, and gives the outcome of the run.
 pub fn listen_at<
     N: Net<Listener = TcpListener, Stream = TcpStream>,
     P: Responder,

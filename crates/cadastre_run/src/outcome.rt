@@ -1,4 +1,4 @@
-//! How a run ended: its status, and the line that tells it.
+//! How a run ended: its status, and the line that reports it.
 
 use cad_desk::DeskFault;
 use cad_office::OfficeFault;
@@ -22,9 +22,9 @@ pub enum Outcome {
     Office(OfficeFault),
     /// The connection was refused.
     Desk(DeskFault),
-    /// There was no register or no desk over it, or its database refused what it was asked.
+    /// There was no register or no desk over it, or its database refused a request.
     Register(RegisterFault),
-    /// The program listened, and this is its status. What went wrong was told.
+    /// The program listened, and this is its status. What went wrong was reported.
     Listened(u8),
     /// The arguments are wrong.
     Usage,
@@ -37,7 +37,7 @@ impl Outcome {
     ghost use Rattle.cad_serve.specs.Statuses.{message_line};
     ghost use Rattle.cadastre_run.specs.Outcomes.{line_of, office_outcome_of, outcome_of, outcome_without_arguments, status_of};
 
-    /// How a run ends whose command line cannot be had for this cause.
+    /// How a run ends if its command line cannot be read for this cause.
     pub fn without_arguments(cause: ErrorKind) -> Outcome
         ensures { result ≡ outcome_without_arguments cause }
     {
@@ -47,7 +47,7 @@ impl Outcome {
         }
     }
 
-    /// How serving one connection ends a run. What the database refuses is told as the register's fault.
+    /// How serving one connection ends a run. A refusal of the database is reported as the register's fault.
     pub fn of_serving(served: Result<Ending, ServeFault>) -> Outcome
         ensures { result ≡ outcome_of served }
     {
@@ -61,7 +61,7 @@ impl Outcome {
         }
     }
 
-    /// How the office ends a run. It answers whether no line was refused.
+    /// How the office ends a run. Its result says whether no line was refused.
     pub fn of_office(kept: Result<bool, OfficeFault>) -> Outcome
         ensures { result ≡ office_outcome_of kept }
     {
@@ -88,9 +88,9 @@ impl Outcome {
         }
     }
 
-    /// What is told of it on standard error.
+    /// The message about the run on standard error.
     ///
-    /// Refused lines were told on standard output, and what went wrong while the program listened on standard error.
+    /// Refused lines were already reported on standard output, and what went wrong while the program listened on standard error.
     pub fn message(self) -> Message
         ensures { message_line result ≡ line_of self }
     {

@@ -13,7 +13,7 @@ use cad_stream::Responder;
 use cad_versions::{Ledger, RegisterFault};
 use std::alloc::Global;
 
-/// Serves a connection of the desk, and says how that ends a run.
+/// Serves a connection of the desk, and gives the outcome of the run.
 pub fn serve_one<P: Responder, R: CountedRead, W: CountedWrite>(
     alloc: Global,
     reader: &mut R,

@@ -1,4 +1,4 @@
--- What asks has no fault.
+-- Pairs that ask for something have no fault.
 use Rattle.std.specs.Prelude.{ℕ, List, Option, Some, None, IfSome}
 use Rattle.cad_schema.specs.declared.collection.Collection.{Collection}
 use Rattle.cad_schema.specs.Schema.{schema_of}

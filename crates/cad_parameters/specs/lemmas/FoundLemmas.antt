@@ -20,7 +20,7 @@ module _ (p : ParameterFault → Bool) where
       go true holds e later = let same : first ≡ fault = cc in (subst (λ f. p f ≡ true) same holds, inl (cc))
       go false fails e later = let found = later e in (found.0, inr found.1)
 
-  -- where none is found none of the list passes
+  -- if none is found, none of the list passes
   pub none_holds : (faults : List ParameterFault) (fault : ParameterFault) → find p faults ≡ None → IsAmong fault faults → p fault ≡ false
   none_holds [] fault e has = elim has [ ]
   none_holds (first ∷ faults) fault e has = go (p first) refl e has (none_holds faults fault)

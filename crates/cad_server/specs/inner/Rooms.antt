@@ -1,10 +1,10 @@
--- Of how many revisions the features are kept at most (own profile).
+-- The most revisions whose features are kept (own profile).
 use Rattle.std.specs.Prelude.{ℕ}
 
--- of those that were entered last
+-- the most of those that were entered last
 abbrev pub most_entered : ℕ
 most_entered = 6160
 
--- of old ones that were read of the ledger, each on bases of its own
+-- the most old ones that were read from the ledger, each with its own bases
 abbrev pub most_read : ℕ
 most_read = 2

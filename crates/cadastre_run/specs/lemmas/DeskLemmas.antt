@@ -10,7 +10,7 @@ use Rattle.cad_server.specs.Servers.{ledger_of, IsServerOf}
 use Rattle.cadastre_run.specs.Serving.{IsDeskOver}
 
 module _ {L : Type 0} (g : Ghosts L) where
-  -- of a server that stands for what the ledger stands for
+  -- a desk over a server that holds the commands that the ledger holds
   pub desk_over : (lent : L) (server : Server L) (desk : Desk (Server L)) → ((commands : List Command) → g.stands_for lent commands → IsServerOf g server commands) → ledger_of server ≡ lent
       → responder_of desk ≡ server → ((c : ℕ) → rest_at (connections_of desk) c ≡ None) → IsDeskOver g lent desk
   desk_over lent server desk made same answers idle = record {
