@@ -17,6 +17,7 @@ use Rattle.cql_rewrite.specs.declared.form.Normal.{Normal}
 use Rattle.cql_rewrite.specs.declared.form.Normal.TheVariants as form
 use Rattle.cql_rewrite.specs.declared.form.Normal.TheOpen.{Normal-F}
 use Rattle.cql_rewrite.specs.declared.form.Normal.TheFolds.{fold-Normal}
+use Rattle.cql_rewrite.specs.declared.form.Normal.TheViews.{out-Normal}
 
 -- its texts hold only characters (Unicode scalar values)
 abbrev pub HoldsCharacters : Item → Type 0
@@ -65,6 +66,16 @@ abbrev pub offers_own : Normal → Bool
 offers_own (form.Range r) = true
 offers_own (form.Like pattern r) = true
 offers_own n = false
+
+-- a range: its own, or that of some part of an AND
+abbrev pub offers_in : Normal-F Normal → Bool
+offers_in (Normal-F.Range r) = true
+offers_in (Normal-F.Like pattern r) = true
+offers_in (Normal-F.And parts) = list_any offers_own parts.items
+offers_in other = false
+
+abbrev pub offers : Normal → Bool
+offers n = offers_in (out-Normal n)
 
 -- ---- memory
 

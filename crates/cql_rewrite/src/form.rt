@@ -44,7 +44,7 @@ impl Normal<'_> {
     ghost use Rattle.std.specs.Prelude.{◌≡◌, IfSome, IsTrue, is_some};
     ghost use Rattle.cad_feature.specs.Features.{Item};
     ghost use Rattle.cad_range.specs.Ranges.{lies_in};
-    ghost use Rattle.cql_rewrite.specs.Meets.{is_settled, meets, offers_own};
+    ghost use Rattle.cql_rewrite.specs.Meets.{is_settled, meets, offers};
 
     /// What every feature meets or no feature does, if the whole is a constant. No memory is taken.
     pub fn is_constant(&self) -> Option<bool>
@@ -57,11 +57,11 @@ impl Normal<'_> {
         }
     }
 
-    /// A range in which each feature that meets the whole has a value, if one is offered: the range of a comparison, of the front of
-    /// a LIKE, or of the first part of an AND that has one. No memory is taken.
+    /// A range in which each feature that meets the whole has a value, if the form offers one: the range of a comparison, of the
+    /// front of a LIKE, or of the first part of an AND that has one. No memory is taken.
     pub fn range(&self) -> Option<&Range>
         ensures stands { IfSome result (λ r. (x : Item) → IsTrue (meets x self.now) → IsTrue (lies_in x r.now)) }
-        ensures is_there { IsTrue (offers_own self.now) → IsTrue (is_some result) }
+        ensures is_there { is_some result ≡ offers self.now }
     {
         match self {
             Normal::And(parts) => first_range(parts),
@@ -71,7 +71,7 @@ impl Normal<'_> {
 }
 
 ghost use Rattle.std.specs.Prelude.{◌≡◌, IfSome, IsTrue, is_some};
-ghost use Rattle.std.specs.List.{list_all};
+ghost use Rattle.std.specs.List.{list_all, list_any};
 ghost use Rattle.cad_feature.specs.Features.{Item};
 ghost use Rattle.cad_range.specs.Ranges.{lies_in};
 ghost use Rattle.cql_rewrite.specs.Meets.{meets, offers_own};
@@ -88,7 +88,8 @@ fn own_range<'a>(form: &'a Normal) -> Option<&'a Range>
 }
 
 fn first_range<'a>(parts: &'a [Normal]) -> Option<&'a Range>
-    ensures { IfSome result (λ r. (x : Item) → IsTrue (list_all (meets x) parts.now) → IsTrue (lies_in x r.now)) }
+    ensures stands { IfSome result (λ r. (x : Item) → IsTrue (list_all (meets x) parts.now) → IsTrue (lies_in x r.now)) }
+    ensures is_there { is_some result ≡ list_any offers_own parts.now }
 {
     for part in parts {
         if let Some(range) = own_range(part) {
