@@ -2,8 +2,9 @@
 //!
 //! `state` has one row, with the format and the revision; `version` has a row for each version of an object,
 //! with the revision that entered it and the one that closed it. `create` makes both, `open` looks whether they
-//! are there, `write` makes the one change of a command, `history` reads the rows of an object back, and
-//! `listing` those of a revision, in the order in which the database comes to them. What a row means is left to
+//! are there, `write` makes the one change of a command, `history` reads the rows of an object back,
+//! `listing` those of a revision, in the order in which the database comes to them, and `listing_between` some
+//! of all rows, in the order in which they were entered. What a row means is left to
 //! the caller's types: the trait `Stored` makes it of one, and the trait `Reader` makes one of it, so that a
 //! listing holds what was read and no row.
 //!
@@ -33,5 +34,5 @@ pub use faults::TableFault;
 pub use laws::a_change_keeps_lines;
 pub use making::{Creation, create};
 pub use opening::{MOST_REVISION, open, revision};
-pub use reading::{Reader, history, listing};
+pub use reading::{Reader, history, listing, listing_between};
 pub use writing::write;
