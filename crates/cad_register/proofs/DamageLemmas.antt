@@ -13,7 +13,7 @@ use Rattle.cad_register.specs.Damage.{identifier_in, place_of, IsNext, AreInOrde
 use Rattle.cad_register.specs.inner.Found.{IsReadOf, AreReadOf}
 use Rattle.cad_register.proofs.KeptLemmas.{entry_same}
 
-drop_row : (rows : List Row) (at : ℕ) (row : Row) → at < length rows → row ≡ get_or rows at row → drop at rows ≡ row ∷ drop (at + 1) rows
+pub drop_row : (rows : List Row) (at : ℕ) (row : Row) → at < length rows → row ≡ get_or rows at row → drop at rows ≡ row ∷ drop (at + 1) rows
 drop_row rows at row h is = drop-cons rows at row h ∙ ap₂ ◌∷◌ (sym is) (ap (λ n. drop n rows) (sym (add-one at)))
 
 pub sound_step : (newest : ℕ) (rows : List Row) (at : ℕ) (row : Row) (before : Option Place) (e : Entry) → at < length rows → row ≡ get_or rows at row → IsNext newest before at row e

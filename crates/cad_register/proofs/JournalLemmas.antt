@@ -1,5 +1,5 @@
 -- The entries that commands make tell these commands.
-use Rattle.std.proofs.Common.{◌≡◌, ℕ, ◌+◌, ◌-◌, ◌==◌, ◌≤◌, Bool, true, false, cond, ◌&&◌, List, [], ◌∷◌, ◌++◌, length, map, find, fold, take, drop, Option, Some, None, IfSome, is_none, option_map, refl, sym, ap, ap₂, ◌∙◌, subst, arith, zero-add, length-drop, take-append-drop, length-take-le}
+use Rattle.std.proofs.Common.{◌≡◌, ℕ, ◌+◌, ◌-◌, ◌==◌, ◌≤◌, Bool, true, false, cond, List, [], ◌∷◌, ◌++◌, length, map, find, fold, take, drop, Option, Some, None, IfSome, is_none, option_map, refl, sym, ap, ap₂, ◌∙◌, subst, arith, zero-add, length-drop, take-append-drop, length-take-le}
 use Rattle.std.specs.List.{AllByRecursion}
 use Rattle.std.proofs.lemmas.Bool.{and_parts}
 use Rattle.std.proofs.lemmas.Bool.Decides.{nat_tests}
@@ -110,12 +110,12 @@ ended_all_same r object day n h (e ∷ es) = ap₂ or_next (ended_same r object 
 pub new_gives_none : (r n : ℕ) (v : VersionedObject) → r ≤ n → begun_at r (entered_at (n + 1) v) ≡ None
 new_gives_none r n v h = ap (λ t. cond t (Some (beginning v)) None) (other_revision r n h)
 
-pushed_same : (r n : ℕ) (v : VersionedObject) → r ≤ n → (es : List Entry) → command_at r (es ++ entered_at (n + 1) v ∷ []) ≡ command_at r es
+pub pushed_same : (r n : ℕ) (v : VersionedObject) → r ≤ n → (es : List Entry) → command_at r (es ++ entered_at (n + 1) v ∷ []) ≡ command_at r es
 pushed_same r n v h es =
     ap₂ or_next (first_push (begun_at r) es (entered_at (n + 1) v) ∙ ap (or_next (first_given (begun_at r) es)) (new_gives_none r n v h) ∙ or_none (first_given (begun_at r) es))
     (first_push (ended_at r) es (entered_at (n + 1) v) ∙ or_none (first_given (ended_at r) es))
 
-closed_same : (r : ℕ) (object : ObjectId) (day : Day) (n : ℕ) → r ≤ n → (es : List Entry) → command_at r (map (close_entry object day (n + 1)) es) ≡ command_at r es
+pub closed_same : (r : ℕ) (object : ObjectId) (day : Day) (n : ℕ) → r ≤ n → (es : List Entry) → command_at r (map (close_entry object day (n + 1)) es) ≡ command_at r es
 closed_same r object day n h es = ap₂ or_next (begun_all_same r object day (n + 1) es) (ended_all_same r object day n h es)
 
 command_stays_then : (r n : ℕ) → r ≤ n → (es : List Entry) (c : Command) → command_at r (entries_after (n + 1) es c) ≡ command_at r es

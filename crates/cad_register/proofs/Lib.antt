@@ -19,6 +19,8 @@ pub mod SoundLemmas
 pub mod StandingLemmas
 pub mod StandLemmas
 pub mod CountLemmas
+pub mod JournalReadingLemmas
+pub mod SoundRowLemmas
 pub mod DecisionLemmas
 pub mod WriteLemmas
 pub mod SurvivingLemmas

@@ -1,6 +1,7 @@
 -- One question after another.
-use Rattle.std.proofs.Common.{◌≡◌, ◌≢◌, ◌∙◌, ℕ, pos, [], ◌∷◌, refl, inl, inr, IsTrue}
+use Rattle.std.proofs.Common.{◌≡◌, ◌≢◌, ◌∙◌, ℕ, pos, List, [], ◌∷◌, refl, inl, inr, IsTrue}
 use Rattle.sqlite_value.specs.declared.value.Value.TheVariants.{Int}
+use Rattle.sqlite_value.specs.Order.{Row}
 use Rattle.sqlite.specs.declared.error.Error.{Error}
 use Rattle.sqlite.specs.State.{State, FailsToQuery}
 use Rattle.cad_tables.specs.Reading.{RefusesRows}
@@ -44,10 +45,13 @@ not_for_memory Memory e = absurd cc
 not_for_memory (Store e) is = λ h. cc
 
 -- what is told as the database's own refusal is that of the question for the rows, and no want of memory
+pub question_stored : (sql : List ℕ) (params : Row) (old new : State) (why : TableFault) → register_fault_of why ≡ fault.Store → RefusesRows sql params old new why → (e : Error) × IsNotForMemory e × FailsToQuery sql params old new e
+question_stored sql params old new why is (inl h) = absurd (not_for_memory why is h.0)
+question_stored sql params old new why is (inr h) = (h.0, (λ memory. not_for_memory why is (h.1 ∙ memory)), h.2)
+
 pub rows_stored : (old new : State) (revision : ℕ) (why : TableFault) → register_fault_of why ≡ fault.Store → RefusesRows listing_text (Int (pos revision) ∷ []) old new why
     → (e : Error) × IsNotForMemory e × FailsToQuery listing_text (Int (pos revision) ∷ []) old new e
-rows_stored old new revision why is (inl h) = absurd (not_for_memory why is h.0)
-rows_stored old new revision why is (inr h) = (h.0, (λ memory. not_for_memory why is (h.1 ∙ memory)), h.2)
+rows_stored old new revision = question_stored listing_text (Int (pos revision) ∷ []) old new
 
 pub rows_refused : {S : Type 0} (g : Ghosts S) (old new : Held S) (revision : ℕ) (why : TableFault) → IsTrue (state g old).is_open → register_fault_of why ≡ fault.Store → RefusesRows listing_text (Int (pos revision) ∷ []) (state g old) (state g new) why
     → RefusesQuestion g old new (IsForLines revision)

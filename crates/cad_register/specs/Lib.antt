@@ -4,6 +4,7 @@ pub mod StoredVersions
 pub mod Damage
 pub mod Journal
 pub mod JournalRows
+pub mod JournalReading
 pub mod Stands
 pub mod Outlines
 pub mod Changing

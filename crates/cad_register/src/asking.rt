@@ -1,28 +1,31 @@
 //! What the tables say of a register.
 
-ghost use Rattle.std.specs.Prelude.{◌≡◌, ◌≤◌, ◌∷◌, [], List, length, drop, pos, Some, IfOk, IfErr, OnOk};
+ghost use Rattle.std.specs.Prelude.{◌≡◌, ◌≤◌, ◌-◌, ◌∷◌, [], List, length, map, take, drop, pos, Some, IfOk, IfErr, OnOk};
 ghost use Rattle.sqlite.specs.State.{HasCleanDisk, FailsToQuery};
 ghost use Rattle.sqlite.specs.declared.error.Error.{Error};
 ghost use Rattle.sqlite_value.specs.declared.value.Value.TheVariants.{Int};
-ghost use Rattle.cad_tables.specs.Texts.{listing_text};
+ghost use Rattle.cad_tables.specs.Texts.{listing_text, range_text};
 ghost use Rattle.cad_tables.specs.Opening.{IsSettled};
 ghost use Rattle.sqlite.specs.Held.{state};
-ghost use Rattle.cad_versions.specs.declared.command.Command.{Command as CommandOf};
 ghost use Rattle.cad_versions.specs.Versions.{versions};
 ghost use Rattle.cad_versions.specs.AsOf.{as_of};
 ghost use Rattle.cad_versions.specs.Listing.{IsListing};
+ghost use Rattle.cad_versions.specs.Entries.{entries_of};
 ghost use Rattle.cad_register.specs.Outlines.{IsStanding};
 ghost use Rattle.cad_register.specs.Stands.{Tells, IsStoreFault, IsReadingFault};
 ghost use Rattle.cad_register.specs.Damage.{ReadsRows};
 ghost use Rattle.cad_register.specs.JournalRows.{GivesJournal, IsJournalFault};
+ghost use Rattle.cad_register.specs.JournalReading.{ReadsSound};
+ghost use Rattle.cad_register.specs.StoredVersions.{entry_of};
 ghost use Rattle.cad_register.specs.Leaving.{AsksOnly};
 ghost use Rattle.cad_register.specs.Refusing.{Asks, IsForObject, IsForLines, IsNotForMemory, history_questions, register_fault_of};
 ghost use Rattle.cad_register.specs.Naming.{TellAll, NamesFirst};
 ghost use Rattle.cad_register.specs.inner.Inquiring.{Inquires};
 
-use crate::journal::commands_given;
+use crate::journal::{commands_given, sound_versions};
 use crate::listing::listed;
 use crate::standing::ObjectState;
+use crate::stored_version::StoredVersion;
 use cad_tables::TableFault;
 use cad_versions::{Command, ObjectId, RegisterFault, Version};
 use sqlite::{Alter, Connection};
@@ -107,6 +110,33 @@ pub(crate) fn commands_behind<S: Alter>(
 {
     match cad_tables::listing(alloc, connection, newest) {
         Ok(found) => commands_given(alloc, found, behind, newest),
+        Err(fault) => Err(store_fault(fault)),
+    }
+}
+
+/// The versions at the places behind one, up to another, of a register of this newest revision, the oldest first.
+pub(crate) fn versions_between<S: Alter>(
+    alloc: Global,
+    connection: &mut Connection<S>,
+    behind: u32,
+    up_to: u32,
+    newest: u32,
+) -> Result<Vec<StoredVersion>, RegisterFault>
+    ensures told { HasCleanDisk (state S.Store connection.new) →
+        Tells (state S.Store connection.old) (state S.Store connection.new) result
+        (λ commands found. map entry_of found.items ≡ take (up_to - behind) (drop behind (entries_of commands)))
+        (λ commands fault. newest ≡ length commands → IsStoreFault fault) }
+    ensures store { HasCleanDisk (state S.Store connection.new) → result ≡ Err RegisterFault.Store →
+        (e : Error) × IsNotForMemory e ×
+        FailsToQuery range_text (Int (pos behind) ∷ Int (pos up_to) ∷ []) (state S.Store connection.old) (state S.Store connection.new) e }
+    ensures still { HasCleanDisk (state S.Store connection.new) →
+        OnOk result (IsSettled S.Store connection.old connection.new) }
+    ensures leaves { AsksOnly (state S.Store connection.old) (state S.Store connection.new) result }
+    ensures cause { IfErr result IsReadingFault }
+    ensures read { ReadsSound (state S.Store connection.old) (state S.Store connection.new) behind up_to newest result }
+{
+    match cad_tables::listing_between(alloc, connection, behind, up_to) {
+        Ok(found) => sound_versions(alloc, found, newest),
         Err(fault) => Err(store_fault(fault)),
     }
 }

@@ -1,6 +1,6 @@
 //! Columns of a row as the values of the register.
 
-ghost use Rattle.std.specs.Prelude.{◌≡◌, ◌≢◌, ◌<◌, ◌+◌, ◌^◌, ◌↔◌, ℕ, pos, IsTrue, MatchResult};
+ghost use Rattle.std.specs.Prelude.{◌≡◌, ◌<◌, ◌+◌, ◌^◌, ◌↔◌, pos, IsTrue};
 ghost use Rattle.std.specs.Option.{ForSome, option_map};
 ghost use Rattle.sqlite_value.specs.declared.value.Value.TheVariants.{Null, Int, Text};
 ghost use Rattle.sqlite_value.specs.Order.{column};

@@ -1,8 +1,12 @@
 //! What is read of a row.
 
-ghost use Rattle.std.specs.Prelude.{◌≡◌};
+ghost use Rattle.std.specs.Prelude.{◌≡◌, MatchResult};
 ghost use Rattle.cad_register.specs.inner.Found.{IsReadOf, IsJudged, identifier_of, damaged_row, damage_named};
 ghost use Rattle.sqlite_value.specs.Order.{Row as SqlRow};
+ghost use Rattle.cad_versions.specs.Entries.{Entry};
+ghost use Rattle.cad_register.specs.Damage.{damage_of};
+ghost use Rattle.cad_register.specs.StoredVersions.{entry_of};
+ghost use Rattle.cad_register.specs.JournalReading.{IsSoundRow};
 
 use crate::columns::{ReadFault, number_or_zero};
 use crate::place::Place;
@@ -82,6 +86,23 @@ impl FoundRow {
             return Err(damage);
         };
         if kept.keeps_rules(before, count, newest) {
+            return Ok(kept);
+        }
+        drop(kept);
+        Err(damage)
+    }
+
+    /// The version of a row that is valid in a register with this newest revision, no matter which rows are before it. Any other row is
+    /// named as damaged.
+    pub(crate) fn sound(self, newest: u32) -> Result<StoredVersion, RegisterFault>
+        ensures { (row : SqlRow) → IsReadOf row self → MatchResult result (λ kept. IsSoundRow newest row (entry_of kept))
+            (λ fault. (fault ≡ damage_of row) × ((e : Entry) → ¬ IsSoundRow newest row e)) }
+    {
+        let damage = self.damage();
+        let FoundRow::Version(kept) = self else {
+            return Err(damage);
+        };
+        if kept.has_revisions(newest) {
             return Ok(kept);
         }
         drop(kept);

@@ -160,7 +160,8 @@ impl Gathering {
 
     /// One more version, with the revision that entered it and the one that closed it. They may come in any order.
     pub(crate) fn note(&mut self, version: Version, entered: u32, closed: Option<u32>)
-        ensures { (behind count : ℕ) (entries : List Entry) → Gathers behind count entries self.old →
+        ensures behind { self.new.behind ≡ self.old.behind }
+        ensures notes { (behind count : ℕ) (entries : List Entry) → Gathers behind count entries self.old →
             Gathers behind count (entries ++ record { version = version; entered = entered; closed = closed } ∷ []) self.new }
     {
         let Version {
@@ -176,7 +177,9 @@ impl Gathering {
 
     /// The commands, if there is one for each revision.
     pub(crate) fn commands(self, alloc: Global) -> Result<Option<Vec<Command>>, AllocError>
-        ensures { IfOk result (λ found. (behind count : ℕ) (entries : List Entry) → Gathers behind count entries self →
+        ensures held { IfOk result (λ found. MatchOption found ((commands : List CommandOf) → map Some commands ≢ self.slots.items)
+            (λ commands. map Some commands.items ≡ self.slots.items)) }
+        ensures given { IfOk result (λ found. (behind count : ℕ) (entries : List Entry) → Gathers behind count entries self →
             MatchOption found ((commands : List CommandOf) → map Some commands ≢ commands_behind behind count entries)
             (λ commands. map Some commands.items ≡ commands_behind behind count entries)) }
     {

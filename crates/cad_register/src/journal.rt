@@ -1,10 +1,11 @@
 //! The rows of a register as the commands that made it.
 
-ghost use Rattle.std.specs.Prelude.{◌≡◌, ◌≤◌, ◌-◌, List, IfOk, IfErr};
+ghost use Rattle.std.specs.Prelude.{◌≤◌, ◌-◌, List, map, IfOk, IfErr};
 ghost use Rattle.sqlite_value.specs.Order.{Row};
 ghost use Rattle.cad_versions.specs.Entries.{Entry};
 ghost use Rattle.cad_register.specs.Damage.{IsCauseIn};
-ghost use Rattle.cad_register.specs.StoredVersions.{AreRowsOf};
+ghost use Rattle.cad_register.specs.StoredVersions.{AreRowsOf, entry_of};
+ghost use Rattle.cad_register.specs.JournalReading.{AreSoundRows, IsUnsoundIn, GivesHeld};
 ghost use Rattle.cad_register.specs.JournalRows.{GivesCommands};
 ghost use Rattle.cad_register.specs.inner.Found.{AreReadOf};
 ghost use Rattle.cad_register.specs.inner.Gathering.{Gathers, IsGivenBy};
@@ -12,6 +13,7 @@ ghost use Rattle.cad_register.specs.inner.Gathering.{Gathers, IsGivenBy};
 use crate::found::FoundRow;
 use crate::gathering::Gathering;
 use crate::listing::put_in_order;
+use crate::stored_version::StoredVersion;
 use cad_versions::{Command, RegisterFault};
 use std::alloc::Global;
 
@@ -40,8 +42,12 @@ fn gathered(
 }
 
 /// The commands, or that these rows are not those of a register.
-fn commands_in(alloc: Global, gathering: Gathering) -> Result<Vec<Command>, RegisterFault>
-    ensures { IsGivenBy gathering result }
+pub(crate) fn commands_in(
+    alloc: Global,
+    gathering: Gathering,
+) -> Result<Vec<Command>, RegisterFault>
+    ensures given { IsGivenBy gathering result }
+    ensures held { GivesHeld gathering.slots.items result }
 {
     match gathering.commands(alloc)? {
         Some(commands) => Ok(commands),
@@ -64,4 +70,22 @@ pub(crate) fn commands_given(
     put_in_order(&mut found);
     let gathering = gathered(alloc, found, behind, newest)?;
     commands_in(alloc, gathering)
+}
+
+/// The versions of rows, each of which is valid in a register with this newest revision, no matter which rows are before it. The first
+/// row that is not is named as damaged.
+pub(crate) fn sound_versions(
+    alloc: Global,
+    found: Vec<FoundRow>,
+    newest: u32,
+) -> Result<Vec<StoredVersion>, RegisterFault>
+    ensures sound { (rows : List Row) → AreReadOf rows found.items → IfOk result (λ versions.
+        AreSoundRows newest rows (map entry_of versions.items)) }
+    ensures cause { (rows : List Row) → AreReadOf rows found.items → IfErr result (IsUnsoundIn newest rows) }
+{
+    let mut versions = Vec::with_capacity(alloc, found.len())?;
+    for row in found {
+        versions.push(row.sound(newest)?)?;
+    }
+    Ok(versions)
 }

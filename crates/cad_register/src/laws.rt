@@ -1,6 +1,7 @@
 //! What holds of every register, and of the rows in which it is stored. Each contract is a law; the functions do nothing.
 
 ghost use Rattle.cad_register.specs.Laws.{RowsAreOfOneEntry, RegisterRowsAreSound, EntriesGiveTheirCommands, ListingsGiveTheirCommands, EnteredStandsForAll, JournalsAreAccepted};
+ghost use Rattle.cad_register.specs.JournalReading.{ReadingsStay};
 
 use cad_versions::Ledger;
 pub use cad_versions::laws::{
@@ -37,4 +38,9 @@ pub fn entered_stands_for_all<L: Ledger>()
 /// If a command of a journal, in its place, is refused, only the ledger's store refuses it.
 pub fn journals_are_accepted<L: Ledger>()
     ensures { JournalsAreAccepted L.Ledger }
+{}
+
+/// What a reading of a journal holds stays what it is while further commands are accepted.
+pub fn readings_stay()
+    ensures { ReadingsStay }
 {}

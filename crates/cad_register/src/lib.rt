@@ -1,6 +1,7 @@
 //! The land register: versions in SQLite, and the register at any revision.
 //!
 //! - `Register`: made by `create`, `open` or `open_or_create` over a connection, changed by `apply`, read by `as_of`; `journal` gives its commands back.
+//! - `JournalReading`: a journal that is read in pieces, by `begin_journal` and `read_on`, between which commands may be accepted.
 //! - `open_file`, `open_standing_file`: open the database of a file over what it held.
 //! - `laws`: what holds of every register, and of the rows that it is kept in.
 //! - The types of versions, commands and faults are those of `cad_versions`.
@@ -22,6 +23,7 @@ mod file;
 mod found;
 mod gathering;
 mod journal;
+mod journal_reading;
 pub mod laws;
 mod ledger;
 mod listing;
@@ -34,4 +36,5 @@ mod writing;
 
 pub use cad_versions::{Body, Class, Command, ObjectId, RegisterFault, Share, Version, Words};
 pub use file::{open_file, open_standing_file};
+pub use journal_reading::JournalReading;
 pub use register::{Register, Revision};

@@ -1,8 +1,9 @@
 //! The register of a list of commands.
 
-use crate::asking::{commands_behind, store_fault, versions_of};
+use crate::asking::{commands_behind, store_fault, versions_between, versions_of};
 use crate::changing::{enact, next_number};
 use crate::decision::decide;
+use crate::journal_reading::JournalReading;
 use cad_tables::{Creation, MOST_REVISION};
 use cad_versions::{Command, RegisterFault, Version};
 use sqlite::{Alter, Connection};
@@ -29,11 +30,11 @@ impl<S: Alter + Drop> Drop for Register<S> {
 }
 
 impl<S: Alter> Register<S> {
-    ghost use Rattle.std.specs.Prelude.{◌≡◌, ◌≢◌, ◌≤◌, ◌<◌, ◌+◌, ◌++◌, Err, None, ◌∷◌, [], List, length, drop, pos, IfOk, IfErr, OnOk};
+    ghost use Rattle.std.specs.Prelude.{◌≡◌, ◌≢◌, ◌≤◌, ◌<◌, ◌+◌, ◌++◌, Err, None, ◌∷◌, [], List, length, drop, pos, IfOk, IfErr, OnOk, OnErr};
     ghost use Rattle.sqlite.specs.State.{HasCleanDisk, FailsToQuery};
     ghost use Rattle.sqlite.specs.declared.error.Error.{Error};
     ghost use Rattle.sqlite_value.specs.declared.value.Value.TheVariants.{Int};
-    ghost use Rattle.cad_tables.specs.Texts.{listing_text};
+    ghost use Rattle.cad_tables.specs.Texts.{listing_text, range_text};
     ghost use Rattle.cad_versions.specs.declared.command.Command.{Command as CommandOf};
     ghost use Rattle.cad_versions.specs.Versions.{versions};
     ghost use Rattle.cad_versions.specs.Refusals.{refusal};
@@ -41,6 +42,7 @@ impl<S: Alter> Register<S> {
     ghost use Rattle.cad_versions.specs.Listing.{IsListing};
     ghost use Rattle.cad_register.specs.Damage.{ReadsRows};
     ghost use Rattle.cad_register.specs.JournalRows.{GivesJournal, IsJournalFault};
+    ghost use Rattle.cad_register.specs.JournalReading.{HasRead, HasReadOn, ReadsOn, Begins, rows_read, next_place, is_whole};
     ghost use Rattle.cad_register.specs.Keeping.{Keeps};
     ghost use Rattle.cad_register.specs.Leaving.{IsLater};
     ghost use Rattle.cad_register.specs.Opening.{Created, Opened, OpenedOrCreated};
@@ -203,6 +205,68 @@ impl<S: Alter> Register<S> {
         }
         let last = self.revision;
         commands_behind(self.alloc, &mut self.connection, behind as u32, last)
+    }
+
+    /// Begins to read the commands after a revision, up to the newest. No row is read yet.
+    pub fn begin_journal(&self, behind: Revision) -> Result<JournalReading, RegisterFault>
+        ensures begun { IfOk result (Begins behind (revision_of self.now)) }
+        ensures holds { IfOk result (λ reading. (commands : List CommandOf) → IsRegisterOf S.Store self.now commands →
+            HasRead commands reading) }
+        ensures beyond { revision_of self.now < behind →
+            result ≡ Err RegisterFault.UnknownRevision }
+        ensures within { IfErr result (λ fault. behind ≤ revision_of self.now →
+            fault ≡ RegisterFault.Memory) }
+    {
+        if u64::from(self.revision) < behind {
+            return Err(RegisterFault::UnknownRevision);
+        }
+        let reading = JournalReading::begin(self.alloc, behind as u32, self.revision)?;
+        Ok(reading)
+    }
+
+    /// Reads the next rows of a journal, at most `most`, and returns whether all were read. Commands may have been accepted since the last
+    /// rows were read.
+    pub fn read_on(
+        &mut self,
+        reading: &mut JournalReading,
+        most: u32,
+    ) -> Result<bool, RegisterFault>
+        ensures given { HasCleanDisk (state_of S.Store self.new) → OnOk result
+            ((commands : List CommandOf) → IsRegisterOf S.Store self.old commands → HasRead commands reading.old →
+            HasRead commands reading.new) }
+        ensures on { OnOk result (HasReadOn most reading.old reading.new) }
+        ensures whole { IfOk result (λ whole. whole ≡ is_whole reading.new) }
+        ensures refused { OnErr result (reading.new ≡ reading.old) }
+        ensures cause { HasCleanDisk (state_of S.Store self.new) → IfErr result (λ fault.
+            (commands : List CommandOf) → IsRegisterOf S.Store self.old commands → IsStoreFault fault) }
+        // No matter what the disk returns.
+        ensures named { IfErr result IsReadingFault }
+        // No matter what the disk returns, the reading holds what the rows that were read show, or the first of them that is damaged is named.
+        ensures read { ReadsOn (state_of S.Store self.old) (state_of S.Store self.new) (revision_of self.old) most reading.old reading.new result }
+        // It shows the same as before, with the same limit of steps, and no fault of the disk is forgotten.
+        ensures still { HasCleanDisk (state_of S.Store self.new) →
+            OnOk result (Remains S.Store self.old self.new) }
+        ensures store { HasCleanDisk (state_of S.Store self.new) →
+            result ≡ Err RegisterFault.Store → (e : Error) × IsNotForMemory e ×
+            FailsToQuery range_text (Int (pos (rows_read reading.old)) ∷ Int (pos (next_place most reading.old)) ∷ []) (state_of S.Store self.old) (state_of S.Store self.new) e }
+        ensures kept { HasCleanDisk (state_of S.Store self.new) →
+            OnOk result ((commands : List CommandOf) → IsRegisterOf S.Store self.old commands →
+            IsRegisterOf S.Store self.new commands) }
+        ensures keeps { Keeps S.Store Leaves self.old self.new result }
+        // For any result, the limit of steps is the same, and no fault of the disk is forgotten.
+        ensures later { IsLater (state_of S.Store self.old) (state_of S.Store self.new) }
+    {
+        let newest = self.revision;
+        let place = reading.next_place(most);
+        let versions = versions_between(
+            self.alloc,
+            &mut self.connection,
+            reading.place(),
+            place,
+            newest,
+        )?;
+        reading.note(versions, place);
+        Ok(reading.is_whole())
     }
 
     /// Makes the next revision of the register, or changes nothing. After `Store`, a register in a file is to be opened again.

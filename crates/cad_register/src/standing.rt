@@ -1,6 +1,6 @@
 //! The current state of an object.
 
-ghost use Rattle.std.specs.Prelude.{◌≡◌, ◌≢◌, List, length, map, IfOk, IfErr};
+ghost use Rattle.std.specs.Prelude.{◌≡◌, List, length, map, IfOk, IfErr};
 ghost use Rattle.cad_versions.specs.VersionedObject.{VersionedObject};
 ghost use Rattle.cad_register.specs.Outlines.{outline, class_of_version, class_of_first, if_open, opened_last};
 ghost use Rattle.cad_register.specs.Naming.{HasNoClass, HasNoDay, FirstHasClass, LastHasDay, TellStanding, IsFaultIn, fault_of_row};

@@ -127,7 +127,7 @@ impl StoredVersion {
     }
 
     /// Whether it was entered and closed at revisions of a register with this newest revision.
-    fn has_revisions(&self, newest: u32) -> bool
+    pub(crate) fn has_revisions(&self, newest: u32) -> bool
         ensures { IsTrue result ↔ HasRevisions newest (entry_of self.now) }
     {
         1 <= self.entered && self.entered <= newest && self.is_closed_by(newest)
@@ -145,7 +145,8 @@ impl StoredVersion {
 
     /// Notes the version, with the revisions that entered and closed it.
     pub(crate) fn note_in(self, gathering: &mut Gathering)
-        ensures { (behind count : ℕ) (entries : List Entry) → Gathers behind count entries gathering.old →
+        ensures behind { gathering.new.behind ≡ gathering.old.behind }
+        ensures notes { (behind count : ℕ) (entries : List Entry) → Gathers behind count entries gathering.old →
             Gathers behind count (entries ++ entry_of self ∷ []) gathering.new }
     {
         let StoredVersion {

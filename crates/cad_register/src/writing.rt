@@ -1,9 +1,7 @@
 //! A new version as a row.
 
-ghost use Rattle.std.specs.Prelude.{◌≡◌, [], ◌∷◌, IfOk, IfErr};
+ghost use Rattle.std.specs.Prelude.{◌≡◌, IfOk};
 ghost use Rattle.std.specs.Option.{option_map};
-ghost use Rattle.sqlite.specs.Values.{bound};
-ghost use Rattle.cad_tables.specs.VersionRow.{cells_of};
 ghost use Rattle.cad_versions.specs.BodyParts.{shape_in};
 ghost use Rattle.cad_versions.specs.Entries.{entered_at};
 ghost use Rattle.cad_versions.specs.ShapeBytes.{shape_bytes};
@@ -47,7 +45,6 @@ impl NewEntry {
 }
 
 impl Stored for NewEntry {
-    ghost use Rattle.cad_tables.specs.VersionRow.{VersionRow};
     ghost use Rattle.cad_versions.specs.Entries.{entered_at};
     ghost use Rattle.cad_register.specs.Rows.{line_of};
 

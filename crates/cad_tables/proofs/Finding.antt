@@ -1,5 +1,5 @@
 -- What a query over one table finds.
-use Rattle.std.proofs.Common.{◌≡◌, ℕ, ◌+◌, List, [], ◌∷◌, map, filter, Bool, true, false, cond, None, refl, sym, ap, subst, ◌∙◌, IsPermutation, Ordering, is_eq}
+use Rattle.std.proofs.Common.{◌≡◌, ℕ, pos, ◌+◌, ◌<ℤ◌, List, [], ◌∷◌, map, filter, Bool, true, false, cond, None, refl, sym, ap, subst, ◌∙◌, IsPermutation, Ordering, Less, int_cmp, is_eq}
 use Rattle.std.specs.List.{list_all, enumerate_from}
 use Rattle.sqlite_value.specs.Order.{Row}
 use Rattle.sqlite_trees.specs.Tree.{Trees}
@@ -10,13 +10,13 @@ use Rattle.std.proofs.lemmas.List.Sorted.{IsPermutation-map}
 use Rattle.sqlite.proofs.Callers.{one_permutation}
 use Rattle.sqlite_typed.proofs.AnswerLemmas.{Source, at_end, last_table}
 use Rattle.sqlite_keyed.specs.Lists.{sort_by}
-use Rattle.sqlite_keyed.proofs.ListLemmas.{filter-map, filter_same, map-map, map_same, ascending-map, ascending_weaker, ascending_from_map}
-use Rattle.sqlite_keyed.proofs.SortLemmas.{sorted_is-sort_by, sort_by-map}
+use Rattle.sqlite_keyed.proofs.ListLemmas.{filter-map, filter_same, map-map, map_same, ascending-map, ascending_weaker, ascending_from_map, ascending-filter}
+use Rattle.sqlite_keyed.proofs.SortLemmas.{sorted_is-sort_by, sort_by-map, sorted_unique}
 use Rattle.sqlite_sql.proofs.QueryLemmas.{output_cmp_total}
 use Rattle.cad_tables.specs.Holding.{row_of, rows_of}
 use Rattle.cad_tables.specs.VersionRow.{VersionRow}
 use Rattle.cad_tables.specs.Listing.{HaveNoTies}
-use Rattle.cad_tables.proofs.Places.{place, lines_keyed}
+use Rattle.cad_tables.proofs.Places.{place, lines_keyed, less_place}
 
 -- a query that is not grouped and keeps what is alike, and matches once
 pub one_answer : (q : Query) (db : Trees) (params : Row) (env : Env) (rows : List Row) → q.group ≡ None → q.distinct ≡ false
@@ -89,4 +89,28 @@ module _ (db : Trees) (tree : ℕ) (xs : List VersionRow) (stored : db tree ≡ 
       let all_shown : map (λ (o : Output). o.1) (map shown_line sorted_lines) ≡ map show (sort_by order (filter test xs)) =
       map-map (λ (o : Output). o.1) shown_line sorted_lines ∙ map_same _ (λ (line : ℕ × VersionRow). show line.1) shows sorted_lines ∙ sym (map-map show (λ (line : ℕ × VersionRow). line.1) sorted_lines)
       ∙ ap (map show) (sym (sort_by-map order (λ (line : ℕ × VersionRow). line.1) lines) ∙ ap (sort_by order) (tests_kept test 1 xs)) in
+      a.shown ∙ ap (λ l. page q params (map (λ (o : Output). o.1) l)) ordered ∙ ap (page q params) all_shown
+
+-- A query in the order of the places.
+module _ (db : Trees) (tree : ℕ) (xs : List VersionRow) (stored : db tree ≡ rows_of xs)
+    (q : Query) (from_it : q.from ≡ inner tree end) (no_group : q.group ≡ None) (no_distinct : q.distinct ≡ false) (params : Row)
+    (test : ℕ × VersionRow → Bool) (tests : (line : ℕ × VersionRow) → list_all (holds (params ∷ row_of line ∷ [])) q.filter ≡ test line)
+    (orders : (a b : ℕ × VersionRow) → output_cmp q (output q (params ∷ row_of a ∷ [])) (output q (params ∷ row_of b ∷ [])) ≡ int_cmp (pos a.0) (pos b.0))
+    (show : VersionRow → Row) (shows : (a : ℕ × VersionRow) → eval_all q.project (params ∷ row_of a ∷ []) ≡ show a.1) where
+  abbrev shown_at : ℕ × VersionRow → Output
+  shown_at line = output q (params ∷ row_of line ∷ [])
+
+  pub in_place : (rows : List Row) → IsAnswer q db params rows → rows ≡ page q params (map show (map (λ (line : ℕ × VersionRow). line.1) (filter test (enumerate_from 1 xs))))
+  in_place rows a =
+      let lines = filter test (enumerate_from 1 xs) in
+      let found = subst (λ f. matches db q.filter f (params ∷ []) ≡ map (λ line. params ∷ row_of line ∷ []) lines) (sym from_it) (finds db tree xs stored q.filter params test tests) in
+      let staged = subst (λ g. IsGrouped g params (matches db q.filter q.from (params ∷ [])) a.staged) no_group a.grouped in
+      let kept = subst (λ d. IsKept d q.collations (map (output q) a.staged) a.kept) no_distinct a.distinct in
+      let all : a.kept ≡ map shown_at lines = kept ∙ ap (map (output q)) (staged ∙ found) ∙ map-map (output q) _ lines in
+      let rising = ascending-map (λ x y. output_cmp q x y ≡ Less) shown_at lines
+      (ascending_weaker (λ x y. pos x.0 <ℤ pos y.0) (λ x y. output_cmp q (shown_at x) (shown_at y) ≡ Less) (λ x y h. orders x y ∙ less_place x.0 y.0 h) lines
+      (ascending-filter (λ x y. pos x.0 <ℤ pos y.0) test (enumerate_from 1 xs) (lines_keyed 1 xs))) in
+      let ordered = sorted_unique (output_cmp q) (output_cmp_total q) (map shown_at lines) a.ordered rising (subst (λ k. IsPermutation k a.ordered) all a.same) a.sorted in
+      let all_shown : map (λ (o : Output). o.1) (map shown_at lines) ≡ map show (map (λ (line : ℕ × VersionRow). line.1) lines) =
+      map-map (λ (o : Output). o.1) shown_at lines ∙ map_same _ (λ (line : ℕ × VersionRow). show line.1) shows lines ∙ sym (map-map show (λ (line : ℕ × VersionRow). line.1) lines) in
       a.shown ∙ ap (λ l. page q params (map (λ (o : Output). o.1) l)) ordered ∙ ap (page q params) all_shown

@@ -6,9 +6,9 @@ use Rattle.sqlite.specs.Command.TheVariants.{Insert, Select, CreateTable, Update
 use Rattle.sqlite.specs.Listing.{understood, reads_listing}
 use Rattle.sqlite.proofs.Callers.{IsPlain, command_of, statement_of}
 use Rattle.sqlite_tied.specs.Compute.{everything}
-use Rattle.cad_tables.specs.Texts.{state_text, version_text, enter_text, begin_text, count_text, close_text, revision_text, history_text, listing_text}
+use Rattle.cad_tables.specs.Texts.{state_text, version_text, enter_text, begin_text, count_text, close_text, revision_text, history_text, listing_text, range_text}
 use Rattle.cad_tables.specs.Tables.{state_table, version_made, no_schema, state_schema, register_schema}
-use Rattle.cad_tables.proofs.Queries.{enter_terms, begin_terms, count_query, close_query, revision_query, history_query, listing_query}
+use Rattle.cad_tables.proofs.Queries.{enter_terms, begin_terms, count_query, close_query, revision_query, history_query, listing_query, range_query}
 
 pub state_is : (command_of (understood no_schema state_text) ≡ CreateTable) × (statement_of state_text (understood no_schema state_text) ≡ state_text) × (table_defined_by state_text ≡ Ok state_table)
 unfolding understood everything
@@ -85,3 +85,11 @@ listing_is = (refl, refl)
 pub listing_plain : IsPlain (understood register_schema listing_text)
 unfolding understood everything
 listing_plain = (refl, refl)
+
+pub range_is : (command_of (understood register_schema range_text) ≡ Select (record { lets = []; body = range_query }) (codes "object" ∷ codes "number" ∷ codes "class" ∷ codes "first" ∷ codes "last" ∷ codes "entered" ∷ codes "closed" ∷ codes "name" ∷ codes "code" ∷ codes "label" ∷ codes "area" ∷ codes "unit" ∷ codes "party" ∷ codes "share_num" ∷ codes "share_den" ∷ codes "required" ∷ codes "spot_x" ∷ codes "spot_y" ∷ codes "shape" ∷ [])) × (reads_listing register_schema range_text ≡ false)
+unfolding understood everything
+range_is = (refl, refl)
+
+pub range_plain : IsPlain (understood register_schema range_text)
+unfolding understood everything
+range_plain = (refl, refl)

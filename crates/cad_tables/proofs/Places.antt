@@ -1,6 +1,7 @@
 -- Rows with their places.
-use Rattle.std.proofs.Common.{◌≡◌, ℕ, ℤ, pos, ◌+◌, ◌+ℤ◌, ◌<◌, ◌<ℤ◌, List, [], ◌∷◌, ◌++◌, length, map, fold, refl, sym, ap, ◌∙◌, subst, arith, Less, Greater, int_cmp, suc, Bool, true, false, filter, add-zero, int_eq}
+use Rattle.std.proofs.Common.{◌≡◌, ℕ, zero, ℤ, pos, ◌+◌, ◌-◌, ◌+ℤ◌, ◌<◌, ◌<ℤ◌, List, [], ◌∷◌, ◌++◌, length, map, fold, take, drop, refl, sym, ap, ap₂, ◌∙◌, subst, arith, Less, Greater, int_cmp, suc, Bool, true, false, cond, ◌&&◌, filter, add-zero, int_eq, int_le, int_lt, nat_lt}
 use Rattle.std.specs.List.{AllByRecursion, enumerate_from}
+use Rattle.std.proofs.lemmas.Bool.Decides.{nat_tests}
 use Rattle.std.proofs.lemmas.Int.{ints}
 use Rattle.sqlite_trees.specs.Tree.{put_row, rowid}
 use Rattle.sqlite_rules.specs.Edit.{id_in}
@@ -66,6 +67,68 @@ module _ {A : Type 0} where
       → AllByRecursion (λ y. test y ≡ false) back → filter (λ (line : ℕ × A). test line.1) (enumerate_from n (front ++ x ∷ back)) ≡ (n + length front, x) ∷ []
   one_of test n [] back x before here after = rw (here, none_of test (n + 1) back after) (ap (λ m. (m, x) ∷ []) (omega arith))
   one_of test n (y ∷ front) back x before here after = rw before.0 (one_of test (n + 1) front back x before.1 here after ∙ ap (λ m. (m, x) ∷ []) (omega arith))
+
+-- ---- the lines between two places
+
+abbrev pub is_between : {A : Type 0} → ℕ → ℕ → ℕ × A → Bool
+is_between behind up_to line = int_lt (pos behind) (pos line.0) && int_le (pos line.0) (pos up_to)
+
+-- what is rising is less
+pub less_place : (m n : ℕ) → pos m <ℤ pos n → int_cmp (pos m) (pos n) ≡ Less
+less_place m n h = grind (arith, ints)
+
+not_behind : (b u n : ℕ) → n < b → (int_lt (pos b) (pos (n + 1)) && int_le (pos (n + 1)) (pos u)) ≡ false
+not_behind b u n h = grind (arith, ints)
+
+not_up_to : (b u n : ℕ) → u < n + 1 → (int_lt (pos b) (pos (n + 1)) && int_le (pos (n + 1)) (pos u)) ≡ false
+not_up_to b u n h = grind (arith, ints)
+
+is_there : (b u n : ℕ) → b < n + 1 → n < u → (int_lt (pos b) (pos (n + 1)) && int_le (pos (n + 1)) (pos u)) ≡ true
+is_there b u n h k = grind (arith, ints)
+
+module _ {A : Type 0} where
+  abbrev nothing : List A
+  nothing = []
+
+  none_left : (k m : ℕ) → take k (drop m nothing) ≡ []
+  none_left zero zero = refl
+  none_left zero (suc m) = refl
+  none_left (suc k) zero = refl
+  none_left (suc k) (suc m) = refl
+
+  abbrev lines_of : List (ℕ × A) → List A
+  lines_of lines = map (λ (line : ℕ × A). line.1) lines
+
+  pub lines_there : (b u n : ℕ) (xs : List A) → lines_of (filter (is_between b u) (enumerate_from (n + 1) xs)) ≡ take ((u - n) - (b - n)) (drop (b - n) xs)
+  lines_there b u n [] = sym (none_left ((u - n) - (b - n)) (b - n))
+  lines_there b u n (x ∷ xs) = go (nat_lt n b) (nat_lt n u) refl refl (lines_there b u (n + 1) xs)
+    where
+      rest : List A
+      rest = lines_of (filter (is_between b u) (enumerate_from (n + 1 + 1) xs))
+
+      kept : Bool → List A
+      kept t = lines_of (cond t ((n + 1, x) ∷ filter (is_between b u) (enumerate_from (n + 1 + 1) xs)) (filter (is_between b u) (enumerate_from (n + 1 + 1) xs)))
+
+      go : (s t : Bool) → nat_lt n b ≡ s → nat_lt n u ≡ t → rest ≡ take ((u - (n + 1)) - (b - (n + 1))) (drop (b - (n + 1)) xs)
+          → kept (is_between b u (n + 1, x)) ≡ take ((u - n) - (b - n)) (drop (b - n) (x ∷ xs))
+      go true t e f more =
+          let low : n < b = grind (arith, nat_tests) in
+          let skipped : suc (b - (n + 1)) ≡ b - n = omega (arith, low) in
+          let left : (u - (n + 1)) - (b - (n + 1)) ≡ (u - n) - (b - n) = omega (arith, low) in
+          ap kept (not_behind b u n low) ∙ more ∙ ap₂ (λ k m. take k (drop m (x ∷ xs))) left skipped
+      go false true e f more =
+          let low : b < n + 1 = grind (arith, nat_tests) in
+          let high : n < u = grind (arith, nat_tests) in
+          let before : b - (n + 1) ≡ 0 = omega (arith, low) in
+          let none : 0 ≡ b - n = omega (arith, low) in
+          let left : suc ((u - (n + 1)) - (b - (n + 1))) ≡ (u - n) - (b - n) = omega (arith, low, high) in
+          ap kept (is_there b u n low high) ∙ ap (λ l. x ∷ l) (more ∙ ap (λ m. take ((u - (n + 1)) - (b - (n + 1))) (drop m xs)) before) ∙ ap₂ (λ k m. take k (drop m (x ∷ xs))) left none
+      go false false e f more =
+          let low : b < n + 1 = grind (arith, nat_tests) in
+          let high : u < n + 1 = grind (arith, nat_tests) in
+          let before : (u - (n + 1)) - (b - (n + 1)) ≡ 0 = omega (arith, high) in
+          let left : 0 ≡ (u - n) - (b - n) = omega (arith, high) in
+          ap kept (not_up_to b u n high) ∙ more ∙ ap (λ k. take k (drop (b - (n + 1)) xs)) before ∙ ap (λ k. take k (drop (b - n) (x ∷ xs))) left
 
 -- ---- the rows of the lines
 pub next_is : (n : ℕ) (xs : List VersionRow) → fold (λ _ r. id_in (rowid r) +ℤ pos 1) (pos n) (map (row_of) (enumerate_from n xs)) ≡ pos (n + length xs)

@@ -13,7 +13,7 @@ use Rattle.sqlite_resolve.specs.Compile.{first, returning, command, meaning, pla
 use Rattle.sqlite.specs.Listing.{understood, reads_listing, listing_schema, is_select, if_select}
 use Rattle.sqlite_tied.specs.Compute.{everything}
 use Rattle.cad_tables.specs.Asking.{asks, IsQuery}
-use Rattle.cad_tables.specs.Texts.{revision_text, history_text, listing_text}
+use Rattle.cad_tables.specs.Texts.{revision_text, history_text, listing_text, range_text}
 
 pub revision_asks : IsQuery (first revision_text)
 unfolding everything
@@ -26,6 +26,10 @@ history_asks = refl
 pub listing_asks : IsQuery (first listing_text)
 unfolding everything
 listing_asks = refl
+
+pub range_asks : IsQuery (first range_text)
+unfolding everything
+range_asks = refl
 
 shows_none : (schema : Schema) (base : ℕ) (s : Statement) → asks s ≡ true → returning schema base s ≡ Ok None
 unfolding returning

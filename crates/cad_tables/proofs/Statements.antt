@@ -1,5 +1,5 @@
 -- What each of the other statements does.
-use Rattle.std.proofs.Common.{◌≡◌, ℕ, pos, List, [], ◌∷◌, map, false, None, Ok, refl, sym, ap, subst, ◌∙◌, arith, int_eq, int_le}
+use Rattle.std.proofs.Common.{◌≡◌, ℕ, pos, ◌-◌, List, [], ◌∷◌, map, take, drop, false, None, Ok, refl, sym, ap, ap₂, subst, ◌∙◌, arith, int_eq, int_le}
 use Rattle.std.specs.List.{AllByRecursion}
 use Rattle.std.specs.List.Sorted.{IsPermutation}
 use Rattle.sqlite_value.specs.declared.value.Value.TheVariants.{Null, Int}
@@ -7,11 +7,11 @@ use Rattle.sqlite_value.specs.Order.{Row}
 use Rattle.sqlite_value.proofs.OrderLemmas.{value_cmp-Int}
 use Rattle.sqlite_trees.specs.Tree.{Trees}
 use Rattle.sqlite_sql.specs.Query.{matches}
-use Rattle.sqlite_sql.specs.declared.ops.CompareOp.TheVariants.{Eq, Le}
+use Rattle.sqlite_sql.specs.declared.ops.CompareOp.TheVariants.{Eq, Le, Gt}
 use Rattle.sqlite_rules.specs.Edit.{edit_of, edited}
 use Rattle.sqlite_rules.specs.Calls.{ids_of}
 use Rattle.sqlite_rules.specs.declared.error.Rowids.TheVariants.{Chosen, Given}
-use Rattle.sqlite_typed.proofs.TestLemmas.{at_ints, last_term, last_key}
+use Rattle.sqlite_typed.proofs.TestLemmas.{at_ints, then_term, last_term, last_key}
 use Rattle.sqlite_schema.specs.declared.command.Command.TheVariants.{Insert, Update, CreateTable}
 use Rattle.sqlite_schema.specs.declared.command.Source.TheVariants.{Values}
 use Rattle.sqlite_schema.specs.declared.schema.Schema.{Schema}
@@ -23,16 +23,17 @@ use Rattle.sqlite.specs.Effect.{Database, IsDatabase}
 use Rattle.sqlite.specs.Listing.{understood}
 use Rattle.sqlite.specs.State.{State, mode_of, Executes, Shown, QueriesRow, Writes}
 use Rattle.sqlite.proofs.Callers.{statement_of, runs_as, reads_as, first_as, one_step}
-use Rattle.cad_tables.specs.Texts.{state_text, version_text, begin_text, count_text, listing_text, history_text, revision_text}
+use Rattle.cad_tables.specs.Texts.{state_text, version_text, begin_text, count_text, listing_text, range_text, history_text, revision_text}
 use Rattle.cad_tables.specs.Tables.{no_schema, state_schema, register_schema, version_made, state_table}
 use Rattle.cad_tables.specs.Holding.{state_row, Holds}
 use Rattle.cad_tables.specs.VersionRow.{VersionRow, cells_of}
-use Rattle.cad_tables.proofs.Queries.{begin_terms, count_query, listing_query, history_query, revision_query}
-use Rattle.cad_tables.proofs.Parse.{register_schema_is, state_is, state_plain, version_is, version_plain, begin_is, begin_plain, count_is, count_plain, listing_is, listing_plain, history_is, history_plain, revision_is, revision_plain}
-use Rattle.cad_tables.proofs.Finding.{one_answer, in_order, in_any_order}
+use Rattle.cad_tables.proofs.Queries.{begin_terms, count_query, listing_query, range_query, history_query, revision_query}
+use Rattle.cad_tables.proofs.Parse.{register_schema_is, state_is, state_plain, version_is, version_plain, begin_is, begin_plain, count_is, count_plain, listing_is, listing_plain, range_is, range_plain, history_is, history_plain, revision_is, revision_plain}
+use Rattle.cad_tables.proofs.Finding.{one_answer, in_order, in_any_order, in_place}
 use Rattle.cad_tables.proofs.Writes.{went, same_value}
 use Rattle.cad_tables.proofs.CellLemmas.{cast_null, cast_int}
-use Rattle.cad_tables.specs.Listing.{HaveNoTies, number_order, lines_at, lines_of_object, history, outline_of}
+use Rattle.cad_tables.specs.Listing.{HaveNoTies, number_order, lines_at, lines_between, lines_of_object, history, outline_of}
+use Rattle.cad_tables.proofs.Places.{is_between, lines_there}
 
 pub counts : (old new : State) (n m : ℕ) (xs : List VersionRow) (count : ℕ) → Holds n xs old.now → Executes count_text (Int (pos m) ∷ []) old new (Ok count) → Holds m xs new.now
 counts old new n m xs count has h =
@@ -85,6 +86,18 @@ lists old new n r xs rows has h =
     let it = in_any_order (overlay old.now.trees []) 1 xs has.versions listing_query refl refl refl params (λ x. int_le (pos x.entered) (pos r))
     (λ line. last_term (at_ints false Le (pos line.1.entered) (pos r))) cells_of (λ a. refl) rows (read.answer Null) in
     subst (IsPermutation (map cells_of (lines_at r xs))) (sym it.2) it.1
+
+pub ranges : (old new : State) (n b u : ℕ) (xs : List VersionRow) (rows : List Row) → Holds n xs old.now → Shown range_text (Int (pos b) ∷ Int (pos u) ∷ []) old new rows → rows ≡ map cells_of (lines_between b u xs)
+ranges old new n b u xs rows has h =
+    let params = Int (pos b) ∷ Int (pos u) ∷ [] in
+    let count : (u - 0) - (b - 0) ≡ u - b = omega arith in
+    let skipped : b - 0 ≡ b = omega arith in
+    let from_the_first : take ((u - 0) - (b - 0)) (drop (b - 0) xs) ≡ lines_between b u xs = ap₂ (λ k m. take k (drop m xs)) count skipped in
+    let read = reads_as range_text params old new register_schema has.schema _ range_is.0 range_plain range_is.1 rows h in
+    in_place (overlay old.now.trees []) 1 xs has.versions range_query refl refl refl params (is_between b u)
+    (λ line. then_term (at_ints false Gt (pos line.0) (pos b)) (last_term (at_ints false Le (pos line.0) (pos u))))
+    (λ x y. last_key (value_cmp-Int _ _))
+    cells_of (λ a. refl) rows (read.answer Null) ∙ ap (map cells_of) (lines_there b u 0 xs ∙ from_the_first)
 
 pub outlines : (old new : State) (n o : ℕ) (xs : List VersionRow) (rows : List Row) → Holds n xs old.now → HaveNoTies number_order (lines_of_object o xs)
     → Shown history_text (Int (pos o) ∷ []) old new rows → rows ≡ map outline_of (history o xs)

@@ -1,5 +1,5 @@
 -- Lines as they are listed.
-use Rattle.std.specs.Prelude.{◌≡◌, ℕ, pos, int_le, false, List, [], ◌∷◌, filter}
+use Rattle.std.specs.Prelude.{◌≡◌, ◌-◌, ℕ, pos, int_le, false, List, [], ◌∷◌, filter, take, drop}
 use Rattle.std.specs.declared.cmp.Ordering.{Ordering}
 use Rattle.std.specs.Ordering.{is_eq, int_eq, int_cmp, ordering_then}
 use Rattle.sqlite_trees.specs.Tree.{IsAscending}
@@ -26,6 +26,10 @@ lines_at revision lines = filter (λ (line : VersionRow). int_le (pos line.enter
 
 abbrev pub listing : ℕ → List VersionRow → List VersionRow
 listing revision lines = sort_by identifier_order (lines_at revision lines)
+
+-- own profile: the lines at the places behind one, up to another; the line that was entered first has place 1
+abbrev pub lines_between : ℕ → ℕ → List VersionRow → List VersionRow
+lines_between behind up_to lines = take (up_to - behind) (drop behind lines)
 
 -- own profile: the lines of an object
 abbrev pub lines_of_object : ℕ → List VersionRow → List VersionRow

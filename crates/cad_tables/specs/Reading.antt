@@ -13,8 +13,8 @@ use Rattle.sqlite_trees.specs.declared.store.Store.{Ghosts}
 use Rattle.cad_tables.specs.Asking.{IsQuery}
 use Rattle.cad_tables.specs.Faults.{fault_of}
 use Rattle.cad_tables.specs.Holding.{Holds}
-use Rattle.cad_tables.specs.Listing.{lines_at}
-use Rattle.cad_tables.specs.Texts.{listing_text}
+use Rattle.cad_tables.specs.Listing.{lines_at, lines_between}
+use Rattle.cad_tables.specs.Texts.{listing_text, range_text}
 use Rattle.cad_tables.specs.VersionRow.{VersionRow, cells_of}
 use Rattle.cad_tables.specs.declared.faults.TableFault.{TableFault}
 use Rattle.cad_tables.specs.declared.faults.TableFault.TheVariants.{Memory}
@@ -42,6 +42,15 @@ AreLines old revision rows = (n : ℕ) (lines : List VersionRow) → Holds n lin
 -- the rows that the database shows for a revision, as the database itself reports, which are the lines that were entered up to it
 abbrev pub AreListed : State → State → ℕ → List Row → Type 0
 AreListed old new revision rows = HasCleanDisk new → Shown listing_text (Int (pos revision) ∷ []) old new rows × AreLines old revision rows
+
+-- SQLite, SELECT, section 4: ORDER BY rowid gives the lines between two places in the order in which they were entered
+abbrev pub AreLinesBetween : State → ℕ → ℕ → List Row → Type 0
+AreLinesBetween old behind up_to rows = (n : ℕ) (lines : List VersionRow) → Holds n lines old.now → rows ≡ map cells_of (lines_between behind up_to lines)
+
+-- the rows that the database shows for the places behind one, up to another, by its own account, which are the lines at these places
+abbrev pub AreListedBetween : State → State → ℕ → ℕ → List Row → Type 0
+AreListedBetween old new behind up_to rows =
+    HasCleanDisk new → Shown range_text (Int (pos behind) ∷ Int (pos up_to) ∷ []) old new rows × AreLinesBetween old behind up_to rows
 
 -- own profile: there was no memory for the content of the rows, and all is as it was, or this is the database's answer to the question for
 -- them

@@ -36,3 +36,7 @@ history_text = codes "SELECT number, class, first, last FROM version WHERE objec
 -- the lines that were entered up to a revision, in no order that is asked for, so that none is held back to be sorted (SQLite, SELECT, section 4)
 abbrev pub listing_text : List ℕ
 listing_text = codes "SELECT object, number, class, first, last, entered, closed, name, code, label, area, unit, party, share_num, share_den, required, spot_x, spot_y, shape FROM version WHERE entered <= ?1"
+
+-- the lines at the places behind one, up to another, in the order of their rowids (SQLite, SELECT, section 4; ROWIDs and the INTEGER PRIMARY KEY)
+abbrev pub range_text : List ℕ
+range_text = codes "SELECT object, number, class, first, last, entered, closed, name, code, label, area, unit, party, share_num, share_den, required, spot_x, spot_y, shape FROM version WHERE rowid > ?1 AND rowid <= ?2 ORDER BY rowid"

@@ -29,6 +29,13 @@ pub(crate) fn closing_cells(closing: Closing, revision: u32) -> [ValueRef<'stati
     ]
 }
 
+/// Two numbers as the parameters.
+pub(crate) fn two_cells(m: u32, n: u32) -> [ValueRef<'static>; 2]
+    ensures { bound result ≡ Int (pos m) ∷ Int (pos n) ∷ [] }
+{
+    [ValueRef::Int(i64::from(m)), ValueRef::Int(i64::from(n))]
+}
+
 /// A number as the only parameter.
 pub(crate) fn one_cell(n: u32) -> [ValueRef<'static>; 1]
     ensures { bound result ≡ Int (pos n) ∷ [] }

@@ -2,9 +2,9 @@
 //!
 //! `state` has one row, with the format and the revision; `version` has a row for each version of an object, with the revision that entered
 //! it and the one that closed it. `create` makes both, `open` checks whether they are there, `write` makes the one change of a command,
-//! `history` reads the rows of an object back, and `listing` those of a revision, in the order in which the database comes to them. The
-//! caller's types say what a row means: the trait `Stored` turns a version into a row, and the trait `Reader` turns a row into a value, so
-//! that a listing holds the values and no rows.
+//! `history` reads the rows of an object back, `listing` those of a revision, in the order in which the database comes to them, and
+//! `listing_between` a range of all rows, in the order in which they were entered. The caller's types say what a row means: the trait
+//! `Stored` turns a version into a row, and the trait `Reader` turns a row into a value, so that a listing holds the values and no rows.
 //!
 //! ```text
 //! create(&mut connection)?;                                 // Made
@@ -32,5 +32,5 @@ pub use faults::TableFault;
 pub use laws::a_change_keeps_lines;
 pub use making::{Creation, create};
 pub use opening::{MOST_REVISION, open, revision};
-pub use reading::{Reader, history, listing};
+pub use reading::{Reader, history, listing, listing_between};
 pub use writing::write;

@@ -8,15 +8,17 @@ ghost use Rattle.sqlite.specs.declared.error.Error.{Error};
 ghost use Rattle.cad_tables.specs.Faults.{fault_of};
 ghost use Rattle.cad_tables.specs.VersionRow.{VersionRow};
 ghost use Rattle.cad_tables.specs.Holding.{Holds};
-ghost use Rattle.cad_tables.specs.Texts.{history_text, listing_text};
+ghost use Rattle.cad_tables.specs.Texts.{history_text, listing_text, range_text};
 ghost use Rattle.sqlite_resolve.specs.Compile.{first};
 ghost use Rattle.cad_tables.specs.Asking.{IsQuery, OnlyReads};
 ghost use Rattle.cad_tables.specs.Listing.{HaveNoTies, number_order, lines_of_object, history as known, outline_of};
-ghost use Rattle.cad_tables.specs.Reading.{AreRead, AreGiven, AreShown, AreListed, RefusesRest, RefusesRows};
+ghost use Rattle.cad_tables.specs.Reading.{AreRead, AreGiven, AreShown, AreListed, AreListedBetween, RefusesRest, RefusesRows};
+ghost use Rattle.sqlite.specs.Values.{bound};
 ghost use Rattle.sqlite_value.specs.Order.{Row as SqlRow};
 
-use crate::cells::one_cell;
+use crate::cells::{one_cell, two_cells};
 use crate::faults::TableFault;
+use sqlite::types::ValueRef;
 use sqlite::{Alter, Connection, Row, Rows};
 use std::alloc::{AllocError, Global};
 
@@ -90,21 +92,21 @@ fn read_rest<S: Alter, R: Reader + Drop>(
     Err(TableFault::Memory)
 }
 
-/// What is read of each row of a query with one parameter.
+/// What is read of each row of a query with these parameters.
 fn read_each<S: Alter, R: Reader + Drop>(
     alloc: Global,
     conn: &mut Connection<S>,
     sql: &str,
-    parameter: u32,
+    params: &[ValueRef<'_>],
 ) -> Result<Vec<R>, TableFault>
     requires { IsQuery (first sql.now) }
-    ensures shown { IfOk result (λ found. AreRead R.reads (AreShown sql.now (Int (pos parameter) ∷ [])
+    ensures shown { IfOk result (λ found. AreRead R.reads (AreShown sql.now (bound params.now)
         (state S.Store conn.old) (state S.Store conn.new)) found.items) }
-    ensures refused { HasCleanDisk (state S.Store conn.new) → IfErr result (RefusesRows sql.now (Int (pos parameter) ∷ [])
+    ensures refused { HasCleanDisk (state S.Store conn.new) → IfErr result (RefusesRows sql.now (bound params.now)
         (state S.Store conn.old) (state S.Store conn.new)) }
     ensures reads { OnlyReads (state S.Store conn.old) (state S.Store conn.new) result }
 {
-    let mut rows = conn.query(sql, &one_cell(parameter))?;
+    let mut rows = conn.query(sql, params)?;
     read_rest(alloc, &mut rows)
 }
 
@@ -128,6 +130,31 @@ pub fn listing<S: Alter, R: Reader + Drop>(
         "SELECT object, number, class, first, last, entered, closed, name, code, label, area, unit, party, \
             share_num, share_den, required, spot_x, spot_y, shape \
             FROM version WHERE entered <= ?1",
-        revision,
+        &one_cell(revision),
+    )
+}
+
+/// What is read of each row at a place behind one, up to another, with all nineteen columns, the oldest first.
+///
+/// The places count the rows from 1, in the order in which they were entered. The database finds these rows by their rowids, and comes to no others.
+pub fn listing_between<S: Alter, R: Reader + Drop>(
+    alloc: Global,
+    conn: &mut Connection<S>,
+    behind: u32,
+    up_to: u32,
+) -> Result<Vec<R>, TableFault>
+    ensures rows { IfOk result (λ found. AreRead R.reads
+        (AreListedBetween (state S.Store conn.old) (state S.Store conn.new) behind up_to) found.items) }
+    ensures refused { HasCleanDisk (state S.Store conn.new) → IfErr result (RefusesRows range_text (Int (pos behind) ∷ Int (pos up_to) ∷ [])
+        (state S.Store conn.old) (state S.Store conn.new)) }
+    ensures reads { OnlyReads (state S.Store conn.old) (state S.Store conn.new) result }
+{
+    read_each(
+        alloc,
+        conn,
+        "SELECT object, number, class, first, last, entered, closed, name, code, label, area, unit, party, \
+            share_num, share_den, required, spot_x, spot_y, shape \
+            FROM version WHERE rowid > ?1 AND rowid <= ?2 ORDER BY rowid",
+        &two_cells(behind, up_to),
     )
 }

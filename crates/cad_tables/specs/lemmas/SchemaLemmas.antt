@@ -20,7 +20,6 @@ use Rattle.sqlite.proofs.ListingLemmas.{empty_is_sound}
 use Rattle.sqlite_tied.specs.Compute.{everything}
 use Rattle.cad_tables.specs.Opening.{LacksColumns}
 use Rattle.cad_tables.specs.Tables.{register_schema, no_schema}
-use Rattle.cad_tables.specs.Texts.{listing_text}
 
 zip_same : {A B : Type 0} (R : A → B → Type 0) → ((a : A) (x y : B) → R a x → R a y → x ≡ y) → (rows : List A) (xs ys : List B) → AllZip R rows xs → AllZip R rows ys → xs ≡ ys
 zip_same R one [] [] [] p q = refl

@@ -7,7 +7,7 @@ pub returns : goal.returns
 returns c shown read =
     let ordered = put_in_order shown c.args.found.items c.put_in_order.new.found.items read c.put_in_order.ensures.same c.put_in_order.ensures.sorted in
     let told = c.in_ok-gathering.ensures.gathers ordered.0 ordered.2 in
-    rows_given c.args.behind c.args.newest shown ordered.0 c.in_ok-gathering.gathering c.commands_in.result ordered.1 told.0 told.1 told.2 c.commands_in.ensures
+    rows_given c.args.behind c.args.newest shown ordered.0 c.in_ok-gathering.gathering c.commands_in.result ordered.1 told.0 told.1 told.2 c.commands_in.ensures.given
 
 pub returns-in_err-gathering : goal.returns-in_err-gathering
 returns-in_err-gathering c shown read =

@@ -37,7 +37,7 @@ loop-row-preserved c =
       gathered = λ rows read.
           let it = row_at rows so_far x later (subst (AreReadOf rows) all read) in
           let next = subst (λ n. IsNext newest before n it.row e) count (c.in_ok-stored.ensures it.row it.read) in
-          let one = one_gathered c.args.behind newest rows before at c.loop-row.gathering c.note_in.new.gathering it.row e it.low it.here next c.note_in.ensures (c.loop-row.invariant.gathered rows read) in
+          let one = one_gathered c.args.behind newest rows before at c.loop-row.gathering c.note_in.new.gathering it.row e it.low it.here next c.note_in.ensures.notes (c.loop-row.invariant.gathered rows read) in
           subst (λ n. AreGathered c.args.behind newest rows (Some c.place.result) n c.note_in.new.gathering) (sym more)
           (subst (λ p. AreGathered c.args.behind newest rows (Some p) (at + 1) c.note_in.new.gathering) (sym c.place.ensures) one);
     }

@@ -5,8 +5,8 @@ use Rattle.cad_register.specs.inner.Gathering.{changed, begun_over, ended_in}
 use Rattle.cad_register.proofs.GatheringLemmas.{begun_in}
 use Rattle.cad_register.proofs.gathering.Gathering.note.Goals as goal
 
-pub returns : goal.returns
-returns c behind count entries gathers =
+pub returns-clause-notes : goal.returns-clause-notes
+returns-clause-notes c behind count entries gathers =
     let v = c.args.version in
     let e : Entry = record { version = v; entered = c.args.entered; closed = c.args.closed } in
     let here = c.end_if_closed.ensures.behind ∙ gathers.behind_is in
