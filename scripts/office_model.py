@@ -266,16 +266,32 @@ def line_of(do, number, at, name, said):
 
 
 def journals(text):
-    """The answers to the lines. A line `journal N` requests the commands after a revision."""
-    entered, accepted = b"", []
+    """The answers to the lines. `journal N` requests the commands after a revision. `begin N` and `read K` request them in pieces.
+
+    A journal that is read in pieces is that of the moment when it began. It is whole after as many rows as there were commands then.
+    """
+    entered, accepted, behind, newest, left = b"", [], 0, 0, None
     for line in text.split(b"\n"):
-        if line.startswith(b"journal "):
-            behind = int(line[8:])
-            if behind > len(accepted):
-                yield "refused 12 UnknownRevision"
-                continue
-            yield from accepted[behind:]
+        word, _, number = line.partition(b" ")
+        if word in (b"journal", b"begin") and int(number) > len(accepted):
+            yield "refused 12 UnknownRevision"
+        elif word == b"journal":
+            yield from accepted[int(number) :]
             yield f"end {len(accepted)}"
+        elif word == b"begin":
+            behind, newest, left = int(number), len(accepted), len(accepted)
+            yield f"begun {newest}"
+        elif word == b"read":
+            if left is None:
+                yield "no journal"
+                continue
+            left = max(0, left - int(number))
+            if left:
+                yield "more"
+                continue
+            yield from accepted[behind:newest]
+            yield f"end {newest}"
+            left = None
         elif line:
             entered += line + b"\n"
             *_, answer = answers(entered)

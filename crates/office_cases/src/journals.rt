@@ -1,8 +1,11 @@
-//! Journals of a register in memory, requested by lines between commands.
+//! Journals of a register in memory, requested by lines between commands: whole, or in pieces between which commands are entered.
+
+ghost use Rattle.std.specs.Prelude.{IsTrue};
+ghost use Rattle.cad_register.specs.JournalReading.{is_whole};
 
 use cad_io::{Counted, number};
 use cad_office::{Answer, JournalLines, office, print_answer};
-use cad_register::{Command, Register, RegisterFault};
+use cad_register::{Command, JournalReading, Register, RegisterFault};
 use sqlite::{Connection, MemStore};
 use std::alloc::Global;
 use std::io::{Cursor, Error, ErrorKind, Result};
@@ -38,14 +41,30 @@ fn print_commands(rt: &HostRuntime, commands: Vec<Command>, newest: u64) -> Resu
     Ok(())
 }
 
+/// Prints why the register refuses.
+fn print_refusal(rt: &HostRuntime, fault: RegisterFault) -> Result<()> {
+    match print_answer(&mut rt.stdout(), Answer::Refused(fault)) {
+        Ok(()) => Ok(()),
+        Err(_) => Err(Error::from(ErrorKind::Other)),
+    }
+}
+
 /// Prints the journal after a revision, or the register's refusal.
 fn print_journal(rt: &HostRuntime, register: &mut Register<MemStore>, behind: u64) -> Result<()> {
     match register.journal(behind) {
         Ok(commands) => print_commands(rt, commands, register.revision()),
-        Err(fault) => match print_answer(&mut rt.stdout(), Answer::Refused(fault)) {
-            Ok(()) => Ok(()),
-            Err(_) => Err(Error::from(ErrorKind::Other)),
-        },
+        Err(fault) => print_refusal(rt, fault),
+    }
+}
+
+/// Prints the journal of which all rows were read.
+fn print_read(rt: &HostRuntime, reading: JournalReading) -> Result<()>
+    requires { IsTrue (is_whole reading) }
+{
+    let newest = reading.newest();
+    match reading.commands(rt.alloc()) {
+        Ok(commands) => print_commands(rt, commands, newest),
+        Err(fault) => Err(error_of(fault)),
     }
 }
 
@@ -58,20 +77,91 @@ fn enter_line(rt: &HostRuntime, register: &mut Register<MemStore>, line: &[u8]) 
     }
 }
 
-/// The revision after which the line asks for a journal.
-fn journal_line(line: &[u8]) -> Option<u64> {
-    let digits = line.strip_prefix(b"journal ")?;
+/// What a line asks for.
+enum Line {
+    /// The journal after a revision.
+    Journal(u64),
+    /// To begin to read it.
+    Begin(u64),
+    /// To read at most this many rows.
+    Read(u32),
+    /// A command, or nothing.
+    Office,
+}
+
+/// The number after a word and a blank.
+fn number_after(line: &[u8], word: &[u8]) -> Option<u64> {
+    let digits = line.strip_prefix(word)?;
     number(digits)
 }
 
-/// Enters the lines into a register of their own, and prints a journal for each line `journal N`.
-pub fn print_journals(rt: &HostRuntime, lines: &[u8]) -> Result<()> {
-    let mut register = empty_register(rt.alloc())?;
-    for line in lines.split(|byte| *byte == b'\n') {
-        match journal_line(line) {
-            Some(behind) => print_journal(rt, &mut register, behind)?,
-            None => enter_line(rt, &mut register, line)?,
+/// What the line asks for.
+fn line_of(line: &[u8]) -> Line {
+    if let Some(behind) = number_after(line, b"journal ") {
+        return Line::Journal(behind);
+    }
+    if let Some(behind) = number_after(line, b"begin ") {
+        return Line::Begin(behind);
+    }
+    match number_after(line, b"read ") {
+        Some(most) => Line::Read(u32::try_from(most).unwrap_or(u32::MAX)),
+        None => Line::Office,
+    }
+}
+
+/// The register, and the journal that is read in pieces, if one was begun.
+struct Journals {
+    register: Register<MemStore>,
+    reading: Option<JournalReading>,
+}
+
+impl Journals {
+    /// Begins to read a journal, in the place of any other one.
+    fn begin(&mut self, rt: &HostRuntime, behind: u64) -> Result<()> {
+        match self.register.begin_journal(behind) {
+            Ok(reading) => {
+                println!(rt; "begun {}", reading.newest())?;
+                self.reading = Some(reading);
+                Ok(())
+            }
+            Err(fault) => print_refusal(rt, fault),
         }
+    }
+
+    /// Reads the next rows, and prints the journal if these were the last.
+    fn read_on(&mut self, rt: &HostRuntime, most: u32) -> Result<()> {
+        let Some(mut reading) = self.reading.take() else {
+            return println!(rt; "no journal");
+        };
+        match self.register.read_on(&mut reading, most) {
+            Ok(true) => print_read(rt, reading),
+            Ok(false) => {
+                self.reading = Some(reading);
+                println!(rt; "more")
+            }
+            Err(fault) => Err(error_of(fault)),
+        }
+    }
+
+    /// Prints the answer to a line.
+    fn answer(&mut self, rt: &HostRuntime, line: &[u8]) -> Result<()> {
+        match line_of(line) {
+            Line::Journal(behind) => print_journal(rt, &mut self.register, behind),
+            Line::Begin(behind) => self.begin(rt, behind),
+            Line::Read(most) => self.read_on(rt, most),
+            Line::Office => enter_line(rt, &mut self.register, line),
+        }
+    }
+}
+
+/// Enters the lines into a register of their own, and prints the journals that lines between them request.
+pub fn print_journals(rt: &HostRuntime, lines: &[u8]) -> Result<()> {
+    let mut journals = Journals {
+        register: empty_register(rt.alloc())?,
+        reading: None,
+    };
+    for line in lines.split(|byte| *byte == b'\n') {
+        journals.answer(rt, line)?;
     }
     Ok(())
 }
