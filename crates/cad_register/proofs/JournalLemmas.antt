@@ -1,5 +1,5 @@
 -- The entries that commands make tell these commands.
-use Rattle.std.proofs.Common.{◌≡◌, ℕ, ◌+◌, ◌-◌, ◌==◌, ◌≤◌, Bool, true, false, cond, ◌&&◌, List, [], ◌∷◌, ◌++◌, length, map, find, fold, take, drop, Option, Some, None, IfSome, is_none, option_map, refl, sym, ap, ap₂, ◌∙◌, subst, arith, zero-add, length-drop, take-append-drop, length-take-le}
+use Rattle.std.proofs.Common.{◌≡◌, ℕ, ◌+◌, ◌-◌, ◌==◌, ◌≤◌, Bool, true, false, cond, List, [], ◌∷◌, ◌++◌, length, map, find, fold, take, drop, Option, Some, None, IfSome, is_none, option_map, refl, sym, ap, ap₂, ◌∙◌, subst, arith, zero-add, length-drop, take-append-drop, length-take-le}
 use Rattle.std.specs.List.{AllByRecursion}
 use Rattle.std.proofs.lemmas.Bool.{and_parts}
 use Rattle.std.proofs.lemmas.Bool.Decides.{nat_tests}

@@ -1,20 +1,20 @@
 -- Rows that are judged each by itself.
-use Rattle.std.proofs.Common.{◌≡◌, ◌⊎◌, inl, inr, ℕ, zero, suc, ◌+◌, ◌-◌, ◌≤◌, ◌<◌, ℤ, List, [], ◌∷◌, ◌++◌, length, map, take, drop, get_or, Vec, Global, Option, None, Result, Ok, Err, MatchResult, IfOk, IfErr, IsTrue, refl, sym, ap, ◌∙◌, subst, arith}
-use Rattle.std.specs.List.{AllZip, AllByRecursion}
+use Rattle.std.proofs.Common.{◌≡◌, inl, inr, ℕ, zero, suc, ◌+◌, ◌-◌, ◌≤◌, ◌<◌, ℤ, List, [], ◌∷◌, ◌++◌, length, map, take, drop, get_or, Vec, Global, Result, Ok, Err, MatchResult, IfOk, IfErr, IsTrue, refl, sym, ap, subst, arith}
+use Rattle.std.specs.List.{AllByRecursion}
 use Rattle.std.proofs.lemmas.List.{length-append, map-append}
 use Rattle.std.proofs.lemmas.Slice.Zip.{all_zipped_more, AllZip-long}
 use Rattle.sqlite_value.specs.Order.{Row}
 use Rattle.sqlite.specs.State.{State}
-use Rattle.cad_tables.specs.VersionRow.{VersionRow, cells_of}
+use Rattle.cad_tables.specs.VersionRow.{VersionRow}
 use Rattle.cad_tables.specs.Listing.{lines_between}
 use Rattle.cad_versions.specs.declared.command.Command.{Command}
 use Rattle.cad_versions.specs.declared.fault.RegisterFault.{RegisterFault}
 use Rattle.cad_versions.specs.declared.fault.RegisterFault.TheVariants as fault
-use Rattle.cad_versions.specs.Entries.{Entry, entries_of}
+use Rattle.cad_versions.specs.Entries.{Entry}
 use Rattle.cad_register.specs.declared.found.FoundRow.{FoundRow}
 use Rattle.cad_register.specs.declared.stored_version.StoredVersion.{StoredVersion}
 use Rattle.cad_register.specs.Damage.{identifier_in, HasRevisions}
-use Rattle.cad_register.specs.StoredVersions.{IsRowOf, AreRowsOf, entry_of}
+use Rattle.cad_register.specs.StoredVersions.{AreRowsOf, entry_of}
 use Rattle.cad_register.specs.Stands.{StandsFor, IsStoreFault, IsReadingFault}
 use Rattle.cad_register.specs.JournalReading.{IsSoundRow, AreSoundRows, IsFirstUnsound, IsUnsoundIn, AreShownBetween, ReadsSound}
 use Rattle.cad_register.specs.inner.Found.{IsReadOf, AreReadOf}

@@ -1,4 +1,3 @@
-use Rattle.std.proofs.Common.{rules}
 use Rattle.cad_register.proofs.JournalReadingLemmas.{given_of, caused_of}
 use Rattle.cad_register.proofs.journal_reading.JournalReading.commands.Goals as goal
 
