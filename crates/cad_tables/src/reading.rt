@@ -110,6 +110,41 @@ fn read_each<S: Alter, R: Reader + Drop>(
     read_rest(alloc, &mut rows)
 }
 
+/// What is read of each row of a query with one parameter.
+fn read_for<S: Alter, R: Reader + Drop>(
+    alloc: Global,
+    conn: &mut Connection<S>,
+    sql: &str,
+    parameter: u32,
+) -> Result<Vec<R>, TableFault>
+    requires { IsQuery (first sql.now) }
+    ensures shown { IfOk result (λ found. AreRead R.reads (AreShown sql.now (Int (pos parameter) ∷ [])
+        (state S.Store conn.old) (state S.Store conn.new)) found.items) }
+    ensures refused { HasCleanDisk (state S.Store conn.new) → IfErr result (RefusesRows sql.now (Int (pos parameter) ∷ [])
+        (state S.Store conn.old) (state S.Store conn.new)) }
+    ensures reads { OnlyReads (state S.Store conn.old) (state S.Store conn.new) result }
+{
+    read_each(alloc, conn, sql, &one_cell(parameter))
+}
+
+/// What is read of each row of a query with two parameters.
+fn read_between<S: Alter, R: Reader + Drop>(
+    alloc: Global,
+    conn: &mut Connection<S>,
+    sql: &str,
+    behind: u32,
+    up_to: u32,
+) -> Result<Vec<R>, TableFault>
+    requires { IsQuery (first sql.now) }
+    ensures shown { IfOk result (λ found. AreRead R.reads (AreShown sql.now (Int (pos behind) ∷ Int (pos up_to) ∷ [])
+        (state S.Store conn.old) (state S.Store conn.new)) found.items) }
+    ensures refused { HasCleanDisk (state S.Store conn.new) → IfErr result (RefusesRows sql.now (Int (pos behind) ∷ Int (pos up_to) ∷ [])
+        (state S.Store conn.old) (state S.Store conn.new)) }
+    ensures reads { OnlyReads (state S.Store conn.old) (state S.Store conn.new) result }
+{
+    read_each(alloc, conn, sql, &two_cells(behind, up_to))
+}
+
 /// What is read of each row that was entered up to a revision, with all nineteen columns, in the order in which the database comes to them.
 ///
 /// The query asks for no order, so the database holds back no row to sort it.
@@ -124,13 +159,13 @@ pub fn listing<S: Alter, R: Reader + Drop>(
         (state S.Store conn.old) (state S.Store conn.new)) }
     ensures reads { OnlyReads (state S.Store conn.old) (state S.Store conn.new) result }
 {
-    read_each(
+    read_for(
         alloc,
         conn,
         "SELECT object, number, class, first, last, entered, closed, name, code, label, area, unit, party, \
             share_num, share_den, required, spot_x, spot_y, shape \
             FROM version WHERE entered <= ?1",
-        &one_cell(revision),
+        revision,
     )
 }
 
@@ -149,12 +184,13 @@ pub fn listing_between<S: Alter, R: Reader + Drop>(
         (state S.Store conn.old) (state S.Store conn.new)) }
     ensures reads { OnlyReads (state S.Store conn.old) (state S.Store conn.new) result }
 {
-    read_each(
+    read_between(
         alloc,
         conn,
         "SELECT object, number, class, first, last, entered, closed, name, code, label, area, unit, party, \
             share_num, share_den, required, spot_x, spot_y, shape \
             FROM version WHERE rowid > ?1 AND rowid <= ?2 ORDER BY rowid",
-        &two_cells(behind, up_to),
+        behind,
+        up_to,
     )
 }

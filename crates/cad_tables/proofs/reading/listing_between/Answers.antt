@@ -4,13 +4,9 @@ use Rattle.cad_tables.proofs.QueryTexts.{range_asks}
 use Rattle.cad_tables.proofs.Statements.{ranges}
 use Rattle.cad_tables.proofs.reading.listing_between.Goals as goal
 
-pub read_each-requires : goal.read_each-requires
-read_each-requires g c = range_asks
+pub read_between-requires : goal.read_between-requires
+read_between-requires g c = range_asks
 
 pub returns-clause-rows : goal.returns-clause-rows
 returns-clause-rows g c =
-    let shown = rw c.two_cells.ensures at c.read_each.ensures.shown in
-    IfOk-weaker c.read_each.result _ _ (λ found read. (read.0, λ clean. let rows = read.1 clean in (rows, λ n lines has. ranges (state g.S.Store c.args.conn.now) (state g.S.Store c.read_each.new.conn) n c.args.behind c.args.up_to lines read.0 has rows), read.2)) shown
-
-pub returns-clause-refused : goal.returns-clause-refused
-returns-clause-refused g c = rw c.two_cells.ensures at c.read_each.ensures.refused
+    IfOk-weaker c.read_between.result _ _ (λ found read. (read.0, λ clean. let shown = read.1 clean in (shown, λ n lines has. ranges (state g.S.Store c.args.conn.now) (state g.S.Store c.read_between.new.conn) n c.args.behind c.args.up_to lines read.0 has shown), read.2)) c.read_between.ensures.shown
