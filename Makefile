@@ -10,7 +10,7 @@ COLLECTION ?= parcels
 REQUEST ?=
 export QUERY COLLECTION REQUEST
 
-.PHONY: look sample cadastred explain cases test random check wrong-bodies tests-refuse refused damage bench compare register-file office-file serve-file stops host clients proxy import viewer deb clean
+.PHONY: look sample cadastred explain cases test random check wrong-bodies tests-refuse refused damage bench compare register-file journal office-file serve-file stops host clients proxy import viewer deb clean
 
 # Answers a request over the sample register without a proof, in a few minutes. The request is that of crates/cadastre/stdin, or
 # `make look REQUEST='/collections/parcels/items?filter=area+>+400'`.
@@ -118,6 +118,10 @@ compare: sample cadastred
 # Checks a file that the program wrote by the real sqlite3.
 register-file: sample
 	scripts/check_register_file
+
+# Prints the journal of a village's register, enters it into a new file, and compares the pages of both files.
+journal: sample cadastred
+	scripts/check_journal
 
 # Runs `cadastre office` and `cadastre ask` on new, existing and foreign files, and on one that an older program wrote.
 office-file: sample

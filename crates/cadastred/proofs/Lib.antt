@@ -1,3 +1,4 @@
 pub mod CleanLemmas
 pub mod FileLemmas
+pub mod JournalLemmas
 pub mod KeepingLemmas

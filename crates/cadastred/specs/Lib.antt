@@ -1,3 +1,4 @@
 pub mod Hosting
+pub mod Journal
 pub mod Keeping
 pub mod Words

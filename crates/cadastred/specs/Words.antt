@@ -1,12 +1,13 @@
--- What the program prints about itself, and how a run ends without a service (own profile).
+-- What the program prints about itself, and how a run ends without work on a file (own profile).
 use Rattle.std.specs.Prelude.{◌≡◌, ◌++◌, ℕ, ⊤, List, codes, Option, None, Some, Result, Ok, Err}
 use Rattle.std.specs.Io.KnownBytes.{Appends}
-use Rattle.cadastred_run.specs.declared.invocation.Service.{Service}
 use Rattle.cadastred_run.specs.declared.invocation.Invocation.{Invocation}
-use Rattle.cadastred_run.specs.declared.invocation.Invocation.TheVariants.{Help, Version, Serve}
+use Rattle.cadastred_run.specs.declared.invocation.Invocation.TheVariants.{Help, Version, Serve, Journal}
 use Rattle.cadastred_run.specs.declared.outcome.Outcome.{Outcome}
 use Rattle.cadastred_run.specs.declared.outcome.Outcome.TheVariants as outcome
 use Rattle.cadastred_run.specs.Outcomes.{usage}
+use Rattle.cadastred.specs.declared.words.Work.{Work}
+use Rattle.cadastred.specs.declared.words.Work.TheVariants as work
 
 abbrev pub version : List ℕ
 version = codes "cadastred 0.1.0"
@@ -19,9 +20,11 @@ module _ (before after : Option (List ℕ)) where
   IsLine line outcome.Failed = ⊤
   IsLine line other = ⊥
 
-  -- a service begins, and nothing is written; or the run ends: by the usage or the version if one is requested, and else as one with wrong arguments
-  abbrev pub Begins : Option Invocation → Result Service Outcome → Type 0
-  Begins (Some (Serve service)) (Ok begun) = (begun ≡ service) × (after ≡ before)
+  -- the requested work begins, and nothing is written; or the run ends: by the usage or the version if one is requested, and else as one with
+  -- wrong arguments
+  abbrev pub Begins : Option Invocation → Result Work Outcome → Type 0
+  Begins (Some (Serve service)) (Ok begun) = (begun ≡ work.Serve service) × (after ≡ before)
+  Begins (Some (Journal file)) (Ok begun) = (begun ≡ work.PrintJournal file) × (after ≡ before)
   Begins (Some Help) (Err ended) = IsLine usage ended
   Begins (Some Version) (Err ended) = IsLine version ended
   Begins None (Err ended) = (ended ≡ outcome.Usage) × (after ≡ before)

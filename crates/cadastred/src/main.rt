@@ -1,6 +1,7 @@
 //! The cadastre feature server for many clients, and the land office, in one process.
 //!
 //! - `land`: serves clients and the land office over a register file
+//! - `journal`: prints the journal of a register file
 //! - `words`: what the program prints about itself
 //!
 //! `cadastred_run` reads the command line, does the same work over any ledger, and says how a run ends.
@@ -9,18 +10,22 @@
 //!   takes the land office's lines at a Unix socket. If there is no register, it makes one. It prints `listening ADDRESS`, and
 //!   ends at the office's line `stop`;
 //! - `cadastred --log land.db 127.0.0.1:8080 office.sock` also writes a line to standard error for each response;
+//! - `cadastred --journal land.db` prints the journal of the file's register: each accepted command as a line that the land office takes,
+//!   and then `end N`;
 //! - `cadastred --help` and `cadastred --version` print the usage and the version.
 #![tactic(auto)]
 
+mod journal;
 mod land;
 mod words;
 
 use cad_serve::{read_words, tell};
 use cadastred_run::{Invocation, Outcome};
+use journal::run_journal;
 use land::{close, run_service};
 use sqlite::Unknown;
 use std::process::ExitCode;
-use words::begin;
+use words::{Work, begin};
 
 fn run(rt: &HostRuntime) -> Outcome {
     let words = match read_words(rt) {
@@ -28,7 +33,8 @@ fn run(rt: &HostRuntime) -> Outcome {
         Err(cause) => return Outcome::without_arguments(cause),
     };
     match begin(Invocation::of_words(&words), &mut rt.stdout()) {
-        Ok(service) => close(run_service(rt, service, Unknown, &mut rt.stdout())),
+        Ok(Work::Serve(service)) => close(run_service(rt, service, Unknown, &mut rt.stdout())),
+        Ok(Work::PrintJournal(file)) => close(run_journal(rt, file, Unknown, &mut rt.stdout())),
         Err(outcome) => outcome,
     }
 }

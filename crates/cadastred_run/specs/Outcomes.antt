@@ -23,7 +23,7 @@ outcome_without_arguments cause = Usage
 
 -- the usage
 abbrev pub usage : List ℕ
-usage = codes "usage: cadastred [--log] FILE ADDRESS OFFICE | --help | --version"
+usage = codes "usage: cadastred [--log] FILE ADDRESS OFFICE | --journal FILE | --help | --version"
 
 -- the line on standard error that reports how a run ended
 abbrev pub line_of : Outcome → List ℕ

@@ -22,19 +22,23 @@ pub enum Invocation<'a> {
     Version,
     /// Serve.
     Serve(Service<'a>),
+    /// Print the journal of the register in the file at this path.
+    Journal(&'a str),
 }
 
 impl<'a> Invocation<'a> {
     ghost use Rattle.std.specs.Prelude.{◌≡◌, map, string_bytes};
-    ghost use Rattle.cadastred_run.specs.Invocations.{command_line_of, command_line};
+    ghost use Rattle.cadastred_run.specs.Invocations.{command_line_of, command_line, option_of};
 
     /// The invocation of a command line, which begins with the program's name.
     pub fn of_words(words: &'a [String]) -> Option<Invocation<'a>>
         ensures { command_line result ≡ command_line_of (map (λ word. string_bytes word) words.now) }
     {
         match words {
-            [_, option] if option.as_str() == "--help" => Some(Invocation::Help),
-            [_, option] if option.as_str() == "--version" => Some(Invocation::Version),
+            [_, option] => Invocation::of_option(option.as_str()),
+            [_, option, file] if option.as_str() == "--journal" => Some(Invocation::Journal(
+                file.as_str(),
+            )),
             [_, file, address, office] => Some(Invocation::Serve(Service {
                 file: file.as_str(),
                 address: address.as_str(),
@@ -49,6 +53,17 @@ impl<'a> Invocation<'a> {
                     logs: true,
                 }),
             ),
+            _ => None,
+        }
+    }
+
+    /// The invocation of one word after the program's name.
+    fn of_option(option: &str) -> Option<Invocation<'a>>
+        ensures { command_line result ≡ option_of option.now }
+    {
+        match option {
+            "--help" => Some(Invocation::Help),
+            "--version" => Some(Invocation::Version),
             _ => None,
         }
     }

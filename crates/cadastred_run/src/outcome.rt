@@ -6,14 +6,15 @@ use cad_versions::RegisterFault;
 use std::io::{ErrorKind, Result};
 
 /// The usage.
-pub const HELP: &str = "usage: cadastred [--log] FILE ADDRESS OFFICE | --help | --version";
+pub const HELP: &str =
+    "usage: cadastred [--log] FILE ADDRESS OFFICE | --journal FILE | --help | --version";
 
 /// How a run ended.
 #[derive(Clone, Copy, Debug, PartialEq, Eq)]
 pub enum Outcome {
     /// All went well.
     Good,
-    /// The system refused what serving needs: memory, descriptors, the clock, or waiting for sockets.
+    /// The system refused what the run needs: memory, descriptors, the clock, waiting for sockets, or a write.
     Failed,
     /// There was no register or no desk over it, or its database refused what it was asked.
     Register(RegisterFault),
