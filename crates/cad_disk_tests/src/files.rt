@@ -1,9 +1,9 @@
 //! Registers in two files: the database and its log, of any kind.
 
-use cad_register::{Command, Register, RegisterFault, Revision};
+use cad_register::{Command, Register, RegisterFault, Revision, Version};
 use sqlite::{Alter, Connection, FileStore, Files, Options};
 use sqlite_disk::{Disk, Fuse, Memory};
-use std::alloc::Global;
+use std::alloc::{AllocError, Global};
 use std::test::Fail;
 
 /// Two files without bytes, which never fail.
@@ -83,12 +83,14 @@ pub(crate) fn is_opened<D: Disk + Drop>(alloc: Global, files: Files<D>) -> bool 
     opened(alloc, files).is_some()
 }
 
-/// The register's answer to a command.
-fn answered<S: Alter>(
-    register: &mut Register<S>,
+/// The register's answer to a command, and the files in their state after it.
+fn answered<D: Disk + Drop>(
+    register: Register<FileStore<D>>,
     command: Command,
-) -> Result<Revision, RegisterFault> {
-    register.apply(command)
+) -> (Result<Revision, RegisterFault>, Files<D>) {
+    let mut register = register;
+    let answer = register.apply(command);
+    (answer, files_of(register))
 }
 
 /// Files without bytes at first, in which a register with one command is made.
@@ -97,11 +99,11 @@ pub(crate) fn made_of_one<D: Disk + Drop>(
     files: Files<D>,
     command: Command,
 ) -> Result<Files<D>, Fail> {
-    let mut register = made(alloc, files)?;
-    if answered(&mut register, command) != Ok(1) {
+    let (answer, files) = answered(made(alloc, files)?, command);
+    if answer != Ok(1) {
         return Err("entered")?;
     }
-    Ok(files_of(register))
+    Ok(files)
 }
 
 /// The answer of the register in the files to a command, and the files in their state after it.
@@ -110,26 +112,33 @@ pub(crate) fn applied<D: Disk + Drop>(
     files: Files<D>,
     command: Command,
 ) -> Result<(Result<Revision, RegisterFault>, Files<D>), Fail> {
-    let mut register = opened(alloc, files).ok_or("opened")?;
-    let answer = answered(&mut register, command);
-    Ok((answer, files_of(register)))
+    let register = opened(alloc, files).ok_or("opened")?;
+    Ok(answered(register, command))
+}
+
+/// Adds a version to the text.
+fn put_version(text: &mut String, version: &Version) -> Result<(), AllocError> {
+    let object = version.object.number();
+    let number = version.number;
+    let first = version.first.number();
+    let last = version.last.map(|last| last.number());
+    write!(text, "{object}.{number} {first} {last:?};")
+}
+
+/// A revision, and the versions that a register lists then.
+fn text_of(alloc: Global, revision: Revision, versions: &[Version]) -> Result<String, AllocError> {
+    let mut text = format!(in alloc; "{revision}: ")?;
+    for version in versions {
+        put_version(&mut text, version)?;
+    }
+    Ok(text)
 }
 
 /// The revision of a register, and the versions that it lists then.
 fn listed<S: Alter>(alloc: Global, register: &mut Register<S>) -> Result<String, Fail> {
     let revision = register.revision();
-    let Ok(versions) = register.as_of(revision) else {
-        return Err("listed")?;
-    };
-    let mut text = format!(in alloc; "{revision}: ")?;
-    for version in &versions {
-        let object = version.object.number();
-        let number = version.number;
-        let first = version.first.number();
-        let last = version.last.map(|last| last.number());
-        text.push_str(format!(in alloc; "{object}.{number} {first} {last:?};")?.as_str())?;
-    }
-    Ok(text)
+    let versions = register.as_of(revision).ok().ok_or("listed")?;
+    Ok(text_of(alloc, revision, &versions)?)
 }
 
 /// The revision of the register in the files, and the versions that it lists then.

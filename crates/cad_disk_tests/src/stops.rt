@@ -105,19 +105,33 @@ fn found_in(alloc: Global, log: &[u8], db: &[u8]) -> Result<String, Fail> {
     listed_in(alloc, files)
 }
 
-/// What is found if a stop left all that was written to each file, or only what was synced.
-fn found_after(alloc: Global, files: Files<Fuse<Memory>>) -> Result<[String; 4], Fail> {
-    let written = Stored::of(alloc, &files)?;
-    let mut files = files;
-    files.log.crash();
-    files.db.crash();
-    let synced = Stored::of(alloc, &files)?;
-    Ok([
-        found_in(alloc, &written.log, &written.db)?,
-        found_in(alloc, &written.log, &synced.db)?,
-        found_in(alloc, &synced.log, &written.db)?,
-        found_in(alloc, &synced.log, &synced.db)?,
-    ])
+/// What a stop may leave: all that was written to each file, or only what was synced.
+#[derive(Drop)]
+struct Left {
+    written: Stored,
+    synced: Stored,
+}
+
+impl Left {
+    /// What a stop leaves of the files.
+    fn of(alloc: Global, files: Files<Fuse<Memory>>) -> Result<Left, Fail> {
+        let written = Stored::of(alloc, &files)?;
+        let mut files = files;
+        files.log.crash();
+        files.db.crash();
+        let synced = Stored::of(alloc, &files)?;
+        Ok(Left { written, synced })
+    }
+
+    /// The four pairs of a log and a database file.
+    fn pairs(&self) -> [(&[u8], &[u8]); 4] {
+        [
+            (&self.written.log, &self.written.db),
+            (&self.written.log, &self.synced.db),
+            (&self.synced.log, &self.written.db),
+            (&self.synced.log, &self.synced.db),
+        ]
+    }
 }
 
 /// The least number of calls after which the register is open.
@@ -134,6 +148,22 @@ fn has_failed(file: &mut Fuse<Memory>) -> bool {
     !file.may_be_used() || file.len().is_err()
 }
 
+/// Checks what is found in each pair of files that a stop may leave.
+fn check_left(
+    rt: &impl Abort,
+    alloc: Global,
+    left: &Left,
+    is_entered: bool,
+    after: &str,
+) -> Result<(), Fail> {
+    for (log, db) in left.pairs() {
+        let found = found_in(alloc, log, db)?;
+        let is_right = found.as_str() == after || !is_entered && found.as_str() == BEFORE;
+        assert!(rt; is_right, "{found}, not {after}; entered: {is_entered}");
+    }
+    Ok(())
+}
+
 /// Runs a command over files, one of which fails after so many calls, and checks what a stop leaves then. Returns whether a call failed.
 fn run(
     rt: &impl Abort,
@@ -146,10 +176,7 @@ fn run(
     let is_failed = has_failed(&mut files.log) || has_failed(&mut files.db);
     let is_entered = answer == Ok(2);
     assert!(rt; is_failed || is_entered, "{line}: {answer:?}");
-    for found in &found_after(alloc, files)? {
-        let is_right = found.as_str() == after || !is_entered && found.as_str() == BEFORE;
-        assert!(rt; is_right, "{line}: {answer:?}, and {found}");
-    }
+    check_left(rt, alloc, &Left::of(alloc, files)?, is_entered, after)?;
     Ok(is_failed)
 }
 

@@ -121,15 +121,26 @@ fn tell<R: Responder>(
     Ok(())
 }
 
+/// Gives a desk over the register each line. Returns the register, without the desk and its connections.
+fn told<S: Alter + Drop>(
+    rt: &impl Abort,
+    alloc: Global,
+    register: Register<S>,
+    script: &[(&str, &str)],
+) -> Result<Register<S>, Fail> {
+    let mut desk = desk_over(alloc, register)?;
+    tell(rt, alloc, &mut desk, script)?;
+    Ok(desk.release().release())
+}
+
 /// The walk, over files of any kind. At the restart the desk and its connections go, the files are closed and opened again, and
 /// another desk is made.
 fn walk<D: Disk + Drop>(rt: &impl Abort, alloc: Global, files: Files<D>) -> Result<(), Fail> {
     let register = filled(alloc, made(alloc, files)?)?;
-    let mut desk = desk_over(alloc, register)?;
-    tell(rt, alloc, &mut desk, &WALK)?;
-    let register = opened_again(alloc, desk.release().release())?;
-    let mut desk = desk_over(alloc, register)?;
-    tell(rt, alloc, &mut desk, &WALK_ON)
+    let register = told(rt, alloc, register, &WALK)?;
+    let register = opened_again(alloc, register)?;
+    told(rt, alloc, register, &WALK_ON)?;
+    Ok(())
 }
 
 #[test]
