@@ -110,6 +110,7 @@ fn line_of(line: &[u8]) -> Line {
 }
 
 /// The register, and the journal that is read in pieces, if one was begun.
+#[derive(Drop)]
 struct Journals {
     register: Register<MemStore>,
     reading: Option<JournalReading>,
