@@ -66,6 +66,7 @@ test: cases
 	scripts/check_changes
 	scripts/check_office
 	scripts/check_old_register
+	scripts/check_journal 3
 	scripts/check_damage
 	scripts/check_serve
 	scripts/check_stops
