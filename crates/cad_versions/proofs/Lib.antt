@@ -1,1 +1,2 @@
 mod RetirementLemmas
+mod CheckLemmas

@@ -23,6 +23,18 @@ module _ {L : Type 0} (StandsFor : L → List Command → Type 0) (Counts Lives 
     pub unchanged : Counts new → IfErr result (λ fault. (commands : List Command) → StandsFor old commands → StandsFor new commands ⊎ IsShut Lives Fails old fault new)
     pub clean : Counts new → Counts old
 
+  -- what would be answered to a command that is not entered: the revision that it would make, or why it would be refused; the ledger
+  -- remains what it was, unless its store failed and is closed
+  pub record Checked (FailsToApply : List Command → Command → RegisterFault → Type 0) (Refuses : L → L → Command → ℕ → Type 0) (IsDamaged : L → L → Command → ℤ → ℤ → Type 0) (Remains : L → L → Type 0) (old : L) (command : Command) (result : Result ℕ RegisterFault) (new : L) : Type 0 where
+    pub accepted : Counts new → IfOk result (λ revision. (commands : List Command) → StandsFor old commands → (refusal (versions commands) command ≡ None) × (revision ≡ length commands + 1))
+    pub refused : Counts new → IfErr result (λ fault. (commands : List Command) → StandsFor old commands → (refusal (versions commands) command ≡ Some fault) ⊎ FailsToApply commands command fault)
+    pub store : Counts new → result ≡ Err Store → (commands : List Command) → StandsFor old commands → Refuses old new command (length commands)
+    pub damaged : IfErr result (NamesDamage (IsDamaged old new command))
+    pub still : Counts new → OnOk result ((commands : List Command) → StandsFor old commands → Remains old new)
+    pub kept : Counts new → OnOk result ((commands : List Command) → StandsFor old commands → StandsFor new commands)
+    pub unchanged : Counts new → IfErr result (λ fault. (commands : List Command) → StandsFor old commands → StandsFor new commands ⊎ IsShut Lives Fails old fault new)
+    pub clean : Counts new → Counts old
+
   -- the versions of a revision that was made are shown, in the order of identifiers, and the ledger remains what it was; a revision is not
   -- shown for its own cause, or for one of the ledger's store; nothing changes then, unless the store failed and is closed; a row that is
   -- named as damaged is damaged, no matter which commands the ledger holds

@@ -40,13 +40,14 @@ pub enum RegisterFault {
         /// The number, as it is stored in the row.
         number: i64,
     },
-    /// The database is not a register of this format.
+    /// The database is not a register of this format, or its rows show no command of some revision, or it holds 4,294,967,294 commands and
+    /// takes no more.
     #[error("the database is no register of this form")]
     NotARegister,
     /// The database refused a statement, and not because it was out of memory.
     #[error("the database refused a statement")]
     Store,
-    /// Out of memory.
+    /// Out of memory. A ledger in memory also refuses so once it holds as many commands as it can count.
     #[error("out of memory")]
     Memory,
     /// The revision is above the current one.

@@ -1,6 +1,9 @@
 //! What holds of every register, no matter which commands made it. Each contract is a law; the functions do nothing.
 
+ghost use Rattle.cad_versions.specs.LedgerCalls.{ChecksForetell};
 ghost use Rattle.cad_versions.specs.Laws.{VersionsAreHistories, ObjectsEndWhenRetired, RevisionsStay, RevisionsAreSeen, BytesAreOfOneShape};
+
+use crate::ledger::Ledger;
 
 /// Each object's versions are numbered 1, 2 and so on. Each but the last is closed on the very day before the next one begins.
 pub fn versions_are_histories()
@@ -25,4 +28,10 @@ pub fn revisions_are_seen()
 /// Bytes encode at most one shape, no matter which form the first of them names.
 pub fn bytes_are_of_one_shape()
     ensures { BytesAreOfOneShape }
+{}
+
+/// What a ledger answers when a command is checked is what it answers when the command is applied next, unless its store itself refuses one
+/// of the two.
+pub fn checks_foretell<L: Ledger>()
+    ensures { ChecksForetell L.Ledger }
 {}

@@ -10,7 +10,7 @@ pub trait Ledger {
     ghost use Rattle.cad_versions.specs.declared.command.Command.{Command as CommandOf};
     ghost use Rattle.cad_versions.specs.declared.fault.RegisterFault.{RegisterFault as Fault};
     ghost use Rattle.cad_versions.specs.Keeping.{IsOfKeeping};
-    ghost use Rattle.cad_versions.specs.Ledgers.{Applied, Listed};
+    ghost use Rattle.cad_versions.specs.Ledgers.{Applied, Checked, Listed};
     ghost use Rattle.cad_versions.specs.Refusals.{AreAccepted};
 
     // It holds these commands.
@@ -59,6 +59,10 @@ pub trait Ledger {
     /// Applies the command and returns the revision that it made, or refuses it and stays as it was.
     fn apply(&mut self, command: Command) -> Result<u64, RegisterFault>
         ensures { Applied stands_for counts lives fails fails_to_apply refuses_command damaged_for_command self.old command result self.new };
+
+    /// What `apply` would answer to the command. The command is not entered.
+    fn check(&mut self, command: &Command) -> Result<u64, RegisterFault>
+        ensures { Checked stands_for counts lives fails fails_to_apply refuses_command damaged_for_command remains self.old command.now result self.new };
 
     /// The versions at a revision, by object and number. A closing of a later revision is not seen.
     fn as_of(&mut self, revision: u64) -> Result<Vec<Version>, RegisterFault>
