@@ -1,7 +1,9 @@
 -- The parts of a desk that clauses use, and what its step does (own profile).
 use Rattle.std.specs.Prelude.{◌≡◌, ◌⊎◌, ℕ, ℤ, List, ◌++◌, length, Some, Result, IfErr, OnOk}
 use Rattle.cad_versions.specs.declared.command.Command.{Command}
+use Rattle.cad_versions.specs.declared.fault.RegisterFault.{RegisterFault}
 use Rattle.cad_versions.specs.declared.fault.RegisterFault.TheVariants.{Store}
+use Rattle.cad_versions.specs.Ledgers.{Checked}
 use Rattle.cad_stream.specs.declared.responder.Responder.{Ghosts}
 use Rattle.cad_stream.specs.Feeding.{Under, RefusesLater, DamagedLater}
 use Rattle.cad_desk.specs.declared.desk.Desk.{Desk}
@@ -10,7 +12,7 @@ use Rattle.cad_desk.specs.declared.event.Event.TheVariants.{Open, Bytes, Close, 
 use Rattle.cad_desk.specs.declared.event.Reply.{Reply}
 use Rattle.cad_desk.specs.declared.fault.DeskFault.{DeskFault}
 use Rattle.cad_desk.specs.declared.fault.DeskFault.TheVariants.{Register}
-use Rattle.cad_desk.specs.Connections.{Connections, rest_at}
+use Rattle.cad_desk.specs.Connections.{Connections, rest_at, Keeps}
 use Rattle.cad_desk.specs.Events.{Rules, StepOf, commands_after}
 use Rattle.cad_desk.specs.Faults.{MayCloseDesk, NamesDamageAtDesk}
 
@@ -62,3 +64,8 @@ module _ {R : Type 0} (g : Ghosts R) where
     pub store : g.counts (responder_of new) → IfErr result (λ fault. fault ≡ Register Store → IsRefused old event (responder_of new))
     pub damaged : IfErr result (NamesDamageAtDesk (IsDamagedFor old event (responder_of new)))
     pub clean : g.counts (responder_of new) → g.counts (responder_of old)
+
+  -- a command of the land office is checked by the responder, and the connections do not change
+  pub record ChecksAtDesk (old : Desk R) (command : Command) (result : Result ℕ RegisterFault) (new : Desk R) : Type 0 where
+    pub checked : Checked g.stands_for g.counts g.lives g.fails g.fails_to_enter g.refuses_command g.damaged_for_command g.remains (responder_of old) command result (responder_of new)
+    pub connections : Keeps (connections_of old) (connections_of new)

@@ -32,7 +32,7 @@ impl<R: Responder> Desk<R> {
     ghost use Rattle.cad_desk.specs.declared.event.Event.TheVariants.{Open, Bytes, Close, Office};
     ghost use Rattle.cad_desk.specs.Connections.{rest_at};
     ghost use Rattle.cad_desk.specs.Calls.{opened, sent, closed, entered};
-    ghost use Rattle.cad_desk.specs.Desks.{responder_of, connections_of, Steps};
+    ghost use Rattle.cad_desk.specs.Desks.{responder_of, connections_of, ChecksAtDesk, Steps};
 
     /// A desk without connections.
     pub fn new(alloc: Global, responder: R) -> Desk<R>
@@ -82,11 +82,7 @@ impl<R: Responder> Desk<R> {
         let Some(connection) = self.connections.remove(&c) else {
             return Err(DeskFault::UnknownConnection);
         };
-        let Fed { bytes, connection } = match connection.feed(
-            self.alloc,
-            &piece,
-            &mut self.responder,
-        ) {
+        let Fed { bytes, connection } = match connection.feed(self.alloc, piece, &mut self.responder) {
             Ok(fed) => fed,
             Err(fault) => return Err(DeskFault::from(fault)),
         };
@@ -115,6 +111,13 @@ impl<R: Responder> Desk<R> {
     {
         let revision = self.responder.enter(command)?;
         Ok(revision)
+    }
+
+    /// What would be answered to a command of the land office, which is not entered.
+    pub fn check(&mut self, command: &Command) -> Result<u64, RegisterFault>
+        ensures { ChecksAtDesk R.Responder self.old command.now result self.new }
+    {
+        self.responder.check(command)
     }
 
     /// Takes an event, and answers it completely. Bytes that are refused close their connection; everything else stays as it was.

@@ -85,6 +85,17 @@ impl Ledger for MemoryLedger {
         Ok(revision)
     }
 
+    fn check(&mut self, command: &Command) -> Result<u64, RegisterFault> {
+        if let Some(fault) = self.versions.refusal(command) {
+            return Err(fault);
+        }
+        // The count cannot go higher.
+        let Some(revision) = self.revision.checked_add(1) else {
+            return Err(RegisterFault::Memory);
+        };
+        Ok(revision)
+    }
+
     fn as_of(&mut self, revision: u64) -> Result<Vec<Version>, RegisterFault> {
         if self.revision < revision {
             return Err(RegisterFault::UnknownRevision);

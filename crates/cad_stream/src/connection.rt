@@ -2,6 +2,7 @@
 
 ghost use Rattle.cad_head.specs.Heads.{IsIncomplete};
 
+use crate::joining::joined;
 use crate::replies::reply_to_requests;
 use crate::responder::Responder;
 use cad_head::may_settle;
@@ -46,14 +47,14 @@ impl Connection {
     pub fn feed<R: Responder>(
         self,
         alloc: Global,
-        piece: &[u8],
+        piece: Vec<u8>,
         responder: &mut R,
     ) -> Result<Fed, RegisterFault>
-        ensures { Feeds R.Responder (bytes_held self) piece.now responder.old result responder.new }
+        ensures { Feeds R.Responder (bytes_held self) piece.items responder.old result responder.new }
     {
-        let Connection { mut held } = self;
-        let may_settle = may_settle(&held, piece);
-        held.extend_from_slice(piece)?;
+        let Connection { held } = self;
+        let may_settle = may_settle(&held, &piece);
+        let mut held = joined(held, piece)?;
         if !may_settle {
             return Ok(Fed {
                 bytes: Vec::new(alloc),

@@ -9,16 +9,19 @@
 //! A connection that sends two requests in two pieces, where the second request closes it:
 //!
 //! ```text
-//! let fed = Connection::new(alloc).feed(alloc, b"GET / HTTP/1.1\r\nHost: x\r\n", &mut responder)?;
+//! // piece: GET / HTTP/1.1\r\nHost: x\r\n
+//! let fed = Connection::new(alloc).feed(alloc, piece, &mut responder)?;
 //! // fed.bytes is empty, and fed.connection holds the piece.
 //! let Some(connection) = fed.connection else { .. };
-//! let fed = connection.feed(alloc, b"\r\nGET /a HTTP/1.0\r\n\r\nGET /b", &mut responder)?;
+//! // next: \r\nGET /a HTTP/1.0\r\n\r\nGET /b
+//! let fed = connection.feed(alloc, next, &mut responder)?;
 //! // fed.bytes are both replies, and fed.connection equals None: the bytes after the second request are dropped.
 //! ```
 #![tactic(auto)]
 
 mod answer;
 mod connection;
+mod joining;
 pub mod laws;
 mod replies;
 mod responder;

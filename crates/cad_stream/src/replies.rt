@@ -4,6 +4,7 @@ ghost use Rattle.std.specs.Prelude.{◌≡◌, ◌≤◌, drop, length};
 ghost use Rattle.cad_stream.specs.Feeding.{IsNext, RepliesTo};
 
 use crate::answer::Answer;
+use crate::joining::joined;
 use crate::responder::Responder;
 use cad_head::{FIELD_ROOM, HeadState, front_bytes, front_of};
 use cad_versions::RegisterFault;
@@ -77,15 +78,15 @@ pub(crate) fn reply_to_requests<R: Responder>(
                 });
             }
             Next::Hopeless(reply) => {
-                replies.extend_from_slice(&reply)?;
                 return Ok(Replies {
-                    bytes: replies,
+                    bytes: joined(replies, reply)?,
                     used: None,
                 });
             }
             Next::Answered { answer, used: len } => {
-                replies.extend_from_slice(&answer.bytes)?;
-                if answer.ends {
+                let Answer { bytes: reply, ends } = answer;
+                replies = joined(replies, reply)?;
+                if ends {
                     return Ok(Replies {
                         bytes: replies,
                         used: None,
