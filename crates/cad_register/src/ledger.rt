@@ -52,6 +52,10 @@ impl<S: Alter> Ledger for Register<S> {
         Register::apply(self, command)
     }
 
+    fn check(&mut self, command: &Command) -> Result<u64, RegisterFault> {
+        Register::check(self, command)
+    }
+
     fn as_of(&mut self, revision: u64) -> Result<Vec<Version>, RegisterFault> {
         Register::as_of(self, revision)
     }

@@ -48,7 +48,7 @@ impl<S: Alter> Register<S> {
     ghost use Rattle.cad_register.specs.Opening.{Created, Opened, OpenedOrCreated};
     ghost use Rattle.cad_register.specs.Stands.{IsStoreFault, IsReadingFault};
     ghost use Rattle.cad_register.specs.Naming.{NamesFirst};
-    ghost use Rattle.cad_register.specs.Refusing.{IsNotForMemory, RefusesToApply, command_questions};
+    ghost use Rattle.cad_register.specs.Refusing.{IsForCommand, IsNotForMemory, RefusesQuestion, RefusesToApply, command_questions};
     ghost use Rattle.cad_register.specs.Surviving.{Leaves, LeavesEither};
     ghost use Rattle.cad_register.specs.Registers.{connection_of, state_of, revision_of, IsRegisterOf, Remains, IsRefused};
 
@@ -91,8 +91,8 @@ impl<S: Alter> Register<S> {
         }
     }
 
-    /// The register that the database holds. A refusal, such as `NotARegister` if a table, a column or the row of `state` is missing or
-    /// that row has another format, gives the connection back.
+    /// The register that the database holds. A refusal gives the connection back. It is `NotARegister` if a table, a column or the row of
+    /// `state` is missing, or if that row has another format or a revision that is never stored.
     pub fn open(
         alloc: Global,
         connection: Connection<S>,
@@ -269,7 +269,47 @@ impl<S: Alter> Register<S> {
         Ok(reading.is_whole())
     }
 
-    /// Makes the next revision of the register, or changes nothing. After `Store`, a register in a file is to be opened again.
+    /// What `apply` would answer to the command, which is not entered. If the command would be accepted, a refusal by the database when it
+    /// is written cannot be foreseen.
+    pub fn check(&mut self, command: &Command) -> Result<Revision, RegisterFault>
+        ensures accepted { HasCleanDisk (state_of S.Store self.new) → IfOk result (λ revision.
+            (commands : List CommandOf) → IsRegisterOf S.Store self.old commands →
+            (refusal (versions commands) command.now ≡ None) × (revision ≡ length commands + 1)) }
+        ensures refused { HasCleanDisk (state_of S.Store self.new) → IfErr result (λ fault.
+            (commands : List CommandOf) → IsRegisterOf S.Store self.old commands →
+            IsRefused commands command.now fault) }
+        // No matter what the disk returns.
+        ensures named { result ≢ Err RegisterFault.UnknownRevision }
+        // No matter what the disk returns, a row that is named is the first of those asked for that breaks a rule.
+        ensures damaged { IfErr result
+            (NamesFirst S.Store (connection_of self.old) (connection_of self.new) (command_questions command.now (revision_of self.old))) }
+        // It shows the same as before, with the same limit of steps, and no fault of the disk is forgotten.
+        ensures still { HasCleanDisk (state_of S.Store self.new) → OnOk result
+            ((commands : List CommandOf) → IsRegisterOf S.Store self.old commands → Remains S.Store self.old self.new) }
+        // What the database itself refused: a question for the current state.
+        ensures store { HasCleanDisk (state_of S.Store self.new) →
+            result ≡ Err RegisterFault.Store → (commands : List CommandOf) →
+            IsRegisterOf S.Store self.old commands →
+            RefusesQuestion S.Store (connection_of self.old) (connection_of self.new) (IsForCommand command.now (length commands)) }
+        ensures kept { HasCleanDisk (state_of S.Store self.new) →
+            OnOk result ((commands : List CommandOf) → IsRegisterOf S.Store self.old commands →
+            IsRegisterOf S.Store self.new commands) }
+        ensures keeps { Keeps S.Store Leaves self.old self.new result }
+        // For any result, the limit of steps is the same, and no fault of the disk is forgotten.
+        ensures later { IsLater (state_of S.Store self.old) (state_of S.Store self.new) }
+    {
+        let decided = decide(self.alloc, &mut self.connection, self.revision, command);
+        if let Err(fault) = decided {
+            return Err(fault);
+        }
+        if self.revision >= MOST_REVISION {
+            return Err(RegisterFault::NotARegister);
+        }
+        Ok(u64::from(self.revision + 1))
+    }
+
+    /// Makes the next revision of the register, or changes nothing. A register of 4,294,967,294 commands accepts no more, and refuses as
+    /// `NotARegister`. After `Store`, a register in a file is to be opened again.
     pub fn apply(&mut self, command: Command) -> Result<Revision, RegisterFault>
         ensures accepted { HasCleanDisk (state_of S.Store self.new) → IfOk result (λ revision.
             (commands : List CommandOf) → IsRegisterOf S.Store self.old commands →
