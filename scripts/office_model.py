@@ -6,7 +6,7 @@
 It prints the office's answers to lines, over a ledger in memory that is empty at first. Two lines begin a new ledger:
 
 - After `= features` it also prints the features of the last revision as JSON, by scripts/server_model.py.
-- After `= journals` it also prints the journals that lines `journal N` request.
+- After `= journals` it also prints the journals that lines `journal N` request, and for `check LINE` what would be answered to LINE.
 
 scripts/check_further_cases compares the stored answers of crates/office_cases with it.
 """
@@ -267,13 +267,17 @@ def line_of(do, number, at, name, said):
 
 def journals(text):
     """The answers to the lines. `journal N` requests the commands after a revision. `begin N` and `read K` request them in pieces.
+    `check LINE` is answered as LINE would be, with `would be N` in place of `revision N`.
 
     A journal that is read in pieces is that of the moment when it began. It is whole after as many rows as there were commands then.
     """
     entered, accepted, behind, newest, left = b"", [], 0, 0, None
     for line in text.split(b"\n"):
         word, _, number = line.partition(b" ")
-        if word in (b"journal", b"begin") and int(number) > len(accepted):
+        if word == b"check":
+            *_, answer = answers(entered + (number or b"nothing") + b"\n")
+            yield answer.replace("revision", "would be")
+        elif word in (b"journal", b"begin") and int(number) > len(accepted):
             yield "refused 12 UnknownRevision"
         elif word == b"journal":
             yield from accepted[int(number) :]

@@ -63,6 +63,10 @@ impl Ledger for LimitedLedger {
         self.ledger.apply(command)
     }
 
+    fn check(&mut self, command: &Command) -> Result<u64, RegisterFault> {
+        self.ledger.check(command)
+    }
+
     fn as_of(&mut self, revision: u64) -> Result<Vec<Version>, RegisterFault> {
         if self.ledger.revision() < revision {
             return Err(RegisterFault::UnknownRevision);

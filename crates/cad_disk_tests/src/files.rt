@@ -1,10 +1,11 @@
 //! Registers in two files: the database and its log, of any kind.
 
-use cad_register::{Command, Register, RegisterFault, Revision, Version};
+use cad_register::{Register, Revision};
 use sqlite::{Alter, Connection, FileStore, Files, Options};
 use sqlite_disk::{Disk, Fuse, Memory};
-use std::alloc::{AllocError, Global};
+use std::alloc::Global;
 use std::test::Fail;
+use test_support::{apply_line, listed};
 
 /// Two files without bytes, which never fail.
 pub(crate) fn empty_files(alloc: Global) -> Files<Fuse<Memory>> {
@@ -83,66 +84,42 @@ pub(crate) fn is_opened<D: Disk + Drop>(alloc: Global, files: Files<D>) -> bool 
     opened(alloc, files).is_some()
 }
 
-/// The register's answer to a command, and the files in their state after it.
+/// The revision that the command of a line makes, if the register accepts it, and the files in their state after it.
 fn answered<D: Disk + Drop>(
+    alloc: Global,
     register: Register<FileStore<D>>,
-    command: Command,
-) -> (Result<Revision, RegisterFault>, Files<D>) {
+    line: &str,
+) -> (Option<Revision>, Files<D>) {
     let mut register = register;
-    let answer = register.apply(command);
-    (answer, files_of(register))
+    let revision = apply_line(alloc, &mut register, line);
+    (revision, files_of(register))
 }
 
-/// Files without bytes at first, in which a register with one command is made.
+/// Files without bytes at first, in which a register with the command of a line is made.
 pub(crate) fn made_of_one<D: Disk + Drop>(
     alloc: Global,
     files: Files<D>,
-    command: Command,
+    line: &str,
 ) -> Result<Files<D>, Fail> {
-    let (answer, files) = answered(made(alloc, files)?, command);
-    if answer != Ok(1) {
+    let (revision, files) = answered(alloc, made(alloc, files)?, line);
+    if revision != Some(1) {
         return Err("entered")?;
     }
     Ok(files)
 }
 
-/// The answer of the register in the files to a command, and the files in their state after it.
+/// The revision that the command of a line makes in the register in the files, if it is accepted, and the files in their state after it.
 pub(crate) fn applied<D: Disk + Drop>(
     alloc: Global,
     files: Files<D>,
-    command: Command,
-) -> Result<(Result<Revision, RegisterFault>, Files<D>), Fail> {
+    line: &str,
+) -> Result<(Option<Revision>, Files<D>), Fail> {
     let register = opened(alloc, files).ok_or("opened")?;
-    Ok(answered(register, command))
-}
-
-/// Adds a version to the text.
-fn put_version(text: &mut String, version: &Version) -> Result<(), AllocError> {
-    let object = version.object.number();
-    let number = version.number;
-    let first = version.first.number();
-    let last = version.last.map(|last| last.number());
-    write!(text, "{object}.{number} {first} {last:?};")
-}
-
-/// A revision, and the versions that a register lists then.
-fn text_of(alloc: Global, revision: Revision, versions: &[Version]) -> Result<String, AllocError> {
-    let mut text = format!(in alloc; "{revision}: ")?;
-    for version in versions {
-        put_version(&mut text, version)?;
-    }
-    Ok(text)
-}
-
-/// The revision of a register, and the versions that it lists then.
-fn listed<S: Alter>(alloc: Global, register: &mut Register<S>) -> Result<String, Fail> {
-    let revision = register.revision();
-    let versions = register.as_of(revision).ok().ok_or("listed")?;
-    Ok(text_of(alloc, revision, &versions)?)
+    Ok(answered(alloc, register, line))
 }
 
 /// The revision of the register in the files, and the versions that it lists then.
 pub(crate) fn listed_in<D: Disk + Drop>(alloc: Global, files: Files<D>) -> Result<String, Fail> {
     let mut register = opened(alloc, files).ok_or("opened")?;
-    listed(alloc, &mut register)
+    Ok(listed(alloc, &mut register).ok().ok_or("listed")?)
 }

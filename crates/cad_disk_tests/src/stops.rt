@@ -1,8 +1,6 @@
 //! The state of a register after a stop in the middle of a command.
 
 use crate::files::{applied, empty_files, is_opened, listed_in, made_of_one};
-use cad_commands::read_command;
-use cad_register::Command;
 use sqlite::Files;
 use sqlite_disk::{Crash, Disk, Fuse, Memory};
 use std::alloc::Global;
@@ -32,14 +30,6 @@ const COMMANDS: [(&str, &str); 3] = [
         "2: 11.1 10957 Some(11323);",
     ),
 ];
-
-fn command_of(alloc: Global, line: &str) -> Result<Command, Fail> {
-    Ok(
-        read_command(alloc, line.as_bytes())
-            .ok()
-            .ok_or("a command")?,
-    )
-}
 
 /// A file with these bytes, which a crash leaves, and which fails after so many calls.
 fn file_of(alloc: Global, bytes: &[u8], calls: u64) -> Result<Fuse<Memory>, Fail> {
@@ -92,7 +82,7 @@ enum Failing {
 
 /// A register with one command.
 fn stored_of_one(alloc: Global) -> Result<Stored, Fail> {
-    let files = made_of_one(alloc, empty_files(alloc), command_of(alloc, FIRST)?)?;
+    let files = made_of_one(alloc, empty_files(alloc), FIRST)?;
     Stored::of(alloc, &files)
 }
 
@@ -172,10 +162,10 @@ fn run(
     line: &str,
     after: &str,
 ) -> Result<bool, Fail> {
-    let (answer, mut files) = applied(alloc, files, command_of(alloc, line)?)?;
+    let (revision, mut files) = applied(alloc, files, line)?;
     let is_failed = has_failed(&mut files.log) || has_failed(&mut files.db);
-    let is_entered = answer == Ok(2);
-    assert!(rt; is_failed || is_entered, "{line}: {answer:?}");
+    let is_entered = revision == Some(2);
+    assert!(rt; is_failed || is_entered, "{line}: {revision:?}");
     check_left(rt, alloc, &Left::of(alloc, files)?, is_entered, after)?;
     Ok(is_failed)
 }

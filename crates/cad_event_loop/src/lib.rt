@@ -19,8 +19,8 @@
 //! and `scripts/check_proxy`:
 //!
 //! - the times: each round drops the clients that `Clients::is_overdue` reports, by limits of 60 and 300 seconds and the seconds that the
-//!   network reported; five seconds for replies and the office's answer at the end; 50 milliseconds if the system could not hand over
-//!   somebody who waits at a door.
+//!   network reported; five seconds for replies and the office's answer at the end; 50 milliseconds for a wait while somebody may stand at
+//!   a door, as after the system could not hand over a connection, or after 64 clients came in a round.
 //!
 //! ```text
 //! host(alloc, &mut net, &mut desk, &mut NoLog)?    // Stopped::Asked after the office's line `stop`

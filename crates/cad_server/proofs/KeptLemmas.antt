@@ -11,7 +11,7 @@ use Rattle.cad_versions.specs.declared.command.Command.{Command}
 use Rattle.cad_versions.specs.VersionedObject.{VersionedObject}
 use Rattle.cad_versions.specs.declared.fault.RegisterFault.{RegisterFault}
 use Rattle.cad_versions.specs.declared.ledger.Ledger.{Ghosts}
-use Rattle.cad_versions.specs.LedgerCalls.{Applies}
+use Rattle.cad_versions.specs.LedgerCalls.{Applies, Checks as LedgerChecks}
 use Rattle.cad_versions.specs.AsOf.{as_of}
 use Rattle.cad_versions.specs.Laws.{RevisionsStay}
 use Rattle.cad_versions.specs.Refusals.{AreAccepted}
@@ -21,7 +21,7 @@ use Rattle.cad_server.specs.Contents.{snapshot_of, snapshot_at}
 use Rattle.cad_server.specs.declared.records.Records.{Records}
 use Rattle.cad_server.specs.declared.snapshot_cache.SnapshotCache.{SnapshotCache}
 use Rattle.cad_server.specs.Keeping.{IsCached, AreCached, KeepsOf, LetsEnteredGo, LetsOldestGo, StaysCached, cached_at, or_else}
-use Rattle.cad_server.specs.Servers.{ledger_in, AreRecordsOf, Enters, Keeps}
+use Rattle.cad_server.specs.Servers.{ledger_in, AreRecordsOf, Checks, Enters, Keeps}
 
 -- the snapshot of these versions is one value
 pub built : (revision : ℕ) (versions : List VersionedObject) (s : RevisionFeatures) → IsSnapshotOf revision versions s → s ≡ snapshot_of revision versions
@@ -151,6 +151,34 @@ module _ {L : Type 0} (g : Ghosts L) where
       | inr shut ↦ inr shut
     ];
     clean = a.clean;
+  }
+
+  -- a command that the ledger checks is checked by the records
+  pub checked : (command : Command) (result : Result ℕ RegisterFault) (old new : Records L) → new.kept ≡ old.kept
+      → LedgerChecks g old.ledger command result new.ledger
+      → Checks g old command result new
+  checked command (Ok revision) old new same k = record {
+    accepted = λ counts commands records. k.accepted counts commands records.ledger;
+    refused = λ counts. tt;
+    store = λ counts e commands records. k.store counts e commands records.ledger;
+    damaged = tt;
+    still = λ counts commands records. k.still counts commands records.ledger;
+    kept = λ counts commands records. record { ledger = k.kept counts commands records.ledger; kept = subst (KeepsOf commands) (sym same) records.kept };
+    unchanged = λ counts. tt;
+    clean = k.clean;
+  }
+  checked command (Err fault) old new same k = record {
+    accepted = λ counts. tt;
+    refused = λ counts commands records. k.refused counts commands records.ledger;
+    store = λ counts e commands records. k.store counts e commands records.ledger;
+    damaged = k.damaged;
+    still = λ counts. tt;
+    kept = λ counts. tt;
+    unchanged = λ counts commands records. elim (k.unchanged counts commands records.ledger) [
+      | inl still ↦ inl (record { ledger = still; kept = subst (KeepsOf commands) (sym same) records.kept })
+      | inr shut ↦ inr shut
+    ];
+    clean = k.clean;
   }
 
   -- and what is kept of the revision since is right

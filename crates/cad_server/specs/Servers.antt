@@ -4,7 +4,7 @@ use Rattle.cad_versions.specs.declared.command.Command.{Command}
 use Rattle.cad_versions.specs.declared.fault.RegisterFault.{RegisterFault}
 use Rattle.cad_versions.specs.declared.fault.RegisterFault.TheVariants.{Store, Memory}
 use Rattle.cad_versions.specs.Keeping.{IsShut, NamesDamage}
-use Rattle.cad_versions.specs.Ledgers.{Applied}
+use Rattle.cad_versions.specs.Ledgers.{Applied, Checked}
 use Rattle.cad_versions.specs.declared.ledger.Ledger.{Ghosts}
 use Rattle.cad_snapshot.specs.Snapshots.{RevisionFeatures}
 use Rattle.cad_head.specs.Request.{Request}
@@ -81,6 +81,13 @@ module _ {L : Type 0} (g : Ghosts L) where
   Enters =
       Applied AreRecordsOf (λ records. g.counts (ledger_in records)) (λ records. g.lives (ledger_in records)) (λ old new. g.fails (ledger_in old) (ledger_in new))
       g.fails_to_apply (λ old new. g.refuses_command (ledger_in old) (ledger_in new)) (λ old new. g.damaged_for_command (ledger_in old) (ledger_in new))
+
+  -- a command is checked in the same way as by their ledger
+  abbrev pub Checks : Records L → Command → Result ℕ RegisterFault → Records L → Type 0
+  Checks =
+      Checked AreRecordsOf (λ records. g.counts (ledger_in records)) (λ records. g.lives (ledger_in records)) (λ old new. g.fails (ledger_in old) (ledger_in new))
+      g.fails_to_apply (λ old new. g.refuses_command (ledger_in old) (ledger_in new)) (λ old new. g.damaged_for_command (ledger_in old) (ledger_in new))
+      (λ old new. g.remains (ledger_in old) (ledger_in new))
 
   -- reading changes nothing, or the ledger failed and is closed. If something is read, the ledger remains what it was. The store refuses
   -- only this, and a row that is named as damaged is a damaged one.

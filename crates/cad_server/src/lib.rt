@@ -5,8 +5,8 @@
 //! - `laws`: that a request has one reply
 //!
 //! The features that are read from the ledger at a revision are kept. After a command, the features of the revision before it are kept with
-//! what the command changes. So a page of the newest revision, or after another page of the same revision, reads nothing from the ledger.
-//! Revisions share segments of features, and past a bound of changes a segment gets a new base. At least 16 revisions before the newest and
+//! what the command changes. So after the first page since the start, a page of the newest revision reads nothing from the ledger, unless
+//! memory ran out in between. Neither does a page of an old revision that is still kept. Revisions share segments of features, and past a bound of changes a segment gets a new base. At least 16 revisions before the newest and
 //! at most 6,160 are kept of those that were entered last, by how much was spent since. At most two are kept that were old when they were
 //! read from the ledger. Keeping changes no reply.
 //!

@@ -53,7 +53,7 @@ impl<L: Ledger> Records<L> {
     ghost use Rattle.cad_versions.specs.declared.command.Command.{Command as CommandOf};
     ghost use Rattle.cad_versions.specs.Refusals.{AreAccepted};
     ghost use Rattle.cad_server.specs.Keeping.{IsCached, cached_at};
-    ghost use Rattle.cad_server.specs.Servers.{bound_in, ledger_in, AreRecordsOf, Enters, Forgets, Keeps, Recalls, Finds, Seeks, Tells};
+    ghost use Rattle.cad_server.specs.Servers.{bound_in, ledger_in, AreRecordsOf, Checks, Enters, Forgets, Keeps, Recalls, Finds, Seeks, Tells};
 
     /// A ledger from which nothing was read yet, or the ledger back if there is no memory.
     pub(crate) fn new(alloc: Global, ledger: L, most_changes: usize) -> Result<Records<L>, L>
@@ -107,7 +107,15 @@ impl<L: Ledger> Records<L> {
         self.ledger.apply(command)
     }
 
-    /// The features after the command, made from those of the revision in force; `None` if these are not kept, or memory runs out.
+    /// What would be answered to the command, which is not entered.
+    pub(crate) fn check(&mut self, command: &Command) -> Result<u64, RegisterFault>
+        ensures { Checks L.Ledger self.old command.now result self.new }
+    {
+        self.ledger.check(command)
+    }
+
+    /// The features after the command, made from those of the revision in force; `None` if these are not kept, memory runs out, or there is
+    /// no next revision.
     fn next_snapshot(&self, command: &Command) -> Option<Snapshot>
         ensures { IfSome result (λ next. (commands : List CommandOf) → AreRecordsOf L.Ledger self.now commands → AreAccepted [] (commands ++ command.now ∷ [])
             → IsCached (commands ++ command.now ∷ []) (next.revision, next)) }

@@ -152,6 +152,10 @@ impl<L: Ledger> Responder for Server<L> {
         self.records.enter(command)
     }
 
+    fn check(&mut self, command: &Command) -> Result<u64, RegisterFault> {
+        self.records.check(command)
+    }
+
     fn one_reply() {
         requests_have_one_reply();
     }

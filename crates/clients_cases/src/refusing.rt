@@ -98,6 +98,13 @@ impl Responder for Refusing {
         self.echo.enter(command)
     }
 
+    fn check(&mut self, command: &Command) -> Result<u64, RegisterFault> {
+        if command.object().number() == REFUSED {
+            return Err(RegisterFault::Store);
+        }
+        self.echo.check(command)
+    }
+
     #[tactic(auto, using(test_support::specs::Echoes::one_echo))]
     fn one_reply() {}
 }

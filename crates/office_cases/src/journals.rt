@@ -1,8 +1,10 @@
-//! Journals of a register in memory, requested by lines between commands: whole, or in pieces between which commands are entered.
+//! Questions to a register in memory, by lines between commands: its journal, whole or in pieces between which commands are entered, and
+//! what it would answer to a command.
 
 ghost use Rattle.std.specs.Prelude.{IsTrue};
 ghost use Rattle.cad_register.specs.JournalReading.{is_whole};
 
+use cad_commands::{CommandError, read_command};
 use cad_io::{Counted, number};
 use cad_office::{Answer, JournalLines, office, print_answer};
 use cad_register::{Command, JournalReading, Register, RegisterFault};
@@ -41,11 +43,37 @@ fn print_commands(rt: &HostRuntime, commands: Vec<Command>, newest: u64) -> Resu
     Ok(())
 }
 
-/// Prints why the register refuses.
-fn print_refusal(rt: &HostRuntime, fault: RegisterFault) -> Result<()> {
-    match print_answer(&mut rt.stdout(), Answer::Refused(fault)) {
+/// Prints the office's answer.
+fn print_as_office(rt: &HostRuntime, answer: Answer) -> Result<()> {
+    match print_answer(&mut rt.stdout(), answer) {
         Ok(()) => Ok(()),
         Err(_) => Err(Error::from(ErrorKind::Other)),
+    }
+}
+
+/// Prints why the register refuses.
+fn print_refusal(rt: &HostRuntime, fault: RegisterFault) -> Result<()> {
+    print_as_office(rt, Answer::Refused(fault))
+}
+
+/// Prints what the register would answer to a command.
+fn print_check(
+    rt: &HostRuntime,
+    register: &mut Register<MemStore>,
+    command: &Command,
+) -> Result<()> {
+    match register.check(command) {
+        Ok(revision) => println!(rt; "would be {revision}"),
+        Err(fault) => print_refusal(rt, fault),
+    }
+}
+
+/// Prints what the register would answer to a line.
+fn check_line(rt: &HostRuntime, register: &mut Register<MemStore>, line: &[u8]) -> Result<()> {
+    match read_command(rt.alloc(), line) {
+        Ok(command) => print_check(rt, register, &command),
+        Err(CommandError::NotACommand) => print_as_office(rt, Answer::NotACommand),
+        Err(CommandError::Memory) => Err(Error::from(ErrorKind::OutOfMemory)),
     }
 }
 
@@ -78,7 +106,9 @@ fn enter_line(rt: &HostRuntime, register: &mut Register<MemStore>, line: &[u8]) 
 }
 
 /// What a line asks for.
-enum Line {
+enum Line<'a> {
+    /// What would be answered to this line.
+    Check(&'a [u8]),
     /// The journal after a revision.
     Journal(u64),
     /// To begin to read it.
@@ -96,7 +126,10 @@ fn number_after(line: &[u8], word: &[u8]) -> Option<u64> {
 }
 
 /// What the line asks for.
-fn line_of(line: &[u8]) -> Line {
+fn line_of(line: &[u8]) -> Line<'_> {
+    if let Some(checked) = line.strip_prefix(b"check ".as_slice()) {
+        return Line::Check(checked);
+    }
     if let Some(behind) = number_after(line, b"journal ") {
         return Line::Journal(behind);
     }
@@ -147,6 +180,7 @@ impl Journals {
     /// Prints the answer to a line.
     fn answer(&mut self, rt: &HostRuntime, line: &[u8]) -> Result<()> {
         match line_of(line) {
+            Line::Check(checked) => check_line(rt, &mut self.register, checked),
             Line::Journal(behind) => print_journal(rt, &mut self.register, behind),
             Line::Begin(behind) => self.begin(rt, behind),
             Line::Read(most) => self.read_on(rt, most),

@@ -22,6 +22,8 @@
 //! The line `begin N` begins to read this journal in pieces, and is answered by `begun R`. The line `read K` reads at most K rows of the
 //! table. It is answered by `more`, or by the journal up to revision R once all rows were read. Commands may be entered in between.
 //!
+//! The line `check LINE` is answered by what would be answered to LINE, which is not entered: `would be N` in place of `revision N`.
+//!
 //! The status is 0 if all lines were read, and else the number of the office's fault; 100 if a feature or a journal cannot be printed.
 #![tactic(auto)]
 

@@ -126,6 +126,10 @@ impl Responder for Echo {
         self.ledger.apply(command)
     }
 
+    fn check(&mut self, command: &Command) -> Result<u64, RegisterFault> {
+        self.ledger.check(command)
+    }
+
     #[tactic(auto, using(crate::specs::Echoes::one_echo))]
     fn one_reply() {}
 }
