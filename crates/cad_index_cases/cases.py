@@ -2,8 +2,9 @@
 """Writes `stdin` and `stdout` of this folder: questions asked of indexes, and what must be answered.
 
 The answers come from a look at every value, and not from an index: a cell is a square of 65,536 mm with its left and its
-lower edge, and a box touches it where the two share a point; texts are ordered by code point, as Python orders them. What extents tell
-comes from the least and the greatest of all values, or from the least block of cells round all shapes.
+lower edge, and a box touches it where the two share a point; texts are ordered by code point, as Python orders them. What extents say
+comes from the least and the greatest of all values, from the least block of cells around all shapes, or from the squares of cells that
+shapes touch.
 """
 from pathlib import Path
 from random import Random
@@ -11,6 +12,10 @@ from random import Random
 SIDE = 65_536
 EDGE = 100_000_000_000
 PLANE = (-EDGE, -EDGE, EDGE, EDGE)
+# A square has this many columns and rows of cells. The first one begins with the first cell of the plane.
+SQUARE, FIRST_CELL = 8, -1_525_879
+# Squares this many columns or rows apart share a mark. A box that reaches over more is compared with the block alone.
+MARKS = 64
 
 
 def reaches(low, high, number):
@@ -59,13 +64,30 @@ def is_wide(shape):
     return len(numbers(shape[0], shape[2])) * len(numbers(shape[1], shape[3])) > 64
 
 
+def squares(low, high):
+    """The columns or rows of squares between two coordinates, counted from the plane's edge."""
+    return range((low // SIDE - FIRST_CELL) // SQUARE, (high // SIDE - FIRST_CELL) // SQUARE + 1)
+
+
+def marks(shape):
+    """The marks of the squares that the box touches."""
+    return {(row % MARKS, column % MARKS) for row in squares(shape[1], shape[3]) for column in squares(shape[0], shape[2])}
+
+
+def reaches_far(asked):
+    """Whether the box is as long or as high as all marks."""
+    return any(asked[at + 2] // SIDE - asked[at] // SIDE >= SQUARE * MARKS for at in (0, 1))
+
+
 def may_be_near(shapes, asked):
-    """Whether a shape is wide, or the block of all their cells shares one with the box."""
+    """Whether a shape is wide, or the block of all their cells shares one with the box, which shares a mark with a shape."""
     shapes = [shape for shape in shapes if shape is not None]
     if not shapes or any(is_wide(shape) for shape in shapes):
         return bool(shapes)
     lows, highs = [min(it) // SIDE for it in list(zip(*shapes))[:2]], [max(it) // SIDE for it in list(zip(*shapes))[2:]]
-    return all(low <= asked[at + 2] // SIDE and asked[at] // SIDE <= high for at, (low, high) in enumerate(zip(lows, highs)))
+    if not all(low <= asked[at + 2] // SIDE and asked[at] // SIDE <= high for at, (low, high) in enumerate(zip(lows, highs))):
+        return False
+    return reaches_far(asked) or any(marks(shape) & marks(asked) for shape in shapes)
 
 
 def may_lie_in(values, low, high):
@@ -155,6 +177,60 @@ def drawn_boxes(random):
                 x, y = random.randint(-200_000, 200_000), random.choice([-65_537, -65_536, -1, 0, 65_535, 65_536, 131_072])
                 spots.append(None if random.random() < 0.2 else (x, y, x, y))
             yield near_case(spots, box_at(random, random.randint(-200_000, 200_000), random.randint(-200_000, 200_000), 90_000), spots=True)
+
+
+def in_cells(left, low, right=None, high=None):
+    """The box from the first point of one cell to the last point of another, or of the same."""
+    right, high = left if right is None else right, low if high is None else high
+    return (left * SIDE, low * SIDE, right * SIDE + SIDE - 1, high * SIDE + SIDE - 1)
+
+
+def square_boxes():
+    """Squares begin at the cells 1, 9 and so on of a row or column, and at -7, -15 and so on."""
+    # the block is the same, and the squares are others
+    corners = [in_cells(-40, -40), in_cells(0, 0), in_cells(40, 40)]
+    for cell in [(-40, 40), (40, -40), (-40, 0), (0, 40), (20, 20), (-20, -20), (1, 1), (8, 8), (-7, -7), (-7, 0), (0, -7), (0, 0), (40, 40), (-40, -40), (33, 40), (41, 40), (-40, -47), (-47, -40), (-39, -40)]:
+        yield near_case(corners, in_cells(*cell))
+    # on both sides of each edge of a square, by one millimetre
+    for at in [-8 * SIDE, -7 * SIDE, SIDE, 9 * SIDE]:
+        for x in [at - 1, at]:
+            yield near_case(corners, (x, 0, x, 0))
+            yield near_case(corners, (0, x, 0, x))
+            yield near_case([(x, 0, x, 0), *map(lambda it: (it[0], it[1], it[0], it[1]), corners[::2])], (SIDE - 1, 0, SIDE - 1, 0), spots=True)
+    # a shape over an edge, and one over the corner of four squares
+    for shape in [in_cells(0, 0, 1, 0), in_cells(0, 0, 0, 1), in_cells(0, 0, 1, 1), in_cells(-8, 0, 9, 0), in_cells(0, -8, 0, 9)]:
+        for cell in [(-7, -7), (1, 0), (0, 1), (8, 8), (9, 0), (0, 9), (9, 9), (-8, 0), (0, -8), (-15, -15)]:
+            yield near_case([corners[0], shape, corners[2]], in_cells(*cell))
+    # the longest rows and columns of cells that are not wide
+    for shape in [in_cells(0, 0, 63, 0), in_cells(0, 0, 0, 63), in_cells(0, 0, 7, 7), in_cells(1, 1, 8, 8)]:
+        for cell in [(0, 0), (63, 0), (0, 63), (64, 0), (65, 0), (0, 64), (0, 65), (7, 7), (8, 8), (32, 0), (0, 32), (32, 32)]:
+            yield near_case([in_cells(-100, -100), None, shape, in_cells(100, 100)], in_cells(*cell))
+    # squares that share a mark, as near to one another as such are and as far as the plane allows
+    step = SQUARE * MARKS
+    for times in [1, 2, 2980]:
+        for across, up in [(1, 0), (0, 1), (1, 1), (-1, 1)]:
+            far = in_cells(times * step * across, times * step * up)
+            ends = [in_cells(-1_525_878, -1_525_878), in_cells(1_525_877, 1_525_877)]
+            yield near_case([*ends, in_cells(0, 0), far], far)
+            yield near_case([*ends, far, in_cells(0, 0)], in_cells(0, 0))
+            yield near_case([*ends, in_cells(0, 0)], far)
+            yield near_case([in_cells(0, 0), in_cells(1, 1)], far)
+            for aside in [-SQUARE, SQUARE]:
+                yield near_case([*ends, in_cells(0, 0)], in_cells(times * step * across + aside, times * step * up))
+                yield near_case([*ends, in_cells(0, 0)], in_cells(times * step * across, times * step * up + aside))
+    # to the left of the block and below it, at the same marks
+    for cell in [(-step, 0), (0, -step), (-step, -step), (step, 0), (0, step)]:
+        yield near_case([in_cells(0, 0), in_cells(2, 2), in_cells(4, 4)], in_cells(*cell))
+    # at the edges of the plane
+    low, high = (-EDGE, -EDGE, 1 - EDGE, 1 - EDGE), (EDGE - 1, EDGE - 1, EDGE, EDGE)
+    for asked in [low, high, (-EDGE, -EDGE, -EDGE, -EDGE), (EDGE, EDGE, EDGE, EDGE), (-EDGE, EDGE, -EDGE, EDGE), (EDGE, -EDGE, EDGE, -EDGE), (0, 0, 0, 0), in_cells(-1_525_872, -1_525_872), in_cells(-1_525_871, -1_525_872)]:
+        yield near_case([low, high], asked)
+    # boxes as long as all marks, less a cell and more by one
+    ends = [in_cells(-2000, -2000), in_cells(2000, 2000)]
+    for cells in [step - 2, step - 1, step, step + 1, step + SQUARE]:
+        for asked in [in_cells(0, 100, cells, 100), in_cells(100, 0, 100, cells), in_cells(0, 0, cells, cells)]:
+            yield near_case(ends, asked)
+            yield near_case([*ends, in_cells(200, 200)], asked)
 
 
 LABELS = ["a", "A", "b", "Ab", "aB", "ab", "z", "Z", "0", "9", "é", "ß", "\ud7ff", "\ue000", "\uffff", "\U00010000", "\U0010ffff", "a\u0301", "a\uffff", "a\U00010000"]
@@ -337,7 +413,7 @@ UNREAD = [
 
 def main():
     random = Random(65_536)
-    cases = [("# Boxes", None), *named_boxes(), *drawn_boxes(random), ("# Ranges", None), *ranges(random), ("# Layers", None), *layers(), ("# Lists of changes", None), *lists(), ("# As many times as a line may say", None), layer_case("a b c d e f g h".split(), 3, 65535, 40, ["x"]), ("# Lines that are no cases", None), *((line, "unread") for line in UNREAD)]
+    cases = [("# Boxes", None), *named_boxes(), *drawn_boxes(random), ("# Squares", None), *square_boxes(), ("# Ranges", None), *ranges(random), ("# Layers", None), *layers(), ("# Lists of changes", None), *lists(), ("# As many times as a line may say", None), layer_case("a b c d e f g h".split(), 3, 65535, 40, ["x"]), ("# Lines that are no cases", None), *((line, "unread") for line in UNREAD)]
     here = Path(__file__).parent
     (here / "stdin").write_text("".join(f"{asked}\n" for asked, _ in cases), encoding="utf-8")
     (here / "stdout").write_text("".join(f"{answer}\n" for _, answer in cases if answer is not None), encoding="utf-8")

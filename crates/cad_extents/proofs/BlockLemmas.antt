@@ -45,3 +45,16 @@ not_looked_at own all asked h k = go (is_wide own) h
     go : (w : Bool) → (not w && is_inside own all) ≡ true → (w || share_a_cell own asked) ≡ false
     go true e = absurd (false≢true e)
     go false e = apart_too own all asked e k
+
+-- what is small is small inside a block around it
+pub small_in : (own all : Block) → is_wide own ≡ false → is_inside own all ≡ true → is_small_in all own ≡ true
+small_in own all w h = rw (w, h) refl
+
+inside_own : (b : Block) → is_inside b b ≡ true
+inside_own b = and_from _ _ (part_of_own b.left b.right) (part_of_own b.low b.high)
+  where
+    part_of_own : (m n : ℤ) → is_part m n m n ≡ true
+    part_of_own m n = grind (arith, ints)
+
+pub small_in_own : (b : Block) → is_wide b ≡ false → is_small_in b b ≡ true
+small_in_own b w = small_in b b w (inside_own b)

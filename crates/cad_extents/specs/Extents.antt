@@ -1,11 +1,14 @@
 -- Between which values those of some features lie, property by property (own profile).
-use Rattle.std.specs.Prelude.{◌≡◌, ℕ, ℤ, Bool, true, false, not, ◌&&◌, int_le, List, Option, Some, None, get_or}
+use Rattle.std.specs.Prelude.{◌≡◌, ℕ, ℤ, Bool, true, not, ◌&&◌, int_le, List, Option, Some, None, get_or}
 use Rattle.cad_grid.specs.Blocks.{Block, is_wide}
 use Rattle.cad_grid.specs.Counted.{block_at}
 use Rattle.cad_grid.specs.Near.{block_in}
+use Rattle.cad_grid.specs.declared.cells.Cells.{Cells}
 use Rattle.cad_feature.specs.Features.{Item, datum_at}
 use Rattle.cad_feature.specs.Values.{Datum, a_whole}
 use Rattle.cad_range.specs.Ranges.{has_order}
+use Rattle.cad_extents.specs.Squares.{AreMarked}
+use Rattle.cad_extents.specs.declared.covered.Covered.{Covered}
 use Rattle.cad_extents.specs.declared.values.ValueExtent.{ValueExtent}
 use Rattle.cad_extents.specs.declared.values.ValueExtent.TheVariants as values
 use Rattle.cad_extents.specs.declared.cells.CellExtent.{CellExtent}
@@ -36,16 +39,20 @@ is_inside a b = is_part a.left a.right b.left b.right && is_part a.low a.high b.
 abbrev pub is_small_in : Block → Block → Bool
 is_small_in all own = not (is_wide own) && is_inside own all
 
+-- at most 64 cells, all of the block, and each square that has some of them is marked
+abbrev pub IsCovered : Covered → Block → Type 0
+IsCovered covered own = (is_small_in (block_at covered.block) own ≡ true) × ((cells : Cells) × (block_at cells ≡ own) × AreMarked covered.marks cells)
+
 -- a shape with these cells is one of those; or there is no shape
-abbrev pub holds_cells : CellExtent → Option Block → Bool
-holds_cells e None = true
-holds_cells cells.Empty (Some own) = false
-holds_cells (cells.Within all) (Some own) = is_small_in (block_at all) own
-holds_cells cells.Any (Some own) = true
+abbrev pub HoldsCells : CellExtent → Option Block → Type 0
+HoldsCells e None = Unit {0}
+HoldsCells cells.Empty (Some own) = ⊥
+HoldsCells (cells.Within covered) (Some own) = IsCovered covered own
+HoldsCells cells.Any (Some own) = Unit {0}
 
 -- the value is one of those, and so is the shape that it may be
-abbrev pub holds : Extent → Datum → Bool
-holds e d = holds_value e.values d && holds_cells e.cells (block_in d)
+abbrev pub Holds : Extent → Datum → Type 0
+Holds e d = (holds_value e.values d ≡ true) × HoldsCells e.cells (block_in d)
 
 -- ---- of all properties
 
@@ -58,7 +65,7 @@ extent_at es place = get_or es place any
 
 -- each value of the feature is one of those of its property
 abbrev pub AreHeld : List Extent → Item → Type 0
-AreHeld es x = (place : ℕ) → holds (extent_at es place) (datum_at x place) ≡ true
+AreHeld es x = (place : ℕ) → Holds (extent_at es place) (datum_at x place)
 
 abbrev pub IsWithin : Extents → Item → Type 0
 IsWithin extents x = AreHeld extents.all.items x

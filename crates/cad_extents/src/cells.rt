@@ -1,73 +1,82 @@
-//! Around which cells the shapes of a property lie.
+//! Which cells the shapes of a property touch.
 
-ghost use Rattle.std.specs.Prelude.{◌≡◌, Option, Some, true, false};
+ghost use Rattle.std.specs.Prelude.{◌≡◌, IfOk, Option, Some, false};
 ghost use Rattle.cad_grid.specs.Blocks.{Block};
 ghost use Rattle.cad_grid.specs.Counted.{block_at};
 ghost use Rattle.cad_grid.specs.Near.{block_in, is_candidate};
-ghost use Rattle.cad_extents.specs.Extents.{holds_cells, is_inside};
+ghost use Rattle.cad_extents.specs.Extents.{HoldsCells};
 ghost use Rattle.cad_feature.specs.Values.{datum_of};
 
+use crate::covered::Covered;
 use cad_feature::Value;
 use cad_grid::{Cells, bounds_of};
+use std::alloc::{AllocError, Global};
 
-/// Around which cells the shapes of a property lie.
-#[derive(Clone, Copy, Debug)]
+/// Which cells the shapes of a property touch.
+#[derive(Debug, Drop)]
 pub(crate) enum CellExtent {
     /// There is no shape.
     Empty,
     /// No shape touches more than 64 cells, and they touch only these.
-    Within(Cells),
+    Within(Covered),
     /// The shapes may be any.
     Any,
 }
 
-/// The least block of cells that contains both.
-fn around(one: Cells, other: Cells) -> Cells
-    ensures one { is_inside (block_at one) (block_at result) ≡ true }
-    ensures other { is_inside (block_at other) (block_at result) ≡ true }
-{
-    Cells {
-        left: one.left.min(other.left),
-        low: one.low.min(other.low),
-        right: one.right.max(other.right),
-        high: one.high.max(other.high),
-    }
-}
-
 impl CellExtent {
-    /// The extent of these shapes and one with these cells.
-    fn with_cells(self, cells: Cells) -> CellExtent
-        ensures own { (b : Option Block) → holds_cells self b ≡ true → holds_cells result b ≡ true }
-        ensures more { holds_cells result (Some (block_at cells)) ≡ true }
+    /// The extent of these shapes and one with these cells. An error means out of memory.
+    fn with_cells(self, alloc: Global, cells: Cells) -> Result<CellExtent, AllocError>
+        ensures own { IfOk result (λ all. (b : Option Block) → HoldsCells self b → HoldsCells all b) }
+        ensures more { IfOk result (λ all. HoldsCells all (Some (block_at cells))) }
     {
         if cells.is_wide() {
-            return CellExtent::Any;
+            return Ok(CellExtent::Any);
         }
         match self {
-            CellExtent::Empty => CellExtent::Within(cells),
-            CellExtent::Within(own) => CellExtent::Within(around(own, cells)),
-            CellExtent::Any => CellExtent::Any,
+            CellExtent::Empty => {
+                let covered = Covered::of(alloc, cells)?;
+                Ok(CellExtent::Within(covered))
+            }
+            CellExtent::Within(covered) => Ok(CellExtent::Within(covered.with(cells))),
+            CellExtent::Any => Ok(CellExtent::Any),
         }
     }
 
-    /// The extent of these shapes and one more value, which may be a shape.
-    pub(crate) fn with(self, value: &Value) -> CellExtent
-        ensures own { (b : Option Block) → holds_cells self b ≡ true → holds_cells result b ≡ true }
-        ensures more { holds_cells result (block_in (datum_of value.now)) ≡ true }
+    /// The extent of these shapes and one more value, which may be a shape. An error means out of memory.
+    pub(crate) fn with(self, alloc: Global, value: &Value) -> Result<CellExtent, AllocError>
+        ensures own { IfOk result (λ all. (b : Option Block) → HoldsCells self b → HoldsCells all b) }
+        ensures more { IfOk result (λ all. HoldsCells all (block_in (datum_of value.now))) }
     {
         match bounds_of(value) {
-            None => self,
-            Some(bounds) => self.with_cells(Cells::of(bounds)),
+            None => Ok(self),
+            Some(bounds) => {
+                let all = self.with_cells(alloc, Cells::of(bounds))?;
+                Ok(all)
+            }
+        }
+    }
+
+    /// The same in memory of its own. An error means out of memory.
+    pub(crate) fn copy(&self, alloc: Global) -> Result<CellExtent, AllocError>
+        ensures { IfOk result (λ same. (b : Option Block) → HoldsCells self.now b → HoldsCells same b) }
+    {
+        match self {
+            CellExtent::Empty => Ok(CellExtent::Empty),
+            CellExtent::Within(covered) => {
+                let covered = covered.copy(alloc)?;
+                Ok(CellExtent::Within(covered))
+            }
+            CellExtent::Any => Ok(CellExtent::Any),
         }
     }
 
     /// Whether such a shape may be near the cells.
-    pub(crate) fn may_be_near(self, asked: Cells) -> bool
-        ensures { result ≡ false → (b : Option Block) → holds_cells self b ≡ true → is_candidate (block_at asked) b ≡ false }
+    pub(crate) fn may_be_near(&self, asked: Cells) -> bool
+        ensures { result ≡ false → (b : Option Block) → HoldsCells self.now b → is_candidate (block_at asked) b ≡ false }
     {
         match self {
             CellExtent::Empty => false,
-            CellExtent::Within(cells) => cells.share_a_cell(asked),
+            CellExtent::Within(covered) => covered.may_share(asked),
             CellExtent::Any => true,
         }
     }

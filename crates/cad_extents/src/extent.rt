@@ -1,9 +1,9 @@
 //! The extent of one property.
 
-ghost use Rattle.std.specs.Prelude.{◌≡◌, true, false};
+ghost use Rattle.std.specs.Prelude.{◌≡◌, IfOk, false};
 ghost use Rattle.cad_grid.specs.Counted.{block_at};
 ghost use Rattle.cad_grid.specs.Near.{block_in, is_candidate};
-ghost use Rattle.cad_extents.specs.Extents.{holds};
+ghost use Rattle.cad_extents.specs.Extents.{Holds};
 ghost use Rattle.cad_feature.specs.Features.{datum_at};
 ghost use Rattle.cad_feature.specs.Limits.{limit_of};
 ghost use Rattle.cad_feature.specs.Values.{Datum, datum_of};
@@ -13,9 +13,10 @@ use crate::cells::CellExtent;
 use crate::values::ValueExtent;
 use cad_feature::{Feature, Range, Value};
 use cad_grid::Cells;
+use std::alloc::{AllocError, Global};
 
-/// Between which values those of a property lie, and around which cells its shapes lie.
-#[derive(Clone, Copy, Debug)]
+/// Between which values those of a property lie, and which cells its shapes touch.
+#[derive(Debug, Drop)]
 pub(crate) struct Extent {
     values: ValueExtent,
     cells: CellExtent,
@@ -28,38 +29,58 @@ pub(crate) const EMPTY: Extent = Extent {
 };
 
 impl Extent {
-    /// The extent of these values and one more.
-    fn with(self, value: &Value) -> Extent
-        ensures own { (d : Datum) → holds self d ≡ true → holds result d ≡ true }
-        ensures more { holds result (datum_of value.now) ≡ true }
+    /// The extent of these values and one more. An error means out of memory.
+    fn with(self, alloc: Global, value: &Value) -> Result<Extent, AllocError>
+        ensures own { IfOk result (λ all. (d : Datum) → Holds self d → Holds all d) }
+        ensures more { IfOk result (λ all. Holds all (datum_of value.now)) }
     {
-        Extent {
+        let cells = self.cells.with(alloc, value)?;
+        Ok(Extent {
             values: self.values.with(value),
-            cells: self.cells.with(value),
-        }
+            cells,
+        })
     }
 
-    /// The extent of these values and the feature's value at the place, if it has one.
-    pub(crate) fn with_value(self, feature: &Feature, place: usize) -> Extent
-        ensures own { (d : Datum) → holds self d ≡ true → holds result d ≡ true }
-        ensures more { holds result (datum_at feature.now place) ≡ true }
+    /// The same in memory of its own. An error means out of memory.
+    pub(crate) fn copy(&self, alloc: Global) -> Result<Extent, AllocError>
+        ensures { IfOk result (λ same. (d : Datum) → Holds self.now d → Holds same d) }
+    {
+        let cells = self.cells.copy(alloc)?;
+        Ok(Extent {
+            values: self.values,
+            cells,
+        })
+    }
+
+    /// The extent of these values and the feature's value at the place, if it has one. An error means out of memory.
+    pub(crate) fn with_value(
+        self,
+        alloc: Global,
+        feature: &Feature,
+        place: usize,
+    ) -> Result<Extent, AllocError>
+        ensures own { IfOk result (λ all. (d : Datum) → Holds self d → Holds all d) }
+        ensures more { IfOk result (λ all. Holds all (datum_at feature.now place)) }
     {
         match feature.value(place) {
-            None => self,
-            Some(value) => self.with(value),
+            None => Ok(self),
+            Some(value) => {
+                let all = self.with(alloc, value)?;
+                Ok(all)
+            }
         }
     }
 
     /// Whether such a value may lie in the range.
-    pub(crate) fn may_lie_in(self, range: &Range) -> bool
-        ensures { result ≡ false → (d : Datum) → holds self d ≡ true → lies_between (limit_of range.now.low) (limit_of range.now.high) d ≡ false }
+    pub(crate) fn may_lie_in(&self, range: &Range) -> bool
+        ensures { result ≡ false → (d : Datum) → Holds self.now d → lies_between (limit_of range.now.low) (limit_of range.now.high) d ≡ false }
     {
         self.values.may_lie_in(range)
     }
 
     /// Whether such a shape may be near the cells.
-    pub(crate) fn may_be_near(self, asked: Cells) -> bool
-        ensures { result ≡ false → (d : Datum) → holds self d ≡ true → is_candidate (block_at asked) (block_in d) ≡ false }
+    pub(crate) fn may_be_near(&self, asked: Cells) -> bool
+        ensures { result ≡ false → (d : Datum) → Holds self.now d → is_candidate (block_at asked) (block_in d) ≡ false }
     {
         self.cells.may_be_near(asked)
     }

@@ -1,14 +1,17 @@
 //! The extents of all properties.
 
-ghost use Rattle.std.specs.Prelude.{◌≡◌, IfOk, true};
+ghost use Rattle.std.specs.Prelude.{◌≡◌, ◌<◌, IfOk, OnOk, length, set};
 ghost use Rattle.std.specs.List.{AllByRecursion};
-ghost use Rattle.cad_feature.specs.Features.{Item};
-ghost use Rattle.cad_extents.specs.Extents.{AreHeld};
+ghost use Rattle.cad_feature.specs.Features.{Item, datum_at};
+ghost use Rattle.cad_feature.specs.Values.{Datum};
+ghost use Rattle.cad_extents.specs.Extents.{AreHeld, Holds, extent_at};
+ghost use Rattle.cad_extents.specs.declared.extent.Extent.{Extent};
 
 use crate::extent::{EMPTY, Extent};
 use cad_feature::{Feature, Range};
 use cad_grid::Cells;
 use std::alloc::{AllocError, Global};
+use std::mem::replace;
 
 /// Between which values those of some features lie, property by property in the order of the schema.
 #[derive(Debug, Drop)]
@@ -16,26 +19,68 @@ pub struct Extents {
     all: Vec<Extent>,
 }
 
-/// Widens the extents to those of these features and one more.
-fn widen(extents: &mut Vec<Extent>, feature: &Feature)
-    ensures own { (x : Item) → AreHeld extents.old.items x → AreHeld extents.new.items x }
-    ensures more { AreHeld extents.new.items feature.now }
+/// Widens the extent of the property at the place to the values of its features and of one more. An error means out of memory.
+fn widen_at(
+    alloc: Global,
+    extents: &mut Vec<Extent>,
+    feature: &Feature,
+    place: usize,
+) -> Result<(), AllocError>
+    requires { place < length extents.old.items }
+    ensures { OnOk result ((e : Extent) × (extents.new.items ≡ set extents.old.items place e) × ((d : Datum) → Holds (extent_at extents.old.items place) d → Holds e d) × Holds e (datum_at feature.now place)) }
 {
-    for place in 0..extents.len() {
-        extents[place] = extents[place].with_value(feature, place);
-    }
+    let own = replace(&mut extents[place], EMPTY);
+    extents[place] = own.with_value(alloc, feature, place)?;
+    Ok(())
 }
 
-/// Widens the extents to those of these features and of others.
-fn widen_by_all(extents: &mut Vec<Extent>, features: &[Feature])
-    ensures own { (x : Item) → AreHeld extents.old.items x → AreHeld extents.new.items x }
-    ensures more { AllByRecursion (AreHeld extents.new.items) features.now }
+/// Widens the extents to those of these features and one more. An error means out of memory.
+fn widen(alloc: Global, extents: &mut Vec<Extent>, feature: &Feature) -> Result<(), AllocError>
+    ensures own { OnOk result ((x : Item) → AreHeld extents.old.items x → AreHeld extents.new.items x) }
+    ensures more { OnOk result (AreHeld extents.new.items feature.now) }
+{
+    for place in 0..extents.len() {
+        widen_at(alloc, extents, feature, place)?;
+    }
+    Ok(())
+}
+
+/// Widens the extents to those of these features and of others. An error means out of memory.
+fn widen_by_all(
+    alloc: Global,
+    extents: &mut Vec<Extent>,
+    features: &[Feature],
+) -> Result<(), AllocError>
+    ensures own { OnOk result ((x : Item) → AreHeld extents.old.items x → AreHeld extents.new.items x) }
+    ensures more { OnOk result (AllByRecursion (AreHeld extents.new.items) features.now) }
 {
     let mut rest = features;
     while let Some((feature, behind)) = rest.split_last() {
-        widen(extents, feature);
+        widen(alloc, extents, feature)?;
         rest = behind;
     }
+    Ok(())
+}
+
+/// The same extents in memory of their own. An error means out of memory.
+fn copies(alloc: Global, extents: &[Extent]) -> Result<Vec<Extent>, AllocError>
+    ensures { IfOk result (λ all. (x : Item) → AreHeld extents.now x → AreHeld all.items x) }
+{
+    let mut all = Vec::with_capacity(alloc, extents.len())?;
+    for extent in extents {
+        let same = extent.copy(alloc)?;
+        all.push(same)?;
+    }
+    Ok(all)
+}
+
+/// The extents of the given number of properties, of which no feature has a value. An error means out of memory.
+fn empty(alloc: Global, properties: usize) -> Result<Vec<Extent>, AllocError> {
+    let mut all = Vec::with_capacity(alloc, properties)?;
+    for _ in 0..properties {
+        all.push(EMPTY)?;
+    }
+    Ok(all)
 }
 
 impl Extents {
@@ -51,8 +96,8 @@ impl Extents {
     pub fn of(alloc: Global, features: &[Feature], properties: usize) -> Result<Extents, AllocError>
         ensures { IfOk result (λ extents. AllByRecursion (IsWithin extents) features.now) }
     {
-        let mut all = vec![in alloc; EMPTY; properties]?;
-        widen_by_all(&mut all, features);
+        let mut all = empty(alloc, properties)?;
+        widen_by_all(alloc, &mut all, features)?;
         Ok(Extents { all })
     }
 
@@ -61,8 +106,8 @@ impl Extents {
         ensures own { IfOk result (λ extents. (x : Item) → IsWithin self.now x → IsWithin extents x) }
         ensures more { IfOk result (λ extents. AllByRecursion (IsWithin extents) features.now) }
     {
-        let mut all = Vec::from_slice(alloc, &self.all)?;
-        widen_by_all(&mut all, features);
+        let mut all = copies(alloc, &self.all)?;
+        widen_by_all(alloc, &mut all, features)?;
         Ok(Extents { all })
     }
 

@@ -1,15 +1,18 @@
 //! Between which values those of some features lie, property by property.
 //!
-//! - [`Extents`]: of each property, between which whole numbers its values lie, and around which cells its shapes; no feature has a value
-//!   outside of them.
+//! - [`Extents`]: of each property, between which whole numbers its values lie, and which squares of eight by eight cells its shapes may
+//!   touch; no feature has a value outside of them.
 //!
-//! Of the parcels 3 and 7, only 3 has an area, 390. So no feature has an `object` from 8 to 9, an `area` above 390, or a shape outside of
-//! the cells of both. The extents do not say whether a feature has the `object` 5.
+//! Of the parcels 3 and 7, only 3 has an area, 390. So no feature has an `object` from 8 to 9, an `area` above 390, or a shape that
+//! touches no square that a shape of either touches. The extents do not say whether a feature has the `object` 5.
 #![tactic(auto)]
 
 mod cells;
+mod covered;
 mod extent;
 mod extents;
+mod marks;
+mod squares;
 mod values;
 
 pub use extents::Extents;

@@ -59,9 +59,11 @@ impl Grid {
         })
     }
 
-    // Whether the asked cells are many compared with all shapes, so that a look at each shape is cheaper than a walk.
+    // Whether the asked cells are many compared with all shapes, so that a look at each shape is cheaper than a walk. A walk searches in
+    // each of their rows, and looks at each entry in them.
     fn are_many(&self, asked: Cells) -> bool {
-        asked.is_wide() && asked.count() > self.cells.len() as u64 / 64
+        let shapes = self.cells.len();
+        (asked.high - asked.low) as usize >= shapes / 16 || asked.count() > shapes as u64
     }
 
     /// How many positions are near the box. No memory is taken.

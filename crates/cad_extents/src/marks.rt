@@ -1,0 +1,67 @@
+//! Marks of places.
+
+ghost use Rattle.std.specs.Prelude.{◌≡◌, ◌≢◌, ℕ, ◌<◌, ◌↔◌, ◌/◌, ◌%◌, IfOk, IsTrue, length};
+ghost use Rattle.std.specs.Int.{bit_at};
+
+use std::alloc::{AllocError, Global};
+
+/// Which of 4,096 places are marked, one bit for each.
+#[derive(Debug, Drop)]
+pub(crate) struct Marks {
+    words: Vec<u64>,
+    ghost all: { length words.items ≡ 64 },
+}
+
+/// The word with the bit set.
+fn with_bit(word: u64, bit: u32) -> u64
+    requires { bit < 64 }
+    ensures set { bit_at result bit ≡ 1 }
+    ensures others { (i : ℕ) → i ≢ bit → bit_at result i ≡ bit_at word i }
+{
+    word | (1 << bit)
+}
+
+/// Whether the bit is set.
+fn has_bit(word: u64, bit: u32) -> bool
+    requires { bit < 64 }
+    ensures { IsTrue result ↔ (bit_at word bit ≡ 1) }
+{
+    word & (1 << bit) != 0
+}
+
+impl Marks {
+    ghost use Rattle.std.specs.Prelude.{◌≡◌, ℕ, ◌<◌, ◌↔◌, IfOk, IsTrue};
+    ghost use Rattle.cad_extents.specs.Squares.{IsMarked};
+
+    /// No marks. An error means out of memory.
+    pub(crate) fn none(alloc: Global) -> Result<Marks, AllocError> {
+        let words = vec![in alloc; 0; 64]?;
+        Ok(Marks { words })
+    }
+
+    /// The same marks in memory of their own. An error means out of memory.
+    pub(crate) fn copy(&self, alloc: Global) -> Result<Marks, AllocError>
+        ensures { IfOk result (λ marks. marks.words.items ≡ self.now.words.items) }
+    {
+        let words = Vec::from_slice(alloc, &self.words)?;
+        Ok(Marks { words })
+    }
+
+    /// Marks the place.
+    pub(crate) fn set(&mut self, place: u32)
+        requires { place < 4096 }
+        ensures own { (k : ℕ) → IsMarked self.old k → IsMarked self.new k }
+        ensures more { IsMarked self.new place }
+    {
+        let at = (place / 64) as usize;
+        self.words[at] = with_bit(self.words[at], place % 64);
+    }
+
+    /// Whether the place is marked.
+    pub(crate) fn has(&self, place: u32) -> bool
+        requires { place < 4096 }
+        ensures { IsTrue result ↔ IsMarked self.now place }
+    {
+        has_bit(self.words[(place / 64) as usize], place % 64)
+    }
+}

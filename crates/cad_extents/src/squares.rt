@@ -1,0 +1,76 @@
+//! Squares of cells, and which of them are marked.
+
+ghost use Rattle.std.specs.Prelude.{◌≡◌, ℕ, ◌<◌, ◌≤◌, false};
+ghost use Rattle.cad_extents.specs.Squares.{AreMarked, IsMarked, IsRowMarked, place_at};
+ghost use Rattle.cad_extents.specs.inner.Free.{AreFree, IsRowFree};
+
+use crate::marks::Marks;
+use cad_grid::Cells;
+
+/// A square has this many columns and this many rows of cells.
+const CELLS: u32 = 8;
+
+/// There are this many rows of places, and this many places in a row.
+const SIDE: u32 = 64;
+
+/// The place of the square in this row and column of squares.
+fn place(row: u32, column: u32) -> u32
+    ensures place { result ≡ place_at row column }
+    ensures within { result < 4096 }
+{
+    (row % 64) * 64 + column % 64
+}
+
+/// Marks the squares of this row in the columns from first to last.
+fn mark_row(marks: &mut Marks, row: u32, first: u32, last: u32)
+    requires { last ≤ 400000 }
+    ensures own { (k : ℕ) → IsMarked marks.old k → IsMarked marks.new k }
+    ensures more { IsRowMarked marks.new row first last }
+{
+    for column in first..last + 1 {
+        marks.set(place(row, column));
+    }
+}
+
+/// Whether a square of this row in the columns from first to last is marked.
+fn has_in_row(marks: &Marks, row: u32, first: u32, last: u32) -> bool
+    requires { last ≤ 400000 }
+    ensures { result ≡ false → IsRowFree marks.now row first last }
+{
+    for column in first..last + 1 {
+        if marks.has(place(row, column)) {
+            return true;
+        }
+    }
+    false
+}
+
+/// Marks the squares that have some of the cells.
+pub(crate) fn mark(marks: &mut Marks, cells: Cells)
+    ensures own { (k : ℕ) → IsMarked marks.old k → IsMarked marks.new k }
+    ensures more { AreMarked marks.new cells }
+{
+    for row in cells.low / CELLS..cells.high / CELLS + 1 {
+        mark_row(marks, row, cells.left / CELLS, cells.right / CELLS);
+    }
+}
+
+/// Whether the cells lie in so many squares that nearly each place is that of one of them.
+fn are_many(cells: Cells) -> bool {
+    (cells.right - cells.left) / CELLS >= SIDE || (cells.high - cells.low) / CELLS >= SIDE
+}
+
+/// Whether a square that has some of the cells is marked. If there are very many squares, it returns true without a search.
+pub(crate) fn has_some(marks: &Marks, cells: Cells) -> bool
+    ensures { result ≡ false → AreFree marks.now cells }
+{
+    if are_many(cells) {
+        return true;
+    }
+    for row in cells.low / CELLS..cells.high / CELLS + 1 {
+        if has_in_row(marks, row, cells.left / CELLS, cells.right / CELLS) {
+            return true;
+        }
+    }
+    false
+}
