@@ -82,7 +82,11 @@ impl<R: Responder> Desk<R> {
         let Some(connection) = self.connections.remove(&c) else {
             return Err(DeskFault::UnknownConnection);
         };
-        let Fed { bytes, connection } = match connection.feed(self.alloc, piece, &mut self.responder) {
+        let Fed { bytes, connection } = match connection.feed(
+            self.alloc,
+            piece,
+            &mut self.responder,
+        ) {
             Ok(fed) => fed,
             Err(fault) => return Err(DeskFault::from(fault)),
         };
