@@ -8,13 +8,16 @@ use Rattle.cad_desk.specs.declared.event.Reply.{Reply}
 use Rattle.cad_desk.specs.declared.event.Reply.TheVariants.{Sent}
 use Rattle.cad_desk.specs.declared.fault.DeskFault.{DeskFault}
 use Rattle.cad_desk.specs.Desks.{IsShutAtDesk, Steps}
+use Rattle.cad_desk.specs.Runs.{IsOnlyAsked}
 use Rattle.cad_clients.specs.declared.channel.Channel.{Channel}
 use Rattle.cad_clients.specs.Channels.{Act, wrote, took, fed, read_in, written_in, Does}
 
--- a turn of this connection, or an event of another connection or of the land office, with its answer
+-- a turn of this connection; an event of another connection or of the land office, with its answer; or the land office asked what would be
+-- answered to a command
 pub data Happening : Type 0 where
   own : Act → Happening
   other : Event → Result Reply DeskFault → Happening
+  asked : Happening
 
 -- the event is not of connection c
 abbrev pub IsOther : ℕ → Event → Type 0
@@ -28,11 +31,13 @@ abbrev pub read_of : List Happening → List ℕ
 read_of [] = []
 read_of (own act ∷ later) = read_in act ++ read_of later
 read_of (other event answer ∷ later) = read_of later
+read_of (asked ∷ later) = read_of later
 
 abbrev pub written_of : List Happening → List ℕ
 written_of [] = []
 written_of (own act ∷ later) = written_in act ++ written_of later
 written_of (other event answer ∷ later) = written_of later
+written_of (asked ∷ later) = written_of later
 
 -- the events that the desk took, and its answers
 abbrev pub events_in : ℕ → Act → List Event → List Event
@@ -49,11 +54,13 @@ abbrev pub events_of : ℕ → List Happening → List Event
 events_of c [] = []
 events_of c (own act ∷ later) = events_in c act (events_of c later)
 events_of c (other event answer ∷ later) = event ∷ events_of c later
+events_of c (asked ∷ later) = events_of c later
 
 abbrev pub answers_of : List Happening → List (Result Reply DeskFault)
 answers_of [] = []
 answers_of (own act ∷ later) = answers_in act (answers_of later)
 answers_of (other event answer ∷ later) = answer ∷ answers_of later
+answers_of (asked ∷ later) = answers_of later
 
 module _ {R : Type 0} (g : Ghosts R) (c : ℕ) where
   -- all this happens, one after the other, and none of it closed the ledger
@@ -63,3 +70,4 @@ module _ {R : Type 0} (g : Ghosts R) (c : ℕ) where
   Lives old channel (other event answer ∷ later) new last =
       (mid : Desk R) × IsOther c event × Steps g old event answer mid × IfErr answer (λ fault. ¬ IsShutAtDesk g old fault mid)
       × Lives mid channel later new last
+  Lives old channel (asked ∷ later) new last = (mid : Desk R) × IsOnlyAsked g old mid × Lives mid channel later new last

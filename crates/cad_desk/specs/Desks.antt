@@ -12,7 +12,7 @@ use Rattle.cad_desk.specs.declared.event.Event.TheVariants.{Open, Bytes, Close, 
 use Rattle.cad_desk.specs.declared.event.Reply.{Reply}
 use Rattle.cad_desk.specs.declared.fault.DeskFault.{DeskFault}
 use Rattle.cad_desk.specs.declared.fault.DeskFault.TheVariants.{Register}
-use Rattle.cad_desk.specs.Connections.{Connections, rest_at, Keeps}
+use Rattle.cad_desk.specs.Connections.{Connections, rest_at}
 use Rattle.cad_desk.specs.Events.{Rules, StepOf, commands_after}
 use Rattle.cad_desk.specs.Faults.{MayCloseDesk, NamesDamageAtDesk}
 
@@ -68,4 +68,4 @@ module _ {R : Type 0} (g : Ghosts R) where
   -- a command of the land office is checked by the responder, and the connections do not change
   pub record ChecksAtDesk (old : Desk R) (command : Command) (result : Result ℕ RegisterFault) (new : Desk R) : Type 0 where
     pub checked : Checked g.stands_for g.counts g.lives g.fails g.fails_to_enter g.refuses_command g.damaged_for_command g.remains (responder_of old) command result (responder_of new)
-    pub connections : Keeps (connections_of old) (connections_of new)
+    pub connections : connections_of new ≡ connections_of old

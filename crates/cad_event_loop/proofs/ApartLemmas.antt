@@ -13,7 +13,7 @@ use Rattle.cad_event_loop.specs.Works.{Held, AtOffice, Place, Puts, Same, Said, 
 use Rattle.cad_event_loop.specs.Lives.{own_deeds}
 use Rattle.cad_office_socket.specs.declared.entry.Entry.{Entry}
 use Rattle.cad_office_socket.specs.declared.turned.EntryTurned.{EntryTurned}
-use Rattle.cad_office_socket.specs.declared.turned.EntryTurned.TheVariants.{Wrote, Took, Added, Answered, Lost, Stops, Waits, Over}
+use Rattle.cad_office_socket.specs.declared.turned.EntryTurned.TheVariants.{Wrote, Took, Added, Answered, Lost, Checked, CheckLost, Stops, Waits, Over}
 use Rattle.cad_office_socket.specs.Turns.{IsTaken, IsEntryTurn}
 use Rattle.cad_event_loop.proofs.GoesLemmas.{told_quiet, aside_passes, woken_quiet}
 use Rattle.cad_event_loop.proofs.LifeLemmas.{apart, none_some, one_some}
@@ -103,6 +103,8 @@ module _ {R : Type 0} (g : Ghosts R) where
   entry_quiet s o old new entry next Added deeds e x = taken_quiet s o old new entry next Added deeds e x
   entry_quiet s o old new entry next (Answered answer) deeds e x = taken_quiet s o old new entry next (Answered answer) deeds e x
   entry_quiet s o old new entry next (Lost answer) deeds e x = taken_quiet s o old new entry next (Lost answer) deeds e x
+  entry_quiet s o old new entry next (Checked report) deeds e x = taken_quiet s o old new entry next (Checked report) deeds e x
+  entry_quiet s o old new entry next (CheckLost report) deeds e x = taken_quiet s o old new entry next (CheckLost report) deeds e x
   entry_quiet s o old new entry next Stops deeds e x = taken_quiet s o old new entry next Stops deeds e x
   entry_quiet s o old new entry next Waits deeds e x = rw x.0 (refl, refl)
   entry_quiet s o old new entry next Over deeds e x = elim x.0 [

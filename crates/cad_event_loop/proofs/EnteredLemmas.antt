@@ -6,9 +6,11 @@ use Rattle.cad_desk.specs.declared.desk.Desk.{Desk}
 use Rattle.cad_desk.specs.Desks.{responder_of}
 use Rattle.cad_office.specs.declared.print.Answer.{Answer}
 use Rattle.cad_office.specs.declared.print.Answer.TheVariants.{Entered, Refused, NotACommand}
+use Rattle.cad_dry_run.specs.declared.report.Report.{Report}
+use Rattle.cad_dry_run.specs.declared.report.Report.TheVariants as report
 use Rattle.cad_office_socket.specs.declared.turned.EntryTurned.{EntryTurned}
-use Rattle.cad_office_socket.specs.declared.turned.EntryTurned.TheVariants.{Wrote, Took, Added, Answered, Lost, Stops, Waits, Over}
-use Rattle.cad_event_loop.specs.Works.{Place, Said, Work, wakes, opens, acts, waits, ends, office_comes, enters, office_leaves, aside, SaysSo, IsLineSaid, Tells, Goes, MayGoOn}
+use Rattle.cad_office_socket.specs.declared.turned.EntryTurned.TheVariants.{Wrote, Took, Added, Answered, Lost, Checked, CheckLost, Stops, Waits, Over}
+use Rattle.cad_event_loop.specs.Works.{Place, Said, Work, wakes, opens, acts, waits, ends, office_comes, enters, office_leaves, aside, SaysSo, ChecksSo, IsCheckSaid, IsLineSaid, Tells, Goes, MayGoOn}
 use Rattle.cad_event_loop.specs.Laws.{commands_by, commands_in, AreEntered, AreFirst, AreFirstBy, LedgerStands}
 use Rattle.cad_event_loop.proofs.StandLemmas.{goes_clean, goes_stands}
 
@@ -48,6 +50,22 @@ module _ {R : Type 0} (g : Ghosts R) where
         let r = none_more same in
         (r.0, r.1, subst (λ (cs : List Command). commands_in cs later ≡ commands ++ r.0) (sym same) r.2)
 
+    -- a check enters nothing
+    check_same : (it : Report) (line : List ℕ) → ChecksSo line it said → commands_by commands said ≡ commands
+    check_same (report.WouldBe revision) line says = rw says.2 refl
+    check_same (report.Refused fault) line says = elim says [
+      | inl refused ↦ rw refused.2 refl
+      | inr none ↦ rw none.2 refl
+    ]
+    check_same (report.NoCommand reason) line says = rw says.1 refl
+    check_same report.LongLine line says = rw says.1 refl
+
+    checked : (it : Report) → IsCheckSaid text it said → (entered : List Command) × AreEntered later (length commands) entered × (commands_in (commands_by commands said) later ≡ commands ++ entered)
+    checked it says =
+        let same = check_same it says.0 says.2 in
+        let r = none_more same in
+        (r.0, r.1, subst (λ (cs : List Command). commands_in cs later ≡ commands ++ r.0) (sym same) r.2)
+
     untold : said ≡ None → EnteredIn commands later × (commands_in (commands_by commands said) later ≡ commands_in commands later)
     untold none = (none_more (rw none refl), rw none refl)
 
@@ -55,6 +73,8 @@ module _ {R : Type 0} (g : Ghosts R) where
         → (entered : List Command) × AreFirstBy (AreEntered later) (length commands) text turned entered × (commands_in (commands_by commands said) later ≡ commands ++ entered)
     entered_by (Answered answer) line = answered answer line.1
     entered_by (Lost answer) line = answered answer line.1
+    entered_by (Checked it) line = checked it line
+    entered_by (CheckLost it) line = checked it line
     entered_by Stops line = let r = untold line.1 in (r.0.0, r.0.1, r.1 ∙ r.0.2)
     entered_by Wrote line = let r = untold line in (r.0.0, r.0.1, r.1 ∙ r.0.2)
     entered_by Took line = let r = untold line in (r.0.0, r.0.1, r.1 ∙ r.0.2)

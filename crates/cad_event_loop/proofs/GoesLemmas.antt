@@ -32,7 +32,7 @@ use Rattle.cad_event_loop.specs.Hosting.{end_of_client, Each, IsServing, IsClosi
 use Rattle.cad_event_loop.specs.inner.Standing.{standing_of, standing_at, standing_office, standings_of, standings, IsWoken, IsAsked, IsPaced, IsAtDoors, GivesTurn, GivesTurnAlone}
 use Rattle.cad_event_loop.specs.Turns.{Standing, absent, waiting, ready, Standings, woken, is_among, office_place, stands_after, stands_in, office_after, office_in, is_turn_of, is_wait_of, is_end_of, any_of, has_turn, turns_of, written_by, written_to, Replies, HasEnough}
 use Rattle.cad_event_loop.proofs.StandingLemmas.{stands_in-append, office_in-append, any_right, any_none, one_of, none_of, turns_of-append, written_to-append, beyond}
-use Rattle.cad_event_loop.specs.Works.{Held, held_of, held_at, Place, place_of, AtOffice, Puts, Same, Said, Work, wakes, opens, acts, waits, ends, office_comes, enters, office_leaves, aside, deeds_in, deeds_of, all_deeds, end_with, end_of_cause, end_of_turned, end_by, end_in, EndsBy, IsOf, IsAside, Tells, Works, Goes}
+use Rattle.cad_event_loop.specs.Works.{Held, held_of, held_at, Place, place_of, AtOffice, Puts, Same, event, Said, Work, wakes, opens, acts, waits, ends, office_comes, enters, office_leaves, aside, deeds_in, deeds_of, all_deeds, end_with, end_of_cause, end_of_turned, end_by, end_in, EndsBy, IsOf, IsAside, Tells, Works, Goes}
 
 pub all_deeds-append : (xs ys : List Work) → all_deeds (xs ++ ys) ≡ all_deeds xs ++ all_deeds ys
 all_deeds-append [] ys = refl
@@ -162,6 +162,8 @@ turn_goes entry.Took may = absurd may
 turn_goes entry.Added may = absurd may
 turn_goes (entry.Answered answer) may = absurd may
 turn_goes (entry.Lost answer) may = absurd may
+turn_goes (entry.Checked report) may = absurd may
+turn_goes (entry.CheckLost report) may = absurd may
 turn_goes entry.Stops may = absurd may
 
 pub closing_goes : (work : Work) → IsClosing work → end_by work ≡ None
@@ -267,15 +269,15 @@ module _ {R : Type 0} (g : Ghosts R) where
   -- what the desk is told at the end of connection c
   said_at_end : (c s : ℕ) (old new : Desk R) (channel : Channel) (ending : Ending) (deeds : List Deed) → EndsSo g c s old channel ending new deeds
       → (said : Said) × IsOf c said × Tells g old said new × (IsSending channel → IsLastEnding (Some ending))
-  said_at_end c s old new channel PeerEnded deeds e = (Some (Close c, e.2.0), refl, e.2.1, λ sending. unsent_clash channel sending e.1.ready.all_sent)
+  said_at_end c s old new channel PeerEnded deeds e = (Some (event (Close c) e.2.0), refl, e.2.1, λ sending. unsent_clash channel sending e.1.ready.all_sent)
   said_at_end c s old new channel WeEnded deeds e = (None, tt, e.3, λ sending. unsent_clash channel sending e.1)
   said_at_end c s old new channel (Refused fault) deeds e =
       elim e.1.2 [
-        | inl refused ↦ (Some (Bytes c refused.1.0, Err fault), refl, refused.1.4, λ sending. unsent_clash channel sending e.0.all_sent)
-        | inr none ↦ (Some (Close c, none.1.1.0), refl, none.1.1.1, λ sending. unsent_clash channel sending e.0.all_sent)
+        | inl refused ↦ (Some (event (Bytes c refused.1.0) (Err fault)), refl, refused.1.4, λ sending. unsent_clash channel sending e.0.all_sent)
+        | inr none ↦ (Some (event (Close c) none.1.1.0), refl, none.1.1.1, λ sending. unsent_clash channel sending e.0.all_sent)
       ]
-  said_at_end c s old new channel ReadFailed deeds e = (Some (Close c, e.2.0), refl, e.2.1, λ sending. unsent_clash channel sending e.1.ready.all_sent)
-  said_at_end c s old new channel WriteFailed deeds e = (Some (Close c, e.2.0), refl, e.2.1, λ sending. tt)
+  said_at_end c s old new channel ReadFailed deeds e = (Some (event (Close c) e.2.0), refl, e.2.1, λ sending. unsent_clash channel sending e.1.ready.all_sent)
+  said_at_end c s old new channel WriteFailed deeds e = (Some (event (Close c) e.2.0), refl, e.2.1, λ sending. tt)
 
   module _ {S : Type 0} (name : S → ℕ) (c : ℕ) (office : AtOffice) where
     -- what is written to it in the turn, and what is left to write
@@ -676,7 +678,7 @@ module _ {R : Type 0} (g : Ghosts R) where
         (hosts-same May from to old (place_of name clients office) (place_of name next office) none (subst (λ (l : List Deed). Adds from to l) s.2.0 s.1) (held_same name clients next s.2.2) refl)
     closed_at May (Some client) from to old new clients next none may at s =
         let closes = s.2.1 in
-        let said : Said = Some (Close c, closes.0) in
+        let said : Said = Some (event (Close c) closes.0) in
         hosts-one May None from to old new (place_of name clients office) (place_of name next office) (ends (name client.socket) c None s.0 said) s.1 refl
         (client.channel, ap (held_of name) at, (s.2.0, closes), refl, closes.1, held_puts name clients next c None s.2.2, refl) (may (name client.socket) s.0 said)
 
@@ -693,7 +695,7 @@ module _ {R : Type 0} (g : Ghosts R) where
         (record { paced = record { few = omega arith; stand = λ d. ap (λ (o : Option (Client S)). standing_of o) (s.2.2 d); office = refl }; quiet = λ e. refl }))
     dropped_at flag (Some client) from to old new clients next at s =
         let closes = s.2.1 in
-        let said : Said = Some (Close c, closes.0) in
+        let said : Said = Some (event (Close c) closes.0) in
         serves-one (IsAtDoors 1 (all_at flag clients) (all_at flag next)) None from to old new (place_of name clients office) (place_of name next office) (ends (name client.socket) c None s.0 said) s.1 refl
         (client.channel, ap (held_of name) at, (s.2.0, closes), refl, closes.1, held_puts name clients next c None s.2.2, refl) tt
         (record { paced = record { few = omega arith; stand = changed_stands clients next None absent s.2.2 refl; office = refl }; quiet = λ e. refl })
@@ -718,7 +720,7 @@ module _ {R : Type 0} (g : Ghosts R) where
           refl,
         ) tt (record { paced = record { few = omega arith; stand = changed_stands clients next (Some o.0) ready o.5 (may_stand o.0 (ap (λ (n : notes.Notes). n.is_ready) o.4)); office = refl }; quiet = λ e. refl })
     opened_hosts flag now (Err fault) socket from mid to old new clients next free comes s =
-        serves-one (IsAtDoors 1 (all_at flag clients) (all_at flag next)) None from to old new (place_of name clients office) (place_of name next office) (aside (came (name socket) ∷ s.0) (Some (Open c, Err fault)))
+        serves-one (IsAtDoors 1 (all_at flag clients) (all_at flag next)) None from to old new (place_of name clients office) (place_of name next office) (aside (came (name socket) ∷ s.0) (Some (event (Open c) (Err fault))))
         (Adds-trans from mid to (came (name socket) ∷ []) s.0 comes s.1) refl (
           (c, ap (held_of name) free, refl, refl),
           s.2.0,

@@ -6,6 +6,7 @@ use Rattle.cad_network.specs.Deeds.{Deed, Adds}
 use Rattle.cad_network.specs.lemmas.DeedLemmas.{Adds-nil, Adds-trans}
 use Rattle.cad_clients.specs.declared.turned.Ending.{Ending}
 use Rattle.cad_clients.specs.declared.turned.Ending.TheVariants.{PeerEnded, WeEnded, Refused, ReadFailed, WriteFailed}
+use Rattle.cad_dry_run.specs.Reports.{answer_of}
 use Rattle.cad_office_socket.specs.declared.turned.EntryTurned.{EntryTurned}
 use Rattle.cad_office_socket.specs.declared.turned.EntryTurned.TheVariants as turn
 use Rattle.cad_office_socket.specs.Serving as serving
@@ -40,6 +41,8 @@ turn_spends turn.Took e = nothing_spends e
 turn_spends turn.Added e = nothing_spends e
 turn_spends (turn.Answered answer) e = store_or_none (serving.is_store answer) e
 turn_spends (turn.Lost answer) e = store_or_none (serving.is_store answer) e
+turn_spends (turn.Checked report) e = store_or_none (serving.is_store (answer_of report)) e
+turn_spends (turn.CheckLost report) e = store_or_none (serving.is_store (answer_of report)) e
 turn_spends turn.Stops e = let clash : Some Asked ≡ Some RoundsSpent = e in cc
 turn_spends turn.Waits e = nothing_spends e
 turn_spends turn.Over e = nothing_spends e

@@ -1,4 +1,5 @@
 -- Each connection has its life.
+use Rattle.std.specs.Prelude.{⊤}
 use Rattle.std.proofs.Common.{◌≡◌, ◌≢◌, ℕ, nat_eq, Bool, true, false, List, [], ◌∷◌, ◌++◌, Option, None, Some, Result, Ok, Err, refl, sym, ap, subst, ◌∙◌, append_assoc, inl, inr}
 use Rattle.std.proofs.lemmas.Bool.{eqb-true, eq-eqb}
 use Rattle.cad_stream.specs.declared.responder.Responder.{Ghosts}
@@ -9,20 +10,23 @@ use Rattle.cad_desk.specs.declared.event.Reply.{Reply}
 use Rattle.cad_desk.specs.declared.fault.DeskFault.{DeskFault}
 use Rattle.cad_desk.specs.Desks.{responder_of}
 use Rattle.cad_network.specs.Deeds.{Deed, given_by, taken_by}
-use Rattle.cad_event_loop.proofs.StandLemmas.{goes_clean}
+use Rattle.cad_event_loop.proofs.StandLemmas.{goes_clean, only_asked}
 use Rattle.cad_network.specs.lemmas.DeedLemmas.{given_by-append, taken_by-append, given_by-one, taken_by-one}
 use Rattle.cad_clients.specs.declared.channel.Channel.{Channel}
 use Rattle.cad_clients.specs.declared.turned.Ending.{Ending}
 use Rattle.cad_clients.specs.Channels.{Act, wrote, took, fed, read_in, written_in, Does}
 use Rattle.cad_clients.specs.Acts.{Happening, own, IsOther, read_of, written_of}
 use Rattle.cad_versions.specs.declared.command.Command.{Command}
+use Rattle.cad_versions.specs.declared.fault.RegisterFault.{RegisterFault}
 use Rattle.cad_desk.specs.declared.event.Reply.TheVariants as reply
 use Rattle.cad_desk.specs.Faults.{fault_of}
 use Rattle.cad_office.specs.declared.print.Answer.{Answer}
 use Rattle.cad_office.specs.declared.print.Answer.TheVariants.{Entered, Refused, NotACommand}
+use Rattle.cad_dry_run.specs.declared.report.Report.{Report}
+use Rattle.cad_dry_run.specs.declared.report.Report.TheVariants as report
 use Rattle.cad_office_socket.specs.declared.turned.EntryTurned.{EntryTurned}
-use Rattle.cad_office_socket.specs.declared.turned.EntryTurned.TheVariants.{Wrote, Took, Added, Answered, Lost, Stops, Waits, Over}
-use Rattle.cad_event_loop.specs.Works.{Held, Place, Said, Work, wakes, opens, acts, waits, ends, office_comes, enters, office_leaves, aside, deeds_in, SaysSo, IsLineSaid, IsEventOf, IsOf, IsOfNone, Tells, Leaves, Works, Goes, MayAsk, MayGoOn}
+use Rattle.cad_office_socket.specs.declared.turned.EntryTurned.TheVariants.{Wrote, Took, Added, Answered, Lost, Checked, CheckLost, Stops, Waits, Over}
+use Rattle.cad_event_loop.specs.Works.{Held, Place, event, question, Said, Work, wakes, opens, acts, waits, ends, office_comes, enters, office_leaves, aside, deeds_in, SaysSo, ChecksSo, IsLineSaid, IsEventOf, IsOf, IsOfNone, Tells, Leaves, Works, Goes, MayAsk, MayGoOn}
 use Rattle.cad_event_loop.specs.Lives.{by_another, by_desk, life_of, own_deeds, end_of, last_deeds, IsLifeBy, IsLife, EachHasItsLife}
 
 -- connections of two numbers
@@ -85,47 +89,71 @@ module _ {R : Type 0} (g : Ghosts R) (c s : ℕ) where
   after_another d old mid there after channel (fed piece out over) happenings deeds ended new slots differ does l =
       (l.0, l.1, (mid, differ, does.5, tt, l.2), l.3, l.4, l.5, l.6)
 
+  -- what the desk gets is of no event of this connection
+  abbrev IsApart : Said → Type 0
+  IsApart None = ⊤
+  IsApart (Some (event e answer)) = IsOther c e
+  IsApart (Some (question command answer)) = ⊤
+
   after_told : (old mid : Desk R) (channel : Channel) (said : Said) (happenings : List Happening) (deeds : List Deed) (ended : Option (Option Ending × List Deed)) (new : Desk R) (slots : Held)
-      → ((at : Event × Result Reply DeskFault) → said ≡ Some at → IsOther c at.0) → Tells g old said mid → MayAsk g old said mid
+      → IsApart said → Tells g old said mid → MayAsk g old said mid
       → IsLifeBy g c s mid channel happenings deeds ended new slots → IsLifeBy g c s old channel (by_desk said happenings) deeds ended new slots
   after_told old mid channel None happenings deeds ended new slots differ tells may l = after_nothing old mid channel happenings deeds ended new slots tells l
-  after_told old mid channel (Some at) happenings deeds ended new slots differ tells may l =
-      (l.0, l.1, (mid, differ at refl, tells, may, l.2), l.3, l.4, l.5, l.6)
+  after_told old mid channel (Some (event e answer)) happenings deeds ended new slots differ tells may l =
+      (l.0, l.1, (mid, differ, tells, may, l.2), l.3, l.4, l.5, l.6)
+  after_told old mid channel (Some (question command answer)) happenings deeds ended new slots differ tells may l =
+      (l.0, l.1, (mid, only_asked g old mid command answer tells may, l.2), l.3, l.4, l.5, l.6)
 
-  ends_apart : (d : ℕ) (said : Said) → d ≢ c → IsOf d said → (at : Event × Result Reply DeskFault) → said ≡ Some at → IsOther c at.0
-  ends_apart d None differ of at e = absurd (none_some {X = Event × Result Reply DeskFault} at e)
-  ends_apart d (Some one) differ of at e = subst (λ (x : Event × Result Reply DeskFault). IsOther c x.0) (one_some one at e) (of_another c d one.0 of differ)
+  ends_apart : (d : ℕ) (said : Said) → d ≢ c → IsOf d said → IsApart said
+  ends_apart d None differ of = tt
+  ends_apart d (Some (event e answer)) differ of = of_another c d e of differ
+  ends_apart d (Some (question command answer)) differ of = tt
 
-  aside_apart : (slots : Held) (channel : Channel) (said : Said) → slots c ≡ Some (s, channel) → IsOfNone slots said → (at : Event × Result Reply DeskFault) → said ≡ Some at → IsOther c at.0
-  aside_apart slots channel None here of at e = absurd (none_some {X = Event × Result Reply DeskFault} at e)
-  aside_apart slots channel (Some one) here of at e =
-      let other : IsOther c (Open of.0) = λ same. none_some {X = ℕ × Channel} (s, channel) (sym of.1 ∙ (ap slots same ∙ here)) in
-      subst (λ (x : Event × Result Reply DeskFault). IsOther c x.0) (one_some one at e) (subst (λ (event : Event). IsOther c event) (sym of.2) other)
+  aside_apart : (slots : Held) (channel : Channel) (said : Said) → slots c ≡ Some (s, channel) → IsOfNone slots said → IsApart said
+  aside_apart slots channel None here of = tt
+  aside_apart slots channel (Some (event e answer)) here of =
+      let another : IsOther c (Open of.0) = λ same. none_some {X = ℕ × Channel} (s, channel) (sym of.1 ∙ (ap slots same ∙ here)) in
+      subst (λ (it : Event). IsOther c it) (sym of.2) another
+  aside_apart slots channel (Some (question command answer)) here of = tt
 
   -- what the land office tells the desk is of no connection
-  told_apart : (command : Command) (answer : Result Reply DeskFault) (said : Said) → said ≡ Some (Office command, answer) → (at : Event × Result Reply DeskFault) → said ≡ Some at → IsOther c at.0
-  told_apart command answer said is at e = subst (λ (x : Event × Result Reply DeskFault). IsOther c x.0) (one_some (Office command, answer) at (sym is ∙ e)) tt
+  told_apart : (command : Command) (answer : Result Reply DeskFault) (said : Said) → said ≡ Some (event (Office command) answer) → IsApart said
+  told_apart command answer said is = subst (λ (it : Said). IsApart it) (sym is) tt
 
-  untold_apart : (said : Said) → said ≡ None → (at : Event × Result Reply DeskFault) → said ≡ Some at → IsOther c at.0
-  untold_apart said is at e = absurd (none_some {X = Event × Result Reply DeskFault} at (sym is ∙ e))
+  asked_apart : (command : Command) (answer : Result ℕ RegisterFault) (said : Said) → said ≡ Some (question command answer) → IsApart said
+  asked_apart command answer said is = subst (λ (it : Said). IsApart it) (sym is) tt
 
-  answer_apart : (text : List ℕ) (answer : Answer) (said : Said) → SaysSo text answer said → (at : Event × Result Reply DeskFault) → said ≡ Some at → IsOther c at.0
-  answer_apart text (Entered revision) said says at e = told_apart says.0 (Ok (reply.Entered revision)) said says.2 at e
-  answer_apart text (Refused fault) said says at e = elim says [
-    | inl refused ↦ told_apart refused.0 (Err (fault_of fault)) said refused.2 at e
-    | inr none ↦ untold_apart said none.2 at e
+  untold_apart : (said : Said) → said ≡ None → IsApart said
+  untold_apart said is = subst (λ (it : Said). IsApart it) (sym is) tt
+
+  answer_apart : (text : List ℕ) (answer : Answer) (said : Said) → SaysSo text answer said → IsApart said
+  answer_apart text (Entered revision) said says = told_apart says.0 (Ok (reply.Entered revision)) said says.2
+  answer_apart text (Refused fault) said says = elim says [
+    | inl refused ↦ told_apart refused.0 (Err (fault_of fault)) said refused.2
+    | inr none ↦ untold_apart said none.2
   ]
-  answer_apart text NotACommand said says at e = untold_apart said says.1 at e
+  answer_apart text NotACommand said says = untold_apart said says.1
 
-  office_apart : (text : List ℕ) (turned : EntryTurned) (said : Said) → IsLineSaid text turned said → (at : Event × Result Reply DeskFault) → said ≡ Some at → IsOther c at.0
-  office_apart text (Answered answer) said line at e = answer_apart text answer said line.1 at e
-  office_apart text (Lost answer) said line at e = answer_apart text answer said line.1 at e
-  office_apart text Stops said line at e = untold_apart said line.1 at e
-  office_apart text Wrote said line at e = untold_apart said line at e
-  office_apart text Took said line at e = untold_apart said line at e
-  office_apart text Added said line at e = untold_apart said line at e
-  office_apart text Waits said line at e = untold_apart said line at e
-  office_apart text Over said line at e = untold_apart said line at e
+  check_apart : (line : List ℕ) (it : Report) (said : Said) → ChecksSo line it said → IsApart said
+  check_apart line (report.WouldBe revision) said says = asked_apart says.0 (Ok revision) said says.2
+  check_apart line (report.Refused fault) said says = elim says [
+    | inl refused ↦ asked_apart refused.0 (Err fault) said refused.2
+    | inr none ↦ untold_apart said none.2
+  ]
+  check_apart line (report.NoCommand reason) said says = untold_apart said says.1
+  check_apart line report.LongLine said says = untold_apart said says.1
+
+  office_apart : (text : List ℕ) (turned : EntryTurned) (said : Said) → IsLineSaid text turned said → IsApart said
+  office_apart text (Answered answer) said line = answer_apart text answer said line.1
+  office_apart text (Lost answer) said line = answer_apart text answer said line.1
+  office_apart text (Checked it) said line = check_apart line.0 it said line.2
+  office_apart text (CheckLost it) said line = check_apart line.0 it said line.2
+  office_apart text Stops said line = untold_apart said line.1
+  office_apart text Wrote said line = untold_apart said line
+  office_apart text Took said line = untold_apart said line
+  office_apart text Added said line = untold_apart said line
+  office_apart text Waits said line = untold_apart said line
+  office_apart text Over said line = untold_apart said line
 
   -- connection c, held by two names of one slot
   held_once : (slots : Held) (d t : ℕ) (there channel : Channel) → d ≡ c → slots d ≡ Some (t, there) → slots c ≡ Some (s, channel) → ◌≡◌ {A = ℕ × Channel} (t, there) (s, channel)

@@ -15,7 +15,12 @@ use Rattle.cad_office_socket.specs.declared.entry.Entry.{Entry}
 use Rattle.cad_office_socket.specs.declared.turned.EntryServed.{EntryServed}
 use Rattle.cad_office_socket.specs.declared.turned.EntryServed.TheVariants as served
 use Rattle.cad_office_socket.specs.declared.turned.EntryTurned.{EntryTurned}
-use Rattle.cad_office_socket.specs.declared.turned.EntryTurned.TheVariants.{Wrote, Took, Added, Answered, Lost, Stops, Waits, Over}
+use Rattle.cad_office_socket.specs.declared.turned.EntryTurned.TheVariants.{Wrote, Took, Added, Answered, Lost, Checked, CheckLost, Stops, Waits, Over}
+use Rattle.cad_desk.specs.Desks.{ChecksAtDesk}
+use Rattle.cad_dry_run.specs.declared.report.Report.{Report}
+use Rattle.cad_dry_run.specs.declared.report.Report.TheVariants as report
+use Rattle.cad_dry_run.specs.Reports.{answer_of}
+use Rattle.cad_dry_run.specs.Checking.{ReportsLine}
 use Rattle.cad_office_socket.specs.Entries.{EntersAtDesk}
 use Rattle.cad_office_socket.specs.Turns.{HasBegun, IsBegun, EndsLine, IsTaken, IsEntryTurn, IsNewEntry, IsSending, SendsSome}
 use Rattle.cad_office_socket.specs.Serving.{is_store, end_at, all_go_on, most_turns, IsEnough, HasTurns, IsEntryServed}
@@ -25,7 +30,7 @@ use Rattle.cad_event_loop.specs.declared.office.Office.{Office}
 use Rattle.cad_event_loop.specs.declared.stopped.Stopped.{Stopped}
 use Rattle.cad_event_loop.specs.Hosting.{Each, IsServing, IsClosing, Hosts, Serves}
 use Rattle.cad_event_loop.specs.inner.Offices.{office_at, HasBegun as OfficeHasBegun, HasBegunUnless, end_of_office, is_over, may_go_on, left_deeds, left_at, HasOfficeTurns, HasSent}
-use Rattle.cad_event_loop.specs.Works.{Said, AtOffice, Place, place_of, Held, Work, enters, office_comes, office_leaves, aside, all_deeds, store_end, end_of_turned, end_in, EndsBy, is_last, SaysSo, IsLineSaid, Tells, Works, Goes}
+use Rattle.cad_event_loop.specs.Works.{event, question, Said, AtOffice, Place, place_of, Held, Work, enters, office_comes, office_leaves, aside, all_deeds, store_end, end_of_turned, end_in, EndsBy, is_last, SaysSo, ChecksSo, IsLineSaid, Tells, Works, Goes}
 use Rattle.cad_event_loop.proofs.LifeLemmas.{none_some, one_some}
 use Rattle.cad_event_loop.specs.inner.Standing.{standing_at, standing_office, standings_of, IsPaced, IsAtDoors, ServesOffice}
 use Rattle.cad_event_loop.specs.Turns.{Standing, absent, waiting, ready, Standings, stands_in, office_in, office_turned, is_turn_of, is_office_turn, any_of, has_turn}
@@ -55,6 +60,16 @@ same_end (Lost answer) = go (is_store answer)
     go : (refused : Bool) → store_end refused ≡ end_of_some (if refused then Some served.StoreRefused else Some served.Over)
     go true = refl
     go false = refl
+same_end (Checked it) = go (is_store (answer_of it))
+  where
+    go : (refused : Bool) → store_end refused ≡ end_of_some (if refused then Some served.StoreRefused else None)
+    go true = refl
+    go false = refl
+same_end (CheckLost it) = go (is_store (answer_of it))
+  where
+    go : (refused : Bool) → store_end refused ≡ end_of_some (if refused then Some served.StoreRefused else Some served.Over)
+    go true = refl
+    go false = refl
 same_end Stops = refl
 same_end Waits = refl
 same_end Over = refl
@@ -69,6 +84,16 @@ same_last (Answered answer) = go (is_store answer)
     go true = refl
     go false = refl
 same_last (Lost answer) = go (is_store answer)
+  where
+    go : (refused : Bool) → not refused ≡ over_of_some (if refused then Some served.StoreRefused else Some served.Over)
+    go true = refl
+    go false = refl
+same_last (Checked it) = go (is_store (answer_of it))
+  where
+    go : (refused : Bool) → false ≡ over_of_some (if refused then Some served.StoreRefused else None)
+    go true = refl
+    go false = refl
+same_last (CheckLost it) = go (is_store (answer_of it))
   where
     go : (refused : Bool) → not refused ≡ over_of_some (if refused then Some served.StoreRefused else Some served.Over)
     go true = refl
@@ -97,6 +122,16 @@ same_stand (Answered answer) = go (is_store answer)
 same_stand (Lost answer) = go (is_store answer)
   where
     go : (refused : Bool) → office_turned (not refused) (Lost answer) ≡ stand_of_some (if refused then Some served.StoreRefused else Some served.Over)
+    go true = refl
+    go false = refl
+same_stand (Checked it) = go (is_store (answer_of it))
+  where
+    go : (refused : Bool) → ready ≡ stand_of_some (if refused then Some served.StoreRefused else None)
+    go true = refl
+    go false = refl
+same_stand (CheckLost it) = go (is_store (answer_of it))
+  where
+    go : (refused : Bool) → office_turned (not refused) (CheckLost it) ≡ stand_of_some (if refused then Some served.StoreRefused else Some served.Over)
     go true = refl
     go false = refl
 same_stand Stops = refl
@@ -130,6 +165,16 @@ begun_then (Lost answer) next l = go (is_store answer)
     go : (refused : Bool) → BegunIf (if refused then Some served.StoreRefused else Some served.Over) next
     go true = tt
     go false = tt
+begun_then (Checked it) next l = go (is_store (answer_of it)) l
+  where
+    go : (refused : Bool) → IsBegun next → BegunIf (if refused then Some served.StoreRefused else None) next
+    go true l = tt
+    go false l = l
+begun_then (CheckLost it) next l = go (is_store (answer_of it))
+  where
+    go : (refused : Bool) → BegunIf (if refused then Some served.StoreRefused else Some served.Over) next
+    go true = tt
+    go false = tt
 begun_then Stops next l = tt
 begun_then Waits next l = l
 begun_then Over next l = tt
@@ -140,17 +185,28 @@ module _ {R : Type 0} (g : Ghosts R) where
   IsSaid old turned new = (text : List ℕ) × (said : Said) × IsLineSaid text turned said × Tells g old said new
 
   answer_said : (text : List ℕ) (answer : Answer) (old new : Desk R) → AnswersLine (EntersAtDesk g) text old answer new → (said : Said) × SaysSo text answer said × Tells g old said new
-  answer_said text (Entered revision) old new a = (Some (Entering a.0, Ok (reply.Entered revision)), (a.0, a.1, refl), a.2)
+  answer_said text (Entered revision) old new a = (Some (event (Entering a.0) (Ok (reply.Entered revision))), (a.0, a.1, refl), a.2)
   answer_said text (Refused fault) old new a = elim a [
-    | inl refused ↦ (Some (Entering refused.0, Err (fault_of fault)), inl (refused.0, refused.1, refl), refused.2)
+    | inl refused ↦ (Some (event (Entering refused.0) (Err (fault_of fault))), inl (refused.0, refused.1, refl), refused.2)
     | inr none ↦ (None, inr (none.0, none.1, refl), none.2)
   ]
   answer_said text NotACommand old new a = (None, (a.0, refl), a.1)
+
+  check_said : (line : List ℕ) (it : Report) (old new : Desk R) → ReportsLine (ChecksAtDesk g) line old it new → (said : Said) × ChecksSo line it said × Tells g old said new
+  check_said line (report.WouldBe revision) old new a = (Some (question a.0.0 (Ok revision)), (a.0.0, a.0.1, refl), a.0.2)
+  check_said line (report.Refused fault) old new a = elim a.0 [
+    | inl refused ↦ (Some (question refused.0 (Err fault)), inl (refused.0, refused.1, refl), refused.2)
+    | inr none ↦ (None, inr (none.0, none.1, refl), none.2)
+  ]
+  check_said line (report.NoCommand reason) old new a = (None, (a.0.0, refl), a.0.1)
+  check_said line report.LongLine old new a = (None, (a.0.0, refl), a.0.1)
 
   ended : (text : List ℕ) (turned : EntryTurned) (old new : Desk R) (next : Entry) → EndsLine g text old turned new next → IsSaid old turned new
   ended text Added old new next e = (text, None, refl, e.1)
   ended text (Answered answer) old new next e = let s = answer_said text answer old new e.1 in (text, s.0, (e.0, s.1), s.2)
   ended text (Lost answer) old new next e = let s = answer_said text answer old new e.1 in (text, s.0, (e.0, s.1), s.2)
+  ended text (Checked it) old new next e = let s = check_said e.0.0 it old new e.0.2 in (text, s.0, (e.0.0, e.0.1, s.1), s.2)
+  ended text (CheckLost it) old new next e = let s = check_said e.0.0 it old new e.0.2 in (text, s.0, (e.0.0, e.0.1, s.1), s.2)
   ended text Stops old new next e = (text, None, (e.0, refl), e.1)
   ended text Over old new next e = absurd e
   ended text Wrote old new next e = absurd e
@@ -174,6 +230,8 @@ module _ {R : Type 0} (g : Ghosts R) where
   turn_said o Added old new entry next deeds begun t = taken_said o begun.0 Added old new entry next deeds begun.1 t
   turn_said o (Answered answer) old new entry next deeds begun t = taken_said o begun.0 (Answered answer) old new entry next deeds begun.1 t
   turn_said o (Lost answer) old new entry next deeds begun t = taken_said o begun.0 (Lost answer) old new entry next deeds begun.1 t
+  turn_said o (Checked it) old new entry next deeds begun t = taken_said o begun.0 (Checked it) old new entry next deeds begun.1 t
+  turn_said o (CheckLost it) old new entry next deeds begun t = taken_said o begun.0 (CheckLost it) old new entry next deeds begun.1 t
   turn_said o Stops old new entry next deeds begun t = taken_said o begun.0 Stops old new entry next deeds begun.1 t
   turn_said o Waits old new entry next deeds begun t = ([], None, refl, t.2)
   turn_said o Over old new entry next deeds begun t = ([], None, refl, t.1)
@@ -382,6 +440,8 @@ module _ {R : Type 0} (g : Ghosts R) where
         by_send Added after own w = absurd w
         by_send (Answered answer) after own w = absurd w
         by_send (Lost answer) after own w = absurd w
+        by_send (Checked it) after own w = absurd w
+        by_send (CheckLost it) after own w = absurd w
         by_send Stops after own w = absurd w
 
     -- the office comes

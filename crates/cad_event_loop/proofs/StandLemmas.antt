@@ -7,11 +7,13 @@ use Rattle.cad_desk.specs.declared.event.Event.{Event}
 use Rattle.cad_desk.specs.declared.event.Event.TheVariants.{Open, Bytes, Close, Office}
 use Rattle.cad_desk.specs.declared.event.Reply.{Reply}
 use Rattle.cad_desk.specs.declared.fault.DeskFault.{DeskFault}
-use Rattle.cad_desk.specs.Desks.{responder_of, Steps}
+use Rattle.cad_versions.specs.declared.fault.RegisterFault.{RegisterFault}
+use Rattle.cad_desk.specs.Desks.{responder_of, ChecksAtDesk, Steps}
+use Rattle.cad_desk.specs.Runs.{IsOnlyAsked}
 use Rattle.cad_desk.specs.Events.{commands_after}
 use Rattle.cad_clients.specs.declared.channel.Channel.{Channel}
 use Rattle.cad_clients.specs.Channels.{Act, wrote, took, fed, Does}
-use Rattle.cad_event_loop.specs.Works.{Held, Place, Said, Work, wakes, opens, acts, waits, ends, office_comes, enters, office_leaves, aside, IsEventOf, IsOf, IsOfNone, Tells, Works, Goes, MayAsk, MayGoOn}
+use Rattle.cad_event_loop.specs.Works.{Held, Place, event, question, Said, Work, wakes, opens, acts, waits, ends, office_comes, enters, office_leaves, aside, IsEventOf, IsOf, IsOfNone, Tells, Works, Goes, MayAsk, MayGoOn}
 use Rattle.cad_event_loop.specs.Laws.{commands_by, commands_in}
 
 -- a refusal adds no command
@@ -24,9 +26,10 @@ refused_same commands (Office command) fault = refl
 -- nor does what a client says
 client_same : (commands : List Command) (d : ℕ) (said : Said) → IsOf d said → commands_by commands said ≡ commands
 client_same commands d None of = refl
-client_same commands d (Some told) of = by_event told.0 told.1 of
+client_same commands d (Some (question command answer)) of = absurd of
+client_same commands d (Some (event e answer)) of = by_event e answer of
   where
-    by_event : (event : Event) (answer : Result Reply DeskFault) → IsEventOf d event → commands_after commands event answer ≡ commands
+    by_event : (it : Event) (answer : Result Reply DeskFault) → IsEventOf d it → commands_after commands it answer ≡ commands
     by_event (Open c) answer of = absurd of
     by_event (Bytes c piece) answer of = refl
     by_event (Close c) answer of = refl
@@ -35,7 +38,8 @@ client_same commands d (Some told) of = by_event told.0 told.1 of
 -- nor does a connection that is not opened
 none_same : (commands : List Command) (slots : Held) (said : Said) → IsOfNone slots said → commands_by commands said ≡ commands
 none_same commands slots None of = refl
-none_same commands slots (Some told) of = ap (λ (e : Event). commands_after commands e told.1) of.2
+none_same commands slots (Some (event e answer)) of = ap (λ (it : Event). commands_after commands it answer) of.2
+none_same commands slots (Some (question command answer)) of = absurd of
 
 module _ {R : Type 0} (g : Ghosts R) where
   same_counts : (old mid : Desk R) → mid ≡ old → g.counts (responder_of mid) → g.counts (responder_of old)
@@ -48,7 +52,8 @@ module _ {R : Type 0} (g : Ghosts R) where
 
   tells_clean : (old mid : Desk R) (said : Said) → Tells g old said mid → g.counts (responder_of mid) → g.counts (responder_of old)
   tells_clean old mid None tells counts = same_counts old mid tells counts
-  tells_clean old mid (Some told) tells counts = tells.clean counts
+  tells_clean old mid (Some (event e answer)) tells counts = tells.clean counts
+  tells_clean old mid (Some (question command answer)) tells counts = tells.checked.clean counts
 
   work_clean : (old mid : Desk R) (slots between : Place) (work : Work) → Works g old slots work mid between → g.counts (responder_of mid) → g.counts (responder_of old)
   work_clean old mid slots between (wakes places) w counts = same_counts old mid w.0 counts
@@ -66,13 +71,29 @@ module _ {R : Type 0} (g : Ghosts R) where
   goes_clean (work ∷ later) old new slots next goes counts = work_clean old goes.0 slots goes.1 work goes.2 (goes_clean later goes.0 new goes.1 next goes.3 counts)
 
   -- a step leads to the commands after it
-  step_stands : (commands : List Command) (old mid : Desk R) (event : Event) (answer : Result Reply DeskFault) → Steps g old event answer mid → g.counts (responder_of mid) → MayAsk g old (Some (event, answer)) mid
-      → g.stands_for (responder_of old) commands → g.stands_for (responder_of mid) (commands_after commands event answer)
-  step_stands commands old mid event (Ok reply) s counts may stands = s.kept counts commands stands
-  step_stands commands old mid event (Err fault) s counts may stands = elim (s.unchanged counts commands stands) [
-    | inl same ↦ subst (λ (cs : List Command). g.stands_for (responder_of mid) cs) (sym (refused_same commands event fault)) same
+  step_stands : (commands : List Command) (old mid : Desk R) (e : Event) (answer : Result Reply DeskFault) → Steps g old e answer mid → g.counts (responder_of mid) → MayAsk g old (Some (event e answer)) mid
+      → g.stands_for (responder_of old) commands → g.stands_for (responder_of mid) (commands_after commands e answer)
+  step_stands commands old mid e (Ok reply) s counts may stands = s.kept counts commands stands
+  step_stands commands old mid e (Err fault) s counts may stands = elim (s.unchanged counts commands stands) [
+    | inl same ↦ subst (λ (cs : List Command). g.stands_for (responder_of mid) cs) (sym (refused_same commands e fault)) same
     | inr shut ↦ absurd (may shut)
   ]
+
+  -- a question changes nothing
+  asked_stands : (commands : List Command) (old mid : Desk R) (command : Command) (answer : Result ℕ RegisterFault) → ChecksAtDesk g old command answer mid → g.counts (responder_of mid)
+      → MayAsk g old (Some (question command answer)) mid → g.stands_for (responder_of old) commands → g.stands_for (responder_of mid) commands
+  asked_stands commands old mid command (Ok revision) k counts may stands = k.checked.kept counts commands stands
+  asked_stands commands old mid command (Err fault) k counts may stands = elim (k.checked.unchanged counts commands stands) [
+    | inl same ↦ same
+    | inr shut ↦ absurd (may shut)
+  ]
+
+  pub only_asked : (old mid : Desk R) (command : Command) (answer : Result ℕ RegisterFault) → ChecksAtDesk g old command answer mid → MayAsk g old (Some (question command answer)) mid → IsOnlyAsked g old mid
+  only_asked old mid command answer k may = record {
+    connections = k.connections;
+    kept = λ counts commands stands. asked_stands commands old mid command answer k counts may stands;
+    clean = k.checked.clean;
+  }
 
   same_stands : (commands : List Command) (old mid : Desk R) → mid ≡ old → g.stands_for (responder_of old) commands → g.stands_for (responder_of mid) commands
   same_stands commands old mid e stands = subst (λ (d : Desk R). g.stands_for (responder_of d) commands) (sym e) stands
@@ -80,7 +101,8 @@ module _ {R : Type 0} (g : Ghosts R) where
   tells_stand : (commands : List Command) (old mid : Desk R) (said : Said) → Tells g old said mid → g.counts (responder_of mid) → MayAsk g old said mid
       → g.stands_for (responder_of old) commands → g.stands_for (responder_of mid) (commands_by commands said)
   tells_stand commands old mid None tells counts may stands = same_stands commands old mid tells stands
-  tells_stand commands old mid (Some told) tells counts may stands = step_stands commands old mid told.0 told.1 tells counts may stands
+  tells_stand commands old mid (Some (event e answer)) tells counts may stands = step_stands commands old mid e answer tells counts may stands
+  tells_stand commands old mid (Some (question command answer)) tells counts may stands = asked_stands commands old mid command answer tells counts may stands
 
   act_stands : (commands : List Command) (d : ℕ) (old mid : Desk R) (channel after : Channel) (act : Act) → Does g d old channel act mid after → g.counts (responder_of mid)
       → g.stands_for (responder_of old) commands → g.stands_for (responder_of mid) commands

@@ -11,8 +11,9 @@ use Rattle.cad_clients.specs.declared.channel.Channel.{Channel}
 use Rattle.cad_office.specs.Lines.{is_lf, is_filled, lines_in}
 use Rattle.cad_office_socket.specs.declared.entry.Entry.{Entry}
 use Rattle.cad_office_socket.specs.declared.turned.EntryTurned.{EntryTurned}
-use Rattle.cad_office_socket.specs.declared.turned.EntryTurned.TheVariants.{Wrote, Took, Added, Answered, Lost, Stops, Waits, Over}
+use Rattle.cad_office_socket.specs.declared.turned.EntryTurned.TheVariants.{Wrote, Took, Added, Answered, Lost, Checked, CheckLost, Stops, Waits, Over}
 use Rattle.cad_office_socket.specs.Buffering.{IsOfOneLine}
+use Rattle.cad_office_socket.specs.Checks.{IsCheckOf}
 use Rattle.cad_office_socket.specs.Turns.{unread, unwritten, has_ended, HasBegun, EndsLine, IsTaken, IsCutOff, IsEntryTurn}
 use Rattle.cad_event_loop.specs.Works.{AtOffice, Place, Work, wakes, opens, acts, waits, ends, office_comes, enters, office_leaves, aside, is_last, deeds_in, deeds_of, all_deeds, Works, Goes}
 use Rattle.cad_event_loop.specs.Streams.{ends_line, answer_text, answer_texts, IsLeftWell, EndsWell, TakesLine, LinesCome, OfficeIsAnswered}
@@ -153,6 +154,10 @@ module _ {R : Type 0} (g : Ghosts R) (o : ℕ) where
     comes_to : (Come : List (List ℕ) → Type 0) (lines : List (List ℕ)) → Come lines → TakesLine g (ends_line turned) old turned mid Come (ls ++ lines)
     written : answer_text turned ≡ unwritten after
 
+  -- a line that asks for a check is not empty
+  check_some : (text line : List ℕ) → IsCheckOf text line → text ≡ [] → ⊥
+  check_some text line is none = (let clash : ◌≡◌ {A = List ℕ} [] (codes "check " ++ line) = sym none ∙ is in cc)
+
   ended_text : (turned : EntryTurned) (old mid : Desk R) (text : List ℕ) (after : Entry) → IsOfOneLine text → EndsLine g text old turned mid after → IsEnded turned old mid text after
   ended_text Added old mid text after one e = record {
     ls = [];
@@ -177,6 +182,22 @@ module _ {R : Type 0} (g : Ghosts R) (o : ℕ) where
     last = line_last text one e.0.0;
     comes_to = λ Come lines come. (e.1, come);
     written = sym e.2;
+  }
+  ended_text (Checked report) old mid text after one e = record {
+    ls = text ∷ [];
+    has = e.2;
+    whole = λ rest. line_first text rest one (check_some text e.0.0 e.0.1);
+    last = line_last text one (check_some text e.0.0 e.0.1);
+    comes_to = λ Come lines come. (e.0, come);
+    written = sym e.1;
+  }
+  ended_text (CheckLost report) old mid text after one e = record {
+    ls = text ∷ [];
+    has = e.2;
+    whole = λ rest. line_first text rest one (check_some text e.0.0 e.0.1);
+    last = line_last text one (check_some text e.0.0 e.0.1);
+    comes_to = λ Come lines come. (e.0, come);
+    written = sym e.1;
   }
   ended_text Stops old mid text after one e =
       let some : (text ≡ [] → ⊥) = (λ none. (let clash : ◌≡◌ {A = List ℕ} [] (codes "stop") = sym none ∙ e.0 in cc)) in
@@ -276,6 +297,8 @@ module _ {R : Type 0} (g : Ghosts R) (o : ℕ) where
   turn_step Added old mid begun entry after own ready not t = taken_step Added old mid begun entry after own ready t
   turn_step (Answered answer) old mid begun entry after own ready not t = taken_step (Answered answer) old mid begun entry after own ready t
   turn_step (Lost answer) old mid begun entry after own ready not t = taken_step (Lost answer) old mid begun entry after own ready t
+  turn_step (Checked report) old mid begun entry after own ready not t = taken_step (Checked report) old mid begun entry after own ready t
+  turn_step (CheckLost report) old mid begun entry after own ready not t = taken_step (CheckLost report) old mid begun entry after own ready t
   turn_step Stops old mid begun entry after own ready not t = taken_step Stops old mid begun entry after own ready t
   turn_step Over old mid begun entry after own ready not t = absurd (not refl)
 
@@ -436,6 +459,8 @@ module _ {R : Type 0} (g : Ghosts R) (o : ℕ) where
   not_left Added deeds not well = well
   not_left (Answered answer) deeds not well = well
   not_left (Lost answer) deeds not well = well
+  not_left (Checked report) deeds not well = well
+  not_left (CheckLost report) deeds not well = well
   not_left Stops deeds not well = well
   not_left Waits deeds not well = well
 
@@ -446,6 +471,8 @@ module _ {R : Type 0} (g : Ghosts R) (o : ℕ) where
   is_over Added = inr (λ e. cc)
   is_over (Answered answer) = inr (λ e. cc)
   is_over (Lost answer) = inr (λ e. cc)
+  is_over (Checked report) = inr (λ e. cc)
+  is_over (CheckLost report) = inr (λ e. cc)
   is_over Stops = inr (λ e. cc)
   is_over Waits = inr (λ e. cc)
 

@@ -15,13 +15,14 @@ use Rattle.cad_office.specs.declared.print.Answer.TheVariants.{Entered, Refused,
 use Rattle.cad_office.specs.Keeping.{Asks}
 use Rattle.cad_office_socket.specs.declared.turned.EntryTurned.{EntryTurned}
 use Rattle.cad_office_socket.specs.declared.turned.EntryTurned.TheVariants.{Answered, Lost}
-use Rattle.cad_event_loop.specs.Works.{Place, Said, Work, wakes, opens, acts, waits, ends, office_comes, enters, office_leaves, aside, IsEmpty, all_deeds, Goes, MayGoOn}
+use Rattle.cad_event_loop.specs.Works.{Place, event, question, Said, Work, wakes, opens, acts, waits, ends, office_comes, enters, office_leaves, aside, IsEmpty, all_deeds, Goes, MayGoOn}
 use Rattle.cad_event_loop.specs.Lives.{last_deeds, IsLeft}
 
 -- the commands in force after an event at the desk, and after all that is done: only what the land office entered adds to them
 abbrev pub commands_by : List Command → Said → List Command
 commands_by commands None = commands
-commands_by commands (Some told) = commands_after commands told.0 told.1
+commands_by commands (Some (event e answer)) = commands_after commands e answer
+commands_by commands (Some (question command answer)) = commands
 
 abbrev pub commands_in : List Command → List Work → List Command
 commands_in commands [] = commands

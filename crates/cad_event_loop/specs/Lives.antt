@@ -9,8 +9,8 @@ use Rattle.cad_network.specs.Deeds.{Deed, given_by, taken_by}
 use Rattle.cad_clients.specs.declared.channel.Channel.{Channel}
 use Rattle.cad_clients.specs.declared.turned.Ending.{Ending}
 use Rattle.cad_clients.specs.Channels.{Act, wrote, took, fed}
-use Rattle.cad_clients.specs.Acts.{Happening, own, other, read_of, written_of, Lives}
-use Rattle.cad_event_loop.specs.Works.{Held, Place, Said, Work, wakes, opens, acts, waits, ends, office_comes, enters, office_leaves, aside, deeds_in, Goes, Leaves, MayGoOn}
+use Rattle.cad_clients.specs.Acts.{Happening, own, other, asked, read_of, written_of, Lives}
+use Rattle.cad_event_loop.specs.Works.{Held, Place, event, question, Said, Work, wakes, opens, acts, waits, ends, office_comes, enters, office_leaves, aside, deeds_in, Goes, Leaves, MayGoOn}
 
 -- an act of another connection
 abbrev pub by_another : ℕ → Act → List Happening → List Happening
@@ -21,7 +21,8 @@ by_another d (fed piece out over) later = other (Bytes d piece) (Ok (Sent out ov
 -- what the desk gets for others
 abbrev pub by_desk : Said → List Happening → List Happening
 by_desk None later = later
-by_desk (Some said) later = other said.0 said.1 ∷ later
+by_desk (Some (event e answer)) later = other e answer ∷ later
+by_desk (Some (question command answer)) later = asked ∷ later
 
 -- what happens to connection c up to its end
 abbrev pub life_of : ℕ → List Work → List Happening

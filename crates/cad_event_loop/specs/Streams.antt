@@ -7,7 +7,9 @@ use Rattle.cad_office.specs.Answers.{printed}
 use Rattle.cad_office.specs.Keeping.{AnswersLine}
 use Rattle.cad_office.specs.Lines.{lines_in}
 use Rattle.cad_office_socket.specs.declared.turned.EntryTurned.{EntryTurned}
-use Rattle.cad_office_socket.specs.declared.turned.EntryTurned.TheVariants.{Answered, Lost, Stops, Over}
+use Rattle.cad_office_socket.specs.declared.turned.EntryTurned.TheVariants.{Answered, Lost, Checked, CheckLost, Stops, Over}
+use Rattle.cad_dry_run.specs.Reports.{report_text}
+use Rattle.cad_office_socket.specs.Checks.{ChecksLine}
 use Rattle.cad_office_socket.specs.Entries.{EntersAtDesk}
 use Rattle.cad_event_loop.specs.Works.{Place, Work, office_comes, enters, IsEmpty, all_deeds, Goes}
 
@@ -15,12 +17,15 @@ use Rattle.cad_event_loop.specs.Works.{Place, Work, office_comes, enters, IsEmpt
 abbrev pub ends_line : EntryTurned → Bool
 ends_line (Answered answer) = true
 ends_line (Lost answer) = true
+ends_line (Checked report) = true
+ends_line (CheckLost report) = true
 ends_line Stops = true
 ends_line other = false
 
 -- the text that is to be written for it: its answer, if there was memory for the text
 abbrev pub answer_text : EntryTurned → List ℕ
 answer_text (Answered answer) = printed answer
+answer_text (Checked report) = report_text report
 answer_text other = []
 
 -- in all turns at socket o
@@ -40,10 +45,12 @@ EndsWell o (enters p text turned deeds said ∷ later) = ((p ≡ o) × IsLeftWel
 EndsWell o (other ∷ later) = EndsWell o later
 
 module _ {R : Type 0} (g : Ghosts R) where
-  -- the result of a line at the desk: its command is entered, and then it gets this answer
+  -- the result of a line at the desk: its command is entered, and then it gets this answer; or it asks for a check, and gets this report
   abbrev pub ComesTo : List ℕ → Desk R → EntryTurned → Desk R → Type 0
   ComesTo line old (Answered answer) new = AnswersLine (EntersAtDesk g) line old answer new
   ComesTo line old (Lost answer) new = AnswersLine (EntersAtDesk g) line old answer new
+  ComesTo line old (Checked report) new = ChecksLine g line old report new
+  ComesTo line old (CheckLost report) new = ChecksLine g line old report new
   ComesTo line old Stops new = (line ≡ codes "stop") × (new ≡ old)
   ComesTo line old other new = ⊥
 

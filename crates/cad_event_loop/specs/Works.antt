@@ -2,7 +2,9 @@
 use Rattle.std.specs.Prelude.{◌≡◌, ◌⊎◌, ⊤, ℕ, ◌≤◌, nat_eq, Bool, true, false, not, List, [], ◌∷◌, ◌++◌, length, map, codes, Option, None, Some, IsErr, Result, Ok, Err, IfErr, if◌then◌else◌}
 use Rattle.std.specs.Option.{option_or}
 use Rattle.cad_versions.specs.declared.command.Command.{Command}
+use Rattle.cad_versions.specs.declared.fault.RegisterFault.{RegisterFault}
 use Rattle.cad_versions.specs.declared.fault.RegisterFault.TheVariants.{Store, Memory}
+use Rattle.cad_versions.specs.Keeping.{IsShut}
 use Rattle.cad_stream.specs.declared.responder.Responder.{Ghosts}
 use Rattle.cad_desk.specs.declared.desk.Desk.{Desk}
 use Rattle.cad_desk.specs.declared.event.Event.{Event}
@@ -11,7 +13,7 @@ use Rattle.cad_desk.specs.declared.event.Reply.{Reply}
 use Rattle.cad_desk.specs.declared.event.Reply.TheVariants as reply
 use Rattle.cad_desk.specs.declared.fault.DeskFault.{DeskFault}
 use Rattle.cad_desk.specs.declared.fault.DeskFault.TheVariants.{Register}
-use Rattle.cad_desk.specs.Desks.{IsShutAtDesk, Steps}
+use Rattle.cad_desk.specs.Desks.{responder_of, ChecksAtDesk, IsShutAtDesk, Steps}
 use Rattle.cad_desk.specs.Faults.{fault_of}
 use Rattle.cad_network.specs.Deeds.{Deed, came, office_came, woke, blocked, left}
 use Rattle.cad_network.specs.Deeds as deed
@@ -30,6 +32,10 @@ use Rattle.cad_office.specs.Lines.{longest_line}
 use Rattle.cad_office_socket.specs.declared.entry.Entry.{Entry}
 use Rattle.cad_office_socket.specs.declared.turned.EntryTurned.{EntryTurned}
 use Rattle.cad_office_socket.specs.declared.turned.EntryTurned.TheVariants as turn
+use Rattle.cad_dry_run.specs.declared.report.Report.{Report}
+use Rattle.cad_dry_run.specs.declared.report.Report.TheVariants as report
+use Rattle.cad_dry_run.specs.Reports.{answer_of}
+use Rattle.cad_office_socket.specs.Checks.{IsCheckOf}
 use Rattle.cad_office_socket.specs.Serving as serving
 use Rattle.cad_office_socket.specs.Turns.{IsNewEntry, IsAsking, IsEntryTurn}
 use Rattle.cad_event_loop.specs.declared.stopped.Stopped.{Stopped}
@@ -69,9 +75,14 @@ place_of name clients office = record { slots = held_at name clients; office = o
 abbrev pub IsEmpty : Place → Type 0
 IsEmpty place = ((c : ℕ) → place.slots c ≡ None) × (place.office ≡ None)
 
--- the event that the desk gets, if any, and its answer
+-- what the desk gets, and its answer: an event, or the land office's question what would be answered to a command
+pub data Told : Type 0 where
+  event : Event → Result Reply DeskFault → Told
+  question : Command → Result ℕ RegisterFault → Told
+
+-- the same, if it gets anything
 abbrev pub Said : Type 0
-Said = Option (Event × Result Reply DeskFault)
+Said = Option Told
 
 -- One of these is done:
 -- the network reports that the sockets at these places may continue; socket s comes and is connection c; connection c acts at socket s;
@@ -149,6 +160,8 @@ end_of_turned turn.Took = None
 end_of_turned turn.Added = None
 end_of_turned (turn.Answered answer) = store_end (serving.is_store answer)
 end_of_turned (turn.Lost answer) = store_end (serving.is_store answer)
+end_of_turned (turn.Checked it) = store_end (serving.is_store (answer_of it))
+end_of_turned (turn.CheckLost it) = store_end (serving.is_store (answer_of it))
 end_of_turned turn.Stops = Some Asked
 end_of_turned turn.Waits = None
 end_of_turned turn.Over = None
@@ -184,24 +197,40 @@ IsEventOf c (Office command) = ⊥
 
 abbrev pub IsOf : ℕ → Said → Type 0
 IsOf c None = ⊤
-IsOf c (Some told) = IsEventOf c told.0
+IsOf c (Some (event e answer)) = IsEventOf c e
+IsOf c (Some (question command answer)) = ⊥
 
 -- the event is of no connection: the desk refused to open one
 abbrev pub IsOfNone : Held → Said → Type 0
 IsOfNone slots None = ⊤
-IsOfNone slots (Some told) = (c : ℕ) × (slots c ≡ None) × (told.0 ≡ Open c) × IsErr told.1
+IsOfNone slots (Some (event e answer)) = (c : ℕ) × (slots c ≡ None) × (e ≡ Open c) × IsErr answer
+IsOfNone slots (Some (question command answer)) = ⊥
 
 -- the desk gets the command that the line asks for, and gives this answer; or it gets none
 abbrev pub SaysSo : List ℕ → Answer → Said → Type 0
-SaysSo text (answer.Entered revision) said = (command : Command) × Asks text command × (said ≡ Some (Office command, Ok (reply.Entered revision)))
+SaysSo text (answer.Entered revision) said = (command : Command) × Asks text command × (said ≡ Some (event (Office command) (Ok (reply.Entered revision))))
 SaysSo text (answer.Refused fault) said =
-    ((command : Command) × Asks text command × (said ≡ Some (Office command, Err (fault_of fault)))) ⊎ ((fault ≡ Memory) × (length text ≤ longest_line) × (said ≡ None))
+    ((command : Command) × Asks text command × (said ≡ Some (event (Office command) (Err (fault_of fault))))) ⊎ ((fault ≡ Memory) × (length text ≤ longest_line) × (said ≡ None))
 SaysSo text answer.NotACommand said = ((command : Command) → ¬ Asks text command) × (said ≡ None)
+
+-- the desk is asked for the command that the line asks for, and gives this answer; or it is asked for none
+abbrev pub ChecksSo : List ℕ → Report → Said → Type 0
+ChecksSo line (report.WouldBe revision) said = (command : Command) × Asks line command × (said ≡ Some (question command (Ok revision)))
+ChecksSo line (report.Refused fault) said =
+    ((command : Command) × Asks line command × (said ≡ Some (question command (Err fault)))) ⊎ ((fault ≡ Memory) × (length line ≤ longest_line) × (said ≡ None))
+ChecksSo line (report.NoCommand text) said = ((command : Command) → ¬ Asks line command) × (said ≡ None)
+ChecksSo line report.LongLine said = ((command : Command) → ¬ Asks line command) × (said ≡ None)
+
+-- the same for a line that asks for a check
+abbrev pub IsCheckSaid : List ℕ → Report → Said → Type 0
+IsCheckSaid text it said = (line : List ℕ) × IsCheckOf text line × ChecksSo line it said
 
 -- what the desk gets in a turn of the land office, for the line that ended in it
 abbrev pub IsLineSaid : List ℕ → EntryTurned → Said → Type 0
 IsLineSaid text (turn.Answered answer) said = IsAsking text answer × SaysSo text answer said
 IsLineSaid text (turn.Lost answer) said = IsAsking text answer × SaysSo text answer said
+IsLineSaid text (turn.Checked it) said = IsCheckSaid text it said
+IsLineSaid text (turn.CheckLost it) said = IsCheckSaid text it said
 IsLineSaid text turn.Stops said = (text ≡ codes "stop") × (said ≡ None)
 IsLineSaid text other said = said ≡ None
 
@@ -209,6 +238,7 @@ IsLineSaid text other said = said ≡ None
 abbrev pub is_last : EntryTurned → Bool
 is_last turn.Over = true
 is_last (turn.Lost answer) = not (serving.is_store answer)
+is_last (turn.CheckLost it) = not (serving.is_store (answer_of it))
 is_last other = false
 
 -- nothing is done at a socket; or one comes and is let go, a client's after a head with the reason is sent to it
@@ -220,7 +250,8 @@ IsAside deeds =
 module _ {R : Type 0} (g : Ghosts R) where
   abbrev pub Tells : Desk R → Said → Desk R → Type 0
   Tells old None new = new ≡ old
-  Tells old (Some told) new = Steps g old told.0 told.1 new
+  Tells old (Some (event e answer)) new = Steps g old e answer new
+  Tells old (Some (question command answer)) new = ChecksAtDesk g old command answer new
 
   -- connection c is over by a turn of its own, or it is closed; and its socket is let go
   abbrev pub Leaves : ℕ → ℕ → Desk R → Channel → Option Ending → List Deed → Desk R → Type 0
@@ -256,7 +287,8 @@ module _ {R : Type 0} (g : Ghosts R) where
   -- the ledger was not closed by a refusal
   abbrev pub MayAsk : Desk R → Said → Desk R → Type 0
   MayAsk old None new = ⊤
-  MayAsk old (Some told) new = IfErr told.1 (λ fault. ¬ IsShutAtDesk g old fault new)
+  MayAsk old (Some (event e answer)) new = IfErr answer (λ fault. ¬ IsShutAtDesk g old fault new)
+  MayAsk old (Some (question command answer)) new = IfErr answer (λ fault. ¬ IsShut g.lives g.fails (responder_of old) fault (responder_of new))
 
   abbrev pub MayGoOn : (works : List Work) (old new : Desk R) (here next : Place) → Goes old here works new next → Type 0
   MayGoOn [] old new here next goes = ⊤

@@ -6,6 +6,7 @@ ghost use Rattle.cad_event_loop.specs.Works.{is_last as is_last_of};
 
 use crate::stopped::Stopped;
 use cad_desk::Desk;
+use cad_dry_run::Report;
 use cad_network::Network;
 use cad_office::Answer;
 use cad_office_socket::{Entry, EntryServed, EntryTurned};
@@ -39,16 +40,18 @@ pub(crate) fn may_go_on(served: EntryServed) -> bool
 }
 
 /// Whether the office's connection is over by a turn.
-fn is_last(turned: EntryTurned) -> bool
-    ensures { result ≡ is_last_of turned }
+fn is_last(turned: &EntryTurned) -> bool
+    ensures { result ≡ is_last_of turned.now }
 {
     match turned {
-        EntryTurned::Lost(Answer::Refused(RegisterFault::Store)) => false,
-        EntryTurned::Over | EntryTurned::Lost(_) => true,
+        EntryTurned::Lost(Answer::Refused(RegisterFault::Store))
+        | EntryTurned::CheckLost(Report::Refused(RegisterFault::Store)) => false,
+        EntryTurned::Over | EntryTurned::Lost(_) | EntryTurned::CheckLost(_) => true,
         EntryTurned::Wrote
         | EntryTurned::Took
         | EntryTurned::Added
         | EntryTurned::Answered(_)
+        | EntryTurned::Checked(_)
         | EntryTurned::Stops
         | EntryTurned::Waits => false,
     }
@@ -114,7 +117,7 @@ impl<S: Drop> Office<S> {
     {
         let Office { socket, mut entry } = self;
         let turned = entry.send(net, &socket);
-        if is_last(turned) {
+        if is_last(&turned) {
             net.let_go(socket);
             return (turned, None);
         }

@@ -1,6 +1,6 @@
 -- Turns of the office, and one more.
 use Rattle.std.proofs.Common.{◌≡◌, inl, inr, ℕ, ◌+◌, ◌<◌, Bool, true, false, ◌&&◌, List, [], ◌∷◌, ◌++◌, length, Option, None, Some, is_none, refl, arith}
-use Rattle.cad_network.specs.Deeds.{Deed, Adds, AddsSome}
+use Rattle.cad_network.specs.Deeds.{Deed, AddsSome}
 use Rattle.cad_network.specs.lemmas.DeedLemmas.{Adds-nil, Adds-trans}
 use Rattle.cad_stream.specs.declared.responder.Responder.{Ghosts}
 use Rattle.cad_desk.specs.declared.desk.Desk.{Desk}

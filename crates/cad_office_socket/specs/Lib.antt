@@ -1,5 +1,6 @@
 pub mod Buffering
 pub mod Entries
+pub mod Checks
 pub mod Turns
 pub mod Serving
 pub mod lemmas

@@ -6,11 +6,12 @@ use Rattle.cad_stream.specs.declared.responder.Responder.{Ghosts}
 use Rattle.cad_desk.specs.declared.desk.Desk.{Desk}
 use Rattle.cad_office.specs.declared.print.Answer.{Answer}
 use Rattle.cad_office.specs.declared.print.Answer.TheVariants.{Entered, Refused, NotACommand}
+use Rattle.cad_dry_run.specs.Reports.{answer_of}
 use Rattle.cad_office_socket.specs.declared.entry.Entry.{Entry}
 use Rattle.cad_office_socket.specs.declared.turned.EntryServed.{EntryServed}
 use Rattle.cad_office_socket.specs.declared.turned.EntryServed.TheVariants as entry_served
 use Rattle.cad_office_socket.specs.declared.turned.EntryTurned.{EntryTurned}
-use Rattle.cad_office_socket.specs.declared.turned.EntryTurned.TheVariants.{Wrote, Took, Added, Answered, Lost, Stops, Waits, Over}
+use Rattle.cad_office_socket.specs.declared.turned.EntryTurned.TheVariants.{Wrote, Took, Added, Answered, Lost, Checked, CheckLost, Stops, Waits, Over}
 use Rattle.cad_office_socket.specs.Turns.{unwritten, IsEntryTurn}
 
 -- the register's database refused the command
@@ -27,6 +28,8 @@ end_at Took = None
 end_at Added = None
 end_at (Answered answer) = if is_store answer then Some entry_served.StoreRefused else None
 end_at (Lost answer) = if is_store answer then Some entry_served.StoreRefused else Some entry_served.Over
+end_at (Checked report) = if is_store (answer_of report) then Some entry_served.StoreRefused else None
+end_at (CheckLost report) = if is_store (answer_of report) then Some entry_served.StoreRefused else Some entry_served.Over
 end_at Stops = Some entry_served.Stops
 end_at Waits = Some entry_served.Waits
 end_at Over = Some entry_served.Over

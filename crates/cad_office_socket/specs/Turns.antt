@@ -11,11 +11,13 @@ use Rattle.cad_office.specs.declared.print.Answer.{Answer}
 use Rattle.cad_office.specs.declared.print.Answer.TheVariants.{Refused}
 use Rattle.cad_office.specs.Answers.{printed}
 use Rattle.cad_office.specs.Keeping.{AnswersLine}
-use Rattle.cad_office.specs.Lines.{BuffersLine}
+use Rattle.cad_office.specs.Lines.{longest_line, BuffersLine}
+use Rattle.cad_dry_run.specs.Reports.{report_text}
 use Rattle.cad_office_socket.specs.declared.entry.Entry.{Entry}
 use Rattle.cad_office_socket.specs.declared.turned.EntryTurned.{EntryTurned}
-use Rattle.cad_office_socket.specs.declared.turned.EntryTurned.TheVariants.{Wrote, Took, Added, Answered, Lost, Stops, Waits, Over}
+use Rattle.cad_office_socket.specs.declared.turned.EntryTurned.TheVariants.{Wrote, Took, Added, Answered, Lost, Checked, CheckLost, Stops, Waits, Over}
 use Rattle.cad_office_socket.specs.Buffering.{IsOfOneLine}
+use Rattle.cad_office_socket.specs.Checks.{IsCheck, ChecksLine}
 use Rattle.cad_office_socket.specs.Entries.{EntersAtDesk}
 
 -- bytes that were read and not taken
@@ -74,9 +76,10 @@ IsUnheld Buffered = ⊥
 IsUnheld TooLong = ⊥
 IsUnheld (OutOfMemory count) = ⊤
 
--- a line that has an answer: it is not empty, and it is `stop` only if there was no memory to hold it
+-- a line that has an answer: it is not empty; it is `stop` only if there was no memory to hold it; and it asks for a check only if there was
+-- none, or if it is too long
 abbrev pub IsAsking : List ℕ → Answer → Type 0
-IsAsking text answer = (text ≢ []) × (text ≡ codes "stop" → answer ≡ Refused Memory)
+IsAsking text answer = (text ≢ []) × (text ≡ codes "stop" → answer ≡ Refused Memory) × (IsCheck text → (answer ≡ Refused Memory) ⊎ (longest_line < length text))
 
 -- the possible results of the end of a line
 abbrev pub MayEnd : EntryTurned → Type 0
@@ -91,9 +94,11 @@ module _ {R : Type 0} (g : Ghosts R) where
   abbrev pub EndsLine : List ℕ → Desk R → EntryTurned → Desk R → Entry → Type 0
   EndsLine text old Added new next = (text ≡ []) × (new ≡ old) × (unwritten next ≡ []) × HasBegun [] next
   EndsLine text old (Answered answer) new next = IsAsking text answer × AnswersLine (EntersAtDesk g) text old answer new × (unwritten next ≡ printed answer) × HasBegun [] next
+  EndsLine text old (Checked report) new next = ChecksLine g text old report new × (unwritten next ≡ report_text report) × HasBegun [] next
   EndsLine text old Stops new next = (text ≡ codes "stop") × (new ≡ old) × (unwritten next ≡ []) × HasBegun [] next
   -- no memory for the text of the answer
   EndsLine text old (Lost answer) new next = IsAsking text answer × AnswersLine (EntersAtDesk g) text old answer new × (unwritten next ≡ []) × HasBegun [] next
+  EndsLine text old (CheckLost report) new next = ChecksLine g text old report new × (unwritten next ≡ []) × HasBegun [] next
   EndsLine text old Over new next = ⊥
   EndsLine text old Wrote new next = ⊥
   EndsLine text old Took new next = ⊥
@@ -136,6 +141,8 @@ module _ {R : Type 0} (g : Ghosts R) (s : ℕ) where
   IsEntryTurn old entry Added new next deeds = IsTaken old entry Added new next deeds
   IsEntryTurn old entry (Answered answer) new next deeds = IsTaken old entry (Answered answer) new next deeds
   IsEntryTurn old entry (Lost answer) new next deeds = IsTaken old entry (Lost answer) new next deeds
+  IsEntryTurn old entry (Checked report) new next deeds = IsTaken old entry (Checked report) new next deeds
+  IsEntryTurn old entry (CheckLost report) new next deeds = IsTaken old entry (CheckLost report) new next deeds
   IsEntryTurn old entry Stops new next deeds = IsTaken old entry Stops new next deeds
   IsEntryTurn old entry Waits new next deeds = (deeds ≡ blocked s ∷ []) × MayWait entry × (new ≡ old) × (next ≡ entry)
   IsEntryTurn old entry Over new next deeds = IsCutOff entry deeds × (new ≡ old)

@@ -1,14 +1,18 @@
 //! The bytes of a line.
 
-ghost use Rattle.std.specs.Prelude.{◌≡◌, ◌+◌, ◌<◌, ℕ, false, List, ◌++◌, ◌∷◌, length, drop, codes, IfSome, IsTrue};
+ghost use Rattle.std.specs.Prelude.{◌≡◌, ◌⊎◌, ◌≤◌, None, ◌+◌, ◌<◌, ℕ, false, List, ◌++◌, ◌∷◌, length, drop, codes, IfSome, IsTrue};
 ghost use Rattle.cad_office_socket.specs.Buffering.{IsOfOneLine, before_end};
 ghost use Rattle.cad_office_socket.specs.Turns.{IsUnheld};
-ghost use Rattle.cad_office.specs.Lines.{BuffersLine};
+ghost use Rattle.cad_office.specs.Lines.{BuffersLine, longest_line};
+ghost use Rattle.cad_office_socket.specs.Checks.{IsCheck};
 
 use cad_office::{Line, LineState};
 
 /// The line that asks to stop.
 const STOP: &[u8] = b"stop";
+
+/// What a line begins with if the rest of it is to be checked.
+const CHECK: &[u8] = b"check ";
 
 /// The number of bytes before the first LF, if there is one.
 pub(crate) fn first_end(bytes: &[u8]) -> Option<usize>
@@ -40,5 +44,20 @@ pub(crate) fn asks_to_stop(line: &Line) -> bool
     match line.state() {
         LineState::Buffered => line.bytes() == STOP,
         LineState::TooLong | LineState::OutOfMemory(_) => false,
+    }
+}
+
+/// The LINE of a line `check LINE`. A line that could not be held asks for nothing.
+pub(crate) fn line_to_check(line: &Line) -> Option<&[u8]>
+    ensures held { IfSome result (λ part. (text : List ℕ) → BuffersLine text line.now → length text ≤ longest_line) }
+    ensures checked { IfSome result (λ part. (text : List ℕ) → BuffersLine text line.now → text ≡ codes "check " ++ part.now) }
+    ensures unchecked { result ≡ None → (text : List ℕ) → BuffersLine text line.now → IsCheck text → IsUnheld line.now.state ⊎ longest_line < length text }
+{
+    match line.state() {
+        LineState::Buffered => {
+            let line = line.bytes().strip_prefix(CHECK)?;
+            Some(line)
+        }
+        LineState::TooLong | LineState::OutOfMemory(_) => None,
     }
 }

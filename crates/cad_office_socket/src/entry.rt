@@ -1,12 +1,14 @@
 //! The land office's connection between its socket and the desk.
 
-ghost use Rattle.std.specs.Prelude.{◌≡◌, ◌≤◌, length, IsTrue};
+ghost use Rattle.std.specs.Prelude.{◌≡◌, ◌≤◌, length, IfOk, IsTrue};
+ghost use Rattle.cad_dry_run.specs.Reports.{report_text};
 
-use crate::answering::answer_line;
+use crate::answering::{answer_line, checked};
 use crate::buffering::{add_all, asks_to_stop, first_end};
 use crate::turned::{EntryServed, EntryTurned, end_at};
 use cad_desk::Desk;
-use cad_io::{PIECE_LEN, rest_from};
+use cad_dry_run::{Report, print_report};
+use cad_io::{PIECE_LEN, WriteFailed, rest_from};
 use cad_network::{Network, is_blocked};
 use cad_office::{Line, print_answer};
 use cad_stream::Responder;
@@ -29,17 +31,28 @@ pub struct Entry {
     pub ghost output_within: { output_at ≤ length output.items },
 }
 
+/// What is to be written of a report.
+fn report_bytes(alloc: Global, report: &Report) -> Result<Vec<u8>, WriteFailed>
+    ensures { IfOk result (λ bytes. bytes.items ≡ report_text report.now) }
+{
+    let mut bytes = Vec::new(alloc);
+    print_report(alloc, &mut bytes, report)?;
+    Ok(bytes)
+}
+
 /// Whether bytes were written.
-fn has_written(turned: EntryTurned) -> bool
-    ensures { IsTrue result → turned ≡ EntryTurned.Wrote }
+fn has_written(turned: &EntryTurned) -> bool
+    ensures { IsTrue result → turned.now ≡ EntryTurned.Wrote }
 {
     matches!(turned, EntryTurned::Wrote)
 }
 
 impl Entry {
-    ghost use Rattle.std.specs.Prelude.{◌↔◌, true, false, []};
+    ghost use Rattle.std.specs.Prelude.{◌↔◌, ◌⊎◌, ◌<◌, ℕ, List, true, false, []};
+    ghost use Rattle.cad_office.specs.Lines.{longest_line};
+    ghost use Rattle.cad_office_socket.specs.Checks.{IsCheck};
     ghost use Rattle.cad_network.specs.Deeds.{AddsSome};
-    ghost use Rattle.cad_office_socket.specs.Turns.{has_ended, IsNewEntry, IsFed, IsEntryTurn, IsLineEnd, IsSending, MayEnd, SendsSome, unread, unwritten};
+    ghost use Rattle.cad_office_socket.specs.Turns.{has_ended, HasBegun, IsUnheld, IsNewEntry, IsFed, IsEntryTurn, IsLineEnd, IsSending, MayEnd, SendsSome, unread, unwritten};
     ghost use Rattle.cad_office_socket.specs.Serving.{IsEntryServed};
 
     /// The connection of an office from which nothing was read.
@@ -82,9 +95,10 @@ impl Entry {
         }
     }
 
-    /// Answers the line that ended. An empty one asks for nothing.
-    fn end_line<R: Responder>(&mut self, alloc: Global, desk: &mut Desk<R>) -> EntryTurned
-        requires { unwritten self.old ≡ [] }
+    /// Answers the line that ended, which asks for no check. An empty one asks for nothing.
+    fn end_unchecked<R: Responder>(&mut self, alloc: Global, desk: &mut Desk<R>) -> EntryTurned
+        requires nothing_unwritten { unwritten self.old ≡ [] }
+        requires unchecked { (text : List ℕ) → HasBegun text self.old → IsCheck text → IsUnheld self.old.line.state ⊎ longest_line < length text }
         ensures ends { MayEnd result }
         ensures goes_on { has_ended self.new ≡ has_ended self.old }
         ensures line { IsLineEnd R.Responder desk.old self.old result desk.new self.new }
@@ -105,6 +119,25 @@ impl Entry {
         self.output = output;
         self.output_at = 0;
         EntryTurned::Answered(answer)
+    }
+
+    /// Answers the line that ended, or checks the rest of one that asks for that.
+    fn end_line<R: Responder>(&mut self, alloc: Global, desk: &mut Desk<R>) -> EntryTurned
+        requires { unwritten self.old ≡ [] }
+        ensures ends { MayEnd result }
+        ensures goes_on { has_ended self.new ≡ has_ended self.old }
+        ensures line { IsLineEnd R.Responder desk.old self.old result desk.new self.new }
+    {
+        if let Some(report) = checked(alloc, &self.line, desk) {
+            self.line.clear();
+            let Ok(output) = report_bytes(alloc, &report) else {
+                return EntryTurned::CheckLost(report);
+            };
+            self.output = output;
+            self.output_at = 0;
+            return EntryTurned::Checked(report);
+        }
+        self.end_unchecked(alloc, desk)
     }
 
     /// Takes the bytes of a line, up to its end if that was read.
@@ -207,10 +240,10 @@ impl Entry {
     {
         for _ in 0..TURNS {
             let turned = self.turn(alloc, net, socket, desk);
-            if let Some(served) = end_at(turned) {
+            if let Some(served) = end_at(&turned) {
                 return served;
             }
-            if has_written(turned) && !self.is_sending() {
+            if has_written(&turned) && !self.is_sending() {
                 return EntryServed::Goes;
             }
         }

@@ -3,11 +3,12 @@
 ghost use Rattle.std.specs.Prelude.{◌≡◌};
 ghost use Rattle.cad_office_socket.specs.Serving.{end_at as end_at_of};
 
+use cad_dry_run::Report;
 use cad_office::Answer;
 use cad_versions::RegisterFault;
 
 /// The result of a turn.
-#[derive(Clone, Copy, Debug, PartialEq, Eq)]
+#[derive(Debug, Drop)]
 pub enum EntryTurned {
     /// Bytes were written.
     Wrote,
@@ -19,6 +20,10 @@ pub enum EntryTurned {
     Answered(Answer),
     /// A line was answered, and there is no memory for the text of its answer: nothing more is written to the office.
     Lost(Answer),
+    /// A line `check LINE` was answered by what LINE would be answered, and this is to be written.
+    Checked(Report),
+    /// The same, and there is no memory for the text: nothing more is written to the office.
+    CheckLost(Report),
     /// The line `stop` was read.
     Stops,
     /// The socket gives or takes nothing for now.
@@ -43,17 +48,24 @@ pub enum EntryServed {
 }
 
 /// How a turn ends the serving of the office, if it does.
-pub(crate) fn end_at(turned: EntryTurned) -> Option<EntryServed>
-    ensures { result ≡ end_at_of turned }
+pub(crate) fn end_at(turned: &EntryTurned) -> Option<EntryServed>
+    ensures { result ≡ end_at_of turned.now }
 {
     match turned {
         EntryTurned::Answered(Answer::Refused(RegisterFault::Store))
-        | EntryTurned::Lost(Answer::Refused(RegisterFault::Store)) => Some(
+        | EntryTurned::Lost(Answer::Refused(RegisterFault::Store))
+        | EntryTurned::Checked(Report::Refused(RegisterFault::Store))
+        | EntryTurned::CheckLost(Report::Refused(RegisterFault::Store)) => Some(
             EntryServed::StoreRefused,
         ),
-        EntryTurned::Wrote | EntryTurned::Took | EntryTurned::Added | EntryTurned::Answered(_) =>
-            None,
-        EntryTurned::Lost(_) | EntryTurned::Over => Some(EntryServed::Over),
+        EntryTurned::Wrote
+        | EntryTurned::Took
+        | EntryTurned::Added
+        | EntryTurned::Answered(_)
+        | EntryTurned::Checked(_) => None,
+        EntryTurned::Lost(_) | EntryTurned::CheckLost(_) | EntryTurned::Over => Some(
+            EntryServed::Over,
+        ),
         EntryTurned::Stops => Some(EntryServed::Stops),
         EntryTurned::Waits => Some(EntryServed::Waits),
     }

@@ -54,6 +54,8 @@ fn turned_name(turned: EntryTurned) -> &'static str {
         EntryTurned::Added => "added",
         EntryTurned::Answered(_) => "answered",
         EntryTurned::Lost(_) => "lost",
+        EntryTurned::Checked(_) => "checked",
+        EntryTurned::CheckLost(_) => "check lost",
         EntryTurned::Stops => "stops",
         EntryTurned::Waits => "waits",
         EntryTurned::Over => "over",

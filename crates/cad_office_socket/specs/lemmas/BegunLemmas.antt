@@ -5,13 +5,14 @@ use Rattle.cad_stream.specs.declared.responder.Responder.{Ghosts}
 use Rattle.cad_desk.specs.declared.desk.Desk.{Desk}
 use Rattle.cad_office_socket.specs.declared.entry.Entry.{Entry}
 use Rattle.cad_office_socket.specs.declared.turned.EntryTurned.{EntryTurned}
-use Rattle.cad_office_socket.specs.declared.turned.EntryTurned.TheVariants.{Wrote, Took, Added, Answered, Lost, Stops, Waits, Over}
+use Rattle.cad_office_socket.specs.declared.turned.EntryTurned.TheVariants.{Wrote, Took, Added, Answered, Lost, Checked, CheckLost, Stops, Waits, Over}
 use Rattle.cad_office_socket.specs.Turns.{HasBegun, IsBegun, EndsLine, IsTaken, IsEntryTurn}
 
 -- if the office continues, a line has begun
 abbrev pub Later : EntryTurned → Entry → Type 0
 Later Over next = Unit {0}
 Later (Lost answer) next = Unit {0}
+Later (CheckLost report) next = Unit {0}
 Later Stops next = Unit {0}
 Later other next = IsBegun next
 
@@ -20,6 +21,8 @@ module _ {R : Type 0} (g : Ghosts R) where
   ended text Added old new next e = ([], e.3)
   ended text (Answered answer) old new next e = ([], e.3)
   ended text (Lost answer) old new next e = tt
+  ended text (Checked report) old new next e = ([], e.2)
+  ended text (CheckLost report) old new next e = tt
   ended text Stops old new next e = tt
   ended text Over old new next e = absurd e
   ended text Wrote old new next e = absurd e
@@ -43,6 +46,8 @@ module _ {R : Type 0} (g : Ghosts R) where
   begun_later s Added old new entry next deeds begun t = taken_later s deeds begun.0 Added old new entry next begun.1 t
   begun_later s (Answered answer) old new entry next deeds begun t = taken_later s deeds begun.0 (Answered answer) old new entry next begun.1 t
   begun_later s (Lost answer) old new entry next deeds begun t = tt
+  begun_later s (Checked report) old new entry next deeds begun t = taken_later s deeds begun.0 (Checked report) old new entry next begun.1 t
+  begun_later s (CheckLost report) old new entry next deeds begun t = tt
   begun_later s Stops old new entry next deeds begun t = tt
   begun_later s Waits old new entry next deeds begun t = (begun.0, subst (λ (it : Entry). HasBegun begun.0 it) (sym t.3) begun.1)
   begun_later s Over old new entry next deeds begun t = tt
