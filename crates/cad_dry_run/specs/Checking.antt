@@ -1,5 +1,5 @@
 -- What a dry run writes for the lines that it reads (own profile).
-use Rattle.std.specs.Prelude.{◌≡◌, ℕ, ◌+◌, Bool, IsTrue, List, [], ◌∷◌, ◌++◌, ◌⊎◌, length, map, take, Result, Ok, Err}
+use Rattle.std.specs.Prelude.{◌≡◌, ℕ, ◌+◌, Bool, IsTrue, List, [], ◌∷◌, ◌++◌, length, map, take, Result, Ok, Err}
 use Rattle.std.specs.List.{list_all}
 use Rattle.cad_versions.specs.declared.fault.RegisterFault.TheVariants.{Store}
 use Rattle.cad_versions.specs.declared.fault.RegisterFault.{RegisterFault}

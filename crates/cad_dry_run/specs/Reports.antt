@@ -1,5 +1,6 @@
 -- What a dry run prints for a line, and which answer of the land office it represents (own profile).
 use Rattle.std.specs.Prelude.{◌≡◌, ⊤, ℕ, ◌<◌, List, ◌++◌, codes, decimal, length, string_bytes}
+use Rattle.cad_versions.specs.declared.fault.RegisterFault.TheVariants.{Memory}
 use Rattle.cad_office.specs.declared.print.Answer.{Answer}
 use Rattle.cad_office.specs.declared.print.Answer.TheVariants as answer
 use Rattle.cad_office.specs.Answers.{printed}
@@ -30,3 +31,10 @@ IsReportOf line (WouldBe revision) = ⊤
 IsReportOf line (Refused fault) = ⊤
 IsReportOf line (NoCommand text) = (why : Explanation) × Explains line why × (string_bytes text ≡ explanation_text why)
 IsReportOf line LongLine = longest_line < length line
+
+-- the explanation in words, or that memory ran out
+abbrev pub IsPrintedFor : Explanation → Report → Type 0
+IsPrintedFor why (WouldBe revision) = ⊥
+IsPrintedFor why (Refused fault) = fault ≡ Memory
+IsPrintedFor why (NoCommand text) = string_bytes text ≡ explanation_text why
+IsPrintedFor why LongLine = ⊥

@@ -1,5 +1,5 @@
 -- What is printed for a line that is no command (own profile).
-use Rattle.std.specs.Prelude.{ℕ, ◌-◌, List, [], ◌++◌, codes, decimal, string_bytes}
+use Rattle.std.specs.Prelude.{ℕ, ◌-◌, List, ◌++◌, codes, decimal, string_bytes}
 use Rattle.json.specs.Print.{quoted}
 use Rattle.cad_shape.specs.declared.ring.RingFault.{RingFault}
 use Rattle.cad_shape.specs.declared.ring.RingFault.TheVariants as outline

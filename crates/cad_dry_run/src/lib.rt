@@ -3,7 +3,7 @@
 //! - `explain`: the command that a line asks for, or why and where it is not a command.
 //! - `Explanation`, `Cause`: why a line is no command, and where.
 //! - `check`: reads lines to their end, applies each command and prints a report for each line.
-//! - `Report`: what would come of a line.
+//! - `Report`: what would come of a line; `no_command` is the report for a line that is no command.
 //!
 //! `check` works on any `Ledger` that may be changed, such as a copy of a register in memory. On an empty one the lines
 //!
@@ -37,5 +37,5 @@ mod words;
 pub use cause::{Cause, Explanation, MemberCause, ObjectCause, RingCause, ValueFault};
 pub use explaining::{Explained, explain};
 pub use member_name::MemberName;
-pub use report::{Report, print_report};
+pub use report::{Report, no_command, print_report};
 pub use turns::check;

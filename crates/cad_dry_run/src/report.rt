@@ -2,8 +2,10 @@
 
 ghost use Rattle.std.specs.Prelude.{◌≡◌, IfOk, string_bytes};
 ghost use Rattle.cad_io.specs.Writing.{IsWritten};
-ghost use Rattle.cad_dry_run.specs.Reports.{report_text};
+ghost use Rattle.cad_dry_run.specs.Reports.{report_text, IsPrintedFor};
 
+use crate::cause::Explanation;
+use crate::words::explanation_line;
 use cad_io::{WriteFailed, write_whole};
 use cad_office::{Answer, print_answer};
 use cad_versions::RegisterFault;
@@ -21,6 +23,16 @@ pub enum Report {
     NoCommand(String),
     /// The line is too long for a command.
     LongLine,
+}
+
+/// The report for a line that is no command: the explanation in words, or that memory ran out.
+pub fn no_command(alloc: Global, explanation: &Explanation) -> Report
+    ensures { IsPrintedFor explanation.now result }
+{
+    match explanation_line(alloc, explanation) {
+        Ok(text) => Report::NoCommand(text),
+        Err(AllocError) => Report::Refused(RegisterFault::Memory),
+    }
 }
 
 /// Prints the report as one line, or a prefix of it if a write fails or memory runs out.

@@ -8,12 +8,10 @@ ghost use Rattle.cad_dry_run.specs.Checking.{IsPiece, LinesAreReported, ReportsL
 ghost use Rattle.cad_io.specs.Counting.{CountsReads};
 ghost use Rattle.cad_io.specs.Known.{ReadsAndWrites, Writes};
 ghost use Rattle.cad_office.specs.Lines.{line_begun, longest_line, BuffersLine};
-ghost use Rattle.cad_dry_run.specs.inner.Endings.{EndsLine, IsPrintedFor};
+ghost use Rattle.cad_dry_run.specs.inner.Endings.{EndsLine};
 
-use crate::cause::Explanation;
 use crate::explaining::{Explained, explain};
-use crate::report::{Report, print_report};
-use crate::words::explanation_line;
+use crate::report::{Report, no_command, print_report};
 use cad_io::{CountedRead, PIECE_LEN};
 use cad_office::{Line, LineState, OfficeFault};
 use cad_versions::{Command, Ledger, RegisterFault};
@@ -153,16 +151,6 @@ fn try_line<L: Ledger>(alloc: Global, line: &[u8], ledger: &mut L) -> Report
     match explain(alloc, line) {
         Ok(Explained::Command(command)) => apply(ledger, command),
         Ok(Explained::NoCommand(explanation)) => no_command(alloc, &explanation),
-        Err(AllocError) => Report::Refused(RegisterFault::Memory),
-    }
-}
-
-/// What is printed for a line that is no command.
-fn no_command(alloc: Global, explanation: &Explanation) -> Report
-    ensures { IsPrintedFor explanation.now result }
-{
-    match explanation_line(alloc, explanation) {
-        Ok(text) => Report::NoCommand(text),
         Err(AllocError) => Report::Refused(RegisterFault::Memory),
     }
 }
