@@ -16,11 +16,11 @@ use Rattle.cad_desk.specs.declared.fault.DeskFault.{DeskFault}
 use Rattle.cad_desk.specs.declared.fault.DeskFault.TheVariants.{UnknownConnection, KnownConnection, TooManyConnections, Memory, Register}
 use Rattle.cad_desk.specs.Desks.{connections_of, rules_of}
 use Rattle.cad_desk.specs.Events.{commands_after}
-use Rattle.cad_desk.specs.Runs.{IsOnlyAsked, Takes, Exchange, exchange, pieces_of, outs_of}
+use Rattle.cad_desk.specs.Runs.{IsOnlyChecked, Takes, Exchange, exchange, pieces_of, outs_of}
 use Rattle.cad_desk.specs.Laws as desk_laws
 use Rattle.cad_clients.specs.declared.channel.Channel.{Channel}
 use Rattle.cad_clients.specs.Channels.{unfed, unsent, wrote, took, fed}
-use Rattle.cad_clients.specs.Acts.{Happening, own, other, asked, IsOther, read_of, written_of, events_of, answers_of, Lives}
+use Rattle.cad_clients.specs.Acts.{Happening, own, other, checked, IsOther, read_of, written_of, events_of, answers_of, Lives}
 use Rattle.cad_clients.specs.Laws.{exchanges_with, ChannelsAreTheirOwn}
 
 apart : (d c : ℕ) → d ≢ c → nat_eq d c ≡ false
@@ -51,22 +51,22 @@ record Passes (first last : Channel) (exchanges : List Exchange) (read written :
   sent : unsent first ++ outs_of exchanges ≡ written ++ unsent last
 
 module _ {R : Type 0} (g : Ghosts R) where
-  not_asked : (desk : Desk R) → IsOnlyAsked g desk desk
-  not_asked desk = record { connections = refl; kept = λ counts commands stands. stands; clean = λ counts. counts }
+  none_checked : (desk : Desk R) → IsOnlyChecked g desk desk
+  none_checked desk = record { connections = refl; kept = λ counts commands stands. stands; clean = λ counts. counts }
 
-  asked_twice : (old mid new : Desk R) → IsOnlyAsked g old mid → IsOnlyAsked g mid new → IsOnlyAsked g old new
-  asked_twice old mid new first then = record {
+  checked_twice : (old mid new : Desk R) → IsOnlyChecked g old mid → IsOnlyChecked g mid new → IsOnlyChecked g old new
+  checked_twice old mid new first then = record {
     connections = then.connections ∙ first.connections;
     kept = λ counts commands stands. then.kept counts commands (first.kept (then.clean counts) commands stands);
     clean = λ counts. first.clean (then.clean counts);
   }
 
   -- a desk that was asked before it took the events
-  asked_before : (old mid new : Desk R) (events : List Event) (answers : List (Result Reply DeskFault)) → IsOnlyAsked g old mid → Takes g mid events answers new → Takes g old events answers new
-  asked_before old mid new [] [] first t = asked_twice old mid new first t
-  asked_before old mid new [] (answer ∷ answers) first t = absurd t
-  asked_before old mid new (event ∷ events) [] first t = absurd t
-  asked_before old mid new (event ∷ events) (answer ∷ answers) first t = (t.0, t.1, asked_twice old mid t.0 first t.2, t.3, t.4, t.5)
+  checked_before : (old mid new : Desk R) (events : List Event) (answers : List (Result Reply DeskFault)) → IsOnlyChecked g old mid → Takes g mid events answers new → Takes g old events answers new
+  checked_before old mid new [] [] first t = checked_twice old mid new first t
+  checked_before old mid new [] (answer ∷ answers) first t = absurd t
+  checked_before old mid new (event ∷ events) [] first t = absurd t
+  checked_before old mid new (event ∷ events) (answer ∷ answers) first t = (t.0, t.1, checked_twice old mid t.0 first t.2, t.3, t.4, t.5)
 
 module _ {R : Type 0} (g : Ghosts R) (c : ℕ) where
   passes : (commands : List Command) (happenings : List Happening) (old new : Desk R) (channel last : Channel) → Lives g c old channel happenings new last
@@ -103,25 +103,25 @@ module _ {R : Type 0} (g : Ghosts R) (c : ℕ) where
       let p = passes (commands_after commands event answer) later l.0 new channel last l.4 in
       subst (λ (x : List Exchange). Passes channel last x (read_of later) (written_of later))
       (sym (adds_nothing c commands event answer (exchanges_with c (commands_after commands event answer) later) l.1)) p
-  passes commands (asked ∷ later) old new channel last l = passes commands later l.0 new channel last l.2
+  passes commands (checked ∷ later) old new channel last l = passes commands later l.0 new channel last l.2
 
   -- the desk took the events
   takes : (happenings : List Happening) (old new : Desk R) (channel last : Channel) → Lives g c old channel happenings new last → Takes g old (events_of c happenings) (answers_of happenings) new
-  takes [] old new channel last l = subst (λ (d : Desk R). IsOnlyAsked g old d) (sym l.0) (not_asked g old)
+  takes [] old new channel last l = subst (λ (d : Desk R). IsOnlyChecked g old d) (sym l.0) (none_checked g old)
   takes (own (wrote bytes) ∷ later) old new channel last l =
       subst (λ (d : Desk R). Takes g d (events_of c later) (answers_of later) new) l.2.3 (takes later l.0 new l.1 last l.3)
   takes (own (took bytes) ∷ later) old new channel last l =
       subst (λ (d : Desk R). Takes g d (events_of c later) (answers_of later) new) l.2.4 (takes later l.0 new l.1 last l.3)
-  takes (own (fed piece out ends) ∷ later) old new channel last l = (old, l.0, not_asked g old, l.2.5, tt, takes later l.0 new l.1 last l.3)
-  takes (other event answer ∷ later) old new channel last l = (old, l.0, not_asked g old, l.2, l.3, takes later l.0 new channel last l.4)
-  takes (asked ∷ later) old new channel last l = asked_before g old l.0 new (events_of c later) (answers_of later) l.1 (takes later l.0 new channel last l.2)
+  takes (own (fed piece out ends) ∷ later) old new channel last l = (old, l.0, none_checked g old, l.2.5, tt, takes later l.0 new l.1 last l.3)
+  takes (other event answer ∷ later) old new channel last l = (old, l.0, none_checked g old, l.2, l.3, takes later l.0 new channel last l.4)
+  takes (checked ∷ later) old new channel last l = checked_before g old l.0 new (events_of c later) (answers_of later) l.1 (takes later l.0 new channel last l.2)
 
 pub channels_are_their_own : {R : Type 0} (g : Ghosts R) → desk_laws.StepsAreARun g → desk_laws.ConnectionsAreTheirOwn (rules_of g) → ChannelsAreTheirOwn g
 channels_are_their_own g runs owns c commands old opened new channel last happenings is_new opens lives counts stands =
     let events = events_of c happenings in
     let answers = answers_of happenings in
     let exchanges = exchanges_with c commands happenings in
-    let run = runs commands old new (Open c ∷ events) (Ok Opened ∷ answers) (old, opened, not_asked g old, opens, tt, takes g c happenings opened new channel last lives) counts stands in
+    let run = runs commands old new (Open c ∷ events) (Ok Opened ∷ answers) (old, opened, none_checked g old, opens, tt, takes g c happenings opened new channel last lives) counts stands in
     let p = passes g c commands happenings opened new channel last lives in
     let told = owns c exchanges (commands, connections_of old, events, answers, run, refl) in
     let sent : outs_of exchanges ≡ written_of happenings ++ unsent last = ap (λ (b : List ℕ). b ++ outs_of exchanges) (sym is_new.none_sent) ∙ p.sent in (

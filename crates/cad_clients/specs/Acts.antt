@@ -8,7 +8,7 @@ use Rattle.cad_desk.specs.declared.event.Reply.{Reply}
 use Rattle.cad_desk.specs.declared.event.Reply.TheVariants.{Sent}
 use Rattle.cad_desk.specs.declared.fault.DeskFault.{DeskFault}
 use Rattle.cad_desk.specs.Desks.{IsShutAtDesk, Steps}
-use Rattle.cad_desk.specs.Runs.{IsOnlyAsked}
+use Rattle.cad_desk.specs.Runs.{IsOnlyChecked}
 use Rattle.cad_clients.specs.declared.channel.Channel.{Channel}
 use Rattle.cad_clients.specs.Channels.{Act, wrote, took, fed, read_in, written_in, Does}
 
@@ -17,7 +17,7 @@ use Rattle.cad_clients.specs.Channels.{Act, wrote, took, fed, read_in, written_i
 pub data Happening : Type 0 where
   own : Act → Happening
   other : Event → Result Reply DeskFault → Happening
-  asked : Happening
+  checked : Happening
 
 -- the event is not of connection c
 abbrev pub IsOther : ℕ → Event → Type 0
@@ -31,13 +31,13 @@ abbrev pub read_of : List Happening → List ℕ
 read_of [] = []
 read_of (own act ∷ later) = read_in act ++ read_of later
 read_of (other event answer ∷ later) = read_of later
-read_of (asked ∷ later) = read_of later
+read_of (checked ∷ later) = read_of later
 
 abbrev pub written_of : List Happening → List ℕ
 written_of [] = []
 written_of (own act ∷ later) = written_in act ++ written_of later
 written_of (other event answer ∷ later) = written_of later
-written_of (asked ∷ later) = written_of later
+written_of (checked ∷ later) = written_of later
 
 -- the events that the desk took, and its answers
 abbrev pub events_in : ℕ → Act → List Event → List Event
@@ -54,13 +54,13 @@ abbrev pub events_of : ℕ → List Happening → List Event
 events_of c [] = []
 events_of c (own act ∷ later) = events_in c act (events_of c later)
 events_of c (other event answer ∷ later) = event ∷ events_of c later
-events_of c (asked ∷ later) = events_of c later
+events_of c (checked ∷ later) = events_of c later
 
 abbrev pub answers_of : List Happening → List (Result Reply DeskFault)
 answers_of [] = []
 answers_of (own act ∷ later) = answers_in act (answers_of later)
 answers_of (other event answer ∷ later) = answer ∷ answers_of later
-answers_of (asked ∷ later) = answers_of later
+answers_of (checked ∷ later) = answers_of later
 
 module _ {R : Type 0} (g : Ghosts R) (c : ℕ) where
   -- all this happens, one after the other, and none of it closed the ledger
@@ -70,4 +70,4 @@ module _ {R : Type 0} (g : Ghosts R) (c : ℕ) where
   Lives old channel (other event answer ∷ later) new last =
       (mid : Desk R) × IsOther c event × Steps g old event answer mid × IfErr answer (λ fault. ¬ IsShutAtDesk g old fault mid)
       × Lives mid channel later new last
-  Lives old channel (asked ∷ later) new last = (mid : Desk R) × IsOnlyAsked g old mid × Lives mid channel later new last
+  Lives old channel (checked ∷ later) new last = (mid : Desk R) × IsOnlyChecked g old mid × Lives mid channel later new last

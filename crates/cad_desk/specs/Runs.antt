@@ -25,18 +25,18 @@ RunOf rules commands old (event ∷ events) (answer ∷ answers) =
     × RunOf rules (commands_after commands event answer) new events answers
 
 -- at most the land office asked what would be answered to commands: the connections are as they were, and so are the commands in force
-pub record IsOnlyAsked {R : Type 0} (g : Ghosts R) (old new : Desk R) : Type 0 where
+pub record IsOnlyChecked {R : Type 0} (g : Ghosts R) (old new : Desk R) : Type 0 where
   pub connections : connections_of new ≡ connections_of old
   pub kept : g.counts (responder_of new) → (commands : List Command) → g.stands_for (responder_of old) commands → g.stands_for (responder_of new) commands
   pub clean : g.counts (responder_of new) → g.counts (responder_of old)
 
 -- the desk took these events, one after the other, and gave these answers; none of them closed the ledger; between them it was at most asked
 abbrev pub Takes : {R : Type 0} → Ghosts R → Desk R → List Event → List (Result Reply DeskFault) → Desk R → Type 0
-Takes g old [] [] new = IsOnlyAsked g old new
+Takes g old [] [] new = IsOnlyChecked g old new
 Takes g old [] (answer ∷ answers) new = ⊥
 Takes g old (event ∷ events) [] new = ⊥
 Takes {R} g old (event ∷ events) (answer ∷ answers) new =
-    (before : Desk R) × (mid : Desk R) × IsOnlyAsked g old before × Steps g before event answer mid × IfErr answer (λ fault. ¬ IsShutAtDesk g before fault mid) × Takes g mid events answers new
+    (before : Desk R) × (mid : Desk R) × IsOnlyChecked g old before × Steps g before event answer mid × IfErr answer (λ fault. ¬ IsShutAtDesk g before fault mid) × Takes g mid events answers new
 
 -- a piece of a connection's bytes, and what went out for it
 abbrev pub Exchange : Type 0

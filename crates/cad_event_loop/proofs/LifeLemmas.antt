@@ -10,7 +10,7 @@ use Rattle.cad_desk.specs.declared.event.Reply.{Reply}
 use Rattle.cad_desk.specs.declared.fault.DeskFault.{DeskFault}
 use Rattle.cad_desk.specs.Desks.{responder_of}
 use Rattle.cad_network.specs.Deeds.{Deed, given_by, taken_by}
-use Rattle.cad_event_loop.proofs.StandLemmas.{goes_clean, only_asked}
+use Rattle.cad_event_loop.proofs.StandLemmas.{goes_clean, only_checked}
 use Rattle.cad_network.specs.lemmas.DeedLemmas.{given_by-append, taken_by-append, given_by-one, taken_by-one}
 use Rattle.cad_clients.specs.declared.channel.Channel.{Channel}
 use Rattle.cad_clients.specs.declared.turned.Ending.{Ending}
@@ -102,7 +102,7 @@ module _ {R : Type 0} (g : Ghosts R) (c s : ℕ) where
   after_told old mid channel (Some (event e answer)) happenings deeds ended new slots differ tells may l =
       (l.0, l.1, (mid, differ, tells, may, l.2), l.3, l.4, l.5, l.6)
   after_told old mid channel (Some (question command answer)) happenings deeds ended new slots differ tells may l =
-      (l.0, l.1, (mid, only_asked g old mid command answer tells may, l.2), l.3, l.4, l.5, l.6)
+      (l.0, l.1, (mid, only_checked g old mid command answer tells may, l.2), l.3, l.4, l.5, l.6)
 
   ends_apart : (d : ℕ) (said : Said) → d ≢ c → IsOf d said → IsApart said
   ends_apart d None differ of = tt
@@ -120,8 +120,8 @@ module _ {R : Type 0} (g : Ghosts R) (c s : ℕ) where
   told_apart : (command : Command) (answer : Result Reply DeskFault) (said : Said) → said ≡ Some (event (Office command) answer) → IsApart said
   told_apart command answer said is = subst (λ (it : Said). IsApart it) (sym is) tt
 
-  asked_apart : (command : Command) (answer : Result ℕ RegisterFault) (said : Said) → said ≡ Some (question command answer) → IsApart said
-  asked_apart command answer said is = subst (λ (it : Said). IsApart it) (sym is) tt
+  question_apart : (command : Command) (answer : Result ℕ RegisterFault) (said : Said) → said ≡ Some (question command answer) → IsApart said
+  question_apart command answer said is = subst (λ (it : Said). IsApart it) (sym is) tt
 
   untold_apart : (said : Said) → said ≡ None → IsApart said
   untold_apart said is = subst (λ (it : Said). IsApart it) (sym is) tt
@@ -135,9 +135,9 @@ module _ {R : Type 0} (g : Ghosts R) (c s : ℕ) where
   answer_apart text NotACommand said says = untold_apart said says.1
 
   check_apart : (line : List ℕ) (it : Report) (said : Said) → ChecksSo line it said → IsApart said
-  check_apart line (report.WouldBe revision) said says = asked_apart says.0 (Ok revision) said says.2
+  check_apart line (report.WouldBe revision) said says = question_apart says.0 (Ok revision) said says.2
   check_apart line (report.Refused fault) said says = elim says [
-    | inl refused ↦ asked_apart refused.0 (Err fault) said refused.2
+    | inl refused ↦ question_apart refused.0 (Err fault) said refused.2
     | inr none ↦ untold_apart said none.2
   ]
   check_apart line (report.NoCommand reason) said says = untold_apart said says.1

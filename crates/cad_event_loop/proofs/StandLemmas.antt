@@ -9,7 +9,7 @@ use Rattle.cad_desk.specs.declared.event.Reply.{Reply}
 use Rattle.cad_desk.specs.declared.fault.DeskFault.{DeskFault}
 use Rattle.cad_versions.specs.declared.fault.RegisterFault.{RegisterFault}
 use Rattle.cad_desk.specs.Desks.{responder_of, ChecksAtDesk, Steps}
-use Rattle.cad_desk.specs.Runs.{IsOnlyAsked}
+use Rattle.cad_desk.specs.Runs.{IsOnlyChecked}
 use Rattle.cad_desk.specs.Events.{commands_after}
 use Rattle.cad_clients.specs.declared.channel.Channel.{Channel}
 use Rattle.cad_clients.specs.Channels.{Act, wrote, took, fed, Does}
@@ -80,18 +80,18 @@ module _ {R : Type 0} (g : Ghosts R) where
   ]
 
   -- a question changes nothing
-  asked_stands : (commands : List Command) (old mid : Desk R) (command : Command) (answer : Result ℕ RegisterFault) → ChecksAtDesk g old command answer mid → g.counts (responder_of mid)
+  checked_stands : (commands : List Command) (old mid : Desk R) (command : Command) (answer : Result ℕ RegisterFault) → ChecksAtDesk g old command answer mid → g.counts (responder_of mid)
       → MayAsk g old (Some (question command answer)) mid → g.stands_for (responder_of old) commands → g.stands_for (responder_of mid) commands
-  asked_stands commands old mid command (Ok revision) k counts may stands = k.checked.kept counts commands stands
-  asked_stands commands old mid command (Err fault) k counts may stands = elim (k.checked.unchanged counts commands stands) [
+  checked_stands commands old mid command (Ok revision) k counts may stands = k.checked.kept counts commands stands
+  checked_stands commands old mid command (Err fault) k counts may stands = elim (k.checked.unchanged counts commands stands) [
     | inl same ↦ same
     | inr shut ↦ absurd (may shut)
   ]
 
-  pub only_asked : (old mid : Desk R) (command : Command) (answer : Result ℕ RegisterFault) → ChecksAtDesk g old command answer mid → MayAsk g old (Some (question command answer)) mid → IsOnlyAsked g old mid
-  only_asked old mid command answer k may = record {
+  pub only_checked : (old mid : Desk R) (command : Command) (answer : Result ℕ RegisterFault) → ChecksAtDesk g old command answer mid → MayAsk g old (Some (question command answer)) mid → IsOnlyChecked g old mid
+  only_checked old mid command answer k may = record {
     connections = k.connections;
-    kept = λ counts commands stands. asked_stands commands old mid command answer k counts may stands;
+    kept = λ counts commands stands. checked_stands commands old mid command answer k counts may stands;
     clean = k.checked.clean;
   }
 
@@ -102,7 +102,7 @@ module _ {R : Type 0} (g : Ghosts R) where
       → g.stands_for (responder_of old) commands → g.stands_for (responder_of mid) (commands_by commands said)
   tells_stand commands old mid None tells counts may stands = same_stands commands old mid tells stands
   tells_stand commands old mid (Some (event e answer)) tells counts may stands = step_stands commands old mid e answer tells counts may stands
-  tells_stand commands old mid (Some (question command answer)) tells counts may stands = asked_stands commands old mid command answer tells counts may stands
+  tells_stand commands old mid (Some (question command answer)) tells counts may stands = checked_stands commands old mid command answer tells counts may stands
 
   act_stands : (commands : List Command) (d : ℕ) (old mid : Desk R) (channel after : Channel) (act : Act) → Does g d old channel act mid after → g.counts (responder_of mid)
       → g.stands_for (responder_of old) commands → g.stands_for (responder_of mid) commands

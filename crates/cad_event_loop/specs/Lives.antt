@@ -9,7 +9,7 @@ use Rattle.cad_network.specs.Deeds.{Deed, given_by, taken_by}
 use Rattle.cad_clients.specs.declared.channel.Channel.{Channel}
 use Rattle.cad_clients.specs.declared.turned.Ending.{Ending}
 use Rattle.cad_clients.specs.Channels.{Act, wrote, took, fed}
-use Rattle.cad_clients.specs.Acts.{Happening, own, other, asked, read_of, written_of, Lives}
+use Rattle.cad_clients.specs.Acts.{Happening, own, other, checked, read_of, written_of, Lives}
 use Rattle.cad_event_loop.specs.Works.{Held, Place, event, question, Said, Work, wakes, opens, acts, waits, ends, office_comes, enters, office_leaves, aside, deeds_in, Goes, Leaves, MayGoOn}
 
 -- an act of another connection
@@ -22,7 +22,7 @@ by_another d (fed piece out over) later = other (Bytes d piece) (Ok (Sent out ov
 abbrev pub by_desk : Said → List Happening → List Happening
 by_desk None later = later
 by_desk (Some (event e answer)) later = other e answer ∷ later
-by_desk (Some (question command answer)) later = asked ∷ later
+by_desk (Some (question command answer)) later = checked ∷ later
 
 -- what happens to connection c up to its end
 abbrev pub life_of : ℕ → List Work → List Happening

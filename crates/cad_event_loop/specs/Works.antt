@@ -76,13 +76,13 @@ abbrev pub IsEmpty : Place → Type 0
 IsEmpty place = ((c : ℕ) → place.slots c ≡ None) × (place.office ≡ None)
 
 -- what the desk gets, and its answer: an event, or the land office's question what would be answered to a command
-pub data Told : Type 0 where
-  event : Event → Result Reply DeskFault → Told
-  question : Command → Result ℕ RegisterFault → Told
+pub data DeskCall : Type 0 where
+  event : Event → Result Reply DeskFault → DeskCall
+  question : Command → Result ℕ RegisterFault → DeskCall
 
 -- the same, if it gets anything
 abbrev pub Said : Type 0
-Said = Option Told
+Said = Option DeskCall
 
 -- One of these is done:
 -- the network reports that the sockets at these places may continue; socket s comes and is connection c; connection c acts at socket s;
