@@ -278,8 +278,8 @@ office_unready peers office unready = office_none 8 (standings peers office) (go
     go false e = office_rests office
 
 -- the network is asked who may go on
-pub checked_stands : (a b : Standings) (xs : List Work) → (asked : IsAsked a b xs) → (c : ℕ) → b.clients c ≡ stands_in c (a.clients c) (wakes asked.0 ∷ [])
-checked_stands a b xs asked c = asked.2.stand c ∙ ap (λ (l : List Work). stands_in c (a.clients c) l) asked.1
+pub asked_stands : (a b : Standings) (xs : List Work) → (asked : IsAsked a b xs) → (c : ℕ) → b.clients c ≡ stands_in c (a.clients c) (wakes asked.0 ∷ [])
+asked_stands a b xs asked c = asked.2.stand c ∙ ap (λ (l : List Work). stands_in c (a.clients c) l) asked.1
 
 pub asked_office : (a b : Standings) (xs : List Work) → (asked : IsAsked a b xs) → b.office ≡ office_in a.office (wakes asked.0 ∷ [])
 asked_office a b xs asked = asked.2.office ∙ ap (λ (l : List Work). office_in a.office l) asked.1
@@ -290,7 +290,7 @@ asked_quiet a b xs asked = subst IsQuiet (sym asked.1) (λ c. refl)
 pub asked_passes : (most : ℕ) (a b : Standings) (xs : List Work) → 1 ≤ most → IsAsked a b xs → LosesNobody most a b xs
 asked_passes most a b xs some asked = record {
   paced = paced-more 1 most a b xs some asked.2;
-  kept = λ c is. inr (checked_stands a b xs asked c ∙ woken_if (is_among c asked.0) (a.clients c) is);
+  kept = λ c is. inr (asked_stands a b xs asked c ∙ woken_if (is_among c asked.0) (a.clients c) is);
   kept_office = λ is. inr (asked_office a b xs asked ∙ woken_if (is_among office_place asked.0) a.office is);
 }
 
@@ -435,7 +435,7 @@ asked_served result a b d xs ys asked served = record {
   where
     go : {E : Type 0} (result : Result (Option Stopped) E) → IfWhole result (EachHasTurn b ys × ComesByVisits b.office ys) → IfWhole result (GivesTurns a (wakes asked.0 ∷ ys))
     go (Ok None) turns = (
-      record { clients = λ c is. turns.0.clients c (checked_stands a b xs asked c ∙ is); office = λ is. turns.0.office (asked_office a b xs asked ∙ is) },
+      record { clients = λ c is. turns.0.clients c (asked_stands a b xs asked c ∙ is); office = λ is. turns.0.office (asked_office a b xs asked ∙ is) },
       subst (λ (it : Standing). ComesByVisits it ys) (asked_office a b xs asked) turns.1,
     )
     go (Ok (Some stopped)) turns = tt
