@@ -5,7 +5,7 @@ use Rattle.cad_desk.specs.declared.desk.Desk.{Desk}
 use Rattle.cad_desk.specs.Desks.{responder_of}
 use Rattle.cad_clients.specs.declared.channel.Channel.{Channel}
 use Rattle.cad_clients.specs.Channels.{Act, wrote, took, fed, Does}
-use Rattle.cad_event_loop.specs.Works.{Place, Said, Work, wakes, opens, acts, waits, ends, office_comes, enters, office_leaves, aside, Tells, Works, Goes}
+use Rattle.cad_event_loop.specs.Works.{Place, event, question, Said, Work, wakes, opens, acts, waits, ends, office_comes, enters, office_leaves, aside, Tells, Works, Goes}
 
 module _ {R : Type 0} (g : Ghosts R) where
   pub clean_same : (old mid : Desk R) → mid ≡ old → g.counts (responder_of mid) → g.counts (responder_of old)
@@ -18,7 +18,8 @@ module _ {R : Type 0} (g : Ghosts R) where
 
   clean_told : (old mid : Desk R) (said : Said) → Tells g old said mid → g.counts (responder_of mid) → g.counts (responder_of old)
   clean_told old mid None tells counts = clean_same old mid tells counts
-  clean_told old mid (Some told) tells counts = tells.clean counts
+  clean_told old mid (Some (event e answer)) tells counts = tells.clean counts
+  clean_told old mid (Some (question command answer)) tells counts = tells.checked.clean counts
 
   clean_work : (old mid : Desk R) (here next : Place) (work : Work) → Works g old here work mid next → g.counts (responder_of mid) → g.counts (responder_of old)
   clean_work old mid here next (wakes places) w counts = clean_same old mid w.0 counts
