@@ -11,7 +11,7 @@ import sys
 
 import office_model
 from filter_model import day_of
-from office_model import BODIES, FAULTS, LINE, NotACommand, is_in, need, refusal
+from office_model import BODIES, LINE, NotACommand, apply, is_in, need, refused
 
 BLANKS = b" \t\n\r"
 NUMBER = re.compile(rb"-?(?:0|[1-9][0-9]*)(?:\.[0-9]+)?(?:[eE][+-]?[0-9]+)?")
@@ -411,16 +411,11 @@ def reports(text):
             yield f"no command at {fault.place}: {fault.words}"
             continue
         assert is_command(line), line
-        do, number, at, name, said = office_model.command(line)
-        why = refusal(register, do, number, at, name, said)
+        why = apply(register, *office_model.command(line))
         if why:
-            yield f"refused {FAULTS[why.split()[0]]} {why}"
+            yield refused(why)
             continue
         revision += 1
-        if do == "retire":
-            register[number]["since"] = None
-        else:
-            register[number] = {"class": name, "since": at}
         yield f"would be {revision}"
 
 

@@ -207,6 +207,19 @@ def refusal(register, do, number, at, name, said):
     return None
 
 
+def apply(register, do, number, at, name, said):
+    """Enters a command, or tells why the register refuses it."""
+    why = refusal(register, do, number, at, name, said)
+    if why is None:
+        register[number] = {**register[number], "since": None} if do == "retire" else {"class": name, "since": at}
+    return why
+
+
+def refused(why):
+    """The answer to a line that is refused."""
+    return f"refused {FAULTS[why.split()[0]]} {why}"
+
+
 def answers(text):
     register, revision = {}, 0
     for line in text.split(b"\n"):
@@ -214,18 +227,13 @@ def answers(text):
             continue
         try:
             need(len(line) <= LINE)
-            do, number, at, name, said = command(line)
-            why = refusal(register, do, number, at, name, said)
+            why = apply(register, *command(line))
         except NotACommand:
             why = "NotACommand"
         if why:
-            yield f"refused {FAULTS[why.split()[0]]} {why}"
+            yield refused(why)
             continue
         revision += 1
-        if do == "retire":
-            register[number]["since"] = None
-        else:
-            register[number] = {"class": name, "since": at}
         yield f"revision {revision}"
 
 
