@@ -399,8 +399,11 @@ def is_command(line):
     return True
 
 
-def reports(text):
-    register, revision = {}, 0
+def reports(text, before=()):
+    """The reports for lines, over a register into which the lines before were entered, which are all accepted."""
+    register, revision = {}, len(before)
+    for line in before:
+        assert apply(register, *office_model.command(line)) is None, line
     for line in text.split(b"\n"):
         if not line:
             continue

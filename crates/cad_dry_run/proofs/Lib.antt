@@ -5,3 +5,4 @@ pub mod ReportLemmas
 pub mod PieceLemmas
 pub mod KeepingLemmas
 pub mod BufferedLemmas
+pub mod CopyingLemmas

@@ -5,4 +5,5 @@ pub mod Explained
 pub mod Words
 pub mod Reports
 pub mod Checking
+pub mod Copying
 pub mod inner

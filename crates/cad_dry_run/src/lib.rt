@@ -2,10 +2,11 @@
 //!
 //! - `explain`: the command that a line asks for, or why and where it is not a command.
 //! - `Explanation`, `Cause`: why a line is no command, and where.
+//! - `enter_all`: enters a journal into a ledger, which becomes a copy of the one that gave it.
 //! - `check`: reads lines to their end, applies each command and prints a report for each line.
 //! - `Report`: what would come of a line; `no_command` is the report for a line that is no command.
 //!
-//! `check` works on any `Ledger` that may be changed, such as a copy of a register in memory. On an empty one the lines
+//! `check` works on any `Ledger` that may be changed, such as a copy in memory that `enter_all` made. On an empty one the lines
 //!
 //!     {"do":"enter","object":11,"first":"2000-01-01","unit":{}}
 //!     {"do":"enter","object":11,"first":"2000-01-01","unit":{}}
@@ -21,6 +22,7 @@
 mod body;
 mod cause;
 mod cause_place;
+mod copying;
 mod explaining;
 mod member_name;
 mod members;
@@ -35,6 +37,7 @@ mod values;
 mod words;
 
 pub use cause::{Cause, Explanation, MemberCause, ObjectCause, RingCause, ValueFault};
+pub use copying::enter_all;
 pub use explaining::{Explained, explain};
 pub use member_name::MemberName;
 pub use report::{Report, no_command, print_report};

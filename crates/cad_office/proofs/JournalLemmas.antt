@@ -1,11 +1,12 @@
 -- The lines of a journal: one more at the end, pieces, and how the office reads them.
-use Rattle.std.proofs.Common.{◌≡◌, ℕ, zero, suc, ◌+◌, ◌-◌, ◌==◌, ◌≤◌, true, false, true≢false, cond, not, List, [], ◌∷◌, ◌++◌, length, map, filter, take, drop, refl, sym, ap, subst, ◌∙◌, arith, append_assoc, append-nil, take-append-drop, drop-drop, length-drop}
+use Rattle.std.proofs.Common.{◌≡◌, ◌⊎◌, inl, inr, ℕ, zero, suc, ◌+◌, ◌-◌, ◌==◌, ◌≤◌, true, false, true≢false, cond, not, List, [], ◌∷◌, ◌++◌, length, map, filter, take, drop, refl, sym, ap, subst, ◌∙◌, arith, append_assoc, append-nil, take-append-drop, drop-drop, length-drop}
 use Rattle.std.proofs.Math.Seq.{take-length}
 use Rattle.std.proofs.lemmas.Bool.Decides.{nat_tests}
 use Rattle.std.specs.List.{AllByRecursion}
 use Rattle.std.proofs.lemmas.Bool.{and_parts}
 use Rattle.std.proofs.lemmas.List.Elements.{All-from_recursion}
 use Rattle.std.proofs.lemmas.List.Splits.{slice_split_at}
+use Rattle.std.proofs.lemmas.List.{drop_all}
 use Rattle.cad_versions.specs.declared.command.Command.{Command}
 use Rattle.cad_commands.specs.Writing.{command_text, is_one_line, IsOneLine}
 use Rattle.cad_office.specs.JournalLines.{line_of, lines_of, end_if, end_behind}
@@ -38,6 +39,12 @@ left_behind items at count = sym (take-append-drop count (drop at items)) ∙ ap
 
 pub end_here : (items : List Command) (at count newest : ℕ) → count ≤ length (drop at items) → end_if (count == length (drop at items)) newest ≡ end_behind (drop (at + count) items) newest
 end_here items at count newest low = end_same count (drop at items) newest low ∙ ap (λ l. end_behind l newest) (drop-drop count at items)
+
+-- as many as may be, or all that are left
+pub full_piece : (items : List Command) (at count : ℕ) → length (take count (drop at items)) ≡ count → (count ≡ 16) ⊎ (length items ≤ at + count)
+    → (length (take count (drop at items)) ≡ 16) ⊎ (drop (at + count) items ≡ [])
+full_piece items at count taken (inl most) = inl (taken ∙ most)
+full_piece items at count taken (inr all) = inr (drop_all (at + count) items all)
 
 pub all_left : (xs items : List Command) (at : ℕ) → xs ≡ items → take (length xs - at) (drop at xs) ≡ drop at items
 all_left xs items at is = subst (λ n. take n (drop at xs) ≡ drop at xs) (length-drop at xs) (take-length (drop at xs)) ∙ ap (drop at) is

@@ -1,5 +1,5 @@
 -- A journal as lines of the land office, written a piece at a time (own profile).
-use Rattle.std.specs.Prelude.{◌≡◌, ℕ, ◌≤◌, Bool, true, false, List, [], ◌∷◌, ◌++◌, length, drop, codes, decimal}
+use Rattle.std.specs.Prelude.{◌≡◌, ◌⊎◌, ℕ, ◌≤◌, Bool, true, false, List, [], ◌∷◌, ◌++◌, length, drop, codes, decimal}
 use Rattle.cad_versions.specs.declared.command.Command.{Command}
 use Rattle.cad_commands.specs.Writing.{command_text}
 use Rattle.cad_office.specs.declared.journal.JournalLines.{JournalLines}
@@ -37,5 +37,7 @@ pub record WritesPiece (text : List ℕ) (old new : JournalLines) : Type 0 where
   pub front : List Command
   pub left : commands_left old ≡ front ++ commands_left new
   pub few : length front ≤ most_commands
+  -- as many as a piece may have, or all
+  pub full : (length front ≡ most_commands) ⊎ (commands_left new ≡ [])
   pub lines : text ≡ lines_of front ++ end_behind (commands_left new) old.newest
   pub same : new.newest ≡ old.newest

@@ -20,7 +20,7 @@ pub struct JournalLines {
 }
 
 impl JournalLines {
-    ghost use Rattle.std.specs.Prelude.{◌≡◌, IfOk, OnErr, string_bytes};
+    ghost use Rattle.std.specs.Prelude.{◌≡◌, ◌↔◌, [], IfOk, OnErr, IsTrue, string_bytes};
     ghost use Rattle.cad_office.specs.JournalLines.{commands_left, WritesPiece};
 
     /// None of these commands was written yet.
@@ -33,6 +33,13 @@ impl JournalLines {
             at: 0,
             newest,
         }
+    }
+
+    /// Whether all commands were written. If the last piece was written, so was the end.
+    pub fn is_done(&self) -> bool
+        ensures { IsTrue result ↔ commands_left self.now ≡ [] }
+    {
+        self.commands[self.at..].is_empty()
     }
 
     /// The lines of the next commands, at most 16. After the last command of all there is the line `end N`; N is the revision that it made.

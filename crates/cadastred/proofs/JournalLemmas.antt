@@ -1,26 +1,12 @@
 -- What is written of a journal, and over a file.
-use Rattle.std.proofs.Common.{◌≡◌, ◌≤◌, ℕ, ◌+◌, List, [], ◌∷◌, ◌++◌, length, take, drop, Option, Result, Ok, Err, refl, sym, ap, subst, ◌∙◌, append_assoc, append-nil, take-append-drop}
+use Rattle.std.proofs.Common.{◌≡◌, ℕ, ◌+◌, List, [], ◌∷◌, ◌++◌, length, take, drop, Option, Result, Ok, Err, refl, sym, ap, subst, ◌∙◌, append_assoc, append-nil, take-append-drop}
 use Rattle.std.proofs.KnownBytes.{Appends-nil, Appends-trans}
 use Rattle.std.proofs.Math.Seq.{take-append_seam}
 use Rattle.std.specs.Io.KnownBytes.{Appends}
-use Rattle.sqlite_disk.specs.declared.Disk as disk
-use Rattle.sqlite_store.specs.declared.store.FileStore.{FileStore}
-use Rattle.sqlite.specs.Files.{file_state, over_files}
-use Rattle.sqlite.specs.Held.{Held}
-use Rattle.sqlite.specs.Recovery.{Image}
-use Rattle.sqlite.specs.State.{HasCleanDisk}
 use Rattle.cad_io.specs.Writing.{IsFront}
-use Rattle.cad_tables.specs.Opening.{most_revision}
 use Rattle.cad_versions.specs.declared.command.Command.{Command}
-use Rattle.cad_versions.specs.declared.fault.RegisterFault.{RegisterFault}
-use Rattle.cad_register.specs.declared.register.Register.{Register}
-use Rattle.cad_register.specs.Images.{HoldsRegister, IsEmptyFile, FindsRegister}
-use Rattle.cad_register.specs.Opening.{Opened}
-use Rattle.cad_register.specs.Running.{RunsOver, IsFoundIn}
-use Rattle.cad_register.specs.lemmas.RunningLemmas.{runs_in_file}
 use Rattle.cad_office.specs.JournalLines.{line_of, lines_of}
-use Rattle.cadastred_run.specs.declared.outcome.Outcome.{Outcome}
-use Rattle.cadastred.specs.Journal.{IsPrinted, PrintsJournal, PrintsFound, PrintsInFile}
+use Rattle.cadastred.specs.Journal.{IsPrinted}
 
 -- ---- fronts
 
@@ -75,30 +61,3 @@ lines_whole commands at item more =
 pub front_of_lines : (a b c : Option (List ℕ)) (commands : List Command) (at : ℕ) (item : Command) → take (at + 1) commands ≡ take at commands ++ item ∷ [] → Appends a b (lines_of (take at commands)) → PrintsFront b c (line_of item) → PrintsFront a c (lines_of commands)
 front_of_lines a b c commands at item more first then =
     subst (PrintsFront a c) (lines_whole commands at item more) (front_after a b c (lines_of (take at commands)) (line_of item) (lines_of (drop (at + 1) commands)) first then)
-
--- ---- over a file
-
-module _ {D : Type 0} {d : disk.Ghosts D} (before after : Option (List ℕ)) (image : Image) (ended : Outcome × Held (FileStore D d)) where
-  held : (found : Result (Register (FileStore D d)) (RegisterFault × Held (FileStore D d))) (lent : Held (FileStore D d)) → Opened over_files lent found → IsFoundIn over_files image found → PrintsFound before after over_files found ended
-      → HasCleanDisk (file_state ended.1) → (commands : List Command) → HoldsRegister image commands → length commands ≤ most_revision → PrintsJournal before after commands ended.0
-  held (Ok register) lent opened begins prints clean commands holds room =
-      let clean = subst (λ l. HasCleanDisk (file_state l)) prints.1 clean in
-      prints.2.prints clean commands (begins.held (prints.2.clean clean) commands holds room)
-  held (Err refused) lent opened begins prints clean commands holds room =
-      let clean = subst (λ l. HasCleanDisk (file_state l)) prints.back clean in
-      let other = begins.held clean commands holds room in
-      subst (PrintsJournal before after commands) (sym prints.ends) (opened.cause other, prints.nothing)
-
-  empty : (found : Result (Register (FileStore D d)) (RegisterFault × Held (FileStore D d))) → IsFoundIn over_files image found → PrintsFound before after over_files found ended
-      → HasCleanDisk (file_state ended.1) → IsEmptyFile image → after ≡ before
-  empty (Ok register) begins prints clean none = absurd (begins.empty (prints.2.clean (subst (λ l. HasCleanDisk (file_state l)) prints.1 clean)) none)
-  empty (Err refused) begins prints clean none = prints.nothing
-
-  pub prints_in_file : (lent : Held (FileStore D d)) → FindsRegister image (file_state lent) → RunsOver (Opened over_files) (PrintsFound before after over_files) lent ended → PrintsInFile before after image ended
-  prints_in_file lent finds over =
-      let runs = runs_in_file image (PrintsFound before after over_files) lent ended finds over in
-      record {
-        runs = runs;
-        held = held runs.runs.found runs.lent runs.runs.opened runs.begins runs.runs.works;
-        empty = empty runs.runs.found runs.begins runs.runs.works;
-      }

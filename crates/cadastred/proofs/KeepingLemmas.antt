@@ -41,6 +41,8 @@ module _ {R : Type 0} (g : Ghosts R) (old new : Desk R) (from to : Option (List 
     ended_clean outcome.Failed it = failed_clean it
     ended_clean outcome.Usage it = absurd it
     ended_clean outcome.Office it = absurd it
+    ended_clean outcome.Refused it = absurd it
+    ended_clean (outcome.Lines fault) it = absurd it
 
 -- a server over a ledger, which held these commands before, by the law of what is done; what it holds at the end is held so
 module _ {L : Type 0} (g : ledger.Ghosts L) (law : LedgerStands (answers_of g)) (commands : List Command) (Holds : List Command → Type 0) (old new : Desk (Server L)) (from to : Option (List Deed))
@@ -69,6 +71,8 @@ module _ {L : Type 0} (g : ledger.Ghosts L) (law : LedgerStands (answers_of g)) 
     keeps_after outcome.Failed it = keeps_failed it
     keeps_after outcome.Usage it = absurd it
     keeps_after outcome.Office it = absurd it
+    keeps_after outcome.Refused it = absurd it
+    keeps_after (outcome.Lines fault) it = absurd it
 
 -- the ledger that is given back
 module _ {L : Type 0} (g : ledger.Ghosts L) (asked : SocketAddr) (before after : Option (List ℕ)) (from to : Option (List Deed)) (lent : L) (ended : Outcome × L) where

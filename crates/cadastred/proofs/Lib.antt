@@ -1,4 +1,6 @@
 pub mod CleanLemmas
 pub mod FileLemmas
 pub mod JournalLemmas
+pub mod ReadingLemmas
+pub mod CheckingLemmas
 pub mod KeepingLemmas

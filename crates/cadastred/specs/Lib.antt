@@ -1,4 +1,6 @@
 pub mod Hosting
+pub mod Reading
 pub mod Journal
+pub mod Checking
 pub mod Keeping
 pub mod Words

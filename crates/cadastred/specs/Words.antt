@@ -2,7 +2,7 @@
 use Rattle.std.specs.Prelude.{◌≡◌, ◌++◌, ℕ, ⊤, List, codes, Option, None, Some, Result, Ok, Err}
 use Rattle.std.specs.Io.KnownBytes.{Appends}
 use Rattle.cadastred_run.specs.declared.invocation.Invocation.{Invocation}
-use Rattle.cadastred_run.specs.declared.invocation.Invocation.TheVariants.{Help, Version, Serve, Journal}
+use Rattle.cadastred_run.specs.declared.invocation.Invocation.TheVariants.{Help, Version, Serve, Journal, Check}
 use Rattle.cadastred_run.specs.declared.outcome.Outcome.{Outcome}
 use Rattle.cadastred_run.specs.declared.outcome.Outcome.TheVariants as outcome
 use Rattle.cadastred_run.specs.Outcomes.{usage}
@@ -25,6 +25,7 @@ module _ (before after : Option (List ℕ)) where
   abbrev pub Begins : Option Invocation → Result Work Outcome → Type 0
   Begins (Some (Serve service)) (Ok begun) = (begun ≡ work.Serve service) × (after ≡ before)
   Begins (Some (Journal file)) (Ok begun) = (begun ≡ work.PrintJournal file) × (after ≡ before)
+  Begins (Some (Check file)) (Ok begun) = (begun ≡ work.CheckLines file) × (after ≡ before)
   Begins (Some Help) (Err ended) = IsLine usage ended
   Begins (Some Version) (Err ended) = IsLine version ended
   Begins None (Err ended) = (ended ≡ outcome.Usage) × (after ≡ before)

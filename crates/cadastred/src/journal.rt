@@ -5,7 +5,8 @@ ghost use Rattle.sqlite.specs.WalFiles.{image_at};
 ghost use Rattle.cad_office.specs.JournalLines.{line_of, lines_of, end_line};
 ghost use Rattle.cad_register.specs.Opening.{Opened};
 ghost use Rattle.cad_register.specs.Running.{RunsOver};
-ghost use Rattle.cadastred.specs.Journal.{IsPrinted, IsUnfound, PrintsFound, PrintsInFile, PrintsRegister};
+ghost use Rattle.cadastred.specs.Journal.{IsPrinted, PrintsFound, PrintsInFile, PrintsRegister};
+ghost use Rattle.cadastred.specs.Reading.{IsUnfound};
 
 use crate::land::Ran;
 use cad_commands::write_command;

@@ -2,6 +2,7 @@
 //!
 //! - `land`: serves clients and the land office over a register file
 //! - `journal`: prints the journal of a register file
+//! - `checking`: checks lines on a copy of a register file
 //! - `words`: what the program prints about itself
 //!
 //! `cadastred_run` reads the command line, does the same work over any ledger, and says how a run ends.
@@ -12,20 +13,36 @@
 //! - `cadastred --log land.db 127.0.0.1:8080 office.sock` also writes a line to standard error for each response;
 //! - `cadastred --journal land.db` prints the journal of the file's register: each accepted command as a line that the land office takes,
 //!   and then `end N`;
+//! - `cadastred --check land.db` prints for each line of standard input what the file's register would answer to it after the lines before
+//!   it. Nothing is entered in the file;
 //! - `cadastred --help` and `cadastred --version` print the usage and the version.
 #![tactic(auto)]
 
+mod checking;
 mod journal;
 mod land;
 mod words;
 
+use cad_io::Counted;
 use cad_serve::{read_words, tell};
 use cadastred_run::{Invocation, Outcome};
+use checking::run_check;
 use journal::run_journal;
 use land::{close, run_service};
 use sqlite::Unknown;
 use std::process::ExitCode;
 use words::{Work, begin};
+
+/// Checks the lines of standard input on a copy of the register of a file, and prints the reports.
+fn check(rt: &HostRuntime, file: &str) -> Outcome {
+    close(run_check(
+        rt,
+        file,
+        Unknown,
+        &mut Counted::new(rt.stdin()),
+        &mut rt.stdout(),
+    ))
+}
 
 fn run(rt: &HostRuntime) -> Outcome {
     let words = match read_words(rt) {
@@ -35,6 +52,7 @@ fn run(rt: &HostRuntime) -> Outcome {
     match begin(Invocation::of_words(&words), &mut rt.stdout()) {
         Ok(Work::Serve(service)) => close(run_service(rt, service, Unknown, &mut rt.stdout())),
         Ok(Work::PrintJournal(file)) => close(run_journal(rt, file, Unknown, &mut rt.stdout())),
+        Ok(Work::CheckLines(file)) => check(rt, file),
         Err(outcome) => outcome,
     }
 }

@@ -12,6 +12,8 @@ pub enum Work<'a> {
     Serve(Service<'a>),
     /// The journal of the register in the file at this path is printed.
     PrintJournal(&'a str),
+    /// What the register in the file at this path would answer to lines is printed.
+    CheckLines(&'a str),
 }
 
 /// The program's name and version.
@@ -37,6 +39,7 @@ pub fn begin<'a, W: Write>(
     match invocation {
         Some(Invocation::Serve(service)) => Ok(Work::Serve(service)),
         Some(Invocation::Journal(file)) => Ok(Work::PrintJournal(file)),
+        Some(Invocation::Check(file)) => Ok(Work::CheckLines(file)),
         Some(Invocation::Help) => Err(write_line(writer, HELP)),
         Some(Invocation::Version) => Err(write_line(writer, VERSION)),
         None => Err(Outcome::Usage),

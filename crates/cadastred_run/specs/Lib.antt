@@ -2,4 +2,5 @@ pub mod Doors
 pub mod Invocations
 pub mod Outcomes
 pub mod Hosting
+pub mod Checking
 pub mod inner

@@ -24,6 +24,8 @@ pub enum Invocation<'a> {
     Serve(Service<'a>),
     /// Print the journal of the register in the file at this path.
     Journal(&'a str),
+    /// Print what the register in the file at this path would answer to lines.
+    Check(&'a str),
 }
 
 impl<'a> Invocation<'a> {
@@ -37,6 +39,9 @@ impl<'a> Invocation<'a> {
         match words {
             [_, option] => Invocation::of_option(option.as_str()),
             [_, option, file] if option.as_str() == "--journal" => Some(Invocation::Journal(
+                file.as_str(),
+            )),
+            [_, option, file] if option.as_str() == "--check" => Some(Invocation::Check(
                 file.as_str(),
             )),
             [_, file, address, office] => Some(Invocation::Serve(Service {

@@ -3,6 +3,7 @@
 //! - `Invocation`, `Service`: what the words of a command line ask for
 //! - `open_doors`: the sockets of a service, `Doors`; `remove_door` removes the one that is a file
 //! - `host_over`: clients and the land office taken at a network and served over a ledger
+//! - `check_over`: lines checked on a copy of a ledger
 //! - `Outcome`: how a run ended, its status, and the line that reports it
 //! - `Log`: a line of a log of access for each reply, with no byte of a client's that is not printable, or nothing
 //!
@@ -20,6 +21,7 @@
 #![tactic(auto)]
 
 mod access;
+mod checking;
 mod doors;
 mod hosting;
 mod invocation;
@@ -30,6 +32,7 @@ mod printable;
 mod reply;
 mod request;
 
+pub use checking::check_over;
 pub use doors::{Doors, remove_door};
 pub use hosting::{host_over, open_doors};
 pub use invocation::{Invocation, Service};

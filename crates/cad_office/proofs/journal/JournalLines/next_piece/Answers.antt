@@ -1,7 +1,7 @@
 use Rattle.std.proofs.Common.{◌≡◌, ◌≤◌, ◌∙◌, ◌++◌, ◌==◌, string_bytes, subst, length, take, drop, refl, ap, arith}
 use Rattle.std.proofs.lemmas.List.{length-take-le, length-drop}
 use Rattle.cad_office.specs.JournalLines.{lines_of, end_if}
-use Rattle.cad_office.proofs.JournalLemmas.{left_behind, end_here, all_left}
+use Rattle.cad_office.proofs.JournalLemmas.{left_behind, end_here, all_left, full_piece}
 use Rattle.cad_office.proofs.journal.JournalLines.next_piece.Goals as goal
 
 pub returns-clause-written : goal.returns-clause-written
@@ -18,6 +18,7 @@ returns-clause-written c =
     record {
       front = take count (drop at items);
       left = left_behind items at count;
+      full = full_piece items at count (length-take-le count (drop at items) low) (grind (arith, c.min-count.ensures, length-drop at items, ap length c.deref.ensures.value));
       few = omega (arith, length-take-le count (drop at items) low, few);
       lines = text ∙ ap (λ l. lines_of (take count (drop at items)) ++ l) (end_here items at count newest low);
       same = refl;
