@@ -1,7 +1,7 @@
 #!/usr/bin/env python3
-"""Writes the lines of crates/cad_dry_run_cases/stdin: each cause in several lines, at near and far places, and limits from both sides.
+"""Writes the lines of a dry run in crates/land_cases/stdin: each cause in several lines, at near and far places, and limits from both sides.
 
-    scripts/dry_run_cases.py > crates/cad_dry_run_cases/stdin
+    scripts/dry_run_cases.py      prints the lines
 """
 import sys
 
@@ -174,9 +174,14 @@ def raw():
     yield b"\xff" * 70000
 
 
+def lines():
+    """The lines, as bytes. Two of them are empty."""
+    parts = (accepted, texts, operations, numbers, days, names, others, bodies, unknown, shapes, several)
+    return [*(it.encode() for part in parts for it in part()), *raw(), b"", b"", b'{"do":"retire","object":20,"last":"2005-01-01"']
+
+
 def main():
-    lines = [it.encode("utf-8") for part in (accepted, texts, operations, numbers, days, names, others, bodies, unknown, shapes, several) for it in part()]
-    sys.stdout.buffer.write(b"".join(it + b"\n" for it in [*lines, *raw()]) + b'\n\n{"do":"retire","object":20,"last":"2005-01-01"')
+    sys.stdout.buffer.write(b"\n".join(lines()))
 
 
 if __name__ == "__main__":

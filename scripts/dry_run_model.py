@@ -1,10 +1,10 @@
 #!/usr/bin/env python3
 """A second implementation of the dry run of the land office, in Python. It follows docs/OFFICE.md and not the crates.
 
-    scripts/dry_run_model.py < LINES
+    scripts/land_parts.py "dry run" | scripts/dry_run_model.py      prints the reports
 
 It prints a report for each line, over a ledger in memory that is empty at first. It reads JSON with the place of each value and each name.
-scripts/check_further_cases compares the stored reports of crates/cad_dry_run_cases with it.
+scripts/check_land_cases compares the stored reports of crates/land_cases with it.
 """
 import re
 import sys

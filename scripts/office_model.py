@@ -1,14 +1,14 @@
 #!/usr/bin/env python3
 """A second implementation of the land office's rules, in Python. It follows docs/OFFICE.md and not the crates.
 
-    scripts/office_model.py < LINES
+    scripts/land_parts.py office | scripts/office_model.py office      prints the answers
 
-It prints the office's answers to lines, over a ledger in memory that is empty at first. Two lines begin a new ledger:
+It prints the office's answers to lines, over a ledger in memory that is empty at first. For two parts of crates/land_cases it prints more:
 
-- After `= features` it also prints the features of the last revision as JSON, by scripts/server_model.py.
-- After `= journals` it also prints the journals that lines `journal N` request, and for `check LINE` what would be answered to LINE.
+- `features`: also the features of the last revision as JSON, by scripts/server_model.py.
+- `journals`: also the journals that lines `journal N` request, and for `check LINE` what would be answered to LINE.
 
-scripts/check_further_cases compares the stored answers of crates/office_cases with it.
+scripts/check_land_cases compares the stored answers of crates/land_cases with it.
 """
 import json
 import sys
@@ -237,8 +237,9 @@ def answers(text):
         yield f"revision {revision}"
 
 
-def shown(text):
-    """The features of the last revision of the lines, each after the name of its collection."""
+def features(text):
+    """The answers to the lines, and the features of their last revision, each after the name of its collection."""
+    yield from answers(text)
     register = server_model.Register()
     for line in text.split(b"\n"):
         if line:
@@ -312,10 +313,11 @@ def journals(text):
                 accepted.append(line_of(*command(line)))
 
 
+PARTS = {"office": answers, "features": features, "journals": journals}
+
+
 def main():
-    lines, _, asked = sys.stdin.buffer.read().partition(b"\n= journals\n")
-    lines, _, behind = lines.partition(b"\n= features\n")
-    for answer in (*answers(lines), *answers(behind), *shown(behind), *journals(asked)):
+    for answer in PARTS[sys.argv[1]](sys.stdin.buffer.read()):
         print(answer)
 
 

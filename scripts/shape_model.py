@@ -1,9 +1,9 @@
 #!/usr/bin/env python3
 """A second implementation of rings, regions and the relations of shapes, in Python. It does not follow the crate.
 
-    scripts/stored_cases.py land_cases in - day asked interval relations | scripts/shape_model.py      prints the answers
+    scripts/land_parts.py shapes | scripts/shape_model.py      prints the answers
 
-It answers the cases of shapes of crates/land_cases. It computes points where lines cross as fractions. It tests a point by the edges above
+It answers the lines of shapes of crates/land_cases. It computes points where lines cross as fractions. It tests a point by the edges above
 it, while the crate uses the edges to its right.
 """
 import re
@@ -228,8 +228,19 @@ def answer(line):
     raise Unread
 
 
-for line in sys.stdin:
-    try:
-        print(answer(line.rstrip("\n")))
-    except Unread:
-        print("unread")
+def answers(text):
+    """The answer to each line of the text."""
+    for line in text.decode().split("\n"):
+        try:
+            yield answer(line)
+        except Unread:
+            yield "unread"
+
+
+def main():
+    for it in answers(sys.stdin.buffer.read()):
+        print(it)
+
+
+if __name__ == "__main__":
+    main()

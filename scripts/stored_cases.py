@@ -7,7 +7,7 @@ With `in` it prints the cases of crates/PROGRAM/stdin that begin with one of the
 those that begin with none of the words. It leaves out the words `truth` and `normal`, since the case itself follows them.
 
 Some lines are not cases and have no answers: empty lines, lines that begin with `#`, and lines that only write the next case
-(`repeat N TEXT`). Some programs answer every line.
+(`repeat N TEXT`).
 """
 import re
 import sys
@@ -15,16 +15,15 @@ from pathlib import Path
 
 CRATES = Path(__file__).resolve().parent.parent / "crates"
 BEFORE_THE_CASE = (b"truth", b"normal")
-ANSWER_EVERY_LINE = ("land_cases",)
 
 
 def cases(program):
     """Each case as its first word, the lines that write it, and its answer. The lines do not have a word that precedes the case."""
     stored = CRATES / program
     answers = iter((stored / "stdout").read_bytes().split(b"\n")[:-1])
-    written, every = [], program in ANSWER_EVERY_LINE
+    written = []
     for line in (stored / "stdin").read_bytes().removesuffix(b"\n").split(b"\n"):
-        if not every and (not line or line.startswith(b"#")):
+        if not line or line.startswith(b"#"):
             continue
         if re.match(rb"repeat [0-9]+ ", line):
             written.append(line)

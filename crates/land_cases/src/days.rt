@@ -1,7 +1,16 @@
-//! Days, intervals and their relations.
+//! Days, intervals and their relations. The answer to a line follows the line itself:
+//!
+//! - `day TEXT`: the number of the day that the text names, and the day written again
+//! - `asked TEXT`: the days that the text asks for, or the fault
+//! - `interval FIRST LAST`: whether there is an interval between two days, by their numbers
+//! - `relations TEXT TEXT`: the relations that hold between two intervals, by their names
+//!
+//! The line `day 1969-12-31` is answered by `day 1969-12-31: -1 1969-12-31`. `scripts/day_cases.py` writes the lines and the answers.
 
 use cad_day::{Day, Interval, Relation, asked, holds};
 use std::alloc::{AllocError, Global};
+use std::io;
+use std::io::{Error, ErrorKind};
 
 const RELATIONS: [(Relation, &str); 15] = [
     (Relation::After, "T_AFTER"),
@@ -70,8 +79,8 @@ fn put_relations(a: &str, b: &str, answer: &mut String) -> Result<(), AllocError
     Ok(())
 }
 
-/// Appends the answer to the line: see the head of the program.
-pub fn put_answer(alloc: Global, line: &str, answer: &mut String) -> Result<(), AllocError> {
+/// Appends the answer to the line: see the head of this file.
+fn put_answer(alloc: Global, line: &str, answer: &mut String) -> Result<(), AllocError> {
     let (question, rest) = line.split_once(' ').unwrap_or((line, ""));
     let (first, second) = rest.split_once(' ').unwrap_or((rest, ""));
     match question {
@@ -81,4 +90,18 @@ pub fn put_answer(alloc: Global, line: &str, answer: &mut String) -> Result<(), 
         "relations" => put_relations(first, second, answer),
         _ => answer.push_str("no question"),
     }
+}
+
+/// Prints each line with its answer.
+pub(crate) fn print_answers(rt: &HostRuntime, lines: &[u8]) -> io::Result<()> {
+    let Ok(text) = str::from_utf8(lines) else {
+        return Err(Error::from(ErrorKind::InvalidData));
+    };
+    for line in text.lines() {
+        let mut answer = String::new(rt.alloc());
+        put_answer(rt.alloc(), line, &mut answer)?;
+        let printed = format!(in rt.alloc(); "{line}: {answer}")?;
+        println!(rt; "{}", printed.trim_end())?;
+    }
+    Ok(())
 }

@@ -1,46 +1,48 @@
-//! Cases of days and shapes, one a line of the input, and an answer for each. For days, the answer follows the line itself:
+//! Cases of the land side. The input has parts, and a line `= NAME` begins each of them:
 //!
-//! - `day TEXT`: the number of the day that the text names, and the day written again
-//! - `asked TEXT`: the days that the text asks for, or the fault
-//! - `interval FIRST LAST`: whether there is an interval between two days, by their numbers
-//! - `relations TEXT TEXT`: the relations that hold between two intervals, by their names
+//! - `= days`: days, intervals and their relations
+//! - `= shapes`: rings, regions, segments and the relations of shapes
+//! - `= office`: lines of the land office over a ledger in memory
+//! - `= features`: commands, and the features that they make, as JSON
+//! - `= journals`: commands to a register in a database in memory, and questions to it
+//! - `= dry run`: lines of a dry run over a ledger in memory
 //!
-//! The line `day 1969-12-31` is answered by `day 1969-12-31: -1 1969-12-31`. For shapes:
+//! The module of a part says how its lines are answered. The answers are printed in this order of the parts.
 //!
-//! - `ring P P P ..`: `ok`, or the fault of a ring through these corners
-//! - `region RING ; RING ..`: `ok`, or the fault of a region of these rings, the outer one first; with none it is NoRing
-//! - `segments P P P P`: whether the two segments share a point
-//! - `inside P RING ; RING ..`: whether the point lies in the region of the rings
-//! - `bounds SHAPE`: the least box that holds the shape
-//! - `shapes SHAPE / SHAPE`: whether they meet, and whether the first lies within the second, `none` if that is not asked
-//!
-//! P is a point, `X,Y`, and a ring is its corners, `P P P ..`. A shape is `spot P`, `frame P P` by its least and greatest corner, or `area
-//! RING ; RING ..`. A line with a part that cannot be read is answered by `unread`.
+//! The status is 0 if all lines were read. It is the number of the office's fault if the office or a dry run ends before. It is 100 if the
+//! input cannot be read, or if another answer cannot be printed.
 #![tactic(auto)]
 
 mod days;
+mod dry_run;
+mod features;
+mod journals;
+mod office_lines;
+mod parts;
 mod shapes;
+mod stop;
 
-use anyhow::Result;
-use std::alloc::{AllocError, Global};
+use parts::lines_of;
+use std::io::Read;
+use std::process::ExitCode;
+use stop::Stop;
 
-/// Appends the answer to the line.
-fn put_answer(alloc: Global, line: &str, answer: &mut String) -> Result<(), AllocError> {
-    match line.split_once(' ') {
-        Some(("day" | "asked" | "interval" | "relations", _)) => {
-            write!(answer, "{line}: ")?;
-            days::put_answer(alloc, line, answer)
-        }
-        _ => shapes::put_answer(alloc, line, answer),
-    }
+/// Prints the answers to the parts of the input. A line break before its first byte makes each line of a part's name follow one.
+fn run(rt: &HostRuntime) -> Result<(), Stop> {
+    let mut input = vec![in rt.alloc(); b'\n']?;
+    rt.stdin().read_to_end(&mut input)?;
+    days::print_answers(rt, lines_of(&input, b"\n= days"))?;
+    shapes::print_answers(rt, lines_of(&input, b"\n= shapes"))?;
+    office_lines::print_answers(rt, lines_of(&input, b"\n= office"))?;
+    features::print_answers(rt, lines_of(&input, b"\n= features"))?;
+    journals::print_answers(rt, lines_of(&input, b"\n= journals"))?;
+    dry_run::print_reports(rt, lines_of(&input, b"\n= dry run"))?;
+    Ok(())
 }
 
-fn main(rt: HostRuntime) -> Result<()> {
-    for line in rt.lines(rt.alloc()) {
-        let line = line?;
-        let mut answer = String::new(rt.alloc());
-        put_answer(rt.alloc(), &line, &mut answer)?;
-        println!(rt; "{}", answer.trim_end())?;
+fn main(rt: HostRuntime) -> ExitCode {
+    match run(&rt) {
+        Ok(()) => ExitCode::from(0),
+        Err(stop) => ExitCode::from(stop.status()),
     }
-    Ok(())
 }

@@ -1,10 +1,22 @@
-//! Rings, shapes and their relations.
+//! Rings, shapes and their relations. Each line has an answer:
+//!
+//! - `ring P P P ..`: `ok`, or the fault of a ring through these corners
+//! - `region RING ; RING ..`: `ok`, or the fault of a region of these rings, the outer one first; with none it is NoRing
+//! - `segments P P P P`: whether the two segments share a point
+//! - `inside P RING ; RING ..`: whether the point lies in the region of the rings
+//! - `bounds SHAPE`: the least box that holds the shape
+//! - `shapes SHAPE / SHAPE`: whether they meet, and whether the first lies within the second, `none` if that is not asked
+//!
+//! P is a point, `X,Y`, and a ring is its corners, `P P P ..`. A shape is `spot P`, `frame P P` by its least and greatest corner, or `area
+//! RING ; RING ..`. A line with a part that cannot be read is answered by `unread`.
 
 use cad_shape::{
     Bounds, Point, Region, RegionFault, Ring, RingFault, Shape, bounds, in_region, meets,
     segments_meet, within,
 };
 use std::alloc::{AllocError, AllocFailed, Global};
+use std::io;
+use std::io::{Error, ErrorKind};
 use std::rc::Rc;
 
 // Why a case has no answer.
@@ -233,7 +245,7 @@ fn put_shapes_answer(alloc: Global, answer: &mut String, text: &str) -> Result<(
 }
 
 /// Appends the answer to the case of this line.
-pub(crate) fn put_answer(alloc: Global, line: &str, answer: &mut String) -> Result<(), AllocError> {
+fn put_answer(alloc: Global, line: &str, answer: &mut String) -> Result<(), AllocError> {
     let (question, rest) = line.split_once(' ').unwrap_or((line, ""));
     match question {
         "ring" => put_ring_answer(alloc, answer, rest),
@@ -244,4 +256,17 @@ pub(crate) fn put_answer(alloc: Global, line: &str, answer: &mut String) -> Resu
         "shapes" => put_shapes_answer(alloc, answer, rest),
         _ => put_unread(answer),
     }
+}
+
+/// Prints the answer to each line.
+pub(crate) fn print_answers(rt: &HostRuntime, lines: &[u8]) -> io::Result<()> {
+    let Ok(text) = str::from_utf8(lines) else {
+        return Err(Error::from(ErrorKind::InvalidData));
+    };
+    for line in text.lines() {
+        let mut answer = String::new(rt.alloc());
+        put_answer(rt.alloc(), line, &mut answer)?;
+        println!(rt; "{answer}")?;
+    }
+    Ok(())
 }

@@ -1,11 +1,12 @@
 #!/usr/bin/env python3
-"""Writes the cases of days to `stdin` and `stdout` beside this file: questions, and what must be answered.
+"""Writes the lines of days in crates/land_cases/stdin. A line is a question.
 
-The answers come from Python's calendar and from a second writing of the table of relations, over
-ends as numbers, and not from the program.
+    scripts/day_cases.py      prints each line with its answer
+
+The answers come from Python's calendar and from a second writing of the table of relations, over ends as numbers. They do not follow the
+crate. scripts/check_land_cases compares the stored lines and answers with them.
 """
 from datetime import date
-from pathlib import Path
 
 OPEN = ".."
 EPOCH = date(1970, 1, 1).toordinal()
@@ -113,11 +114,29 @@ ASKED = [
 
 BETWEEN = [((5, 6), "in order"), ((6, 6), "in order"), ((6, 5), "turned"), ((-719528, 2932896), "in order"), ((2932896, -719528), "turned")]
 
-lines = [(f"day {words}", "no day" if number is None else f"{number} {words}") for words, number in DAYS]
-lines += [(f"asked {words}", answer) for words, answer in ASKED]
-lines += [(f"interval {first} {last}", answer) for (first, last), answer in BETWEEN]
-lines += [(f"relations {asked_text(a)} {asked_text(b)}", relations(a, b)) for a in INTERVALS for b in INTERVALS]
 
-here = Path(__file__).parent
-(here / "stdin").write_text("".join(f"{question}\n" for question, _ in lines))
-(here / "stdout").write_text("".join(f"{question}: {answer}".rstrip() + "\n" for question, answer in lines))
+def questions():
+    """Each question with its answer."""
+    yield from ((f"day {words}", "no day" if number is None else f"{number} {words}") for words, number in DAYS)
+    yield from ((f"asked {words}", answer) for words, answer in ASKED)
+    yield from ((f"interval {first} {last}", answer) for (first, last), answer in BETWEEN)
+    yield from ((f"relations {asked_text(a)} {asked_text(b)}", relations(a, b)) for a in INTERVALS for b in INTERVALS)
+
+
+def lines():
+    """The lines of the part, as bytes."""
+    return [question.encode() for question, _ in questions()]
+
+
+def answers():
+    """What is printed for each line: the line, and its answer."""
+    return [f"{question}: {answer}".rstrip() for question, answer in questions()]
+
+
+def main():
+    for answer in answers():
+        print(answer)
+
+
+if __name__ == "__main__":
+    main()

@@ -1,5 +1,17 @@
-//! Questions to a register in memory, by lines between commands: its journal, whole or in pieces between which commands are entered, and
-//! what it would answer to a command.
+//! Commands to a register in a database in memory, and questions to it by lines between them.
+//!
+//! A command is entered and answered as the office does. The line `journal N` is answered by the journal after revision N, a command a line,
+//! and `end R`, with R the revision at that time:
+//!
+//! ```text
+//! {"do":"enter","first":"2000-01-01","object":11,"unit":{"name":null}}
+//! end 1
+//! ```
+//!
+//! The line `begin N` begins to read this journal in pieces, and is answered by `begun R`. The line `read K` reads at most K rows of the
+//! table. It is answered by `more`, or by the journal up to revision R once all rows were read. Commands may be entered in between.
+//!
+//! The line `check LINE` is answered by what would be answered to LINE, which is not entered: `would be N` in place of `revision N`.
 
 ghost use Rattle.std.specs.Prelude.{IsTrue};
 ghost use Rattle.cad_register.specs.JournalReading.{is_whole};
@@ -190,7 +202,7 @@ impl Journals {
 }
 
 /// Enters the lines into a register of their own, and prints the journals that lines between them request.
-pub fn print_journals(rt: &HostRuntime, lines: &[u8]) -> Result<()> {
+pub(crate) fn print_answers(rt: &HostRuntime, lines: &[u8]) -> Result<()> {
     let mut journals = Journals {
         register: empty_register(rt.alloc())?,
         reading: None,
