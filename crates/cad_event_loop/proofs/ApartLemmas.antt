@@ -185,7 +185,7 @@ module _ {R : Type 0} (g : Ghosts R) where
       let later_none = or_none (comes s deeds) (comes s (all_deeds later)) (sym (comes-append s deeds (all_deeds later)) ∙ none) in
       let rest = unheld s later goes.0 new goes.1 next goes.3 (kept_slots s here.slots goes.1.slots goes.2.9 not.0, office_stays s o old goes.0 here goes.1 text turned deeds said not.1 goes.2) later_none.1 in
       (quiet-append s deeds (all_deeds later) (enters_quiet s o old goes.0 here goes.1 text turned deeds said not.1 goes.2) rest.0, rest.1)
-  unheld s (office_leaves o ∷ later) old new here next goes not none =
+  unheld s (office_leaves o overdue ∷ later) old new here next goes not none =
       unheld s later goes.0 new goes.1 next goes.3 (kept_slots s here.slots goes.1.slots goes.2.3 not.0, λ entry at. none_some {X = ℕ × Entry} (s, entry) (sym goes.2.2 ∙ at)) none
   unheld s (aside deeds said ∷ later) old new here next goes not none =
       let later_none = or_none (comes s deeds) (comes s (all_deeds later)) (sym (comes-append s deeds (all_deeds later)) ∙ none) in
@@ -300,7 +300,7 @@ module _ {R : Type 0} (g : Ghosts R) where
       let there : goes.1.slots c ≡ Some (s, channel) = goes.2.9 c ∙ here in
       let rest = held s c later goes.0 new goes.1 next channel goes.3 there ((λ d it at. once.0 d it (sym (goes.2.9 d) ∙ at)), office_stays s o old goes.0 place goes.1 text turned deeds said once.1 goes.2) split.1 in
       not_own s deeds (all_deeds later) (own_deeds c later) (enters_quiet s o old goes.0 place goes.1 text turned deeds said once.1 goes.2) rest
-  held s c (office_leaves o ∷ later) old new place next channel goes here once none =
+  held s c (office_leaves o overdue ∷ later) old new place next channel goes here once none =
       let there : goes.1.slots c ≡ Some (s, channel) = goes.2.3 c ∙ here in
       held s c later goes.0 new goes.1 next channel goes.3 there ((λ d it at. once.0 d it (sym (goes.2.3 d) ∙ at)), λ entry at. none_some {X = ℕ × Entry} (s, entry) (sym goes.2.2 ∙ at)) none
   held s c (aside deeds said ∷ later) old new place next channel goes here once none =

@@ -29,9 +29,9 @@ use Rattle.cad_office_socket.specs.declared.turned.EntryTurned.TheVariants as en
 use Rattle.cad_event_loop.specs.declared.peers.Peers.{Peers}
 use Rattle.cad_event_loop.specs.declared.stopped.Stopped.{Stopped}
 use Rattle.cad_event_loop.specs.Hosting.{end_of_client, Each, IsServing, IsClosing, IsLastAct, IsLastEnding, IsLastTurn, IsTurnedAway, Hosts, Serves}
-use Rattle.cad_event_loop.specs.inner.Standing.{standing_of, standing_at, standing_office, standings_of, standings, IsWoken, IsAsked, IsPaced, IsAtDoors, GivesTurn, GivesTurnAlone}
+use Rattle.cad_event_loop.specs.inner.Standing.{standing_of, standing_at, standing_office, standings_of, standings, IsWoken, IsAsked, IsPaced, IsAtDoors, GivesTurnAlone}
 use Rattle.cad_event_loop.specs.Turns.{Standing, absent, waiting, ready, Standings, woken, is_among, office_place, stands_after, stands_in, office_after, office_in, is_turn_of, is_wait_of, is_end_of, any_of, has_turn, turns_of, written_by, written_to, Replies, HasEnough}
-use Rattle.cad_event_loop.proofs.StandingLemmas.{stands_in-append, office_in-append, any_right, any_none, one_of, none_of, turns_of-append, written_to-append, beyond}
+use Rattle.cad_event_loop.proofs.StandingLemmas.{stands_in-append, office_in-append, any_right, any_none, one_of, none_of, turns_of-append, written_to-append}
 use Rattle.cad_event_loop.specs.Works.{Held, held_of, held_at, Place, place_of, AtOffice, Puts, Same, event, Said, Work, wakes, opens, acts, waits, ends, office_comes, enters, office_leaves, aside, deeds_in, deeds_of, all_deeds, end_with, end_of_cause, end_of_turned, end_by, end_in, EndsBy, IsOf, IsAside, Tells, Works, Goes}
 
 pub all_deeds-append : (xs ys : List Work) → all_deeds (xs ++ ys) ≡ all_deeds xs ++ all_deeds ys
@@ -174,7 +174,7 @@ closing_goes (waits s c) may = refl
 closing_goes (ends s c cause deeds said) may = cause_goes cause may
 closing_goes (office_comes o) may = refl
 closing_goes (enters o text turned deeds said) may = turn_goes turned may
-closing_goes (office_leaves o) may = refl
+closing_goes (office_leaves o overdue) may = refl
 closing_goes (aside deeds said) may = refl
 
 -- the network told of the land office's socket, or not

@@ -55,7 +55,7 @@ none_spends (waits s c) e = nothing_spends e
 none_spends (ends s c cause deeds said) e = cause_spends cause e
 none_spends (office_comes o) e = nothing_spends e
 none_spends (enters o text turned deeds said) e = turn_spends turned e
-none_spends (office_leaves o) e = nothing_spends e
+none_spends (office_leaves o overdue) e = nothing_spends e
 none_spends (aside deeds said) e = nothing_spends e
 
 never_spent : (works : List Work) → EndsBy (Some RoundsSpent) works → ⊥

@@ -1,6 +1,6 @@
 -- What turns of the land office are among all that is done.
 use Rattle.std.specs.Prelude.{⊤}
-use Rattle.std.proofs.Common.{◌≡◌, ℕ, ◌+◌, ◌≤◌, Bool, true, false, not, ◌&&◌, List, length, length-append, [], ◌∷◌, ◌++◌, Option, None, Some, is_none, Ok, Err, refl, sym, ap, subst, ◌∙◌, append-nil, append_assoc, inl, inr, if◌then◌else◌, arith}
+use Rattle.std.proofs.Common.{◌≡◌, ℕ, ◌≤◌, Bool, true, false, not, ◌&&◌, List, length, length-append, [], ◌∷◌, ◌++◌, Option, None, Some, is_none, Ok, Err, refl, sym, ap, subst, ◌∙◌, append-nil, append_assoc, inl, inr, if◌then◌else◌, arith}
 use Rattle.cad_stream.specs.declared.responder.Responder.{Ghosts}
 use Rattle.cad_desk.specs.declared.desk.Desk.{Desk}
 use Rattle.cad_desk.specs.declared.event.Event.TheVariants.{Office as Entering}
@@ -29,7 +29,7 @@ use Rattle.cad_clients.specs.declared.clients.Clients.{Clients}
 use Rattle.cad_event_loop.specs.declared.office.Office.{Office}
 use Rattle.cad_event_loop.specs.declared.stopped.Stopped.{Stopped}
 use Rattle.cad_event_loop.specs.Hosting.{Each, IsServing, IsClosing, Hosts, Serves}
-use Rattle.cad_event_loop.specs.inner.Offices.{office_at, HasBegun as OfficeHasBegun, HasBegunUnless, end_of_office, is_over, may_go_on, left_deeds, left_at, HasOfficeTurns, HasSent}
+use Rattle.cad_event_loop.specs.inner.Offices.{office_at, HasBegun as OfficeHasBegun, HasBegunUnless, IsOfficeSending, end_of_office, is_over, may_go_on, left_deeds, left_at, HasOfficeTurns, HasSent}
 use Rattle.cad_event_loop.specs.Works.{event, question, Said, AtOffice, Place, place_of, Held, Work, enters, office_comes, office_leaves, aside, all_deeds, store_end, end_of_turned, end_in, EndsBy, is_last, SaysSo, ChecksSo, IsLineSaid, Tells, Works, Goes}
 use Rattle.cad_event_loop.proofs.LifeLemmas.{none_some, one_some}
 use Rattle.cad_event_loop.specs.inner.Standing.{standing_at, standing_office, standings_of, IsPaced, IsAtDoors, ServesOffice}
@@ -462,8 +462,15 @@ module _ {R : Type 0} (g : Ghosts R) where
     pub left_hosts : (office : Office S) (from to : Option (List Deed)) (old : Desk R) (clients : Clients S) → Adds from to (left (name office.socket) ∷ [])
         → Hosts g IsClosing None from old (place_of name clients (office_at name (Some office))) to old (place_of name clients None)
     left_hosts office from to old clients adds =
-        hosts-one g IsClosing None from to old old (place_of name clients (office_at name (Some office))) (place_of name clients None) (office_leaves (name office.socket)) adds refl
-        (office.entry, refl, refl, (λ c. refl), refl) tt
+        hosts-one g IsClosing None from to old old (place_of name clients (office_at name (Some office))) (place_of name clients None) (office_leaves (name office.socket) false) adds refl
+        (office.entry, refl, refl, (λ c. refl), refl, (λ clash. absurd (let same : false ≡ true = clash in cc))) refl
+
+    -- the office is dropped, since its answer is overdue
+    pub dropped_office : (office : Office S) (flag : Bool) (from to : Option (List Deed)) (old : Desk R) (clients : Clients S) → IsSending office.entry → Adds from to (left (name office.socket) ∷ [])
+        → Serves g (IsAtDoors 1 (standings_of clients (office_at name (Some office)) flag) (standings_of clients None flag)) None from old (place_of name clients (office_at name (Some office))) to old (place_of name clients None)
+    dropped_office office flag from to old clients sending adds =
+        serves-one g (IsAtDoors 1 (standings_of clients (office_at name (Some office)) flag) (standings_of clients None flag)) None from to old old (place_of name clients (office_at name (Some office))) (place_of name clients None) (office_leaves (name office.socket) true) adds refl
+        (office.entry, refl, refl, (λ c. refl), refl, (λ same. sending)) refl (record { paced = record { few = omega arith; stand = λ c. refl; office = refl }; quiet = λ c. refl })
 
 pub none_is : {X : Type 0} (o : Option X) → is_none o ≡ true → o ≡ None
 none_is None e = refl
@@ -472,3 +479,11 @@ none_is (Some x) e = absurd (let clash : false ≡ true = e in cc)
 -- the office that was taken out is the one that was here
 pub was_begun : {S : Type 0} (office : Office S) (at : Option (Office S)) → Some office ≡ at → OfficeHasBegun at → IsBegun office.entry
 was_begun {S} office at same begun = subst (λ (o : Option (Office S)). OfficeHasBegun o) (sym {a = Some office} same) begun
+
+-- an answer of it is to be written
+pub was_sending : {S : Type 0} (office : Office S) (at : Option (Office S)) → Some office ≡ at → IsOfficeSending at → IsSending office.entry
+was_sending {S} office at same sending = subst (λ (o : Option (Office S)). IsOfficeSending o) (sym {a = Some office} same) sending
+
+-- and it is here
+pub none_sending : {S : Type 0} (at : Option (Office S)) → None ≡ at → IsOfficeSending at → ⊥
+none_sending {S} at same sending = subst (λ (o : Option (Office S)). IsOfficeSending o) (sym {a = None} same) sending

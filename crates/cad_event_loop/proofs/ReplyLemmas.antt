@@ -54,7 +54,7 @@ module _ {R : Type 0} (g : Ghosts R) where
   fits_after c stand (ends s d cause deeds said) old new here next w fits = fits_put d c stand absent here.slots next.slots None w.5 refl fits
   fits_after c stand (office_comes o) old new here next w fits = fits_same c stand here.slots next.slots w.4 fits
   fits_after c stand (enters o text turned deeds said) old new here next w fits = fits_same c stand here.slots next.slots w.9 fits
-  fits_after c stand (office_leaves o) old new here next w fits = fits_same c stand here.slots next.slots w.3 fits
+  fits_after c stand (office_leaves o overdue) old new here next w fits = fits_same c stand here.slots next.slots w.3 fits
   fits_after c stand (aside deeds said) old new here next w fits = fits_same c stand here.slots next.slots w.2 fits
 
   fits_in : (c : ℕ) (works : List Work) (stand : Standing) (old new : Desk R) (here next : Place) → Goes g old here works new next → Fits stand (here.slots c) → Fits (stands_in c stand works) (next.slots c)
@@ -97,7 +97,7 @@ module _ {R : Type 0} (g : Ghosts R) where
   socket_after c s (ends t d cause deeds said) old new here next w stays has = socket_other d c s here next None stays w.5 has
   socket_after c s (office_comes o) old new here next w stays has = socket_same c s here next w.4 has
   socket_after c s (enters o text turned deeds said) old new here next w stays has = socket_same c s here next w.9 has
-  socket_after c s (office_leaves o) old new here next w stays has = socket_same c s here next w.3 has
+  socket_after c s (office_leaves o overdue) old new here next w stays has = socket_same c s here next w.3 has
   socket_after c s (aside deeds said) old new here next w stays has = socket_same c s here next w.2 has
 
   rests_later : (c s : ℕ) (work : Work) (later : List Work) (old mid : Desk R) (here between : Place) → Works g old here work mid between → RestsIn g c s later mid between → RestsIn g c s (work ∷ later) old here
@@ -147,7 +147,7 @@ module _ {R : Type 0} (g : Ghosts R) where
       go (ends t d cause deeds said) w true e some more = absurd (let clash : false ≡ true = e in cc)
       go (office_comes o) w true e some more = absurd (let clash : false ≡ true = e in cc)
       go (enters o text turned deeds said) w true e some more = absurd (let clash : false ≡ true = e in cc)
-      go (office_leaves o) w true e some more = absurd (let clash : false ≡ true = e in cc)
+      go (office_leaves o overdue) w true e some more = absurd (let clash : false ≡ true = e in cc)
       go (aside deeds said) w true e some more = absurd (let clash : false ≡ true = e in cc)
 
 -- the last of the rounds is one
@@ -180,7 +180,7 @@ over_leaves c (work ∷ later) e = go work (over_leaves c later) e
     go (waits s d) so e = so e
     go (office_comes o) so e = so e
     go (enters o text turned deeds said) so e = so e
-    go (office_leaves o) so e = so e
+    go (office_leaves o overdue) so e = so e
     go (aside deeds said) so e = so e
 
 module _ {R : Type 0} (g : Ghosts R) where
@@ -235,7 +235,7 @@ module _ {R : Type 0} (g : Ghosts R) where
   served_round c s channel stands (ends t d cause deeds said ∷ later) mid new here next gives fits goes at = absurd gives
   served_round c s channel stands (office_comes o ∷ later) mid new here next gives fits goes at = absurd gives
   served_round c s channel stands (enters o text turned deeds said ∷ later) mid new here next gives fits goes at = absurd gives
-  served_round c s channel stands (office_leaves o ∷ later) mid new here next gives fits goes at = absurd gives
+  served_round c s channel stands (office_leaves o overdue ∷ later) mid new here next gives fits goes at = absurd gives
   served_round c s channel stands (aside deeds said ∷ later) mid new here next gives fits goes at = absurd gives
 
   pub each_is_served : EachIsServed g

@@ -1,5 +1,5 @@
 -- How clients and the land office stand after what is done, and that each that may go on has its turns.
-use Rattle.std.proofs.Common.{◌≡◌, ◌⊎◌, inl, inr, ℕ, ◌+◌, ◌*◌, ◌<◌, ◌≤◌, Bool, true, false, ◌||◌, List, [], ◌∷◌, ◌++◌, length, length-append, append_assoc, append-nil, Option, None, Some, IsSomeAnd, Result, Ok, Err, refl, sym, ap, subst, ◌∙◌, if◌then◌else◌, arith}
+use Rattle.std.proofs.Common.{◌≡◌, ◌⊎◌, inl, inr, ℕ, ◌+◌, ◌*◌, ◌<◌, ◌≤◌, Bool, true, false, ◌||◌, List, [], ◌∷◌, ◌++◌, length-append, append_assoc, append-nil, Option, None, Some, IsSomeAnd, Result, Ok, Err, refl, sym, ap, subst, ◌∙◌, if◌then◌else◌, arith}
 use Rattle.std.proofs.lemmas.Bool.{cases_lt}
 use Rattle.std.proofs.lemmas.Option.{slice_get_past}
 use Rattle.cad_network.specs.lemmas.DeedLemmas.{or_none}
@@ -192,7 +192,7 @@ gives_more stands (waits s c ∷ xs) ys quiet gives = absurd gives
 gives_more stands (ends s c cause deeds said ∷ xs) ys quiet gives = absurd gives
 gives_more stands (office_comes o ∷ xs) ys quiet gives = absurd gives
 gives_more stands (enters o text turned deeds said ∷ xs) ys quiet gives = absurd gives
-gives_more stands (office_leaves o ∷ xs) ys quiet gives = absurd gives
+gives_more stands (office_leaves o overdue ∷ xs) ys quiet gives = absurd gives
 gives_more stands (aside deeds said ∷ xs) ys quiet gives = absurd gives
 
 cut_off : {E : Type 0} (So : Type 0) (result : Result (Option Stopped) E) → IfWhole result ⊥ → IfWhole result So
@@ -478,7 +478,7 @@ gives_alike some other (waits s c ∷ later) alike gives = absurd gives
 gives_alike some other (ends s c cause deeds said ∷ later) alike gives = absurd gives
 gives_alike some other (office_comes o ∷ later) alike gives = absurd gives
 gives_alike some other (enters o text turned deeds said ∷ later) alike gives = absurd gives
-gives_alike some other (office_leaves o ∷ later) alike gives = absurd gives
+gives_alike some other (office_leaves o overdue ∷ later) alike gives = absurd gives
 gives_alike some other (aside deeds said ∷ later) alike gives = absurd gives
 
 pub round_alike : (some other : Standings) (round : List Work) → AreAlike some other → IsRound some round → IsRound other round

@@ -403,8 +403,8 @@ module _ {R : Type 0} (g : Ghosts R) (o : ℕ) where
       let step = apart_step (office_comes p) (all_deeds later) old goes.0 here goes.1 not goes.2 none in
       let rest = gone later goes.0 new goes.1 next goes.3 step.0 step.1 in
       record { come = rest.come; texts = rest.texts; never = rest.never }
-  gone (office_leaves p ∷ later) old new here next goes not none =
-      let step = apart_step (office_leaves p) (all_deeds later) old goes.0 here goes.1 not goes.2 none in
+  gone (office_leaves p overdue ∷ later) old new here next goes not none =
+      let step = apart_step (office_leaves p overdue) (all_deeds later) old goes.0 here goes.1 not goes.2 none in
       let rest = gone later goes.0 new goes.1 next goes.3 step.0 step.1 in
       record { come = rest.come; texts = rest.texts; never = rest.never }
   gone (aside deeds said ∷ later) old new here next goes not none =
@@ -558,7 +558,7 @@ module _ {R : Type 0} (g : Ghosts R) (o : ℕ) where
       beside begun entry deeds later goes.0 new goes.1 next goes.3 (leaves_quiet g o c s old goes.0 goes.2.0 cause deeds other goes.2.2)
       (streams later goes.0 new goes.1 next goes.3 begun entry (goes.2.6 ∙ at) (puts_none o c here.slots goes.1.slots goes.2.5 not) parts.1 ready)
   streams (office_comes p ∷ later) old new here next goes begun entry at not none ready = absurd (none_some {X = ℕ × Entry} (o, entry) (sym goes.2.1 ∙ at))
-  streams (office_leaves p ∷ later) old new here next goes begun entry at not none ready =
+  streams (office_leaves p overdue ∷ later) old new here next goes begun entry at not none ready =
       gone_streams begun entry later goes.0 new goes.1 next goes.3 (kept_slots g o here.slots goes.1.slots goes.2.3 not, λ it is. none_some {X = ℕ × Entry} (o, it) (sym goes.2.2 ∙ is)) none
   streams (aside deeds said ∷ later) old new here next goes begun entry at not none ready =
       let parts = or_none (comes o deeds) (comes o (all_deeds later)) (sym (comes-append o deeds (all_deeds later)) ∙ none) in

@@ -33,7 +33,7 @@ commands_in commands (waits s c ∷ later) = commands_in commands later
 commands_in commands (ends s c cause deeds said ∷ later) = commands_in commands later
 commands_in commands (office_comes o ∷ later) = commands_in commands later
 commands_in commands (enters o text turned deeds said ∷ later) = commands_in (commands_by commands said) later
-commands_in commands (office_leaves o ∷ later) = commands_in commands later
+commands_in commands (office_leaves o overdue ∷ later) = commands_in commands later
 commands_in commands (aside deeds said ∷ later) = commands_in commands later
 
 -- These commands, after so many, are those that were entered, in their order.

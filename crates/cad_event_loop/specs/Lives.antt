@@ -34,7 +34,7 @@ life_of c (waits s d ∷ later) = life_of c later
 life_of c (ends s d cause deeds said ∷ later) = if nat_eq d c then [] else by_desk said (life_of c later)
 life_of c (office_comes o ∷ later) = life_of c later
 life_of c (enters o text turned deeds said ∷ later) = by_desk said (life_of c later)
-life_of c (office_leaves o ∷ later) = life_of c later
+life_of c (office_leaves o overdue ∷ later) = life_of c later
 life_of c (aside deeds said ∷ later) = by_desk said (life_of c later)
 
 -- the deeds that are its own, up to its end
@@ -47,7 +47,7 @@ own_deeds c (waits s d ∷ later) = own_deeds c later
 own_deeds c (ends s d cause deeds said ∷ later) = if nat_eq d c then deeds else own_deeds c later
 own_deeds c (office_comes o ∷ later) = own_deeds c later
 own_deeds c (enters o text turned deeds said ∷ later) = own_deeds c later
-own_deeds c (office_leaves o ∷ later) = own_deeds c later
+own_deeds c (office_leaves o overdue ∷ later) = own_deeds c later
 own_deeds c (aside deeds said ∷ later) = own_deeds c later
 
 -- the cause and the deeds of its end, if it ends
@@ -60,7 +60,7 @@ end_of c (waits s d ∷ later) = end_of c later
 end_of c (ends s d cause deeds said ∷ later) = if nat_eq d c then Some (cause, deeds) else end_of c later
 end_of c (office_comes o ∷ later) = end_of c later
 end_of c (enters o text turned deeds said ∷ later) = end_of c later
-end_of c (office_leaves o ∷ later) = end_of c later
+end_of c (office_leaves o overdue ∷ later) = end_of c later
 end_of c (aside deeds said ∷ later) = end_of c later
 
 abbrev pub last_deeds : Option (Option Ending × List Deed) → List Deed

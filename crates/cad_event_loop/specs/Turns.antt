@@ -46,7 +46,7 @@ stands_after c old (waits s d) = if nat_eq d c then waiting else old
 stands_after c old (ends s d cause deeds said) = if nat_eq d c then absent else old
 stands_after c old (office_comes o) = old
 stands_after c old (enters o text turned deeds said) = old
-stands_after c old (office_leaves o) = old
+stands_after c old (office_leaves o overdue) = old
 stands_after c old (aside deeds said) = old
 
 -- and after all of these
@@ -69,7 +69,7 @@ office_after old (waits s c) = old
 office_after old (ends s c cause deeds said) = old
 office_after old (office_comes o) = ready
 office_after old (enters o text turned deeds said) = office_turned (is_last turned) turned
-office_after old (office_leaves o) = absent
+office_after old (office_leaves o overdue) = absent
 office_after old (aside deeds said) = old
 
 abbrev pub office_in : Standing → List Work → Standing
@@ -190,9 +190,9 @@ GivesTurns stands (wakes places ∷ later) = EachHasTurn (all_after stands (wake
 GivesTurns stands other = ⊥
 
 -- The most that is done in a round. The network reports readiness. For each of 64 clients there are four turns, a further report of the
--- network and eight turns of the land office. The office has eight more; 64 clients are dropped, 64 come, and the land office comes.
+-- network and eight turns of the land office. The office has eight more; 64 clients are dropped, 64 come, the land office is dropped, and it comes.
 abbrev pub most_in_round : ℕ
-most_in_round = 970
+most_in_round = 971
 
 -- a round
 pub record IsRound (stands : Standings) (works : List Work) : Type 0 where

@@ -37,7 +37,7 @@ use Rattle.cad_dry_run.specs.declared.report.Report.TheVariants as report
 use Rattle.cad_dry_run.specs.Reports.{answer_of}
 use Rattle.cad_office_socket.specs.Checks.{IsCheckOf}
 use Rattle.cad_office_socket.specs.Serving as serving
-use Rattle.cad_office_socket.specs.Turns.{IsNewEntry, IsAsking, IsEntryTurn}
+use Rattle.cad_office_socket.specs.Turns.{IsNewEntry, IsAsking, IsEntryTurn, IsSending}
 use Rattle.cad_event_loop.specs.declared.stopped.Stopped.{Stopped}
 use Rattle.cad_event_loop.specs.declared.stopped.Stopped.TheVariants.{Asked, StoreRefused}
 
@@ -87,8 +87,8 @@ Said = Option DeskCall
 -- One of these is done:
 -- the network reports that the sockets at these places may continue; socket s comes and is connection c; connection c acts at socket s;
 -- its socket gives or takes nothing for now; it ends, by a turn of its own or because it is closed, with these deeds;
--- the land office comes at socket o; it has a turn there, in which the line with this text ends, if one does; it is let go;
--- or something is done for none of them
+-- the land office comes at socket o; it has a turn there, in which the line with this text ends, if one does; it is let go, since its
+-- answer is overdue or since hosting ends; or something is done for none of them
 pub data Work : Type 0 where
   wakes : List ℕ → Work
   opens : ℕ → ℕ → Work
@@ -97,7 +97,7 @@ pub data Work : Type 0 where
   ends : ℕ → ℕ → Option Ending → List Deed → Said → Work
   office_comes : ℕ → Work
   enters : ℕ → List ℕ → EntryTurned → List Deed → Said → Work
-  office_leaves : ℕ → Work
+  office_leaves : ℕ → Bool → Work
   aside : List Deed → Said → Work
 
 -- the deeds of each
@@ -114,7 +114,7 @@ deeds_of (waits s c) = blocked s ∷ []
 deeds_of (ends s c cause deeds said) = deeds
 deeds_of (office_comes o) = office_came o ∷ []
 deeds_of (enters o text turned deeds said) = deeds
-deeds_of (office_leaves o) = left o ∷ []
+deeds_of (office_leaves o overdue) = left o ∷ []
 deeds_of (aside deeds said) = deeds
 
 abbrev pub all_deeds : List Work → List Deed
@@ -130,7 +130,7 @@ said_by (waits s c) = None
 said_by (ends s c cause deeds said) = said
 said_by (office_comes o) = None
 said_by (enters o text turned deeds said) = said
-said_by (office_leaves o) = None
+said_by (office_leaves o overdue) = None
 said_by (aside deeds said) = said
 
 -- the register's database refused
@@ -175,7 +175,7 @@ end_by (waits s c) = None
 end_by (ends s c cause deeds said) = end_of_cause cause
 end_by (office_comes o) = None
 end_by (enters o text turned deeds said) = end_of_turned turned
-end_by (office_leaves o) = None
+end_by (office_leaves o overdue) = None
 end_by (aside deeds said) = None
 
 -- and after the first of these that ends it
@@ -274,8 +274,8 @@ module _ {R : Type 0} (g : Ghosts R) where
   Works old here (enters o text turned deeds said) new next =
       (entry : Entry) × (after : Entry) × (own : List Deed) × (here.office ≡ Some (o, entry)) × IsEntryTurn g o old entry turned new after own × (deeds ≡ own ++ (if is_last turned then left o ∷ [] else []))
       × IsLineSaid text turned said × Tells old said new × (next.office ≡ (if is_last turned then None else Some (o, after))) × Same here.slots next.slots
-  Works old here (office_leaves o) new next =
-      (entry : Entry) × (here.office ≡ Some (o, entry)) × (next.office ≡ None) × Same here.slots next.slots × (new ≡ old)
+  Works old here (office_leaves o overdue) new next =
+      (entry : Entry) × (here.office ≡ Some (o, entry)) × (next.office ≡ None) × Same here.slots next.slots × (new ≡ old) × (overdue ≡ true → IsSending entry)
   Works old here (aside deeds said) new next = IsOfNone here.slots said × Tells old said new × Same here.slots next.slots × IsAside deeds × (next.office ≡ here.office)
 
   -- these things are done, one after the other

@@ -19,8 +19,9 @@
 //! and `scripts/check_proxy`:
 //!
 //! - the times: each round drops the clients that `Clients::is_overdue` reports, by limits of 60 and 300 seconds and the seconds that the
-//!   network reported; five seconds for replies and the office's answer at the end; 50 milliseconds for a wait while somebody may stand at
-//!   a door, as after the system could not hand over a connection, or after 64 clients came in a round.
+//!   network reported, and the land office if it took no byte of an answer for 300 seconds; five seconds for replies and the office's
+//!   answer at the end; 50 milliseconds for a wait while somebody may stand at a door, as after the system could not hand over a
+//!   connection, or after 64 clients came in a round.
 //!
 //! ```text
 //! host(alloc, &mut net, &mut desk, &mut NoLog)?    // Stopped::Asked after the office's line `stop`

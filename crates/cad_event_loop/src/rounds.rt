@@ -25,10 +25,10 @@ pub(crate) struct Rounds<S> {
 }
 
 impl<S: Drop> Rounds<S> {
-    ghost use Rattle.std.specs.Prelude.{◌≡◌, List, [], ◌∷◌, Option, None, IfOk};
+    ghost use Rattle.std.specs.Prelude.{◌≡◌, List, [], ◌∷◌, Option, None, IfOk, IsTrue};
     ghost use Rattle.cad_network.specs.Deeds.{Deed, office_came, Adds};
     ghost use Rattle.cad_event_loop.specs.Hosting.{end_of_round, end_of_rounds, Serves};
-    ghost use Rattle.cad_event_loop.specs.inner.Offices.{HasBegun, HasBegunUnless};
+    ghost use Rattle.cad_event_loop.specs.inner.Offices.{HasBegun, HasBegunUnless, IsOfficeSending};
     ghost use Rattle.cad_event_loop.specs.inner.Rounds.{here, standing, IsNobody};
     ghost use Rattle.cad_event_loop.specs.inner.Standing.{GivesTurnAlone, HearsBetween, IsAsked, IsAtDoors, MakesRound, ServesAll, ServesOffice, VisitsClient};
     ghost use Rattle.cad_event_loop.specs.Turns.{most_in_round, AreServed};
@@ -70,7 +70,7 @@ impl<S: Drop> Rounds<S> {
             self.peers.ready.office = false;
             return None;
         };
-        let (served, office) = office.serve(self.peers.alloc, net, desk);
+        let (served, office) = office.serve(self.peers.alloc, self.peers.now, net, desk);
         self.office = office;
         self.peers.ready.office = may_go_on(served);
         end_of(served)
@@ -179,7 +179,7 @@ impl<S: Drop> Rounds<S> {
             net.let_go(socket);
             return;
         }
-        self.office = Some(Office::new(self.peers.alloc, socket));
+        self.office = Some(Office::new(self.peers.alloc, socket, self.peers.now));
         self.peers.ready.office = true;
     }
 
@@ -196,6 +196,44 @@ impl<S: Drop> Rounds<S> {
             Ok(socket) => self.admit_office(socket, net, desk),
             Err(error) => self.peers.ready.office_door = !is_blocked(&error),
         }
+    }
+
+    /// Whether the land office took no byte of its answer for too long.
+    fn is_office_overdue(&self) -> bool
+        ensures { IsTrue result → IsOfficeSending self.now.office }
+    {
+        match &self.office {
+            Some(office) => office.is_overdue(self.peers.now),
+            None => false,
+        }
+    }
+
+    /// Drops the land office, if its answer is overdue.
+    fn drop_office<N: Network<Socket = S>, R: Responder>(&mut self, net: &mut N, desk: &mut Desk<R>)
+        requires { HasBegun self.old.office }
+        ensures begun { HasBegun self.new.office }
+        ensures hosts { Serves R.Responder (IsAtDoors 1 (standing N.name self.old) (standing N.name self.new)) None (N.history net.old) desk.old (here N.name self.old) (N.history net.new) desk.new (here N.name self.new) }
+    {
+        if !self.is_office_overdue() {
+            return;
+        }
+        if let Some(office) = self.office.take() {
+            net.let_go(office.into_socket());
+        }
+    }
+
+    /// Drops the land office, if its answer is overdue, and takes the one that waits at its door, if none is here.
+    fn change_office<N: Network<Socket = S>, R: Responder>(
+        &mut self,
+        net: &mut N,
+        desk: &mut Desk<R>,
+    )
+        requires { HasBegun self.old.office }
+        ensures begun { HasBegun self.new.office }
+        ensures hosts { Serves R.Responder (IsAtDoors 2 (standing N.name self.old) (standing N.name self.new)) None (N.history net.old) desk.old (here N.name self.old) (N.history net.new) desk.new (here N.name self.new) }
+    {
+        self.drop_office(net, desk);
+        self.take_office(net, desk);
     }
 
     /// Drops the clients that are overdue, and takes those that wait at their door.
@@ -259,7 +297,7 @@ impl<S: Drop> Rounds<S> {
             return Ok(Some(stopped));
         }
         self.change_clients(net, desk, log);
-        self.take_office(net, desk);
+        self.change_office(net, desk);
         Ok(None)
     }
 

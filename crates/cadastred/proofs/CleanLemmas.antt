@@ -29,7 +29,7 @@ module _ {R : Type 0} (g : Ghosts R) where
   clean_work old mid here next (ends s c cause deeds said) w counts = clean_told old mid said w.4 counts
   clean_work old mid here next (office_comes o) w counts = clean_same old mid w.5 counts
   clean_work old mid here next (enters o text turned deeds said) w counts = clean_told old mid said w.7 counts
-  clean_work old mid here next (office_leaves o) w counts = clean_same old mid w.4 counts
+  clean_work old mid here next (office_leaves o overdue) w counts = clean_same old mid w.4 counts
   clean_work old mid here next (aside deeds said) w counts = clean_told old mid said w.1 counts
 
   pub clean_goes : (works : List Work) (old new : Desk R) (here next : Place) → Goes g old here works new next → g.counts (responder_of new) → g.counts (responder_of old)
