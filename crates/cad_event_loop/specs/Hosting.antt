@@ -47,9 +47,9 @@ module _ (May : Work → Type 0) where
   Each [] = ⊤
   Each (work ∷ later) = May work × Each later
 
--- while clients and the land office are served, the land office is let go only if it is over, or if its answer is overdue
+-- while clients and the land office are served, a connection of the land office is let go only if it is over, or if its answer is overdue
 abbrev pub IsServing : Work → Type 0
-IsServing (office_leaves o overdue) = overdue ≡ true
+IsServing (office_leaves o k overdue) = overdue ≡ true
 IsServing other = ⊤
 
 -- when hosting ends, nobody comes and nothing is read or answered: what is under way is written, and all are let go
@@ -74,9 +74,9 @@ IsClosing (opens s c) = ⊥
 IsClosing (acts s c act) = IsLastAct act
 IsClosing (waits s c) = ⊤
 IsClosing (ends s c cause deeds said) = IsLastEnding cause
-IsClosing (office_comes o) = ⊥
-IsClosing (enters o text turned deeds said) = IsLastTurn turned
-IsClosing (office_leaves o overdue) = overdue ≡ false
+IsClosing (office_comes o k) = ⊥
+IsClosing (enters o k text turned deeds said) = IsLastTurn turned
+IsClosing (office_leaves o k overdue) = overdue ≡ false
 IsClosing (aside deeds said) = deeds ≡ []
 
 module _ {R : Type 0} (g : Ghosts R) where

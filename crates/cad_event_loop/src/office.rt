@@ -1,4 +1,4 @@
-//! The land office and its socket.
+//! A connection of the land office and its socket.
 
 ghost use Rattle.std.specs.Prelude.{◌≡◌};
 ghost use Rattle.cad_event_loop.specs.inner.Offices.{end_of_office, is_over as is_over_of, may_go_on as may_go_on_of};
@@ -66,7 +66,7 @@ fn moved_after(before: usize, after: usize, moved: u64, now: u64) -> u64 {
     if before == after { moved } else { now }
 }
 
-/// The land office and its socket.
+/// A connection of the land office and its socket.
 #[derive(Drop)]
 pub(crate) struct Office<S> {
     pub(crate) socket: S,
