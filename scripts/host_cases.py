@@ -2,6 +2,7 @@
 """Writes cases for crates/clients_cases: the loop over a network whose peers follow a script.
 
     scripts/host_cases.py [SEED] [COUNT]     prints the cases; the stored ones have seed 1 and count 400
+    scripts/host_cases.py offices [SEED]     prints those of several connections of the office; the stored ones have seed 1
 
 Each case is a line `host STEPS`. In it, clients and land offices connect, send, take and fail in some order, and the network reports them in
 some order. The cases have:
@@ -12,6 +13,8 @@ some order. The cases have:
 - offices that leave before their answer is written;
 - clients that do nothing for too long;
 - stops while replies are being written.
+
+Several connections of the office send lines alternately, wait at the door, do nothing, or take nothing for 300 seconds.
 
 The database refuses commands for object 6. The end must report that even if the office has left, and the first cases test this.
 """
@@ -33,6 +36,65 @@ REFUSALS = [
 ]
 
 
+def enters(peer, number):
+    """A connection of the office enters this unit."""
+    return f"give {peer} " + LINES[0] % number
+
+
+def taken(count, rooms):
+    """So many connections of the office that are taken, one in each round, and how much their sockets take."""
+    steps = ["office"] * count + [f"room {peer} {room}" for peer, room in enumerate(rooms) if room] + ["wake 65"]
+    return steps + ["end"] * min(count, 4)
+
+
+MUCH = 1000
+FOUR = taken(4, [MUCH] * 4)
+FIVE = taken(5, [MUCH] * 5)
+# The answer of the first connection begins at second 0, and its socket takes nothing. A fifth connection waits at the door.
+UNTAKEN = taken(5, [0] + [MUCH] * 4) + [enters(0, 1), enters(4, 9), "wake 66", "end"]
+OFFICES = [
+    # two and four at once, with lines alternately: each gets its own answers
+    taken(2, [MUCH] * 2) + [enters(0, 1), "wake 66", "end", enters(1, 2), "wake 67", "end", enters(0, 3), "wake 66", "end", enters(1, 2), "wake 67", "end", "give 0 stop_", "wake 66", "end"],
+    taken(2, [MUCH] * 2) + [enters(1, 1), enters(0, 2), enters(1, 3), enters(0, 4), "wake 67 66", "end", "end", "give 1 stop_", "wake 67", "end"],
+    FOUR + [enters(3, 1), "wake 69", "end", enters(2, 2), "wake 68", "end", enters(1, 3), "wake 67", "end", enters(0, 4), "wake 66", "end", "give 3 stop_", "wake 69", "end"],
+    FOUR + [enters(peer, number) for peer, number in ((3, 1), (2, 2), (1, 3), (0, 4), (3, 5), (1, 1))] + ["wake 69 68 67 66", "end", "end", "end", "give 2 hello_", "give 2 stop_", "wake 68", "end", "end"],
+    FOUR + ["give 2 " + LINES[0][:20], enters(1, 1), "wake 68 67", "end", "end", "give 2 " + LINES[0][20:] % 2, enters(3, 3), "wake 68 69", "end", "end", "give 0 stop_", "wake 66", "end"],
+    FOUR + ["give 1 check " + LINES[0] % 1, enters(0, 1), "give 3 check " + LINES[0] % 1, "wake 67 66 69", "end", "end", "give 3 stop_", "wake 69", "end"],
+    # a fifth waits until one of the four is over, and takes its place
+    FIVE + [enters(4, 9), "end", "wake 65", "end", enters(2, 1), "wake 68 70", "end", "end", "hang 2", "wake 68", "end", "end", "give 4 stop_", "wake 68", "end"],
+    FIVE + [enters(4, 9), "end", "hang 0", "wake 66", "end", "hang 1", "wake 67", "end", "end", enters(4, 8), "wake 66", "end", "end", "give 3 stop_", "wake 69", "end"],
+    FIVE + [enters(4, 9), "break 3", "wake 69", "end", "end", enters(4, 8), "wake 69", "end", "end", "give 0 stop_", "wake 66", "end"],
+    FIVE + [enters(4, 9), "give 4 stop_", "wake 65 70 71", "end", "end", "end"],
+    taken(6, [MUCH] * 6) + [enters(4, 9), enters(5, 8), "hang 1", "hang 2", "wake 67 68", "end", "end", "end", "end", "give 0 stop_", "wake 66", "end"],
+    # one that does nothing keeps nobody waiting, and is never dropped
+    taken(2, [0, 0]) + ["give 1 stop_", "wake 67", "end"],
+    taken(2, [MUCH] * 2) + ["second 86400", "end", enters(1, 1), "wake 67", "end", "end", "second 172800", enters(0, 2), "wake 66", "end", "end", "give 0 stop_", "wake 66", "end"],
+    FOUR + ["give 0 " + LINES[3] % 1, "wake 66", "end", "second 5000", "end", "end", enters(3, 1), "wake 69", "end", "end", "give 3 stop_", "wake 69", "end"],
+    # one that takes nothing of its answer for 300 seconds is dropped, and others that take theirs are not
+    UNTAKEN + [enters(1, 2), "wake 67", "end", "second 299", "end", "end", enters(1, 3), "wake 67", "end", "end", "give 2 stop_", "wake 68", "end", "second 9000", "end"],
+    UNTAKEN + [enters(1, 2), "wake 67", "end", "second 300", "end", "end", enters(1, 3), "wake 67", "end", "end", "give 2 stop_", "wake 68", "end"],
+    UNTAKEN + ["room 0 1", "second 299", "wake 66", "end", "second 300", "end", "second 598", "end", "end", "give 2 stop_", "wake 68", "end", "second 9000", "end"],
+    UNTAKEN + ["room 0 1", "second 299", "wake 66", "end", "second 300", "end", "second 599", "end", "end", "give 2 stop_", "wake 68", "end"],
+    UNTAKEN + ["second 299", "end", f"room 0 {MUCH}", "second 301", "wake 66", "end", "end", "second 5000", "end", "end", "give 2 stop_", "wake 68", "end"],
+    UNTAKEN + ["second 301", f"room 0 {MUCH}", "end", "end", "wake 66", "end", "end", "give 2 stop_", "wake 68", "end"],
+    ["second 250"] + taken(5, [0] + [MUCH] * 4) + [enters(4, 9), "second 290", enters(0, 1), "wake 66", "end", "second 589", "end", "end", "give 2 stop_", "wake 68", "end", "second 9000", "end"],
+    ["second 250"] + taken(5, [0] + [MUCH] * 4) + [enters(4, 9), "second 290", enters(0, 1), "wake 66", "end", "second 590", "end", "end", "give 2 stop_", "wake 68", "end"],
+    taken(4, [0, 0, MUCH, 0]) + [enters(0, 1), enters(1, 2), enters(2, 3), enters(3, 4), "wake 66 67 68 69", "end", "end", "second 300", "end", "end", "office", "office", f"room 4 {MUCH}", f"room 5 {MUCH}", enters(4, 5), enters(5, 1), "wake 65", "end", "end",
+        "end", "end", "give 2 stop_", "wake 68", "end"],
+    taken(1, [11]) + [enters(0, 1), enters(0, 2), "wake 66", "end", "end", "second 299", "end", "second 300", "end", "office", f"room 1 {MUCH}", "give 1 stop_", "wake 65", "end", "end"],
+    # with clients: each connection of the office is heard after each client's turn
+    ["come", "come"] + ["office"] * 3 + [f"room {peer} {MUCH}" for peer in range(5)] + ["wake 64 65", "end", "end", "end", "end", enters(4, 1), "wake 68", "give 0 GET /a HTTP/1.1||", "give 1 GET /b HTTP/1.1|Host: x||", "wake 0 1", "end", enters(2, 2), "wake 66",
+        "end", enters(3, 3), "wake 67", "end", "give 0 GET /c HTTP/1.0||", "wake 0", "end", "give 3 stop_", "wake 67", "end", "end"],
+    ["come", "office", "office", f"room 0 {MUCH}", f"room 2 {MUCH}", "wake 64 65", "end", "end", enters(2, 1), "give 0 GET /a HTTP/1.1||", "wake 0", "end", "wake 67", "end", "end", "give 1 stop_", "wake 66", "end", "end"],
+    # at the end what is under way is written to each of them
+    taken(3, [0, 11, 0]) + [enters(0, 1), enters(1, 2), "wake 66 67", "end", "end", "give 2 stop_", "wake 68", "end", f"room 0 {MUCH}", "wake 66", "end", f"room 1 {MUCH}", "second 4", "wake 67", "end"],
+    taken(3, [0, 4, 0]) + [enters(0, 1), enters(1, 2), "wake 66 67", "end", "end", "give 2 stop_", "wake 68", "end", f"room 0 {MUCH}", "wake 66", "second 5", "end", f"room 1 {MUCH}", "wake 67", "end"],
+    taken(3, [0, MUCH, 0]) + [enters(0, 1), "wake 66", "end", enters(2, 6), enters(1, 3), "wake 68 67", "end", f"room 0 {MUCH}", f"room 2 {MUCH}", "wake 66 68", "end", "end"],
+    taken(3, [0, 4, 0]) + [enters(0, 1), enters(1, 2), "wake 66 67", "end", "end", "break 0", "give 2 stop_", "wake 68 66", "end", f"room 1 {MUCH}", "wake 67", "end"],
+    ["unwatched 1"] + taken(5, [MUCH] * 5) + ["end", enters(4, 1), "wake 69", "end", "end", "give 1 stop_", "wake 66", "end"],
+]
+
+
 def texts(chance):
     """The pieces that a client sends: requests, one after the other."""
     whole = "".join(chance.choice(REQUESTS) for _ in range(chance.randint(1, 4)))
@@ -45,8 +107,8 @@ def texts(chance):
 class Case:
     """A case while it is drawn: the peers, and what they still have to send."""
 
-    def __init__(self, chance):
-        self.chance, self.steps, self.peers, self.unsent, self.offices = chance, [], 0, {}, set()
+    def __init__(self, chance, doors=(64, 65, 66)):
+        self.chance, self.steps, self.peers, self.unsent, self.offices, self.doors = chance, [], 0, {}, set(), list(doors)
 
     def come(self):
         self.steps.append("come")
@@ -75,8 +137,8 @@ class Case:
 
     def wait(self, doors=False):
         """The peers that the network reports, in some order, and the end of a wait."""
-        places = [64, 65, 66] + list(range(min(self.peers, 64)))
-        told = [it for it in places if self.chance.random() < (0.6 if self.peers < 20 else 0.15) or doors and it in (65, 66)]
+        places = self.doors + list(range(min(self.peers, 64)))
+        told = [it for it in places if self.chance.random() < (0.6 if self.peers < 20 else 0.15) or doors and it in self.doors[1:]]
         self.chance.shuffle(told)
         self.steps += [" ".join(["wake"] + [str(it) for it in told])] * bool(told) + ["end"]
 
@@ -120,7 +182,40 @@ def case(chance):
     return "host " + ";".join(drawn.steps)
 
 
+def case_of_offices(chance):
+    """Several connections of the office, and some clients."""
+    drawn = Case(chance, range(64, 70))
+    for _ in range(chance.randint(2, 4)):
+        drawn.come_office()
+    second = 0
+    for _ in range(chance.randint(8, 20)):
+        for _ in range(chance.randint(0, 4)):
+            what = chance.random()
+            if what < 0.05 and drawn.peers < 10:
+                drawn.come()
+            elif what < 0.15 and drawn.peers < 14:
+                drawn.come_office()
+            elif what < 0.17:
+                drawn.steps.append("unwatched 1")
+            elif what < 0.25:
+                second += chance.choice([1, 30, 100, 299, 300])
+                drawn.steps.append(f"second {second}")
+            else:
+                drawn.act()
+        drawn.wait(chance.random() < 0.5)
+    if chance.random() < 0.7:
+        drawn.stop()
+    return "host " + ";".join(drawn.steps)
+
+
 def main():
+    if sys.argv[1:2] == ["offices"]:
+        chance = random.Random(int(sys.argv[2]) if len(sys.argv) > 2 else 1)
+        for steps in OFFICES:
+            print("host " + ";".join(steps))
+        for _ in range(60):
+            print(case_of_offices(chance))
+        return
     seed = int(sys.argv[1]) if len(sys.argv) > 1 else 1
     count = int(sys.argv[2]) if len(sys.argv) > 2 else 400
     chance = random.Random(seed)

@@ -9,7 +9,7 @@ use Rattle.cad_clients.specs.declared.channel.Channel.{Channel}
 use Rattle.cad_clients.specs.declared.turned.Ending.{Ending}
 use Rattle.cad_clients.specs.declared.turned.Ending.TheVariants.{PeerEnded, WeEnded, Refused, ReadFailed, WriteFailed}
 use Rattle.cad_clients.specs.Channels.{Act, wrote, took, fed, EndsSo}
-use Rattle.cad_event_loop.specs.Works.{Held, AtOffice, Place, Puts, Same, Said, Work, wakes, opens, acts, waits, ends, office_comes, enters, office_leaves, aside, is_last, deeds_in, all_deeds, Leaves, Works, Goes}
+use Rattle.cad_event_loop.specs.Works.{Held, AtOffice, AtOffices, Place, Puts, Same, Said, Work, wakes, opens, acts, waits, ends, office_comes, enters, office_leaves, aside, is_last, deeds_in, all_deeds, Leaves, Works, Goes}
 use Rattle.cad_event_loop.specs.Lives.{own_deeds}
 use Rattle.cad_office_socket.specs.declared.entry.Entry.{Entry}
 use Rattle.cad_office_socket.specs.declared.turned.EntryTurned.{EntryTurned}
@@ -23,21 +23,21 @@ act_quiet s t (wrote bytes) e = took_apart s t bytes e
 act_quiet s t (took bytes) e = gave_apart s t bytes e
 act_quiet s t (fed piece out over) e = (refl, refl)
 
--- no connection has this socket, or connection c alone has it; and not the land office
+-- no connection has this socket, or connection c alone has it; and none of the land office
 abbrev pub NotIn : ℕ → Held → Type 0
 NotIn s slots = (d : ℕ) (channel : Channel) → slots d ≡ Some (s, channel) → ⊥
 
 abbrev pub OnceIn : ℕ → ℕ → Held → Type 0
 OnceIn s c slots = (d : ℕ) (channel : Channel) → slots d ≡ Some (s, channel) → d ≡ c
 
-abbrev pub NotOffice : ℕ → AtOffice → Type 0
-NotOffice s office = (entry : Entry) → office ≡ Some (s, entry) → ⊥
+abbrev pub NotOffice : ℕ → AtOffices → Type 0
+NotOffice s offices = (k : ℕ) (entry : Entry) → offices k ≡ Some (s, entry) → ⊥
 
 abbrev pub NotHeld : ℕ → Place → Type 0
-NotHeld s place = NotIn s place.slots × NotOffice s place.office
+NotHeld s place = NotIn s place.slots × NotOffice s place.offices
 
 abbrev pub HeldOnce : ℕ → ℕ → Place → Type 0
-HeldOnce s c place = OnceIn s c place.slots × NotOffice s place.office
+HeldOnce s c place = OnceIn s c place.slots × NotOffice s place.offices
 
 same_name : (t s : ℕ) (channel other : Channel) → ◌≡◌ {A = Option (ℕ × Channel)} (Some (t, channel)) (Some (s, other)) → t ≡ s
 same_name t s channel other e = ap (λ (p : ℕ × Channel). p.0) (one_some {X = ℕ × Channel} (t, channel) (s, other) e)
@@ -124,31 +124,50 @@ module _ {R : Type 0} (g : Ghosts R) where
         ]
   ]
 
-  -- all of it
-  enters_quiet : (s o : ℕ) (old new : Desk R) (here next : Place) (text : List ℕ) (turned : EntryTurned) (deeds : List Deed) (said : Said) → NotOffice s here.office → Works g old here (enters o text turned deeds said) new next → IsQuiet s deeds
-  enters_quiet s o old new here next text turned deeds said not w =
-      let e = differs o s (λ same. not w.0 (w.3 ∙ ap (λ (n : ℕ). Some (n, w.0)) same)) in
-      rw w.5 (quiet-append s w.2 (if is_last turned then left o ∷ [] else []) (entry_quiet s o old new w.0 w.1 turned w.2 e w.4) (last_quiet s o (is_last turned)))
+  -- with the end of its connection, if it is over
+  pub enters_apart : (s o : ℕ) (old new : Desk R) (entry next : Entry) (turned : EntryTurned) (deeds own : List Deed) → nat_eq o s ≡ false → deeds ≡ own ++ (if is_last turned then left o ∷ [] else []) → IsEntryTurn g o old entry turned new next own → IsQuiet s deeds
+  enters_apart s o old new entry next turned deeds own e are turn =
+      rw are (quiet-append s own (if is_last turned then left o ∷ [] else []) (entry_quiet s o old new entry next turned own e turn) (last_quiet (is_last turned)))
     where
-      last_quiet : (s o : ℕ) (last : Bool) → IsQuiet s (if last then left o ∷ [] else [])
-      last_quiet s o true = (refl, refl)
-      last_quiet s o false = (refl, refl)
+      last_quiet : (last : Bool) → IsQuiet s (if last then left o ∷ [] else [])
+      last_quiet true = (refl, refl)
+      last_quiet false = (refl, refl)
 
-  office_stays : (s o : ℕ) (old new : Desk R) (here next : Place) (text : List ℕ) (turned : EntryTurned) (deeds : List Deed) (said : Said) → NotOffice s here.office → Works g old here (enters o text turned deeds said) new next → NotOffice s next.office
-  office_stays s o old new here next text turned deeds said not w entry at = go (is_last turned) (sym w.8 ∙ at)
+  -- all of it
+  enters_quiet : (s o k : ℕ) (old new : Desk R) (here next : Place) (text : List ℕ) (turned : EntryTurned) (deeds : List Deed) (said : Said) → NotOffice s here.offices → Works g old here (enters o k text turned deeds said) new next → IsQuiet s deeds
+  enters_quiet s o k old new here next text turned deeds said not w =
+      enters_apart s o old new w.0 w.1 turned deeds w.2 (differs o s (λ same. not k w.0 (w.3 ∙ ap (λ (n : ℕ). Some (n, w.0)) same))) w.5 w.4
+
+  office_stays : (s o k : ℕ) (old new : Desk R) (here next : Place) (text : List ℕ) (turned : EntryTurned) (deeds : List Deed) (said : Said) → NotOffice s here.offices → Works g old here (enters o k text turned deeds said) new next → NotOffice s next.offices
+  office_stays s o k old new here next text turned deeds said not w j entry at = own (nat_eq k j) refl
     where
       go : (last : Bool) → ◌≡◌ {A = AtOffice} (if◌then◌else◌ {A = AtOffice} last None (Some (o, w.1))) (Some (s, entry)) → ⊥
       go true h = none_some {X = ℕ × Entry} (s, entry) h
       go false h =
           let name = ap (λ (p : ℕ × Entry). p.0) (one_some {X = ℕ × Entry} (o, w.1) (s, entry) h) in
-          not w.0 (w.3 ∙ ap (λ (n : ℕ). Some (n, w.0)) name)
+          not k w.0 (w.3 ∙ ap (λ (n : ℕ). Some (n, w.0)) name)
 
-  other_office : (s o : ℕ) (entry : Entry) (office : AtOffice) → nat_eq o s ≡ false → office ≡ Some (o, entry) → NotOffice s office
-  other_office s o entry office e is there at =
-      apart o s e (ap (λ (p : ℕ × Entry). p.0) (one_some {X = ℕ × Entry} (o, entry) (s, there) (sym is ∙ at)))
+      own : (same : Bool) → nat_eq k j ≡ same → ⊥
+      own true e = go (is_last turned) (sym (w.8 j ∙ rw e refl) ∙ at)
+      own false e = not j entry (sym (w.8 j ∙ rw e refl) ∙ at)
 
-  pub kept_office : (s : ℕ) (old new : AtOffice) → new ≡ old → NotOffice s old → NotOffice s new
-  kept_office s old new same not entry at = not entry (sym same ∙ at)
+  -- one comes at another socket
+  other_office : (s o k : ℕ) (entry : Entry) (offices next : AtOffices) → nat_eq o s ≡ false → Puts offices next k (Some (o, entry)) → NotOffice s offices → NotOffice s next
+  other_office s o k entry offices next e puts not j there at = own (nat_eq k j) refl
+    where
+      own : (same : Bool) → nat_eq k j ≡ same → ⊥
+      own true h = apart o s e (ap (λ (p : ℕ × Entry). p.0) (one_some {X = ℕ × Entry} (o, entry) (s, there) (sym (puts j ∙ rw h refl) ∙ at)))
+      own false h = not j there (sym (puts j ∙ rw h refl) ∙ at)
+
+  pub left_office : (s k : ℕ) (offices next : AtOffices) → Puts offices next k None → NotOffice s offices → NotOffice s next
+  left_office s k offices next puts not j there at = own (nat_eq k j) refl
+    where
+      own : (same : Bool) → nat_eq k j ≡ same → ⊥
+      own true h = none_some {X = ℕ × Entry} (s, there) (sym (puts j ∙ rw h refl) ∙ at)
+      own false h = not j there (sym (puts j ∙ rw h refl) ∙ at)
+
+  pub kept_office : (s : ℕ) (old new : AtOffices) → Same old new → NotOffice s old → NotOffice s new
+  kept_office s old new same not k entry at = not k entry (sym (same k) ∙ at)
 
   pub kept_slots : (s : ℕ) (old new : Held) → Same old new → NotIn s old → NotIn s new
   kept_slots s old new same not d channel at = not d channel (sym (same d) ∙ at)
@@ -159,37 +178,37 @@ module _ {R : Type 0} (g : Ghosts R) where
   unheld s [] old new here next goes not none = ((refl, refl), subst (λ (h : Place). NotHeld s h) (sym goes.1) not)
   unheld s (wakes places ∷ later) old new here next goes not none =
       let later_none = or_none (comes s (map woke places)) (comes s (all_deeds later)) (sym (comes-append s (map woke places) (all_deeds later)) ∙ none) in
-      let rest = unheld s later goes.0 new goes.1 next goes.3 (kept_slots s here.slots goes.1.slots goes.2.1 not.0, kept_office s here.office goes.1.office goes.2.2 not.1) later_none.1 in
+      let rest = unheld s later goes.0 new goes.1 next goes.3 (kept_slots s here.slots goes.1.slots goes.2.1 not.0, kept_office s here.offices goes.1.offices goes.2.2 not.1) later_none.1 in
       (quiet-append s (map woke places) (all_deeds later) (woken_quiet s places) rest.0, rest.1)
   unheld s (opens t d ∷ later) old new here next goes not none =
       let apart_from = or_none (nat_eq t s) (comes s (all_deeds later)) none in
-      let rest = unheld s later goes.0 new goes.1 next goes.3 (puts_other s d t goes.2.0 here.slots goes.1.slots apart_from.0 goes.2.4 not.0, kept_office s here.office goes.1.office goes.2.5 not.1) apart_from.1 in
+      let rest = unheld s later goes.0 new goes.1 next goes.3 (puts_other s d t goes.2.0 here.slots goes.1.slots apart_from.0 goes.2.4 not.0, kept_office s here.offices goes.1.offices goes.2.5 not.1) apart_from.1 in
       (rest.0, rest.1)
   unheld s (acts t d act ∷ later) old new here next goes not none =
       let e = differs t s (λ same. not.0 d goes.2.0 (goes.2.2 ∙ ap (λ (n : ℕ). Some (n, goes.2.0)) same)) in
       let later_none = or_none (comes s (deeds_in t act)) (comes s (all_deeds later)) (sym (comes-append s (deeds_in t act) (all_deeds later)) ∙ none) in
-      let rest = unheld s later goes.0 new goes.1 next goes.3 (puts_other s d t goes.2.1 here.slots goes.1.slots e goes.2.4 not.0, kept_office s here.office goes.1.office goes.2.5 not.1) later_none.1 in
+      let rest = unheld s later goes.0 new goes.1 next goes.3 (puts_other s d t goes.2.1 here.slots goes.1.slots e goes.2.4 not.0, kept_office s here.offices goes.1.offices goes.2.5 not.1) later_none.1 in
       (quiet-append s (deeds_in t act) (all_deeds later) (act_quiet s t act e) rest.0, rest.1)
   unheld s (waits t d ∷ later) old new here next goes not none =
-      unheld s later goes.0 new goes.1 next goes.3 (kept_slots s here.slots goes.1.slots goes.2.4 not.0, kept_office s here.office goes.1.office goes.2.5 not.1) none
+      unheld s later goes.0 new goes.1 next goes.3 (kept_slots s here.slots goes.1.slots goes.2.4 not.0, kept_office s here.offices goes.1.offices goes.2.5 not.1) none
   unheld s (ends t d cause deeds said ∷ later) old new here next goes not none =
       let e = differs t s (λ same. not.0 d goes.2.0 (goes.2.1 ∙ ap (λ (n : ℕ). Some (n, goes.2.0)) same)) in
       let later_none = or_none (comes s deeds) (comes s (all_deeds later)) (sym (comes-append s deeds (all_deeds later)) ∙ none) in
-      let rest = unheld s later goes.0 new goes.1 next goes.3 (puts_none s d here.slots goes.1.slots goes.2.5 not.0, kept_office s here.office goes.1.office goes.2.6 not.1) later_none.1 in
+      let rest = unheld s later goes.0 new goes.1 next goes.3 (puts_none s d here.slots goes.1.slots goes.2.5 not.0, kept_office s here.offices goes.1.offices goes.2.6 not.1) later_none.1 in
       (quiet-append s deeds (all_deeds later) (leaves_quiet s d t old goes.0 goes.2.0 cause deeds e goes.2.2) rest.0, rest.1)
-  unheld s (office_comes o ∷ later) old new here next goes not none =
+  unheld s (office_comes o k ∷ later) old new here next goes not none =
       let apart_from = or_none (nat_eq o s) (comes s (all_deeds later)) none in
-      let rest = unheld s later goes.0 new goes.1 next goes.3 (kept_slots s here.slots goes.1.slots goes.2.4 not.0, other_office s o goes.2.0 goes.1.office apart_from.0 goes.2.3) apart_from.1 in
+      let rest = unheld s later goes.0 new goes.1 next goes.3 (kept_slots s here.slots goes.1.slots goes.2.4 not.0, other_office s o k goes.2.0 here.offices goes.1.offices apart_from.0 goes.2.3 not.1) apart_from.1 in
       (rest.0, rest.1)
-  unheld s (enters o text turned deeds said ∷ later) old new here next goes not none =
+  unheld s (enters o k text turned deeds said ∷ later) old new here next goes not none =
       let later_none = or_none (comes s deeds) (comes s (all_deeds later)) (sym (comes-append s deeds (all_deeds later)) ∙ none) in
-      let rest = unheld s later goes.0 new goes.1 next goes.3 (kept_slots s here.slots goes.1.slots goes.2.9 not.0, office_stays s o old goes.0 here goes.1 text turned deeds said not.1 goes.2) later_none.1 in
-      (quiet-append s deeds (all_deeds later) (enters_quiet s o old goes.0 here goes.1 text turned deeds said not.1 goes.2) rest.0, rest.1)
-  unheld s (office_leaves o ∷ later) old new here next goes not none =
-      unheld s later goes.0 new goes.1 next goes.3 (kept_slots s here.slots goes.1.slots goes.2.3 not.0, λ entry at. none_some {X = ℕ × Entry} (s, entry) (sym goes.2.2 ∙ at)) none
+      let rest = unheld s later goes.0 new goes.1 next goes.3 (kept_slots s here.slots goes.1.slots goes.2.9 not.0, office_stays s o k old goes.0 here goes.1 text turned deeds said not.1 goes.2) later_none.1 in
+      (quiet-append s deeds (all_deeds later) (enters_quiet s o k old goes.0 here goes.1 text turned deeds said not.1 goes.2) rest.0, rest.1)
+  unheld s (office_leaves o k overdue ∷ later) old new here next goes not none =
+      unheld s later goes.0 new goes.1 next goes.3 (kept_slots s here.slots goes.1.slots goes.2.3 not.0, left_office s k here.offices goes.1.offices goes.2.2 not.1) none
   unheld s (aside deeds said ∷ later) old new here next goes not none =
       let later_none = or_none (comes s deeds) (comes s (all_deeds later)) (sym (comes-append s deeds (all_deeds later)) ∙ none) in
-      let rest = unheld s later goes.0 new goes.1 next goes.3 (kept_slots s here.slots goes.1.slots goes.2.2 not.0, kept_office s here.office goes.1.office goes.2.4 not.1) later_none.1 in
+      let rest = unheld s later goes.0 new goes.1 next goes.3 (kept_slots s here.slots goes.1.slots goes.2.2 not.0, kept_office s here.offices goes.1.offices goes.2.4 not.1) later_none.1 in
       (quiet-append s deeds (all_deeds later) (aside_passes deeds goes.2.3 s later_none.0) rest.0, rest.1)
 
   abbrev pub IsOwn : ℕ → ℕ → List Work → Type 0
@@ -223,16 +242,16 @@ module _ {R : Type 0} (g : Ghosts R) where
   held s c (wakes places ∷ later) old new place next channel goes here once none =
       let split = or_none (comes s (map woke places)) (comes s (all_deeds later)) (sym (comes-append s (map woke places) (all_deeds later)) ∙ none) in
       let there : goes.1.slots c ≡ Some (s, channel) = goes.2.1 c ∙ here in
-      let rest = held s c later goes.0 new goes.1 next channel goes.3 there ((λ d it at. once.0 d it (sym (goes.2.1 d) ∙ at)), kept_office s place.office goes.1.office goes.2.2 once.1) split.1 in
+      let rest = held s c later goes.0 new goes.1 next channel goes.3 there ((λ d it at. once.0 d it (sym (goes.2.1 d) ∙ at)), kept_office s place.offices goes.1.offices goes.2.2 once.1) split.1 in
       not_own s (map woke places) (all_deeds later) (own_deeds c later) (woken_quiet s places) rest
   held s c (waits t d ∷ later) old new place next channel goes here once none =
       let there : goes.1.slots c ≡ Some (s, channel) = goes.2.4 c ∙ here in
-      held s c later goes.0 new goes.1 next channel goes.3 there ((λ d it at. once.0 d it (sym (goes.2.4 d) ∙ at)), kept_office s place.office goes.1.office goes.2.5 once.1) none
+      held s c later goes.0 new goes.1 next channel goes.3 there ((λ d it at. once.0 d it (sym (goes.2.4 d) ∙ at)), kept_office s place.offices goes.1.offices goes.2.5 once.1) none
   held s c (opens t d ∷ later) old new place next channel goes here once none =
       let split = or_none (nat_eq t s) (comes s (all_deeds later)) none in
       let differ : (d ≡ c → ⊥) = λ same. none_some {X = ℕ × Channel} (s, channel) (sym goes.2.1 ∙ (ap place.slots same ∙ here)) in
       let there : goes.1.slots c ≡ Some (s, channel) = goes.2.4 c ∙ rw (differs d c differ) here in
-      held s c later goes.0 new goes.1 next channel goes.3 there (once_more d t goes.2.0 place.slots goes.1.slots goes.2.4 split.0 once.0, kept_office s place.office goes.1.office goes.2.5 once.1) split.1
+      held s c later goes.0 new goes.1 next channel goes.3 there (once_more d t goes.2.0 place.slots goes.1.slots goes.2.4 split.0 once.0, kept_office s place.offices goes.1.offices goes.2.5 once.1) split.1
     where
       once_more : (d t : ℕ) (it : Channel) (a b : Held) → Puts a b d (Some (t, it)) → nat_eq t s ≡ false → OnceIn s c a → OnceIn s c b
       once_more d t it a b puts e one f other at = go (nat_eq d f) refl
@@ -257,12 +276,12 @@ module _ {R : Type 0} (g : Ghosts R) where
       go again true e =
           let name = same_name t s goes.2.0 channel (sym goes.2.2 ∙ (ap place.slots (eqb-true d c e) ∙ here)) in
           let there : goes.1.slots c ≡ Some (s, goes.2.1) = goes.2.4 c ∙ rw e (ap (λ (n : ℕ). Some (n, goes.2.1)) name) in
-          let rest = again goes.2.1 there (once_same place.slots goes.1.slots goes.2.4 goes.2.2 once.0, kept_office s place.office goes.1.office goes.2.5 once.1) in
+          let rest = again goes.2.1 there (once_same place.slots goes.1.slots goes.2.4 goes.2.2 once.0, kept_office s place.offices goes.1.offices goes.2.5 once.1) in
           rw e (its_own s (deeds_in t act) (all_deeds later) (own_deeds c later) rest)
       go again false e =
           let there : goes.1.slots c ≡ Some (s, channel) = goes.2.4 c ∙ rw e here in
           let other_name = differs t s (λ same. apart d c e (once.0 d goes.2.0 (goes.2.2 ∙ ap (λ (n : ℕ). Some (n, goes.2.0)) same))) in
-          let rest = again channel there (once_same place.slots goes.1.slots goes.2.4 goes.2.2 once.0, kept_office s place.office goes.1.office goes.2.5 once.1) in
+          let rest = again channel there (once_same place.slots goes.1.slots goes.2.4 goes.2.2 once.0, kept_office s place.offices goes.1.offices goes.2.5 once.1) in
           rw e (not_own s (deeds_in t act) (all_deeds later) (own_deeds c later) (act_quiet s t act other_name) rest)
   held s c (ends t d cause deeds said ∷ later) old new place next channel goes here once none =
       let split = or_none (comes s deeds) (comes s (all_deeds later)) (sym (comes-append s deeds (all_deeds later)) ∙ none) in
@@ -284,27 +303,27 @@ module _ {R : Type 0} (g : Ghosts R) where
 
       go : comes s (all_deeds later) ≡ false → (goes.1.slots c ≡ Some (s, channel) → HeldOnce s c goes.1 → IsOwn s c later) → (same : Bool) → nat_eq d c ≡ same → IsOwn s c (ends t d cause deeds said ∷ later)
       go none_later again true e =
-          let rest = unheld s later goes.0 new goes.1 next goes.3 (gone_all place.slots goes.1.slots goes.2.5 once.0 (eqb-true d c e), kept_office s place.office goes.1.office goes.2.6 once.1) none_later in
+          let rest = unheld s later goes.0 new goes.1 next goes.3 (gone_all place.slots goes.1.slots goes.2.5 once.0 (eqb-true d c e), kept_office s place.offices goes.1.offices goes.2.6 once.1) none_later in
           rw e (its_last s deeds (all_deeds later) rest.0)
       go none_later again false e =
           let there : goes.1.slots c ≡ Some (s, channel) = goes.2.5 c ∙ rw e here in
           let other_name = differs t s (λ same. apart d c e (once.0 d goes.2.0 (goes.2.1 ∙ ap (λ (n : ℕ). Some (n, goes.2.0)) same))) in
-          let rest = again there (gone_once place.slots goes.1.slots goes.2.5 once.0, kept_office s place.office goes.1.office goes.2.6 once.1) in
+          let rest = again there (gone_once place.slots goes.1.slots goes.2.5 once.0, kept_office s place.offices goes.1.offices goes.2.6 once.1) in
           rw e (not_own s deeds (all_deeds later) (own_deeds c later) (leaves_quiet s d t old goes.0 goes.2.0 cause deeds other_name goes.2.2) rest)
-  held s c (office_comes o ∷ later) old new place next channel goes here once none =
+  held s c (office_comes o k ∷ later) old new place next channel goes here once none =
       let split = or_none (nat_eq o s) (comes s (all_deeds later)) none in
       let there : goes.1.slots c ≡ Some (s, channel) = goes.2.4 c ∙ here in
-      held s c later goes.0 new goes.1 next channel goes.3 there ((λ d it at. once.0 d it (sym (goes.2.4 d) ∙ at)), other_office s o goes.2.0 goes.1.office split.0 goes.2.3) split.1
-  held s c (enters o text turned deeds said ∷ later) old new place next channel goes here once none =
+      held s c later goes.0 new goes.1 next channel goes.3 there ((λ d it at. once.0 d it (sym (goes.2.4 d) ∙ at)), other_office s o k goes.2.0 place.offices goes.1.offices split.0 goes.2.3 once.1) split.1
+  held s c (enters o k text turned deeds said ∷ later) old new place next channel goes here once none =
       let split = or_none (comes s deeds) (comes s (all_deeds later)) (sym (comes-append s deeds (all_deeds later)) ∙ none) in
       let there : goes.1.slots c ≡ Some (s, channel) = goes.2.9 c ∙ here in
-      let rest = held s c later goes.0 new goes.1 next channel goes.3 there ((λ d it at. once.0 d it (sym (goes.2.9 d) ∙ at)), office_stays s o old goes.0 place goes.1 text turned deeds said once.1 goes.2) split.1 in
-      not_own s deeds (all_deeds later) (own_deeds c later) (enters_quiet s o old goes.0 place goes.1 text turned deeds said once.1 goes.2) rest
-  held s c (office_leaves o ∷ later) old new place next channel goes here once none =
+      let rest = held s c later goes.0 new goes.1 next channel goes.3 there ((λ d it at. once.0 d it (sym (goes.2.9 d) ∙ at)), office_stays s o k old goes.0 place goes.1 text turned deeds said once.1 goes.2) split.1 in
+      not_own s deeds (all_deeds later) (own_deeds c later) (enters_quiet s o k old goes.0 place goes.1 text turned deeds said once.1 goes.2) rest
+  held s c (office_leaves o k overdue ∷ later) old new place next channel goes here once none =
       let there : goes.1.slots c ≡ Some (s, channel) = goes.2.3 c ∙ here in
-      held s c later goes.0 new goes.1 next channel goes.3 there ((λ d it at. once.0 d it (sym (goes.2.3 d) ∙ at)), λ entry at. none_some {X = ℕ × Entry} (s, entry) (sym goes.2.2 ∙ at)) none
+      held s c later goes.0 new goes.1 next channel goes.3 there ((λ d it at. once.0 d it (sym (goes.2.3 d) ∙ at)), left_office s k place.offices goes.1.offices goes.2.2 once.1) none
   held s c (aside deeds said ∷ later) old new place next channel goes here once none =
       let split = or_none (comes s deeds) (comes s (all_deeds later)) (sym (comes-append s deeds (all_deeds later)) ∙ none) in
       let there : goes.1.slots c ≡ Some (s, channel) = goes.2.2 c ∙ here in
-      let rest = held s c later goes.0 new goes.1 next channel goes.3 there ((λ d it at. once.0 d it (sym (goes.2.2 d) ∙ at)), kept_office s place.office goes.1.office goes.2.4 once.1) split.1 in
+      let rest = held s c later goes.0 new goes.1 next channel goes.3 there ((λ d it at. once.0 d it (sym (goes.2.2 d) ∙ at)), kept_office s place.offices goes.1.offices goes.2.4 once.1) split.1 in
       not_own s deeds (all_deeds later) (own_deeds c later) (aside_passes deeds goes.2.3 s split.0) rest

@@ -105,21 +105,21 @@ module _ {R : Type 0} (g : Ghosts R) where
       let after = goes_clean g later goes.0 new goes.1 next goes.3 counts in
       let one = goes_stands g commands (ends s c cause deeds said ∷ []) old goes.0 here goes.1 (goes.0, goes.1, goes.2, (refl, refl)) (may.0, tt) after stands in
       entered_in commands later goes.0 new goes.1 next goes.3 may.1 counts one
-  entered_in commands (office_comes o ∷ later) old new here next goes may counts stands =
+  entered_in commands (office_comes o k ∷ later) old new here next goes may counts stands =
       let after = goes_clean g later goes.0 new goes.1 next goes.3 counts in
-      let one = goes_stands g commands (office_comes o ∷ []) old goes.0 here goes.1 (goes.0, goes.1, goes.2, (refl, refl)) (may.0, tt) after stands in
+      let one = goes_stands g commands (office_comes o k ∷ []) old goes.0 here goes.1 (goes.0, goes.1, goes.2, (refl, refl)) (may.0, tt) after stands in
       entered_in commands later goes.0 new goes.1 next goes.3 may.1 counts one
-  entered_in commands (office_leaves o ∷ later) old new here next goes may counts stands =
+  entered_in commands (office_leaves o k overdue ∷ later) old new here next goes may counts stands =
       let after = goes_clean g later goes.0 new goes.1 next goes.3 counts in
-      let one = goes_stands g commands (office_leaves o ∷ []) old goes.0 here goes.1 (goes.0, goes.1, goes.2, (refl, refl)) (may.0, tt) after stands in
+      let one = goes_stands g commands (office_leaves o k overdue ∷ []) old goes.0 here goes.1 (goes.0, goes.1, goes.2, (refl, refl)) (may.0, tt) after stands in
       entered_in commands later goes.0 new goes.1 next goes.3 may.1 counts one
   entered_in commands (aside deeds said ∷ later) old new here next goes may counts stands =
       let after = goes_clean g later goes.0 new goes.1 next goes.3 counts in
       let one = goes_stands g commands (aside deeds said ∷ []) old goes.0 here goes.1 (goes.0, goes.1, goes.2, (refl, refl)) (may.0, tt) after stands in
       entered_in commands later goes.0 new goes.1 next goes.3 may.1 counts one
-  entered_in commands (enters o text turned deeds said ∷ later) old new here next goes may counts stands =
+  entered_in commands (enters o k text turned deeds said ∷ later) old new here next goes may counts stands =
       let after = goes_clean g later goes.0 new goes.1 next goes.3 counts in
-      let one = goes_stands g commands (enters o text turned deeds said ∷ []) old goes.0 here goes.1 (goes.0, goes.1, goes.2, (refl, refl)) (may.0, tt) after stands in
+      let one = goes_stands g commands (enters o k text turned deeds said ∷ []) old goes.0 here goes.1 (goes.0, goes.1, goes.2, (refl, refl)) (may.0, tt) after stands in
       entered_by commands text said later old goes.0 goes.2.7 after stands (entered_in (commands_by commands said) later goes.0 new goes.1 next goes.3 may.1 counts one) turned goes.2.6
 
   pub ledger_stands : LedgerStands g

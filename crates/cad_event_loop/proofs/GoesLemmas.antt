@@ -29,10 +29,10 @@ use Rattle.cad_office_socket.specs.declared.turned.EntryTurned.TheVariants as en
 use Rattle.cad_event_loop.specs.declared.peers.Peers.{Peers}
 use Rattle.cad_event_loop.specs.declared.stopped.Stopped.{Stopped}
 use Rattle.cad_event_loop.specs.Hosting.{end_of_client, Each, IsServing, IsClosing, IsLastAct, IsLastEnding, IsLastTurn, IsTurnedAway, Hosts, Serves}
-use Rattle.cad_event_loop.specs.inner.Standing.{standing_of, standing_at, standing_office, standings_of, standings, IsWoken, IsAsked, IsPaced, IsAtDoors, GivesTurn, GivesTurnAlone}
+use Rattle.cad_event_loop.specs.inner.Standing.{standing_of, standing_at, flag_at, told_flag, standing_office, standings_of, standings, IsWoken, IsAsked, IsPaced, IsAtDoors, GivesTurnAlone}
 use Rattle.cad_event_loop.specs.Turns.{Standing, absent, waiting, ready, Standings, woken, is_among, office_place, stands_after, stands_in, office_after, office_in, is_turn_of, is_wait_of, is_end_of, any_of, has_turn, turns_of, written_by, written_to, Replies, HasEnough}
-use Rattle.cad_event_loop.proofs.StandingLemmas.{stands_in-append, office_in-append, any_right, any_none, one_of, none_of, turns_of-append, written_to-append, beyond}
-use Rattle.cad_event_loop.specs.Works.{Held, held_of, held_at, Place, place_of, AtOffice, Puts, Same, event, Said, Work, wakes, opens, acts, waits, ends, office_comes, enters, office_leaves, aside, deeds_in, deeds_of, all_deeds, end_with, end_of_cause, end_of_turned, end_by, end_in, EndsBy, IsOf, IsAside, Tells, Works, Goes}
+use Rattle.cad_event_loop.proofs.StandingLemmas.{stands_in-append, office_in-append, any_right, any_none, one_of, none_of, turns_of-append, written_to-append}
+use Rattle.cad_event_loop.specs.Works.{Held, held_of, held_at, Place, place_of, AtOffice, AtOffices, Puts, Same, event, Said, Work, wakes, opens, acts, waits, ends, office_comes, enters, office_leaves, aside, deeds_in, deeds_of, all_deeds, end_with, end_of_cause, end_of_turned, end_by, end_in, EndsBy, IsOf, IsAside, Tells, Works, Goes}
 
 pub all_deeds-append : (xs ys : List Work) → all_deeds (xs ++ ys) ≡ all_deeds xs ++ all_deeds ys
 all_deeds-append [] ys = refl
@@ -86,7 +86,7 @@ pub held_same : {S : Type 0} (name : S → ℕ) (old new : Clients S) → Keeps 
 held_same name old new keeps d = ap (held_of name) (keeps d)
 
 -- what was held is put back as it was
-put_same : (old new : Held) (c : ℕ) (one : Option (ℕ × Channel)) → old c ≡ one → Puts old new c one → Same old new
+pub put_same : {X : Type 0} (old new : ℕ → Option X) (c : ℕ) (one : Option X) → old c ≡ one → Puts old new c one → Same old new
 put_same old new c one here puts d = puts d ∙ go (nat_eq c d) refl
   where
     go : (same : Bool) → nat_eq c d ≡ same → (if nat_eq c d then one else old d) ≡ old d
@@ -172,19 +172,24 @@ closing_goes (opens s c) may = refl
 closing_goes (acts s c act) may = refl
 closing_goes (waits s c) may = refl
 closing_goes (ends s c cause deeds said) may = cause_goes cause may
-closing_goes (office_comes o) may = refl
-closing_goes (enters o text turned deeds said) may = turn_goes turned may
-closing_goes (office_leaves o) may = refl
+closing_goes (office_comes o k) may = refl
+closing_goes (enters o k text turned deeds said) may = turn_goes turned may
+closing_goes (office_leaves o k overdue) may = refl
 closing_goes (aside deeds said) may = refl
 
 -- the network told of the land office's socket, or not
-woken_office : (at : AtOffice) (places : List ℕ) (old new : Bool) → new ≡ (is_among office_place places || old) → standing_office at new ≡ office_after (standing_office at old) (wakes places)
-woken_office None places old new is = go (is_among office_place places)
+woken_office : (k : ℕ) (at : AtOffice) (places : List ℕ) (old new : Option Bool) → new ≡ told_flag (is_among (office_place k) places) old → standing_office at new ≡ office_after k (standing_office at old) (wakes places)
+woken_office k None places old new is = go (is_among (office_place k) places)
   where
     go : (told : Bool) → absent ≡ (if told then absent else absent)
     go true = refl
     go false = refl
-woken_office (Some office) places old new is = rw is (go (is_among office_place places) old)
+woken_office k (Some office) places None new is = rw is (go (is_among (office_place k) places))
+  where
+    go : (told : Bool) → absent ≡ (if told then absent else absent)
+    go true = refl
+    go false = refl
+woken_office k (Some office) places (Some old) new is = rw is (go (is_among (office_place k) places) old)
   where
     go : (told was : Bool) → (if told || was then ready else waiting) ≡ (if told then woken (if was then ready else waiting) else (if was then ready else waiting))
     go true true = refl
@@ -220,12 +225,12 @@ module _ {R : Type 0} (g : Ghosts R) where
       (work ∷ [], subst (λ (l : List Deed). Adds from to l) (sym (all_deeds-one work)) adds, or_nothing (end_by work) ∙ is, (b, q, works, (refl, refl)), (may, tt))
 
   -- the network told of some sockets
-  pub hosts_woken : {S : Type 0} (peers next : Peers S) (from to : Option (List Deed)) (a : Desk R) (p q : Place) → AddsSome from to (IsWoken peers next) → Same p.slots q.slots → q.office ≡ p.office
+  pub hosts_woken : {S : Type 0} (peers next : Peers S) (from to : Option (List Deed)) (a : Desk R) (p q : Place) → AddsSome from to (IsWoken peers next) → Same p.slots q.slots → Same p.offices q.offices
       → Hosts g IsClosing None from a p to a q
   hosts_woken peers next from to a p q told same office =
       hosts-one IsClosing None from to a a p q (wakes told.2.0) (subst (λ (l : List Deed). Adds from to l) told.2.1 told.1) refl (refl, same, office) tt
 
-  pub serves_woken : {S : Type 0} (peers next : Peers S) (at : AtOffice) (from to : Option (List Deed)) (a : Desk R) (p q : Place) → AddsSome from to (IsWoken peers next) → Same p.slots q.slots → q.office ≡ p.office
+  pub serves_woken : {S : Type 0} (peers next : Peers S) (at : AtOffices) (from to : Option (List Deed)) (a : Desk R) (p q : Place) → AddsSome from to (IsWoken peers next) → Same p.slots q.slots → Same p.offices q.offices
       → Serves g (IsAsked (standings peers at) (standings next at)) None from a p to a q
   serves_woken peers next at from to a p q told same office = (
     wakes told.2.0 ∷ [],
@@ -233,11 +238,11 @@ module _ {R : Type 0} (g : Ghosts R) where
     refl,
     (a, q, (refl, same, office), (refl, refl)),
     (tt, tt),
-    (told.2.0, refl, record { few = omega arith; stand = told.2.2.0; office = woken_office at told.2.0 peers.ready.office next.ready.office told.2.2.1 }),
+    (told.2.0, refl, record { few = omega arith; stand = told.2.2.0; offices = λ k. woken_office k (at k) told.2.0 (flag_at peers.ready k) (flag_at next.ready k) (told.2.2.1 k) }),
   )
 
   -- nothing is done, but for what is not held
-  pub hosts-same : (May : Work → Type 0) (from to : Option (List Deed)) (a : Desk R) (p q : Place) → May (aside [] None) → Adds from to [] → Same p.slots q.slots → q.office ≡ p.office → Hosts g May None from a p to a q
+  pub hosts-same : (May : Work → Type 0) (from to : Option (List Deed)) (a : Desk R) (p q : Place) → May (aside [] None) → Adds from to [] → Same p.slots q.slots → Same p.offices q.offices → Hosts g May None from a p to a q
   hosts-same May from to a p q may adds same office = hosts-one May None from to a a p q (aside [] None) adds refl (tt, refl, same, inl refl, office) may
 
   -- the same where something holds of what is done
@@ -263,7 +268,7 @@ module _ {R : Type 0} (g : Ghosts R) where
   serves-one P end from to a b p q work adds is works may so =
       (work ∷ [], subst (λ (l : List Deed). Adds from to l) (sym (all_deeds-one work)) adds, ends-one end work is, (b, q, works, (refl, refl)), (may, tt), so)
 
-  pub serves-same : (P : List Work → Type 0) (from to : Option (List Deed)) (a : Desk R) (p q : Place) → Adds from to [] → Same p.slots q.slots → q.office ≡ p.office → P (aside [] None ∷ []) → Serves g P None from a p to a q
+  pub serves-same : (P : List Work → Type 0) (from to : Option (List Deed)) (a : Desk R) (p q : Place) → Adds from to [] → Same p.slots q.slots → Same p.offices q.offices → P (aside [] None ∷ []) → Serves g P None from a p to a q
   serves-same P from to a p q adds same office so = serves-one P None from to a a p q (aside [] None) adds refl (tt, refl, same, inl refl, office) tt so
 
   -- what the desk is told at the end of connection c
@@ -279,7 +284,7 @@ module _ {R : Type 0} (g : Ghosts R) where
   said_at_end c s old new channel ReadFailed deeds e = (Some (event (Close c) e.2.0), refl, e.2.1, λ sending. unsent_clash channel sending e.1.ready.all_sent)
   said_at_end c s old new channel WriteFailed deeds e = (Some (event (Close c) e.2.0), refl, e.2.1, λ sending. tt)
 
-  module _ {S : Type 0} (name : S → ℕ) (c : ℕ) (office : AtOffice) where
+  module _ {S : Type 0} (name : S → ℕ) (c : ℕ) (office : AtOffices) where
     -- what is written to it in the turn, and what is left to write
     abbrev WritesOn : Channel → Channel → Work → Type 0
     WritesOn channel after work = unsent channel ≡ written_by c work ++ unsent after
@@ -295,7 +300,7 @@ module _ {R : Type 0} (g : Ghosts R) where
     abbrev IsOneWork : Turned → Desk R → Clients S → Channel → Option Stopped → Desk R → Clients S → Channel → List Deed → Type 0
     IsOneWork turned old clients channel end new next after deeds =
         (work : Work) × (deeds ≡ deeds_of work) × Works g old (place_of name clients office) work new (place_of name next office) × (end_by work ≡ end) × IsServing work × (IsSending channel → IsClosing work)
-        × ((d : ℕ) → is_turn_of d work ≡ nat_eq c d) × ((d : ℕ) → standing_at next d ≡ stands_after d (standing_at clients d) work) × ((it : Standing) → office_after it work ≡ it) × IsKind turned channel after work
+        × ((d : ℕ) → is_turn_of d work ≡ nat_eq c d) × ((d : ℕ) → standing_at next d ≡ stands_after d (standing_at clients d) work) × ((k : ℕ) (it : Standing) → office_after k it work ≡ it) × IsKind turned channel after work
 
     -- how the connections stand after a change of this one
     changed_stands : (clients next : Clients S) (one : Option (Client S)) (it : Standing) → Changes clients next c one → standing_of one ≡ it → (d : ℕ) → standing_at next d ≡ (if nat_eq c d then it else standing_at clients d)
@@ -323,14 +328,14 @@ module _ {R : Type 0} (g : Ghosts R) where
         ap (held_of name) at,
         does,
         subst (λ (s : ℕ). Puts (held_at name clients) (held_at name next) c (Some (s, after.channel))) (ap name socket) (held_puts name clients next c (Some after) changes),
-        refl,
+        λ k. refl,
       ),
       refl,
       tt,
       last,
       (λ d. refl),
       changed_stands clients next (Some after) ready changes (may_stand after is),
-      (λ it. refl),
+      (λ k it. refl),
       kind,
     )
 
@@ -353,10 +358,10 @@ module _ {R : Type 0} (g : Ghosts R) where
         let puts = subst (λ (s : ℕ). Puts (held_at name clients) (held_at name next) c (Some (s, t.1.channel))) (ap name t.4) (held_puts name clients next c (Some t.1) t.8) in
         let here : held_at name clients c ≡ Some (name t.0.socket, t.1.channel) = ap (held_of name) t.3 ∙ ap (λ (it : Channel). Some (name t.0.socket, it)) (sym t.5.3) in
         let same = put_same (held_at name clients) (held_at name next) c (Some (name t.0.socket, t.1.channel)) here puts in
-        (waits (name t.0.socket) c, t.6 ∙ (append-nil t.2 ∙ t.5.0), (t.0.channel, ap (held_of name) t.3, t.5.1, t.5.2, same, refl), refl, tt, (λ sending. tt), (λ d. refl), changed_stands clients next (Some t.1) waiting t.8 (waits_stand t.1 (ap (λ (n : notes.Notes). n.is_ready) t.7)), (λ it. refl), (eq-eqb c c refl, ap unsent (sym t.5.3)))
+        (waits (name t.0.socket) c, t.6 ∙ (append-nil t.2 ∙ t.5.0), (t.0.channel, ap (held_of name) t.3, t.5.1, t.5.2, same, λ k. refl), refl, tt, (λ sending. tt), (λ d. refl), changed_stands clients next (Some t.1) waiting t.8 (waits_stand t.1 (ap (λ (n : notes.Notes). n.is_ready) t.7)), (λ k it. refl), (eq-eqb c c refl, ap unsent (sym t.5.3)))
     turn_works now (Over ending) old new clients next deeds t =
         let said = said_at_end c (name t.0.socket) old new t.0.channel ending t.2 t.5 in
-        (ends (name t.0.socket) c (Some ending) deeds said.0, refl, (t.0.channel, ap (held_of name) t.3, (t.2, t.6, t.5), said.1, said.2, held_puts name clients next c None t.8, refl), refl, tt, said.3, (λ d. refl), changed_stands clients next None absent t.8 refl, (λ it. refl), eq-eqb c c refl)
+        (ends (name t.0.socket) c (Some ending) deeds said.0, refl, (t.0.channel, ap (held_of name) t.3, (t.2, t.6, t.5), said.1, said.2, held_puts name clients next c None t.8, λ k. refl), refl, tt, said.3, (λ d. refl), changed_stands clients next None absent t.8 refl, (λ k it. refl), eq-eqb c c refl)
 
     -- the desk took a piece in these works, and this of what it sent is left to write
     record HasFed (next : Clients S) (works : List Work) : Type 0 where
@@ -373,7 +378,7 @@ module _ {R : Type 0} (g : Ghosts R) where
     record AreTurns (clients next : Clients S) (turns : List Turned) (works : List Work) : Type 0 where
       count : length works ≡ length turns
       stand : (d : ℕ) → standing_at next d ≡ stands_in d (standing_at clients d) works
-      kept_office : (it : Standing) → office_in it works ≡ it
+      kept_office : (k : ℕ) (it : Standing) → office_in k it works ≡ it
       others : (d : ℕ) → nat_eq c d ≡ false → standing_at next d ≡ standing_at clients d
       turn : (turns ≡ []) ⊎ (has_turn c works ≡ true)
       alone : (d : ℕ) → nat_eq c d ≡ false → has_turn d works ≡ false
@@ -475,7 +480,7 @@ module _ {R : Type 0} (g : Ghosts R) where
     one_more n m false is e = absurd (let clash : false ≡ true = is in cc)
 
     turns_more : (turned : Turned) (before : List Turned) (clients mid next : Clients S) (client after : Client S) (works : List Work) (work : Work) → AreTurns clients mid before works → client_at mid c ≡ Some client
-        → Changes mid next c (steps.left_after turned after) → ((d : ℕ) → is_turn_of d work ≡ nat_eq c d) → ((d : ℕ) → standing_at next d ≡ stands_after d (standing_at mid d) work) → ((it : Standing) → office_after it work ≡ it)
+        → Changes mid next c (steps.left_after turned after) → ((d : ℕ) → is_turn_of d work ≡ nat_eq c d) → ((d : ℕ) → standing_at next d ≡ stands_after d (standing_at mid d) work) → ((k : ℕ) (it : Standing) → office_after k it work ≡ it)
         → IsKind turned client.channel after.channel work → AreTurns clients next (turned ∷ before) (works ++ work ∷ [])
     turns_more turned before clients mid next client after works work are at changes whose stands rests kind =
         let is = whose c ∙ eq-eqb c c refl in
@@ -486,7 +491,7 @@ module _ {R : Type 0} (g : Ghosts R) where
         record {
           count = omega (arith, count, all);
           stand = λ d. stands d ∙ (ap (λ (it : Standing). stands_after d it work) (are.stand d) ∙ sym (stands_in-append d (standing_at clients d) works (work ∷ [])));
-          kept_office = λ it. office_in-append it works (work ∷ []) ∙ (rests (office_in it works) ∙ are.kept_office it);
+          kept_office = λ k it. office_in-append k it works (work ∷ []) ∙ (rests k (office_in k it works) ∙ are.kept_office k it);
           others = λ d other. others_stand mid next (steps.left_after turned after) changes d other ∙ are.others d other;
           alone = λ d other. any_none (is_turn_of d) works (work ∷ []) (are.alone d other) (none_of (is_turn_of d) work (whose d ∙ other));
           turn = inr (any_right (is_turn_of c) works (work ∷ []) (one_of (is_turn_of c) work is));
@@ -503,7 +508,7 @@ module _ {R : Type 0} (g : Ghosts R) where
     turns_none clients next same = subst (λ (it : Clients S). AreTurns clients it [] []) (sym same) (record {
       count = refl;
       stand = λ d. refl;
-      kept_office = λ it. refl;
+      kept_office = λ k it. refl;
       others = λ d other. refl;
       turn = inl refl;
       alone = λ d other. refl;
@@ -528,23 +533,23 @@ module _ {R : Type 0} (g : Ghosts R) where
           turns_more turned before clients t.1 next t.5.0 t.5.1 first.0 last.0 first.5 t.5.3 t.5.8 last.6 last.7 last.8 last.9,
         )
 
-    -- how all stand, where the land office's socket may give or take something, or not
-    abbrev all_at : Bool → Clients S → Standings
+    -- how all stand, where the land office's sockets may give or take something, or not
+    abbrev all_at : (ℕ → Option Bool) → Clients S → Standings
     all_at flag clients = standings_of clients office flag
 
-    turns_paced : (flag : Bool) (clients next : Clients S) (turns : List Turned) (works : List Work) → length turns ≤ 4 → AreTurns clients next turns works → IsPaced 4 (all_at flag clients) (all_at flag next) works
+    turns_paced : (flag : ℕ → Option Bool) (clients next : Clients S) (turns : List Turned) (works : List Work) → length turns ≤ 4 → AreTurns clients next turns works → IsPaced 4 (all_at flag clients) (all_at flag next) works
     turns_paced flag clients next turns works most are =
         let count = are.count in
-        record { few = omega (arith, count, most); stand = are.stand; office = sym (are.kept_office (standing_office office flag)) }
+        record { few = omega (arith, count, most); stand = are.stand; offices = λ k. sym (are.kept_office k (standing_office (office k) (flag k))) }
 
     -- it has its turns, and all others stand as they did
-    turns_given : (flag : Bool) (clients next : Clients S) (turns : List Turned) (works : List Work) → length turns ≤ 4 → AreTurns clients next turns works → HasEnough c works → GivesTurnAlone c 4 (all_at flag clients) (all_at flag next) works
+    turns_given : (flag : ℕ → Option Bool) (clients next : Clients S) (turns : List Turned) (works : List Work) → length turns ≤ 4 → AreTurns clients next turns works → HasEnough c works → GivesTurnAlone c 4 (all_at flag clients) (all_at flag next) works
     turns_given flag clients next turns works most are enough = record {
       gives = record {
         passes = record {
           paced = turns_paced flag clients next turns works most are;
           kept = λ d is. go d is (nat_eq c d) refl;
-          kept_office = λ is. inr is;
+          kept_office = λ k is. inr is;
         };
         turn = λ is. enough;
       };
@@ -619,19 +624,19 @@ module _ {R : Type 0} (g : Ghosts R) where
     ]
 
     -- there is no such connection
-    kept_nobody : (flag : Bool) (clients next : Clients S) → client_at clients c ≡ None → Keeps clients next → GivesTurnAlone c 4 (all_at flag clients) (all_at flag next) (aside [] None ∷ [])
+    kept_nobody : (flag : ℕ → Option Bool) (clients next : Clients S) → client_at clients c ≡ None → Keeps clients next → GivesTurnAlone c 4 (all_at flag clients) (all_at flag next) (aside [] None ∷ [])
     kept_nobody flag clients next none keeps =
         let stand : ((d : ℕ) → standing_at next d ≡ standing_at clients d) = (λ d. ap (λ (o : Option (Client S)). standing_of o) (keeps d)) in
         record {
           gives = record {
-            passes = record { paced = record { few = omega arith; stand = stand; office = refl }; kept = λ d is. inr (stand d ∙ is); kept_office = λ is. inr is };
+            passes = record { paced = record { few = omega arith; stand = stand; offices = λ k. refl }; kept = λ d is. inr (stand d ∙ is); kept_office = λ k is. inr is };
             turn = λ is. (let clash : absent ≡ ready = sym (ap (λ (o : Option (Client S)). standing_of o) none) ∙ is in cc);
           };
           alone = λ d other. refl;
         }
 
     -- a connection was served
-    pub served_hosts : (flag : Bool) (now : ℕ) (served : Served) (from to : Option (List Deed)) (old new : Desk R) (clients next : Clients S)
+    pub served_hosts : (flag : ℕ → Option Bool) (now : ℕ) (served : Served) (from to : Option (List Deed)) (old new : Desk R) (clients next : Clients S)
         → AddsSome from to (steps.IsServed g name c now old clients served new next) → Serves g (GivesTurnAlone c 4 (all_at flag clients) (all_at flag next)) (end_of_client served) from old (place_of name clients office) to new (place_of name next office)
     served_hosts flag now Stays from to old new clients next s =
         let go = turns_go now s.2.0 old new clients next s.0 s.2.1 in (
@@ -656,14 +661,14 @@ module _ {R : Type 0} (g : Ghosts R) where
         )
     served_hosts flag now Unknown from to old new clients next s =
         subst (λ (d : Desk R). Serves g (GivesTurnAlone c 4 (all_at flag clients) (all_at flag next)) None from old (place_of name clients office) to d (place_of name next office)) (sym s.2.2)
-        (serves-same (GivesTurnAlone c 4 (all_at flag clients) (all_at flag next)) from to old (place_of name clients office) (place_of name next office) (subst (λ (l : List Deed). Adds from to l) s.2.1 s.1) (held_same name clients next s.2.3) refl (kept_nobody flag clients next s.2.0 s.2.3))
+        (serves-same (GivesTurnAlone c 4 (all_at flag clients) (all_at flag next)) from to old (place_of name clients office) (place_of name next office) (subst (λ (l : List Deed). Adds from to l) s.2.1 s.1) (held_same name clients next s.2.3) (λ k. refl) (kept_nobody flag clients next s.2.0 s.2.3))
 
     -- a turn of a connection of which a reply has not gone out
     pub sent_hosts : (now : ℕ) (turned : Option Turned) (from to : Option (List Deed)) (old new : Desk R) (clients next : Clients S) → ((client : Client S) → client_at clients c ≡ Some client → IsSending client.channel)
         → AddsSome from to (steps.HasTurn g name c now old clients turned new next) → Hosts g IsClosing None from old (place_of name clients office) to new (place_of name next office)
     sent_hosts now None from to old new clients next sending s =
         subst (λ (d : Desk R). Hosts g IsClosing None from old (place_of name clients office) to d (place_of name next office)) (sym s.2.2)
-        (hosts-same IsClosing from to old (place_of name clients office) (place_of name next office) refl (subst (λ (l : List Deed). Adds from to l) s.2.1 s.1) (held_same name clients next s.2.3) refl)
+        (hosts-same IsClosing from to old (place_of name clients office) (place_of name next office) refl (subst (λ (l : List Deed). Adds from to l) s.2.1 s.1) (held_same name clients next s.2.3) (λ k. refl))
     sent_hosts now (Some turned) from to old new clients next sending s =
         let t = s.2 in
         let here = sending t.0 t.3 in
@@ -675,38 +680,38 @@ module _ {R : Type 0} (g : Ghosts R) where
         → client_at clients c ≡ one → AddsSome from to (steps.ClosesAt g name c one old clients new next) → Hosts g May None from old (place_of name clients office) to new (place_of name next office)
     closed_at May None from to old new clients next none may at s =
         subst (λ (d : Desk R). Hosts g May None from old (place_of name clients office) to d (place_of name next office)) (sym s.2.1)
-        (hosts-same May from to old (place_of name clients office) (place_of name next office) none (subst (λ (l : List Deed). Adds from to l) s.2.0 s.1) (held_same name clients next s.2.2) refl)
+        (hosts-same May from to old (place_of name clients office) (place_of name next office) none (subst (λ (l : List Deed). Adds from to l) s.2.0 s.1) (held_same name clients next s.2.2) (λ k. refl))
     closed_at May (Some client) from to old new clients next none may at s =
         let closes = s.2.1 in
         let said : Said = Some (event (Close c) closes.0) in
         hosts-one May None from to old new (place_of name clients office) (place_of name next office) (ends (name client.socket) c None s.0 said) s.1 refl
-        (client.channel, ap (held_of name) at, (s.2.0, closes), refl, closes.1, held_puts name clients next c None s.2.2, refl) (may (name client.socket) s.0 said)
+        (client.channel, ap (held_of name) at, (s.2.0, closes), refl, closes.1, held_puts name clients next c None s.2.2, λ k. refl) (may (name client.socket) s.0 said)
 
     -- a connection was closed
     pub closed_hosts : (May : Work → Type 0) (from to : Option (List Deed)) (old new : Desk R) (clients next : Clients S) → May (aside [] None) → ((s : ℕ) (deeds : List Deed) (said : Said) → May (ends s c None deeds said))
         → AddsSome from to (steps.Closes g name c old clients new next) → Hosts g May None from old (place_of name clients office) to new (place_of name next office)
     closed_hosts May from to old new clients next none may s = closed_at May (client_at clients c) from to old new clients next none may refl s
 
-    dropped_at : (flag : Bool) (one : Option (Client S)) (from to : Option (List Deed)) (old new : Desk R) (clients next : Clients S)
+    dropped_at : (flag : ℕ → Option Bool) (one : Option (Client S)) (from to : Option (List Deed)) (old new : Desk R) (clients next : Clients S)
         → client_at clients c ≡ one → AddsSome from to (steps.ClosesAt g name c one old clients new next) → Serves g (IsAtDoors 1 (all_at flag clients) (all_at flag next)) None from old (place_of name clients office) to new (place_of name next office)
     dropped_at flag None from to old new clients next at s =
         subst (λ (d : Desk R). Serves g (IsAtDoors 1 (all_at flag clients) (all_at flag next)) None from old (place_of name clients office) to d (place_of name next office)) (sym s.2.1)
-        (serves-same (IsAtDoors 1 (all_at flag clients) (all_at flag next)) from to old (place_of name clients office) (place_of name next office) (subst (λ (l : List Deed). Adds from to l) s.2.0 s.1) (held_same name clients next s.2.2) refl
-        (record { paced = record { few = omega arith; stand = λ d. ap (λ (o : Option (Client S)). standing_of o) (s.2.2 d); office = refl }; quiet = λ e. refl }))
+        (serves-same (IsAtDoors 1 (all_at flag clients) (all_at flag next)) from to old (place_of name clients office) (place_of name next office) (subst (λ (l : List Deed). Adds from to l) s.2.0 s.1) (held_same name clients next s.2.2) (λ k. refl)
+        (record { paced = record { few = omega arith; stand = λ d. ap (λ (o : Option (Client S)). standing_of o) (s.2.2 d); offices = λ k. refl }; quiet = λ e. refl }))
     dropped_at flag (Some client) from to old new clients next at s =
         let closes = s.2.1 in
         let said : Said = Some (event (Close c) closes.0) in
         serves-one (IsAtDoors 1 (all_at flag clients) (all_at flag next)) None from to old new (place_of name clients office) (place_of name next office) (ends (name client.socket) c None s.0 said) s.1 refl
-        (client.channel, ap (held_of name) at, (s.2.0, closes), refl, closes.1, held_puts name clients next c None s.2.2, refl) tt
-        (record { paced = record { few = omega arith; stand = changed_stands clients next None absent s.2.2 refl; office = refl }; quiet = λ e. refl })
+        (client.channel, ap (held_of name) at, (s.2.0, closes), refl, closes.1, held_puts name clients next c None s.2.2, λ k. refl) tt
+        (record { paced = record { few = omega arith; stand = changed_stands clients next None absent s.2.2 refl; offices = λ k. refl }; quiet = λ e. refl })
 
     -- a connection that is overdue was closed
-    pub dropped_hosts : (flag : Bool) (from to : Option (List Deed)) (old new : Desk R) (clients next : Clients S)
+    pub dropped_hosts : (flag : ℕ → Option Bool) (from to : Option (List Deed)) (old new : Desk R) (clients next : Clients S)
         → AddsSome from to (steps.Closes g name c old clients new next) → Serves g (IsAtDoors 1 (all_at flag clients) (all_at flag next)) None from old (place_of name clients office) to new (place_of name next office)
     dropped_hosts flag from to old new clients next s = dropped_at flag (client_at clients c) from to old new clients next refl s
 
     -- a socket came, and was taken as connection c, or turned away by the desk
-    pub opened_hosts : (flag : Bool) (now : ℕ) (result : Result (Unit {0}) DeskFault) (socket : S) (from mid to : Option (List Deed)) (old new : Desk R) (clients next : Clients S) → client_at clients c ≡ None
+    pub opened_hosts : (flag : ℕ → Option Bool) (now : ℕ) (result : Result (Unit {0}) DeskFault) (socket : S) (from mid to : Option (List Deed)) (old new : Desk R) (clients next : Clients S) → client_at clients c ≡ None
         → Adds from mid (came (name socket) ∷ []) → AddsSome mid to (steps.Opens g name c now socket old clients result new next) → Serves g (IsAtDoors 1 (all_at flag clients) (all_at flag next)) None from old (place_of name clients office) to new (place_of name next office)
     opened_hosts flag now (Ok done) socket from mid to old new clients next free comes s =
         let o = s.2.2 in
@@ -717,8 +722,8 @@ module _ {R : Type 0} (g : Ghosts R) where
           o.2,
           s.2.0,
           subst (λ (it : S). Puts (held_at name clients) (held_at name next) c (Some (name it, o.0.channel))) o.1 (held_puts name clients next c (Some o.0) o.5),
-          refl,
-        ) tt (record { paced = record { few = omega arith; stand = changed_stands clients next (Some o.0) ready o.5 (may_stand o.0 (ap (λ (n : notes.Notes). n.is_ready) o.4)); office = refl }; quiet = λ e. refl })
+          λ k. refl,
+        ) tt (record { paced = record { few = omega arith; stand = changed_stands clients next (Some o.0) ready o.5 (may_stand o.0 (ap (λ (n : notes.Notes). n.is_ready) o.4)); offices = λ k. refl }; quiet = λ e. refl })
     opened_hosts flag now (Err fault) socket from mid to old new clients next free comes s =
         serves-one (IsAtDoors 1 (all_at flag clients) (all_at flag next)) None from to old new (place_of name clients office) (place_of name next office) (aside (came (name socket) ∷ s.0) (Some (event (Open c) (Err fault))))
         (Adds-trans from mid to (came (name socket) ∷ []) s.0 comes s.1) refl (
@@ -726,8 +731,8 @@ module _ {R : Type 0} (g : Ghosts R) where
           s.2.0,
           held_same name clients next s.2.1,
           inr (inl (name socket, fault, s.2.2.0, s.2.2.1, ap (λ (l : List Deed). came (name socket) ∷ l) s.2.2.2)),
-          refl,
-        ) tt (record { paced = record { few = omega arith; stand = λ d. ap (λ (o : Option (Client S)). standing_of o) (s.2.1 d); office = refl }; quiet = λ e. refl })
+          λ k. refl,
+        ) tt (record { paced = record { few = omega arith; stand = λ d. ap (λ (o : Option (Client S)). standing_of o) (s.2.1 d); offices = λ k. refl }; quiet = λ e. refl })
 
 -- what is held stays so
 pub same-trans : (a b d : Held) → Same a b → Same b d → Same a d
@@ -748,8 +753,8 @@ pub away_hosts : {R : Type 0} (g : Ghosts R) (t : ℕ) (from mid to : Option (Li
 away_hosts g t from mid to old here stand comes away =
     serves-one g (IsAtDoors 1 stand stand) None from to old old here here (aside (came t ∷ away.0) None)
     (Adds-trans from mid to (came t ∷ []) away.0 comes away.1) refl
-    (tt, refl, (λ c. refl), inr (inl (t, Memory, away.2.0, away.2.1, ap (λ (l : List Deed). came t ∷ l) away.2.2)), refl) tt
-    (record { paced = record { few = omega arith; stand = λ d. refl; office = refl }; quiet = λ e. refl })
+    (tt, refl, (λ c. refl), inr (inl (t, Memory, away.2.0, away.2.1, ap (λ (l : List Deed). came t ∷ l) away.2.2)), λ k. refl) tt
+    (record { paced = record { few = omega arith; stand = λ d. refl; offices = λ k. refl }; quiet = λ e. refl })
 
 -- the network told of more sockets
 pub woken_more : (places : List ℕ) (place : ℕ) → map woke places ++ woke place ∷ [] ≡ map woke (places ++ place ∷ [])
@@ -784,26 +789,28 @@ pub told_then : {S : Type 0} (c : ℕ) (places : List ℕ) (place : ℕ) (old mi
 told_then c places place old mid new before told =
     told ∙ (ap (λ (it : Standing). if nat_eq place c then woken it else it) before ∙ sym (told_more c places place (standing_at old c)))
 
--- the same of the land office's socket
-told_office : (places : List ℕ) (place : ℕ) (old : Bool) → (is_among office_place (places ++ place ∷ []) || old) ≡ (nat_eq place office_place || (is_among office_place places || old))
-told_office [] place old = go (nat_eq place office_place)
+-- the same of the land office's sockets
+told_twice : (first more last : Bool) (old : Option Bool) → more ≡ (last || first) → told_flag more old ≡ told_flag last (told_flag first old)
+told_twice first more last None is = refl
+told_twice first more last (Some was) is = rw is (go last first)
   where
-    go : (is : Bool) → ((is || false) || old) ≡ (is || old)
-    go true = refl
-    go false = refl
-told_office (first ∷ places) place old = go (nat_eq first office_place) (told_office places place old)
+    go : (a b : Bool) → Some ((a || b) || was) ≡ Some (a || (b || was))
+    go true b = refl
+    go false b = refl
+
+among_more : (k : ℕ) (places : List ℕ) (place : ℕ) → is_among k (places ++ place ∷ []) ≡ (nat_eq place k || is_among k places)
+among_more k [] place = refl
+among_more k (first ∷ places) place = go (nat_eq first k) (nat_eq place k) (among_more k places place)
   where
-    last : (is : Bool) → true ≡ (is || true)
-    last true = refl
-    last false = refl
+    go : (is last : Bool) → is_among k (places ++ place ∷ []) ≡ (last || is_among k places) → (is || is_among k (places ++ place ∷ [])) ≡ (last || (is || is_among k places))
+    go true true more = refl
+    go true false more = refl
+    go false last more = more
 
-    go : (is : Bool) → (is_among office_place (places ++ place ∷ []) || old) ≡ (nat_eq place office_place || (is_among office_place places || old))
-        → ((is || is_among office_place (places ++ place ∷ [])) || old) ≡ (nat_eq place office_place || ((is || is_among office_place places) || old))
-    go true more = last (nat_eq place office_place)
-    go false more = more
-
-pub told_office_then : (places : List ℕ) (place : ℕ) (old mid new : Bool) → mid ≡ (is_among office_place places || old) → new ≡ (nat_eq place office_place || mid) → new ≡ (is_among office_place (places ++ place ∷ []) || old)
-told_office_then places place old mid new before told = told ∙ (ap (λ (it : Bool). nat_eq place office_place || it) before ∙ sym (told_office places place old))
+pub told_office_then : (k : ℕ) (places : List ℕ) (place : ℕ) (old mid new : Option Bool) → mid ≡ told_flag (is_among (office_place k) places) old → new ≡ told_flag (nat_eq place (office_place k)) mid → new ≡ told_flag (is_among (office_place k) (places ++ place ∷ [])) old
+told_office_then k places place old mid new before told =
+    told ∙ (ap (λ (it : Option Bool). told_flag (nat_eq place (office_place k)) it) before
+    ∙ sym (told_twice (is_among (office_place k) places) (is_among (office_place k) (places ++ place ∷ [])) (nat_eq place (office_place k)) old (among_more (office_place k) places place)))
 
 -- a mark tells of this connection
 pub marked_stands : {S : Type 0} (old new : Clients S) (place : ℕ) → Changes old new place (option_map notes.marked (client_at old place)) → (c : ℕ) → standing_at new c ≡ (if nat_eq place c then woken (standing_at old c) else standing_at old c)

@@ -53,19 +53,19 @@ none_spends (opens s c) e = nothing_spends e
 none_spends (acts s c act) e = nothing_spends e
 none_spends (waits s c) e = nothing_spends e
 none_spends (ends s c cause deeds said) e = cause_spends cause e
-none_spends (office_comes o) e = nothing_spends e
-none_spends (enters o text turned deeds said) e = turn_spends turned e
-none_spends (office_leaves o) e = nothing_spends e
+none_spends (office_comes o k) e = nothing_spends e
+none_spends (enters o k text turned deeds said) e = turn_spends turned e
+none_spends (office_leaves o k overdue) e = nothing_spends e
 none_spends (aside deeds said) e = nothing_spends e
 
 never_spent : (works : List Work) → EndsBy (Some RoundsSpent) works → ⊥
 never_spent works e = none_spends e.1 e.4
 
 abbrev empty : Place
-empty = record { slots = λ c. None; office = None }
+empty = record { slots = λ c. None; offices = λ k. None }
 
 pub nobody_is : {S : Type 0} (name : S → ℕ) (rounds : Rounds S) → IsNobody rounds → IsEmpty (here name rounds)
-nobody_is name rounds nobody = ((λ c. ap (held_of name) (nobody.0 c)), ap (office_at name) nobody.1)
+nobody_is name rounds nobody = ((λ c. ap (held_of name) (nobody.0 c)), λ k. ap (office_at name) (nobody.1 k))
 
 module _ {R : Type 0} (g : Ghosts R) where
   -- a round ended hosting
@@ -87,8 +87,8 @@ module _ {R : Type 0} (g : Ghosts R) where
     serving = tt;
     served = record { rounds = []; last = []; all = refl; served = tt; few = omega arith };
     closed = tt;
-    nobody_first = ((λ c. refl), refl);
-    nobody_last = ((λ c. refl), refl);
+    nobody_first = ((λ c. refl), λ k. refl);
+    nobody_last = ((λ c. refl), λ k. refl);
     goes = (refl, refl);
   }
 

@@ -1,5 +1,6 @@
 pub mod StandingLemmas
 pub mod GoesLemmas
+pub mod SeatLemmas
 pub mod StandLemmas
 pub mod EnteredLemmas
 pub mod LifeLemmas

@@ -219,17 +219,17 @@ module _ {R : Type 0} (g : Ghosts R) (c s : ℕ) where
           let there : goes.1.slots c ≡ Some (s, channel) = work.5 c ∙ rw e here in
           let l = again channel there in
           rw e (after_told old goes.0 channel said (life_of c later) (own_deeds c later) (end_of c later) new next.slots (ends_apart d said (apart d c e) work.3) work.4 may.0 l)
-  life (office_comes o ∷ later) old new here_at next channel goes may here =
+  life (office_comes o k ∷ later) old new here_at next channel goes may here =
       let work = goes.2 in
       let there : goes.1.slots c ≡ Some (s, channel) = work.4 c ∙ here in
       let l = life later goes.0 new goes.1 next channel goes.3 may.1 there in
       after_nothing old goes.0 channel (life_of c later) (own_deeds c later) (end_of c later) new next.slots work.5 l
-  life (enters o text turned deeds said ∷ later) old new here_at next channel goes may here =
+  life (enters o k text turned deeds said ∷ later) old new here_at next channel goes may here =
       let work = goes.2 in
       let there : goes.1.slots c ≡ Some (s, channel) = work.9 c ∙ here in
       let l = life later goes.0 new goes.1 next channel goes.3 may.1 there in
       after_told old goes.0 channel said (life_of c later) (own_deeds c later) (end_of c later) new next.slots (office_apart text turned said work.6) work.7 may.0 l
-  life (office_leaves o ∷ later) old new here_at next channel goes may here =
+  life (office_leaves o k overdue ∷ later) old new here_at next channel goes may here =
       let work = goes.2 in
       let there : goes.1.slots c ≡ Some (s, channel) = work.3 c ∙ here in
       let l = life later goes.0 new goes.1 next channel goes.3 may.1 there in

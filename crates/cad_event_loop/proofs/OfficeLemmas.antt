@@ -1,6 +1,8 @@
 -- What turns of the land office are among all that is done.
 use Rattle.std.specs.Prelude.{⊤}
-use Rattle.std.proofs.Common.{◌≡◌, ℕ, ◌+◌, ◌≤◌, Bool, true, false, not, ◌&&◌, List, length, length-append, [], ◌∷◌, ◌++◌, Option, None, Some, is_none, Ok, Err, refl, sym, ap, subst, ◌∙◌, append-nil, append_assoc, inl, inr, if◌then◌else◌, arith}
+use Rattle.std.proofs.Common.{◌≡◌, ℕ, nat_eq, ◌+◌, ◌<◌, ◌≤◌, Bool, true, false, not, ◌&&◌, List, length, length-append, [], ◌∷◌, ◌++◌, Option, None, Some, is_none, Ok, Err, refl, sym, ap, subst, ◌∙◌, append-nil, append_assoc, inl, inr, if◌then◌else◌, arith}
+use Rattle.std.proofs.lemmas.Bool.{cases_lt, eqb-true, eq-eqb}
+use Rattle.std.proofs.lemmas.Option.{slice_get_past}
 use Rattle.cad_stream.specs.declared.responder.Responder.{Ghosts}
 use Rattle.cad_desk.specs.declared.desk.Desk.{Desk}
 use Rattle.cad_desk.specs.declared.event.Event.TheVariants.{Office as Entering}
@@ -27,15 +29,21 @@ use Rattle.cad_office_socket.specs.Serving.{is_store, end_at, all_go_on, most_tu
 use Rattle.cad_office_socket.specs.lemmas.BegunLemmas.{Later, begun_later}
 use Rattle.cad_clients.specs.declared.clients.Clients.{Clients}
 use Rattle.cad_event_loop.specs.declared.office.Office.{Office}
+use Rattle.cad_event_loop.specs.declared.offices.Offices.{Offices}
 use Rattle.cad_event_loop.specs.declared.stopped.Stopped.{Stopped}
 use Rattle.cad_event_loop.specs.Hosting.{Each, IsServing, IsClosing, Hosts, Serves}
-use Rattle.cad_event_loop.specs.inner.Offices.{office_at, HasBegun as OfficeHasBegun, HasBegunUnless, end_of_office, is_over, may_go_on, left_deeds, left_at, HasOfficeTurns, HasSent}
-use Rattle.cad_event_loop.specs.Works.{event, question, Said, AtOffice, Place, place_of, Held, Work, enters, office_comes, office_leaves, aside, all_deeds, store_end, end_of_turned, end_in, EndsBy, is_last, SaysSo, ChecksSo, IsLineSaid, Tells, Works, Goes}
+use Rattle.cad_event_loop.specs.inner.Offices.{office_at, offices_at, seat_in, seat_at, Seats, HasBegun as OfficeHasBegun, HaveBegun, HaveBegunUnless, IsOfficeSending, end_of_office, is_over, may_go_on, left_deeds, left_at, HasOfficeTurns, HasSent}
+use Rattle.cad_event_loop.specs.Works.{event, question, Said, AtOffice, AtOffices, Place, Puts, Same, place_of, Held, Work, enters, office_comes, office_leaves, aside, all_deeds, store_end, end_of_turned, end_in, EndsBy, is_last, SaysSo, ChecksSo, IsLineSaid, Tells, Works, Goes}
 use Rattle.cad_event_loop.proofs.LifeLemmas.{none_some, one_some}
 use Rattle.cad_event_loop.specs.inner.Standing.{standing_at, standing_office, standings_of, IsPaced, IsAtDoors, ServesOffice}
 use Rattle.cad_event_loop.specs.Turns.{Standing, absent, waiting, ready, Standings, stands_in, office_in, office_turned, is_turn_of, is_office_turn, any_of, has_turn}
-use Rattle.cad_event_loop.proofs.StandingLemmas.{stands_in-append, office_in-append, any_right, any_none, office_passes}
-use Rattle.cad_event_loop.proofs.GoesLemmas.{all_deeds-append, or_nothing, goes-append, end_in-append, ends-then, ends-one, each-append, hosts-one, serves-one}
+use Rattle.cad_event_loop.proofs.StandingLemmas.{stands_in-append, office_in-append, any_right, any_none, one_of, office_passes}
+use Rattle.cad_event_loop.proofs.GoesLemmas.{all_deeds-append, or_nothing, goes-append, end_in-append, ends-then, ends-one, each-append, hosts-one, serves-one, put_same}
+
+-- a line of it has begun, if hosting continues
+abbrev pub BegunUnless : {S : Type 0} → Option Stopped → Option (Office S) → Type 0
+BegunUnless None office = OfficeHasBegun office
+BegunUnless (Some stopped) office = ⊤
 
 -- what is left after a turn, as serving tells it
 abbrev end_of_some : Option EntryServed → Option Stopped
@@ -236,44 +244,44 @@ module _ {R : Type 0} (g : Ghosts R) where
   turn_said o Waits old new entry next deeds begun t = ([], None, refl, t.2)
   turn_said o Over old new entry next deeds begun t = ([], None, refl, t.1)
 
-  module _ (slots : Held) (o : ℕ) where
-    abbrev at_entry : Entry → Place
-    at_entry entry = record { slots = slots; office = Some (o, entry) }
-
-    abbrev left_with : Bool → Entry → Place
-    left_with over entry = record { slots = slots; office = left_at over o entry }
+  module _ (slots : Held) (o k : ℕ) where
+    abbrev at_offices : AtOffices → Place
+    at_offices offices = record { slots = slots; offices = offices }
 
     -- a turn is one thing
-    abbrev IsOneWork : Desk R → Entry → EntryTurned → Desk R → Entry → List Deed → Type 0
-    IsOneWork old entry turned new next own =
-        (text : List ℕ) × (said : Said) × Works g old (at_entry entry) (enters o text turned (own ++ left_deeds (is_last turned) o) said) new (left_with (is_last turned) next)
+    abbrev IsOneWork : Desk R → AtOffices → EntryTurned → Desk R → AtOffices → List Deed → Type 0
+    IsOneWork old here turned new there own =
+        (text : List ℕ) × (said : Said) × Works g old (at_offices here) (enters o k text turned (own ++ left_deeds (is_last turned) o) said) new (at_offices there)
 
-    turn_works : (turned : EntryTurned) (old new : Desk R) (entry next : Entry) (own : List Deed) → IsBegun entry → IsEntryTurn g o old entry turned new next own → IsOneWork old entry turned new next own
-    turn_works turned old new entry next own begun t =
+    turn_works : (turned : EntryTurned) (old new : Desk R) (here there : AtOffices) (entry next : Entry) (own : List Deed) → here k ≡ Some (o, entry) → Puts here there k (left_at (is_last turned) o next) → IsBegun entry
+        → IsEntryTurn g o old entry turned new next own → IsOneWork old here turned new there own
+    turn_works turned old new here there entry next own at puts begun t =
         let said = turn_said o turned old new entry next own begun t in
-        (said.0, said.1, (entry, next, own, refl, t, refl, said.2, said.3, refl, λ c. refl))
+        (said.0, said.1, (entry, next, own, at, t, refl, said.2, said.3, puts, λ c. refl))
 
-    -- the works of these turns change no connection
+    -- the works of these turns change no other connection
     record AreTurns (turns : List EntryTurned) (works : List Work) : Type 0 where
       count : length works ≡ length turns
       stays : (c : ℕ) (old : Standing) → stands_in c old works ≡ old
-      last : (turned : EntryTurned) (before : List EntryTurned) → turns ≡ turned ∷ before → (old : Standing) → office_in old works ≡ office_turned (is_last turned) turned
-      turn : (turned : EntryTurned) (before : List EntryTurned) → turns ≡ turned ∷ before → any_of is_office_turn works ≡ true
+      last : (turned : EntryTurned) (before : List EntryTurned) → turns ≡ turned ∷ before → (old : Standing) → office_in k old works ≡ office_turned (is_last turned) turned
+      others : (j : ℕ) → nat_eq k j ≡ false → (old : Standing) → office_in j old works ≡ old
+      turn : (turned : EntryTurned) (before : List EntryTurned) → turns ≡ turned ∷ before → any_of (is_office_turn k) works ≡ true
       quiet : (c : ℕ) → has_turn c works ≡ false
 
     last_turn : (turned it : EntryTurned) (before rest : List EntryTurned) → turned ∷ before ≡ it ∷ rest → turned ≡ it
     last_turn turned it before rest e = cc
 
-    turns_more : (turned : EntryTurned) (turns : List EntryTurned) (works : List Work) (text : List ℕ) (deeds : List Deed) (said : Said) → AreTurns turns works → AreTurns (turned ∷ turns) (works ++ enters o text turned deeds said ∷ [])
+    turns_more : (turned : EntryTurned) (turns : List EntryTurned) (works : List Work) (text : List ℕ) (deeds : List Deed) (said : Said) → AreTurns turns works → AreTurns (turned ∷ turns) (works ++ enters o k text turned deeds said ∷ [])
     turns_more turned turns works text deeds said are =
-        let all = length-append works (enters o text turned deeds said ∷ []) in
+        let all = length-append works (enters o k text turned deeds said ∷ []) in
         let count = are.count in
         record {
           count = omega (arith, all, count);
-          stays = λ c old. stands_in-append c old works (enters o text turned deeds said ∷ []) ∙ are.stays c old;
-          last = λ it rest e old. office_in-append old works (enters o text turned deeds said ∷ []) ∙ ap (λ (one : EntryTurned). office_turned (is_last one) one) (last_turn turned it turns rest e);
-          quiet = λ c. any_none (is_turn_of c) works (enters o text turned deeds said ∷ []) (are.quiet c) refl;
-          turn = λ it rest e. any_right is_office_turn works (enters o text turned deeds said ∷ []) refl;
+          stays = λ c old. stands_in-append c old works (enters o k text turned deeds said ∷ []) ∙ are.stays c old;
+          last = λ it rest e old. office_in-append k old works (enters o k text turned deeds said ∷ []) ∙ (rw (eq-eqb k k refl) (ap (λ (one : EntryTurned). office_turned (is_last one) one) (last_turn turned it turns rest e)));
+          others = λ j other old. office_in-append j old works (enters o k text turned deeds said ∷ []) ∙ rw other (are.others j other old);
+          quiet = λ c. any_none (is_turn_of c) works (enters o k text turned deeds said ∷ []) (are.quiet c) refl;
+          turn = λ it rest e. any_right (is_office_turn k) works (enters o k text turned deeds said ∷ []) (one_of (is_office_turn k) (enters o k text turned deeds said) (eq-eqb k k refl));
         }
 
     turns_none : AreTurns [] []
@@ -281,59 +289,94 @@ module _ {R : Type 0} (g : Ghosts R) where
       count = refl;
       quiet = λ c. refl;
       stays = λ c old. refl;
+      others = λ j other old. refl;
       last = λ turned before e old. (let clash : ◌≡◌ {A = List EntryTurned} [] (turned ∷ before) = e in cc);
       turn = λ turned before e. (let clash : ◌≡◌ {A = List EntryTurned} [] (turned ∷ before) = e in cc);
     }
 
+    -- what has this number afterwards, after it had it otherwise
+    put_twice : (first mid last : AtOffices) (one more : AtOffice) → Puts first mid k one → Puts first last k more → Puts mid last k more
+    put_twice first mid last one more x y j = y j ∙ go (nat_eq k j) refl
+      where
+        go : (same : Bool) → nat_eq k j ≡ same → (if same then more else first j) ≡ (if same then more else mid j)
+        go true e = refl
+        go false e = sym (x j ∙ rw e refl)
+
+    -- or the other way round
+    put_more : (first mid last : AtOffices) (one more : AtOffice) → Puts first mid k one → Puts mid last k more → Puts first last k more
+    put_more first mid last one more x y j = y j ∙ go (nat_eq k j) refl
+      where
+        go : (same : Bool) → nat_eq k j ≡ same → (if same then more else mid j) ≡ (if same then more else first j)
+        go true e = refl
+        go false e = x j ∙ rw e refl
+
+    put_first : (offices : AtOffices) (one : AtOffice) → offices k ≡ one → Puts offices offices k one
+    put_first offices one at j = go (nat_eq k j) refl
+      where
+        go : (same : Bool) → nat_eq k j ≡ same → offices j ≡ (if same then one else offices j)
+        go true e = ap offices (sym (eqb-true k j e)) ∙ at
+        go false e = refl
+
+    put_there : (here there : AtOffices) (one : AtOffice) → Puts here there k one → there k ≡ one
+    put_there here there one puts = puts k ∙ rw (eq-eqb k k refl) refl
+
     -- turns that go on
-    turns_go : (turns : List EntryTurned) (old new : Desk R) (entry next : Entry) (deeds : List Deed) → IsBegun entry → all_go_on turns ≡ true → HasTurns g o old entry turns new next deeds
-        → (works : List Work) × (deeds ≡ all_deeds works) × (end_in works ≡ None) × Goes g old (at_entry entry) works new (at_entry next) × Each IsServing works × IsBegun next × AreTurns turns works
-    turns_go [] old new entry next deeds begun go t = ([], t.0, refl, (t.1, ap at_entry t.2), tt, subst IsBegun (sym t.2) begun, turns_none)
-    turns_go (turned ∷ before) old new entry next deeds begun go t =
+    turns_go : (turns : List EntryTurned) (old new : Desk R) (here : AtOffices) (entry next : Entry) (deeds : List Deed) → here k ≡ Some (o, entry) → IsBegun entry → all_go_on turns ≡ true → HasTurns g o old entry turns new next deeds
+        → (there : AtOffices) × Puts here there k (Some (o, next)) × (works : List Work) × (deeds ≡ all_deeds works) × (end_in works ≡ None) × Goes g old (at_offices here) works new (at_offices there) × Each IsServing works × IsBegun next × AreTurns turns works
+    turns_go [] old new here entry next deeds at begun go t =
+        (here, put_first here (Some (o, next)) (at ∙ ap (λ (it : Entry). Some (o, it)) (sym t.2)), [], t.0, refl, (t.1, refl), tt, subst IsBegun (sym t.2) begun, turns_none)
+    turns_go (turned ∷ before) old new here entry next deeds at begun go t =
         let both = both_go (end_at turned) (all_go_on before) go in
-        let first = turns_go before old t.0 entry t.1 t.2 begun both.1 t.4 in
-        let one = turn_works turned t.0 new t.1 next t.3 first.5 t.5 in
+        let first = turns_go before old t.0 here entry t.1 t.2 at begun both.1 t.4 in
         let goes : is_last turned ≡ false = same_last turned ∙ ap over_of_some both.0 in
+        let mid : AtOffices = first.0 in
+        let there : AtOffices = (λ j. if nat_eq k j then Some (o, next) else mid j) in
+        let puts : Puts mid there k (Some (o, next)) = (λ j. refl) in
+        let one = turn_works turned t.0 new mid there t.1 next t.3 (put_there here mid (Some (o, t.1)) first.1) (subst (λ (last : Bool). Puts mid there k (left_at last o next)) (sym goes) puts) first.7 t.5 in
         let none : end_of_turned turned ≡ None = same_end turned ∙ ap end_of_some both.0 in
-        let work = enters o one.0 turned (t.3 ++ left_deeds (is_last turned) o) one.1 in
+        let work = enters o k one.0 turned (t.3 ++ left_deeds (is_last turned) o) one.1 in
         let same : t.3 ++ left_deeds (is_last turned) o ≡ t.3 = rw goes (append-nil t.3) in
-        let works = subst (λ (last : Bool). Works g t.0 (at_entry t.1) work new (left_with last next)) goes one.2 in
-        let later = begun_then turned next (begun_later g o turned t.0 new t.1 next t.3 first.5 t.5) in (
-          first.0 ++ work ∷ [],
-          t.6 ∙ (ap (λ (l : List Deed). l ++ t.3) first.1 ∙ (ap (λ (l : List Deed). all_deeds first.0 ++ l) (sym same ∙ sym (append-nil (t.3 ++ left_deeds (is_last turned) o))) ∙ sym (all_deeds-append first.0 (work ∷ [])))),
-          end_in-append first.0 (work ∷ []) ∙ rw (or_nothing (end_of_turned turned), first.2, none) refl,
-          goes-append g first.0 (work ∷ []) old t.0 new (at_entry entry) (at_entry t.1) (at_entry next) first.3 (new, at_entry next, works, (refl, refl)),
-          each-append IsServing first.0 (work ∷ []) first.4 (tt, tt),
+        let later = begun_then turned next (begun_later g o turned t.0 new t.1 next t.3 first.7 t.5) in (
+          there,
+          put_more here mid there (Some (o, t.1)) (Some (o, next)) first.1 puts,
+          first.2 ++ work ∷ [],
+          t.6 ∙ (ap (λ (l : List Deed). l ++ t.3) first.3 ∙ (ap (λ (l : List Deed). all_deeds first.2 ++ l) (sym same ∙ sym (append-nil (t.3 ++ left_deeds (is_last turned) o))) ∙ sym (all_deeds-append first.2 (work ∷ [])))),
+          end_in-append first.2 (work ∷ []) ∙ rw (or_nothing (end_of_turned turned), first.4, none) refl,
+          goes-append g first.2 (work ∷ []) old t.0 new (at_offices here) (at_offices mid) (at_offices there) first.5 (new, at_offices there, one.2, (refl, refl)),
+          each-append IsServing first.2 (work ∷ []) first.6 (tt, tt),
           subst (λ (end : Option EntryServed). BegunIf end next) both.0 later,
-          turns_more turned before first.0 one.0 (t.3 ++ left_deeds (is_last turned) o) one.1 first.6,
+          turns_more turned before first.2 one.0 (t.3 ++ left_deeds (is_last turned) o) one.1 first.8,
         )
 
     -- and the last one
-    turns_end : (end : EntryServed) (turned : EntryTurned) (before : List EntryTurned) (old new : Desk R) (entry next : Entry) (deeds : List Deed) → IsBegun entry → all_go_on before ≡ true
+    turns_end : (end : EntryServed) (turned : EntryTurned) (before : List EntryTurned) (old new : Desk R) (here there : AtOffices) (entry next : Entry) (deeds : List Deed) → here k ≡ Some (o, entry) → Puts here there k (left_at (is_over end) o next)
+        → IsBegun entry → all_go_on before ≡ true
         → HasTurns g o old entry (turned ∷ before) new next deeds → end_of_turned turned ≡ end_of_office end → is_last turned ≡ is_over end
-        → (works : List Work) × (deeds ++ left_deeds (is_over end) o ≡ all_deeds works) × EndsBy (end_of_office end) works × Goes g old (at_entry entry) works new (left_with (is_over end) next) × Each IsServing works × AreTurns (turned ∷ before) works
-    turns_end end turned before old new entry next deeds begun go t ends over =
-        let first = turns_go before old t.0 entry t.1 t.2 begun go t.4 in
-        let one = turn_works turned t.0 new t.1 next t.3 first.5 t.5 in
-        let work = enters o one.0 turned (t.3 ++ left_deeds (is_last turned) o) one.1 in
-        let works = subst (λ (last : Bool). Works g t.0 (at_entry t.1) work new (left_with last next)) over one.2 in
+        → (works : List Work) × (deeds ++ left_deeds (is_over end) o ≡ all_deeds works) × EndsBy (end_of_office end) works × Goes g old (at_offices here) works new (at_offices there) × Each IsServing works × AreTurns (turned ∷ before) works
+    turns_end end turned before old new here there entry next deeds at puts begun go t ends over =
+        let first = turns_go before old t.0 here entry t.1 t.2 at begun go t.4 in
+        let mid : AtOffices = first.0 in
+        let again = put_twice here mid there (Some (o, t.1)) (left_at (is_over end) o next) first.1 puts in
+        let one = turn_works turned t.0 new mid there t.1 next t.3 (put_there here mid (Some (o, t.1)) first.1) (subst (λ (last : Bool). Puts mid there k (left_at last o next)) (sym over) again) first.7 t.5 in
+        let work = enters o k one.0 turned (t.3 ++ left_deeds (is_last turned) o) one.1 in
         let same : t.3 ++ left_deeds (is_over end) o ≡ t.3 ++ left_deeds (is_last turned) o = ap (λ (last : Bool). t.3 ++ left_deeds last o) (sym over) in (
-          first.0 ++ work ∷ [],
-          ap (λ (l : List Deed). l ++ left_deeds (is_over end) o) (t.6 ∙ ap (λ (l : List Deed). l ++ t.3) first.1)
-              ∙ (append_assoc (all_deeds first.0) t.3 (left_deeds (is_over end) o)
-              ∙ (ap (λ (l : List Deed). all_deeds first.0 ++ l) (same ∙ sym (append-nil (t.3 ++ left_deeds (is_last turned) o))) ∙ sym (all_deeds-append first.0 (work ∷ [])))),
-          ends-then (end_of_office end) first.0 (work ∷ []) first.2 (ends-one (end_of_office end) work ends),
-          goes-append g first.0 (work ∷ []) old t.0 new (at_entry entry) (at_entry t.1) (left_with (is_over end) next) first.3 (new, left_with (is_over end) next, works, (refl, refl)),
-          each-append IsServing first.0 (work ∷ []) first.4 (tt, tt),
-          turns_more turned before first.0 one.0 (t.3 ++ left_deeds (is_last turned) o) one.1 first.6,
+          first.2 ++ work ∷ [],
+          ap (λ (l : List Deed). l ++ left_deeds (is_over end) o) (t.6 ∙ ap (λ (l : List Deed). l ++ t.3) first.3)
+              ∙ (append_assoc (all_deeds first.2) t.3 (left_deeds (is_over end) o)
+              ∙ (ap (λ (l : List Deed). all_deeds first.2 ++ l) (same ∙ sym (append-nil (t.3 ++ left_deeds (is_last turned) o))) ∙ sym (all_deeds-append first.2 (work ∷ [])))),
+          ends-then (end_of_office end) first.2 (work ∷ []) first.4 (ends-one (end_of_office end) work ends),
+          goes-append g first.2 (work ∷ []) old t.0 new (at_offices here) (at_offices mid) (at_offices there) first.5 (new, at_offices there, one.2, (refl, refl)),
+          each-append IsServing first.2 (work ∷ []) first.6 (tt, tt),
+          turns_more turned before first.2 one.0 (t.3 ++ left_deeds (is_last turned) o) one.1 first.8,
         )
 
     -- eight turns at most, after which it stands so
     record AreFew (end : EntryServed) (works : List Work) : Type 0 where
       few : length works ≤ most_turns
       stays : (c : ℕ) (old : Standing) → stands_in c old works ≡ old
-      last : (old : Standing) → office_in old works ≡ stand_of_served end
-      turn : any_of is_office_turn works ≡ true
+      last : (old : Standing) → office_in k old works ≡ stand_of_served end
+      others : (j : ℕ) → nat_eq k j ≡ false → (old : Standing) → office_in j old works ≡ old
+      turn : any_of (is_office_turn k) works ≡ true
       quiet : (c : ℕ) → has_turn c works ≡ false
 
     few_turns : (end : EntryServed) (turned : EntryTurned) (before : List EntryTurned) (works : List Work) → length (turned ∷ before) ≤ most_turns → stand_of_some (end_at turned) ≡ stand_of_served end → AreTurns (turned ∷ before) works → AreFew end works
@@ -343,24 +386,27 @@ module _ {R : Type 0} (g : Ghosts R) where
           few = omega (arith, count, most);
           stays = are.stays;
           last = λ old. are.last turned before refl old ∙ (same_stand turned ∙ stands);
+          others = are.others;
           turn = are.turn turned before refl;
           quiet = are.quiet;
         }
 
     -- the office was served
-    served_go : (end : EntryServed) (old new : Desk R) (entry next : Entry) (deeds : List Deed) → IsBegun entry → IsEntryServed g o old entry end new next deeds
-        → (works : List Work) × (deeds ++ left_deeds (is_over end) o ≡ all_deeds works) × EndsBy (end_of_office end) works × Goes g old (at_entry entry) works new (left_with (is_over end) next) × Each IsServing works × AreFew end works
-    served_go end old new entry next deeds begun s = go s.0 s.1 s.2
+    served_go : (end : EntryServed) (old new : Desk R) (here there : AtOffices) (entry next : Entry) (deeds : List Deed) → here k ≡ Some (o, entry) → Puts here there k (left_at (is_over end) o next) → IsBegun entry
+        → IsEntryServed g o old entry end new next deeds
+        → (works : List Work) × (deeds ++ left_deeds (is_over end) o ≡ all_deeds works) × EndsBy (end_of_office end) works × Goes g old (at_offices here) works new (at_offices there) × Each IsServing works × AreFew end works
+    served_go end old new here there entry next deeds at puts begun s = go s.0 s.1 s.2
       where
         go : (turns : List EntryTurned) → HasTurns g o old entry turns new next deeds → IsEnough turns end next
-            → (works : List Work) × (deeds ++ left_deeds (is_over end) o ≡ all_deeds works) × EndsBy (end_of_office end) works × Goes g old (at_entry entry) works new (left_with (is_over end) next) × Each IsServing works × AreFew end works
+            → (works : List Work) × (deeds ++ left_deeds (is_over end) o ≡ all_deeds works) × EndsBy (end_of_office end) works × Goes g old (at_offices here) works new (at_offices there) × Each IsServing works × AreFew end works
         go [] t enough = absurd enough
         go (turned ∷ before) t enough = elim enough.1 [
           | inl ends ↦
-              let all = turns_end end turned before old new entry next deeds begun enough.0 t (same_end turned ∙ ap end_of_some ends) (same_last turned ∙ ap over_of_some ends) in
+              let all = turns_end end turned before old new here there entry next deeds at puts begun enough.0 t (same_end turned ∙ ap end_of_some ends) (same_last turned ∙ ap over_of_some ends) in
               (all.0, all.1, all.2, all.3, all.4, few_turns end turned before all.0 enough.2 (ap stand_of_some ends) all.5)
           | inr goes ↦
-              let all = turns_end end turned before old new entry next deeds begun enough.0 t (same_end turned ∙ (ap end_of_some goes.0 ∙ ap end_of_office (sym goes.1))) (same_last turned ∙ (ap over_of_some goes.0 ∙ ap is_over (sym goes.1))) in
+              let all =
+              turns_end end turned before old new here there entry next deeds at puts begun enough.0 t (same_end turned ∙ (ap end_of_some goes.0 ∙ ap end_of_office (sym goes.1))) (same_last turned ∙ (ap over_of_some goes.0 ∙ ap is_over (sym goes.1))) in
               (all.0, all.1, all.2, all.3, all.4, few_turns end turned before all.0 enough.2 (ap stand_of_some goes.0 ∙ ap stand_of_served (sym goes.1)) all.5)
         ]
 
@@ -371,8 +417,8 @@ module _ {R : Type 0} (g : Ghosts R) where
       go : (turns : List EntryTurned) → HasTurns g o old entry turns new next deeds → IsEnough turns end next → BegunIf (Some end) next
       go [] t enough = absurd enough
       go (turned ∷ before) t enough =
-          let first = turns_go (λ c. None) o before old t.0 entry t.1 t.2 begun enough.0 t.4 in
-          let later = begun_then turned next (begun_later g o turned t.0 new t.1 next t.3 first.5 t.5) in
+          let first = turns_go (λ c. None) o 0 before old t.0 (λ j. Some (o, entry)) entry t.1 t.2 refl begun enough.0 t.4 in
+          let later = begun_then turned next (begun_later g o turned t.0 new t.1 next t.3 first.7 t.5) in
           elim enough.1 [
             | inl ends ↦ subst (λ (it : Option EntryServed). BegunIf it next) ends later
             | inr goes ↦ subst (λ (it : EntryServed). BegunIf (Some it) next) (sym goes.1) (subst (λ (it : Option EntryServed). BegunIf it next) goes.0 later)
@@ -380,32 +426,97 @@ module _ {R : Type 0} (g : Ghosts R) where
 
   module _ {S : Type 0} (name : S → ℕ) where
     -- how it stands, by what is left of it
-    left_stands : (end : EntryServed) (o : ℕ) (after : Entry) → standing_office (left_at (is_over end) o after) (may_go_on end) ≡ stand_of_served end
+    left_stands : (end : EntryServed) (o : ℕ) (after : Entry) → standing_office (left_at (is_over end) o after) (Some (may_go_on end)) ≡ stand_of_served end
     left_stands end o after = go (is_over end)
       where
-        go : (over : Bool) → standing_office (left_at over o after) (may_go_on end) ≡ (if over then absent else (if may_go_on end then ready else waiting))
+        go : (over : Bool) → standing_office (left_at over o after) (Some (may_go_on end)) ≡ (if over then absent else (if may_go_on end then ready else waiting))
         go true = refl
         go false = refl
 
-    -- the land office was served
-    pub office_hosts : (office : Office S) (flag : Bool) (result : EntryServed × Option (Office S)) (from to : Option (List Deed)) (old new : Desk R) (clients : Clients S) → IsBegun office.entry
-        → AddsSome from to (HasOfficeTurns g name old office result new)
-        → Serves g (ServesOffice 8 (standings_of clients (office_at name (Some office)) flag) (standings_of clients (office_at name result.1) (may_go_on result.0))) (end_of_office result.0) from old (place_of name clients (office_at name (Some office))) to new (place_of name clients (office_at name result.1))
-    office_hosts office flag result from to old new clients begun s =
-        let t = s.2 in
-        let slots : Held = (place_of name clients None).slots in
-        let go = served_go slots (name office.socket) result.0 old new office.entry t.0 t.1 begun t.2 in
-        let goes = subst (λ (it : AtOffice). Goes g old (at_entry slots (name office.socket) office.entry) go.0 new (record { slots = slots; office = it })) (sym t.4) go.3 in
-        let first = standings_of clients (office_at name (Some office)) flag in
-        let last = standings_of clients (office_at name result.1) (may_go_on result.0) in
-        let stands = ap (λ (it : AtOffice). standing_office it (may_go_on result.0)) t.4 ∙ left_stands result.0 (name office.socket) t.0 in
-        let paced : IsPaced 8 first last go.0 = record { few = go.5.few; stand = λ c. sym (go.5.stays c (standing_at clients c)); office = stands ∙ sym (go.5.last first.office) } in
-        (go.0, subst (λ (l : List Deed). Adds from to l) (t.3 ∙ go.1) s.1, go.2, goes, go.4, office_passes 8 first last go.0 paced (λ c. refl) go.5.turn go.5.quiet)
+    module _ (k : ℕ) (clients : Clients S) (flags set : ℕ → Option Bool) (offices next : AtOffices) where
+      -- connection k of the land office was served
+      pub office_hosts : (office : Office S) (result : EntryServed × Option (Office S)) (from to : Option (List Deed)) (old new : Desk R) → offices k ≡ office_at name (Some office) → Puts offices next k (office_at name result.1) → Puts flags set k (Some (may_go_on result.0))
+          → IsBegun office.entry → AddsSome from to (HasOfficeTurns g name old office result new)
+          → Serves g (ServesOffice k 8 (standings_of clients offices flags) (standings_of clients next set)) (end_of_office result.0) from old (place_of name clients offices) to new (place_of name clients next)
+      office_hosts office result from to old new at puts sets begun s =
+          let t = s.2 in
+          let slots : Held = (place_of name clients offices).slots in
+          let left = subst (λ (it : AtOffice). Puts offices next k it) t.4 puts in
+          let go = served_go slots (name office.socket) k result.0 old new offices next office.entry t.0 t.1 at left begun t.2 in
+          let first = standings_of clients offices flags in
+          let last = standings_of clients next set in
+          let own : (next k ≡ left_at (is_over result.0) (name office.socket) t.0) = left k ∙ rw (eq-eqb k k refl) refl in
+          let flag : (set k ≡ Some (may_go_on result.0)) = sets k ∙ rw (eq-eqb k k refl) refl in
+          let stands : (last.offices k ≡ stand_of_served result.0) = (ap (λ (it : AtOffice). standing_office it (set k)) own ∙ ap (λ (it : Option Bool). standing_office (left_at (is_over result.0) (name office.socket) t.0) it) flag) ∙ left_stands result.0 (name office.socket) t.0 in
+          let others : ((j : ℕ) → nat_eq k j ≡ false → last.offices j ≡ first.offices j) = (λ j other. ap (λ (it : AtOffice). standing_office it (set j)) (left j ∙ rw other refl) ∙ ap (λ (it : Option Bool). standing_office (offices j) it) (sets j ∙ rw other refl)) in
+          let paced : IsPaced 8 first last go.0 = record { few = go.5.few; stand = λ c. sym (go.5.stays c (standing_at clients c)); offices = λ j. all_stand go.0 go.5 first last stands others j (nat_eq k j) refl } in
+          (go.0, subst (λ (l : List Deed). Adds from to l) (t.3 ∙ go.1) s.1, go.2, go.3, go.4, office_passes k 8 first last go.0 paced (λ c. refl) others go.5.turn go.5.quiet)
+        where
+          all_stand : (works : List Work) → AreFew (place_of name clients offices).slots (name office.socket) k result.0 works → (first last : Standings) → last.offices k ≡ stand_of_served result.0
+              → ((j : ℕ) → nat_eq k j ≡ false → last.offices j ≡ first.offices j) → (j : ℕ) (own : Bool) → nat_eq k j ≡ own → last.offices j ≡ office_in j (first.offices j) works
+          all_stand works few first last stands others j true e =
+              subst (λ (n : ℕ). last.offices n ≡ office_in n (first.offices n) works) (eqb-true k j e) (stands ∙ sym (few.last (first.offices k)))
+          all_stand works few first last stands others j false e = others j e ∙ sym (few.others j e (first.offices j))
+
+      -- an answer was written on
+      pub sent_hosts : (office : Office S) (result : EntryTurned × Option (Office S)) (from to : Option (List Deed)) (old : Desk R) → offices k ≡ office_at name (Some office) → Puts offices next k (office_at name result.1)
+          → AddsSome from to (HasSent name office result) → Hosts g IsClosing None from old (place_of name clients offices) to old (place_of name clients next)
+      sent_hosts office result from to old at puts s =
+          let t = s.2 in
+          let turn = by_send result.0 t.0 t.1 t.3 in
+          hosts-one g IsClosing None from to old old (place_of name clients offices) (place_of name clients next)
+          (enters (name office.socket) k [] result.0 s.0 None) s.1 turn.0
+          (office.entry, t.0, t.1, at, turn.1 t.2, t.4, turn.2, refl, subst (λ (it : AtOffice). Puts offices next k it) t.5 puts, λ c. refl) turn.3
+        where
+          by_send : (turned : EntryTurned) (after : Entry) (own : List Deed) → SendsSome (name office.socket) office.entry turned after own
+              → (end_of_turned turned ≡ None) × (IsSending office.entry → IsEntryTurn g (name office.socket) old office.entry turned old after own) × IsLineSaid [] turned None × IsClosing (enters (name office.socket) k [] turned own None)
+          by_send Wrote after own w = (refl, (λ sending. (w.0, w.1, w.2, w.3, w.4, w.5, refl, w.6)), refl, tt)
+          by_send Waits after own w = (refl, (λ sending. (w.0, inl sending, refl, w.1)), refl, tt)
+          by_send Over after own w = (refl, (λ sending. (inr (inl (w, sending)), refl)), refl, tt)
+          by_send Took after own w = absurd w
+          by_send Added after own w = absurd w
+          by_send (Answered answer) after own w = absurd w
+          by_send (Lost answer) after own w = absurd w
+          by_send (Checked it) after own w = absurd w
+          by_send (CheckLost it) after own w = absurd w
+          by_send Stops after own w = absurd w
+
+      -- the land office comes
+      pub came_hosts : (office : Office S) (socket : S) (from to : Option (List Deed)) (old : Desk R) → k < 4 → offices k ≡ None → office.socket ≡ socket → IsNewEntry office.entry → Puts offices next k (office_at name (Some office)) → Puts flags set k (Some true)
+          → Adds from to (office_came (name socket) ∷ [])
+          → Serves g (IsAtDoors 1 (standings_of clients offices flags) (standings_of clients next set)) None from old (place_of name clients offices) to old (place_of name clients next)
+      came_hosts office socket from to old within free same is_new puts sets adds =
+          serves-one g (IsAtDoors 1 (standings_of clients offices flags) (standings_of clients next set)) None from to old old (place_of name clients offices) (place_of name clients next) (office_comes (name socket) k) adds refl
+          (office.entry, free, is_new, subst (λ (it : S). Puts offices next k (Some (name it, office.entry))) same puts, (λ c. refl), refl, within) tt
+          (record { paced = record { few = omega arith; stand = λ c. refl; offices = λ j. go j (nat_eq k j) refl }; quiet = λ c. refl })
+        where
+          go : (j : ℕ) (own : Bool) → nat_eq k j ≡ own → standing_office (next j) (set j) ≡ (if nat_eq k j then ready else standing_office (offices j) (flags j))
+          go j true e = rw (puts j, sets j, e) refl
+          go j false e = rw (puts j, sets j, e) refl
+
+      -- it is let go
+      pub left_hosts : (office : Office S) (from to : Option (List Deed)) (old : Desk R) → offices k ≡ office_at name (Some office) → Puts offices next k None → Adds from to (left (name office.socket) ∷ [])
+          → Hosts g IsClosing None from old (place_of name clients offices) to old (place_of name clients next)
+      left_hosts office from to old at puts adds =
+          hosts-one g IsClosing None from to old old (place_of name clients offices) (place_of name clients next) (office_leaves (name office.socket) k false) adds refl
+          (office.entry, at, puts, (λ c. refl), refl, (λ clash. absurd (let same : false ≡ true = clash in cc))) refl
+
+      -- it is dropped, since its answer is overdue
+      pub dropped_office : (office : Office S) (from to : Option (List Deed)) (old : Desk R) → offices k ≡ office_at name (Some office) → Puts offices next k None → IsSending office.entry → Adds from to (left (name office.socket) ∷ [])
+          → Serves g (IsAtDoors 1 (standings_of clients offices flags) (standings_of clients next flags)) None from old (place_of name clients offices) to old (place_of name clients next)
+      dropped_office office from to old at puts sending adds =
+          serves-one g (IsAtDoors 1 (standings_of clients offices flags) (standings_of clients next flags)) None from to old old (place_of name clients offices) (place_of name clients next) (office_leaves (name office.socket) k true) adds refl
+          (office.entry, at, puts, (λ c. refl), refl, (λ same. sending)) refl
+          (record { paced = record { few = omega arith; stand = λ c. refl; offices = λ j. go j (nat_eq k j) refl }; quiet = λ c. refl })
+        where
+          go : (j : ℕ) (own : Bool) → nat_eq k j ≡ own → standing_office (next j) (flags j) ≡ (if nat_eq k j then absent else standing_office (offices j) (flags j))
+          go j true e = rw (puts j, e) refl
+          go j false e = rw (puts j, e) refl
 
     entry_begun : (o : ℕ) (after : Entry) (office : Office S) → IsBegun after → ◌≡◌ {A = AtOffice} (Some (name office.socket, office.entry)) (Some (o, after)) → IsBegun office.entry
     entry_begun o after office begun at = subst IsBegun (sym (ap (λ (p : ℕ × Entry). p.1) (one_some {X = ℕ × Entry} (name office.socket, office.entry) (o, after) at))) begun
 
-    begun_at : (end : EntryServed) (o : ℕ) (after : Entry) (it : Option (Office S)) → BegunIf (Some end) after → office_at name it ≡ left_at (is_over end) o after → HasBegunUnless (end_of_office end) it
+    begun_at : (end : EntryServed) (o : ℕ) (after : Entry) (it : Option (Office S)) → BegunIf (Some end) after → office_at name it ≡ left_at (is_over end) o after → BegunUnless (end_of_office end) it
     begun_at served.Goes o after None begun at = tt
     begun_at served.Goes o after (Some office) begun at = entry_begun o after office begun at
     begun_at served.Waits o after None begun at = tt
@@ -417,58 +528,92 @@ module _ {R : Type 0} (g : Ghosts R) where
 
     -- and of what is left of it a line has begun
     pub office_begun : (office : Office S) (result : EntryServed × Option (Office S)) (old new : Desk R) (deeds : List Deed) → IsBegun office.entry → HasOfficeTurns g name old office result new deeds
-        → HasBegunUnless (end_of_office result.0) result.1
+        → BegunUnless (end_of_office result.0) result.1
     office_begun office result old new deeds begun t =
         begun_at result.0 (name office.socket) t.0 result.1 (served_begun (name office.socket) result.0 old new office.entry t.0 t.1 begun t.2) t.4
-
-    -- an answer was written on
-    pub sent_hosts : (office : Office S) (result : EntryTurned × Option (Office S)) (from to : Option (List Deed)) (old : Desk R) (clients : Clients S)
-        → AddsSome from to (HasSent name office result) → Hosts g IsClosing None from old (place_of name clients (office_at name (Some office))) to old (place_of name clients (office_at name result.1))
-    sent_hosts office result from to old clients s =
-        let t = s.2 in
-        let turn = by_send result.0 t.0 t.1 t.3 in
-        hosts-one g IsClosing None from to old old (place_of name clients (office_at name (Some office))) (place_of name clients (office_at name result.1))
-        (enters (name office.socket) [] result.0 s.0 None) s.1 turn.0
-        (office.entry, t.0, t.1, refl, turn.1 t.2, t.4, turn.2, refl, t.5, λ c. refl) turn.3
-      where
-        by_send : (turned : EntryTurned) (after : Entry) (own : List Deed) → SendsSome (name office.socket) office.entry turned after own
-            → (end_of_turned turned ≡ None) × (IsSending office.entry → IsEntryTurn g (name office.socket) old office.entry turned old after own) × IsLineSaid [] turned None × IsClosing (enters (name office.socket) [] turned own None)
-        by_send Wrote after own w = (refl, (λ sending. (w.0, w.1, w.2, w.3, w.4, w.5, refl, w.6)), refl, tt)
-        by_send Waits after own w = (refl, (λ sending. (w.0, inl sending, refl, w.1)), refl, tt)
-        by_send Over after own w = (refl, (λ sending. (inr (inl (w, sending)), refl)), refl, tt)
-        by_send Took after own w = absurd w
-        by_send Added after own w = absurd w
-        by_send (Answered answer) after own w = absurd w
-        by_send (Lost answer) after own w = absurd w
-        by_send (Checked it) after own w = absurd w
-        by_send (CheckLost it) after own w = absurd w
-        by_send Stops after own w = absurd w
-
-    -- the office comes
-    pub came_hosts : (office : Office S) (socket : S) (flag : Bool) (from to : Option (List Deed)) (old : Desk R) (clients : Clients S)
-        → office.socket ≡ socket → IsNewEntry office.entry → Adds from to (office_came (name socket) ∷ [])
-        → Serves g (IsAtDoors 1 (standings_of clients None flag) (standings_of clients (office_at name (Some office)) true)) None from old (place_of name clients None) to old (place_of name clients (office_at name (Some office)))
-    came_hosts office socket flag from to old clients same is_new adds =
-        serves-one g (IsAtDoors 1 (standings_of clients None flag) (standings_of clients (office_at name (Some office)) true)) None from to old old (place_of name clients None) (place_of name clients (office_at name (Some office))) (office_comes (name socket)) adds refl
-        (office.entry, refl, is_new, ap (λ (it : S). Some (name it, office.entry)) same, (λ c. refl), refl) tt (record { paced = record { few = omega arith; stand = λ c. refl; office = refl }; quiet = λ c. refl })
 
     -- the office comes, and the network can't tell of it
     pub unwatched_hosts : (t : ℕ) (from mid to : Option (List Deed)) (old : Desk R) (here : Place) (stand : Standings) → Adds from mid (office_came t ∷ []) → Adds mid to (left t ∷ []) → Serves g (IsAtDoors 1 stand stand) None from old here to old here
     unwatched_hosts t from mid to old here stand comes goes =
         serves-one g (IsAtDoors 1 stand stand) None from to old old here here (aside (office_came t ∷ left t ∷ []) None) (Adds-trans from mid to (office_came t ∷ []) (left t ∷ []) comes goes) refl
-        (tt, refl, (λ c. refl), inr (inr (t, refl)), refl) tt (record { paced = record { few = omega arith; stand = λ c. refl; office = refl }; quiet = λ c. refl })
+        (tt, refl, (λ c. refl), inr (inr (t, refl)), λ k. refl) tt (record { paced = record { few = omega arith; stand = λ c. refl; offices = λ k. refl }; quiet = λ c. refl })
 
-    -- the office is let go
-    pub left_hosts : (office : Office S) (from to : Option (List Deed)) (old : Desk R) (clients : Clients S) → Adds from to (left (name office.socket) ∷ [])
-        → Hosts g IsClosing None from old (place_of name clients (office_at name (Some office))) to old (place_of name clients None)
-    left_hosts office from to old clients adds =
-        hosts-one g IsClosing None from to old old (place_of name clients (office_at name (Some office))) (place_of name clients None) (office_leaves (name office.socket)) adds refl
-        (office.entry, refl, refl, (λ c. refl), refl) tt
+-- the connection that was taken out is the one that was here
+pub was_begun : {S : Type 0} (office : Office S) (k : ℕ) (offices : Offices S) → Some office ≡ seat_at offices k → HaveBegun offices → IsBegun office.entry
+was_begun {S} office k offices same begun = subst (λ (o : Option (Office S)). OfficeHasBegun o) (sym {a = Some office} same) (begun.each k)
 
-pub none_is : {X : Type 0} (o : Option X) → is_none o ≡ true → o ≡ None
-none_is None e = refl
-none_is (Some x) e = absurd (let clash : false ≡ true = e in cc)
+pub was_sending : {S : Type 0} (office : Office S) (one : Option (Office S)) → Some office ≡ one → IsOfficeSending one → IsSending office.entry
+was_sending {S} office one same sending = subst (λ (o : Option (Office S)). IsOfficeSending o) (sym {a = Some office} same) sending
 
--- the office that was taken out is the one that was here
-pub was_begun : {S : Type 0} (office : Office S) (at : Option (Office S)) → Some office ≡ at → OfficeHasBegun at → IsBegun office.entry
-was_begun {S} office at same begun = subst (λ (o : Option (Office S)). OfficeHasBegun o) (sym {a = Some office} same) begun
+pub none_sending : {S : Type 0} (one : Option (Office S)) → None ≡ one → IsOfficeSending one → ⊥
+none_sending {S} one same sending = subst (λ (o : Option (Office S)). IsOfficeSending o) (sym {a = None} same) sending
+
+-- another one was put in its place
+pub put_seat : {S : Type 0} (k : ℕ) (was one : Option (Office S)) (old mid new : Offices S) → Seats old mid k was → Seats mid new k one → Seats old new k one
+put_seat k was one old mid new out back j = back j ∙ go (nat_eq k j) refl
+  where
+    go : (same : Bool) → nat_eq k j ≡ same → (if same then one else seat_at mid j) ≡ (if same then one else seat_at old j)
+    go true e = refl
+    go false e = out j ∙ rw e refl
+
+pub seats_put : {S : Type 0} (name : S → ℕ) (k : ℕ) (one : Option (Office S)) (old new : Offices S) → Seats old new k one → Puts (offices_at name old) (offices_at name new) k (office_at name one)
+seats_put name k one old new seats j = ap (office_at name) (seats j) ∙ go (nat_eq k j)
+  where
+    go : (same : Bool) → office_at name (if same then one else seat_at old j) ≡ (if same then office_at name one else office_at name (seat_at old j))
+    go true = refl
+    go false = refl
+
+pub seat_here : {S : Type 0} (name : S → ℕ) (k : ℕ) (office : Office S) (offices : Offices S) → Some office ≡ seat_at offices k → offices_at name offices k ≡ office_at name (Some office)
+seat_here name k office offices same = ap (office_at name) (sym {a = Some office} same)
+
+-- a place that was free is free
+pub seat_free : {S : Type 0} (name : S → ℕ) (k : ℕ) (offices next : Offices S) → None ≡ seat_at offices k → Seats offices next k None → Same (offices_at name offices) (offices_at name next)
+seat_free name k offices next free seats = put_same (offices_at name offices) (offices_at name next) k None (ap (office_at name) (sym {a = None} free)) (seats_put name k None offices next seats)
+
+-- and so has one of each, where this one is served
+pub all_begun : {S : Type 0} (end : Option Stopped) (k : ℕ) (one : Option (Office S)) (offices next : Offices S) → HaveBegun offices → Seats offices next k one → BegunUnless end one → HaveBegunUnless end next
+all_begun {S} None k one offices next begun seats has = record { each = λ j. subst (λ (o : Option (Office S)). OfficeHasBegun o) (sym (seats j)) (go j (nat_eq k j)) }
+  where
+    go : (j : ℕ) (same : Bool) → OfficeHasBegun (if same then one else seat_at offices j)
+    go j true = has
+    go j false = begun.each j
+all_begun (Some stopped) k one offices next begun seats has = tt
+
+-- it is not open, and so has no turn
+pub none_served : {S : Type 0} (k : ℕ) (clients : Clients S) (flags set : ℕ → Option Bool) (offices next : AtOffices) (is_ready : Bool) → offices k ≡ None → Same offices next → Puts flags set k (Some is_ready)
+    → ServesOffice k 8 (standings_of clients offices flags) (standings_of clients next set) (aside [] None ∷ [])
+none_served k clients flags set offices next is_ready free same sets = record {
+  passes = record { paced = record { few = omega arith; stand = λ c. refl; offices = stands }; kept = λ c is. inr is; kept_office = λ j is. inr (stands j ∙ is) };
+  quiet = λ c. refl;
+  turn = λ is. (let clash : absent ≡ ready = sym (ap (λ (it : AtOffice). standing_office it (flags k)) free) ∙ is in cc);
+}
+  where
+    go : (j : ℕ) (own : Bool) → nat_eq k j ≡ own → standing_office (next j) (set j) ≡ standing_office (offices j) (flags j)
+    go j true e =
+        let none : offices j ≡ None = ap offices (sym (eqb-true k j e)) ∙ free in
+        ap (λ (it : AtOffice). standing_office it (set j)) (same j ∙ none) ∙ sym (ap (λ (it : AtOffice). standing_office it (flags j)) none)
+    go j false e = ap (λ (it : AtOffice). standing_office it (set j)) (same j) ∙ ap (λ (it : Option Bool). standing_office (offices j) it) (sets j ∙ rw e refl)
+
+    stands : (j : ℕ) → standing_office (next j) (set j) ≡ standing_office (offices j) (flags j)
+    stands j = go j (nat_eq k j) refl
+
+pub same_none : {S : Type 0} (name : S → ℕ) (k : ℕ) (offices : Offices S) → None ≡ seat_at offices k → offices_at name offices k ≡ None
+same_none name k offices free = ap (office_at name) (sym {a = None} free)
+
+-- one more was let go
+pub parted_more : {S : Type 0} (k : ℕ) (offices next : Offices S) → Seats offices next k None → ((j : ℕ) → j < k → seat_at offices j ≡ None) → (j : ℕ) → j < k + 1 → seat_at next j ≡ None
+parted_more {S} k offices next seats before j within = seats j ∙ go (nat_eq k j) refl
+  where
+    below : (k ≡ j → ⊥) → j < k
+    below differ = omega (arith, within, differ)
+
+    go : (same : Bool) → nat_eq k j ≡ same → (if same then None else seat_at offices j) ≡ None
+    go true e = refl
+    go false e = before j (below (λ same. let yes = eq-eqb k j same in let clash : true ≡ false = sym yes ∙ e in cc))
+
+-- there is no place above the last
+pub all_parted : {S : Type 0} (offices : Offices S) → ((j : ℕ) → j < 4 → seat_at offices j ≡ None) → (j : ℕ) → seat_at offices j ≡ None
+all_parted {S} offices below j = elim (cases_lt j 4) [
+  | inl within ↦ below j within
+  | inr past ↦ let room = offices.room in ap (λ (o : Option (Option (Office S))). seat_in o) (slice_get_past offices.seats.items j (omega (arith, past, room)))
+]

@@ -52,9 +52,9 @@ module _ {R : Type 0} (g : Ghosts R) where
   fits_after c stand (waits s d) old new here next w fits =
       fits_same c (if nat_eq d c then waiting else stand) here.slots next.slots w.4 (fits_wait s d c stand here.slots w.0 w.1 w.2 fits)
   fits_after c stand (ends s d cause deeds said) old new here next w fits = fits_put d c stand absent here.slots next.slots None w.5 refl fits
-  fits_after c stand (office_comes o) old new here next w fits = fits_same c stand here.slots next.slots w.4 fits
-  fits_after c stand (enters o text turned deeds said) old new here next w fits = fits_same c stand here.slots next.slots w.9 fits
-  fits_after c stand (office_leaves o) old new here next w fits = fits_same c stand here.slots next.slots w.3 fits
+  fits_after c stand (office_comes o k) old new here next w fits = fits_same c stand here.slots next.slots w.4 fits
+  fits_after c stand (enters o k text turned deeds said) old new here next w fits = fits_same c stand here.slots next.slots w.9 fits
+  fits_after c stand (office_leaves o k overdue) old new here next w fits = fits_same c stand here.slots next.slots w.3 fits
   fits_after c stand (aside deeds said) old new here next w fits = fits_same c stand here.slots next.slots w.2 fits
 
   fits_in : (c : ℕ) (works : List Work) (stand : Standing) (old new : Desk R) (here next : Place) → Goes g old here works new next → Fits stand (here.slots c) → Fits (stands_in c stand works) (next.slots c)
@@ -95,9 +95,9 @@ module _ {R : Type 0} (g : Ghosts R) where
   socket_after c s (acts t d act) old new here next w stays has = socket_put d c t s here next w.0 w.1 w.2 w.4 has
   socket_after c s (waits t d) old new here next w stays has = socket_same c s here next w.4 has
   socket_after c s (ends t d cause deeds said) old new here next w stays has = socket_other d c s here next None stays w.5 has
-  socket_after c s (office_comes o) old new here next w stays has = socket_same c s here next w.4 has
-  socket_after c s (enters o text turned deeds said) old new here next w stays has = socket_same c s here next w.9 has
-  socket_after c s (office_leaves o) old new here next w stays has = socket_same c s here next w.3 has
+  socket_after c s (office_comes o k) old new here next w stays has = socket_same c s here next w.4 has
+  socket_after c s (enters o k text turned deeds said) old new here next w stays has = socket_same c s here next w.9 has
+  socket_after c s (office_leaves o k overdue) old new here next w stays has = socket_same c s here next w.3 has
   socket_after c s (aside deeds said) old new here next w stays has = socket_same c s here next w.2 has
 
   rests_later : (c s : ℕ) (work : Work) (later : List Work) (old mid : Desk R) (here between : Place) → Works g old here work mid between → RestsIn g c s later mid between → RestsIn g c s (work ∷ later) old here
@@ -145,17 +145,17 @@ module _ {R : Type 0} (g : Ghosts R) where
       go (opens t d) w true e some more = absurd (let clash : false ≡ true = e in cc)
       go (acts t d act) w true e some more = absurd (let clash : false ≡ true = e in cc)
       go (ends t d cause deeds said) w true e some more = absurd (let clash : false ≡ true = e in cc)
-      go (office_comes o) w true e some more = absurd (let clash : false ≡ true = e in cc)
-      go (enters o text turned deeds said) w true e some more = absurd (let clash : false ≡ true = e in cc)
-      go (office_leaves o) w true e some more = absurd (let clash : false ≡ true = e in cc)
+      go (office_comes o k) w true e some more = absurd (let clash : false ≡ true = e in cc)
+      go (enters o k text turned deeds said) w true e some more = absurd (let clash : false ≡ true = e in cc)
+      go (office_leaves o k overdue) w true e some more = absurd (let clash : false ≡ true = e in cc)
       go (aside deeds said) w true e some more = absurd (let clash : false ≡ true = e in cc)
 
 -- the last of the rounds is one
 last_round : (stands : Standings) (rounds : List (List Work)) (round : List Work) → AreRounds stands (rounds ++ round ∷ []) → IsRound (all_after stands (all_works rounds)) round
-last_round stands [] round are = round_alike stands (all_after stands []) round ((λ c. refl), refl) are.0
+last_round stands [] round are = round_alike stands (all_after stands []) round ((λ c. refl), λ k. refl) are.0
 last_round stands (first ∷ rounds) round are =
     round_alike (all_after (all_after stands first) (all_works rounds)) (all_after stands (all_works (first ∷ rounds))) round
-    ((λ c. stands_in-append c (stands.clients c) first (all_works rounds)), office_in-append stands.office first (all_works rounds))
+    ((λ c. stands_in-append c (stands.clients c) first (all_works rounds)), λ k. office_in-append k (stands.offices k) first (all_works rounds))
     (last_round (all_after stands first) rounds round are.1)
 
 -- it is over, where it ends by a turn of its own
@@ -178,9 +178,9 @@ over_leaves c (work ∷ later) e = go work (over_leaves c later) e
     go (opens s d) so e = so e
     go (acts s d act) so e = so e
     go (waits s d) so e = so e
-    go (office_comes o) so e = so e
-    go (enters o text turned deeds said) so e = so e
-    go (office_leaves o) so e = so e
+    go (office_comes o k) so e = so e
+    go (enters o k text turned deeds said) so e = so e
+    go (office_leaves o k overdue) so e = so e
     go (aside deeds said) so e = so e
 
 module _ {R : Type 0} (g : Ghosts R) where
@@ -233,9 +233,9 @@ module _ {R : Type 0} (g : Ghosts R) where
   served_round c s channel stands (acts t d act ∷ later) mid new here next gives fits goes at = absurd gives
   served_round c s channel stands (waits t d ∷ later) mid new here next gives fits goes at = absurd gives
   served_round c s channel stands (ends t d cause deeds said ∷ later) mid new here next gives fits goes at = absurd gives
-  served_round c s channel stands (office_comes o ∷ later) mid new here next gives fits goes at = absurd gives
-  served_round c s channel stands (enters o text turned deeds said ∷ later) mid new here next gives fits goes at = absurd gives
-  served_round c s channel stands (office_leaves o ∷ later) mid new here next gives fits goes at = absurd gives
+  served_round c s channel stands (office_comes o k ∷ later) mid new here next gives fits goes at = absurd gives
+  served_round c s channel stands (enters o k text turned deeds said ∷ later) mid new here next gives fits goes at = absurd gives
+  served_round c s channel stands (office_leaves o k overdue ∷ later) mid new here next gives fits goes at = absurd gives
   served_round c s channel stands (aside deeds said ∷ later) mid new here next gives fits goes at = absurd gives
 
   pub each_is_served : EachIsServed g

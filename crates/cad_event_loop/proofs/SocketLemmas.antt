@@ -26,7 +26,7 @@ module _ {R : Type 0} (g : Ghosts R) where
 
 nobody_has : (s : ℕ) (first : Place) → IsEmpty first → NotHeld s first
 nobody_has s first empty =
-    ((λ d channel at. none_some {X = ℕ × Channel} (s, channel) (sym (empty.0 d) ∙ at)), (λ entry at. none_some {X = ℕ × Entry} (s, entry) (sym empty.1 ∙ at)))
+    ((λ d channel at. none_some {X = ℕ × Channel} (s, channel) (sym (empty.0 d) ∙ at)), (λ k entry at. none_some {X = ℕ × Entry} (s, entry) (sym (empty.1 k) ∙ at)))
 
 first_has : (s c : ℕ) (channel : Channel) (slots next : Held) → NotIn s slots → Puts slots next c (Some (s, channel)) → OnceIn s c next
 first_has s c channel slots next not puts d it at = go (nat_eq c d) refl
@@ -42,7 +42,7 @@ sockets_are_their_own g law s c commands before later old new first next empty g
     let work = back.2 in
     let there : back.1.slots c ≡ Some (s, work.0) = work.4 c ∙ rw (eq-eqb c c refl) refl in
     let quiet = unheld g s before old parts.0 first parts.1 parts.2 (nobody_has s first empty) none_before in
-    let once : HeldOnce s c back.1 = (first_has s c work.0 parts.1.slots back.1.slots quiet.1.0 work.4, kept_office g s parts.1.office back.1.office work.5 quiet.1.1) in
+    let once : HeldOnce s c back.1 = (first_has s c work.0 parts.1.slots back.1.slots quiet.1.0 work.4, kept_office g s parts.1.offices back.1.offices work.5 quiet.1.1) in
     let life = each_has_its_life g c s later back.0 new back.1 next work.0 back.3 parts.5.1 there in
     let own = held g s c later back.0 new back.1 next work.0 back.3 there once none_later in
     let all = not_own g s (all_deeds before) (came s ∷ all_deeds later) (own_deeds c later) quiet.0 own in

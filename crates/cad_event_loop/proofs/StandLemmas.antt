@@ -61,9 +61,9 @@ module _ {R : Type 0} (g : Ghosts R) where
   work_clean old mid slots between (acts s c act) w counts = act_clean c old mid w.0 w.1 act w.3 counts
   work_clean old mid slots between (waits s c) w counts = same_counts old mid w.3 counts
   work_clean old mid slots between (ends s c cause deeds said) w counts = tells_clean old mid said w.4 counts
-  work_clean old mid slots between (office_comes o) w counts = same_counts old mid w.5 counts
-  work_clean old mid slots between (enters o text turned deeds said) w counts = tells_clean old mid said w.7 counts
-  work_clean old mid slots between (office_leaves o) w counts = same_counts old mid w.4 counts
+  work_clean old mid slots between (office_comes o k) w counts = same_counts old mid w.5 counts
+  work_clean old mid slots between (enters o k text turned deeds said) w counts = tells_clean old mid said w.7 counts
+  work_clean old mid slots between (office_leaves o k overdue) w counts = same_counts old mid w.4 counts
   work_clean old mid slots between (aside deeds said) w counts = tells_clean old mid said w.1 counts
 
   pub goes_clean : (works : List Work) (old new : Desk R) (slots next : Place) → Goes g old slots works new next → g.counts (responder_of new) → g.counts (responder_of old)
@@ -128,11 +128,11 @@ module _ {R : Type 0} (g : Ghosts R) where
       let after = goes_clean later goes.0 new goes.1 next goes.3 counts in
       let told = tells_stand commands old goes.0 said goes.2.4 after may.0 stands in
       goes_stands commands later goes.0 new goes.1 next goes.3 may.1 counts (subst (λ (cs : List Command). g.stands_for (responder_of goes.0) cs) (client_same commands c said goes.2.3) told)
-  goes_stands commands (office_comes o ∷ later) old new slots next goes may counts stands =
+  goes_stands commands (office_comes o k ∷ later) old new slots next goes may counts stands =
       goes_stands commands later goes.0 new goes.1 next goes.3 may.1 counts (same_stands commands old goes.0 goes.2.5 stands)
-  goes_stands commands (office_leaves o ∷ later) old new slots next goes may counts stands =
+  goes_stands commands (office_leaves o k overdue ∷ later) old new slots next goes may counts stands =
       goes_stands commands later goes.0 new goes.1 next goes.3 may.1 counts (same_stands commands old goes.0 goes.2.4 stands)
-  goes_stands commands (enters o text turned deeds said ∷ later) old new slots next goes may counts stands =
+  goes_stands commands (enters o k text turned deeds said ∷ later) old new slots next goes may counts stands =
       let after = goes_clean later goes.0 new goes.1 next goes.3 counts in
       goes_stands (commands_by commands said) later goes.0 new goes.1 next goes.3 may.1 counts (tells_stand commands old goes.0 said goes.2.7 after may.0 stands)
   goes_stands commands (aside deeds said ∷ later) old new slots next goes may counts stands =

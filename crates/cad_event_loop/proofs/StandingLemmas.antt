@@ -1,6 +1,6 @@
 -- How clients and the land office stand after what is done, and that each that may go on has its turns.
-use Rattle.std.proofs.Common.{◌≡◌, ◌⊎◌, inl, inr, ℕ, ◌+◌, ◌*◌, ◌<◌, ◌≤◌, Bool, true, false, ◌||◌, List, [], ◌∷◌, ◌++◌, length, length-append, append_assoc, append-nil, Option, None, Some, IsSomeAnd, Result, Ok, Err, refl, sym, ap, subst, ◌∙◌, if◌then◌else◌, arith}
-use Rattle.std.proofs.lemmas.Bool.{cases_lt}
+use Rattle.std.proofs.Common.{◌≡◌, ◌⊎◌, inl, inr, ℕ, nat_eq, ◌+◌, ◌*◌, ◌<◌, ◌≤◌, Bool, true, false, ◌||◌, List, [], ◌∷◌, ◌++◌, length-append, append_assoc, append-nil, Option, None, Some, IsSomeAnd, Result, Ok, Err, refl, sym, ap, subst, ◌∙◌, if◌then◌else◌, arith}
+use Rattle.std.proofs.lemmas.Bool.{cases_lt, eqb-true}
 use Rattle.std.proofs.lemmas.Option.{slice_get_past}
 use Rattle.cad_network.specs.lemmas.DeedLemmas.{or_none}
 use Rattle.cad_clients.specs.Channels.{fed}
@@ -10,17 +10,21 @@ use Rattle.cad_clients.specs.Notes.{MayGoOn}
 use Rattle.cad_clients.specs.Slots.{client_in, client_at}
 use Rattle.cad_event_loop.specs.declared.peers.Peers.{Peers}
 use Rattle.cad_event_loop.specs.declared.stopped.Stopped.{Stopped}
-use Rattle.cad_event_loop.specs.inner.Standing.{standing_of, standing_at, standing_office, standings, IsAsked, IsPaced, IsAtDoors, LosesNobody, ServesOffice, GivesTurn, GivesTurnAlone, HasVisits, HearsBetween, VisitsClient, most_for_one, GivesTurnsBelow, IfWhole, ServesAll, ServesEach, MakesRound, MadeRounds}
-use Rattle.cad_event_loop.specs.Turns.{Standing, absent, waiting, ready, Standings, woken, is_among, office_place, stands_after, stands_in, office_after, office_in, all_after, is_turn_of, is_wait_of, is_end_of, is_office_turn, any_of, turns_of, written_by, written_to, Replies, HasEnough, EachHasTurn, IsQuiet, HearsOffice, AreVisits, ComesByVisits, GivesTurns, most_in_round, IsRound, AreRounds, all_works, AreServed}
-use Rattle.cad_event_loop.specs.Works.{AtOffice, Work, wakes, opens, acts, waits, ends, office_comes, enters, office_leaves, aside}
+use Rattle.cad_event_loop.specs.inner.Standing.{standing_of, standing_at, standing_office, standings, IsAsked, IsPaced, IsAtDoors, LosesNobody, flag_at, ServesOffice, most_for_office, ServesOfficesBelow, ServesOffices, GivesTurn, GivesTurnAlone, HasVisits, HearsBetween, VisitsClient, most_for_one, GivesTurnsBelow, IfWhole, ServesAll, ServesEach, MakesRound, MadeRounds}
+use Rattle.cad_event_loop.specs.Turns.{Standing, absent, waiting, ready, Standings, woken, is_among, office_place, stands_after, stands_in, office_after, office_in, all_after, is_turn_of, is_wait_of, is_end_of, is_office_turn, any_of, turns_of, written_by, written_to, Replies, HasEnough, EachHasTurn, IsQuiet, HearsOffice, IsVisit, AreVisits, ComesByVisits, GivesTurns, most_in_round, IsRound, AreRounds, all_works, AreServed}
+use Rattle.cad_event_loop.specs.Works.{AtOffice, AtOffices, Work, wakes, opens, acts, waits, ends, office_comes, enters, office_leaves, aside}
 
 pub stands_in-append : (c : ℕ) (old : Standing) (xs ys : List Work) → stands_in c old (xs ++ ys) ≡ stands_in c (stands_in c old xs) ys
 stands_in-append c old [] ys = refl
 stands_in-append c old (work ∷ xs) ys = stands_in-append c (stands_after c old work) xs ys
 
-pub office_in-append : (old : Standing) (xs ys : List Work) → office_in old (xs ++ ys) ≡ office_in (office_in old xs) ys
-office_in-append old [] ys = refl
-office_in-append old (work ∷ xs) ys = office_in-append (office_after old work) xs ys
+pub office_in-append : (k : ℕ) (old : Standing) (xs ys : List Work) → office_in k old (xs ++ ys) ≡ office_in k (office_in k old xs) ys
+office_in-append k old [] ys = refl
+office_in-append k old (work ∷ xs) ys = office_in-append k (office_after k old work) xs ys
+
+-- whoever stands alike stands alike after this
+alike_after : (k : ℕ) (a b : Standing) (works : List Work) → a ≡ b → office_in k a works ≡ office_in k b works
+alike_after k a b works same = ap (λ (it : Standing). office_in k it works) same
 
 one_first : (a b : Bool) → a ≡ true → (a || b) ≡ true
 one_first true b e = refl
@@ -68,19 +72,46 @@ works-append : (xs ys : List (List Work)) → all_works (xs ++ ys) ≡ all_works
 works-append [] ys = refl
 works-append (first ∷ more) ys = ap (λ (l : List Work). first ++ l) (works-append more ys) ∙ sym (append_assoc first (all_works more) (all_works ys))
 
-visits-append : (stand : Standing) (xs ys : List (List Work)) → AreVisits stand xs → AreVisits (office_in stand (all_works xs)) ys → AreVisits stand (xs ++ ys)
-visits-append stand [] ys x y = y
-visits-append stand (first ∷ more) ys x y = (x.0, visits-append (office_in stand first) more ys x.1 (subst (λ (it : Standing). AreVisits it ys) (office_in-append stand first (all_works more)) y))
+-- how the land office stands after these
+abbrev pub offices_in : (ℕ → Standing) → List Work → ℕ → Standing
+offices_in stands works k = office_in k (stands k) works
 
-visits-then : (stand : Standing) (xs ys : List Work) → HasVisits stand xs → HasVisits (office_in stand xs) ys → HasVisits stand (xs ++ ys)
-visits-then stand xs ys x y = record {
-  visits = x.visits ++ y.visits;
-  all = ap (λ (l : List Work). l ++ ys) x.all ∙ (ap (λ (l : List Work). all_works x.visits ++ l) y.all ∙ sym (works-append x.visits y.visits));
-  are = visits-append stand x.visits y.visits x.are (subst (λ (l : List Work). AreVisits (office_in stand l) y.visits) x.all y.are);
+visit_alike : (a b : ℕ → Standing) (visit : List Work) → ((k : ℕ) → b k ≡ a k) → IsVisit a visit → IsVisit b visit
+visit_alike a b visit same v = record {
+  c = v.c;
+  own = v.own;
+  later = v.later;
+  all = v.all;
+  alone = v.alone;
+  quiet = v.quiet;
+  hears = λ k. subst (λ (it : Standing). HearsOffice k it v.later) (alike_after k (a k) (b k) v.own (sym (same k))) (v.hears k);
 }
 
-visits-nil : (stand : Standing) → HasVisits stand []
-visits-nil stand = record { visits = []; all = refl; are = tt }
+visits_alike : (a b : ℕ → Standing) (visits : List (List Work)) → ((k : ℕ) → b k ≡ a k) → AreVisits a visits → AreVisits b visits
+visits_alike a b [] same are = tt
+visits_alike a b (visit ∷ visits) same are =
+    (visit_alike a b visit same are.0, visits_alike (offices_in a visit) (offices_in b visit) visits (λ k. alike_after k (b k) (a k) visit (same k)) are.1)
+
+has_alike : (a b : ℕ → Standing) (works : List Work) → ((k : ℕ) → b k ≡ a k) → HasVisits a works → HasVisits b works
+has_alike a b works same x = record { visits = x.visits; all = x.all; are = visits_alike a b x.visits same x.are }
+
+comes_alike : (a b : ℕ → Standing) (works : List Work) → ((k : ℕ) → b k ≡ a k) → ComesByVisits a works → ComesByVisits b works
+comes_alike a b works same x = record { visits = x.visits; rest = x.rest; all = x.all; are = visits_alike a b x.visits same x.are; quiet = x.quiet }
+
+visits-append : (stands : ℕ → Standing) (xs ys : List (List Work)) → AreVisits stands xs → AreVisits (offices_in stands (all_works xs)) ys → AreVisits stands (xs ++ ys)
+visits-append stands [] ys x y = y
+visits-append stands (first ∷ more) ys x y =
+    (x.0, visits-append (offices_in stands first) more ys x.1 (visits_alike (offices_in stands (first ++ all_works more)) (offices_in (offices_in stands first) (all_works more)) ys (λ k. sym (office_in-append k (stands k) first (all_works more))) y))
+
+visits-then : (stands : ℕ → Standing) (xs ys : List Work) → HasVisits stands xs → HasVisits (offices_in stands xs) ys → HasVisits stands (xs ++ ys)
+visits-then stands xs ys x y = record {
+  visits = x.visits ++ y.visits;
+  all = ap (λ (l : List Work). l ++ ys) x.all ∙ (ap (λ (l : List Work). all_works x.visits ++ l) y.all ∙ sym (works-append x.visits y.visits));
+  are = visits-append stands x.visits y.visits x.are (subst (λ (l : List Work). AreVisits (offices_in stands l) y.visits) x.all y.are);
+}
+
+visits-nil : (stands : ℕ → Standing) → HasVisits stands []
+visits-nil stands = record { visits = []; all = refl; are = tt }
 
 sum_more : (a b d e : ℕ) → e ≡ b + d → a + e ≡ (a + b) + d
 sum_more a b d e is = omega (arith, is)
@@ -166,13 +197,19 @@ woken_if : (told : Bool) (old : Standing) → old ≡ ready → (if told then wo
 woken_if true old is = ap woken is
 woken_if false old is = is
 
-whole : {E : Type 0} (result : Result (Option Stopped) E) (So : Type 0) → So → IfWhole result So
-whole (Ok None) So so = so
-whole (Ok (Some stopped)) So so = tt
-whole (Err error) So so = tt
+certain : {E : Type 0} (result : Result (Option Stopped) E) (So : Type 0) → So → IfWhole result So
+certain (Ok None) So so = so
+certain (Ok (Some stopped)) So so = tt
+certain (Err error) So so = tt
 
-visits_more : (stand : Standing) (xs ys : List Work) → IsQuiet ys → ComesByVisits stand xs → ComesByVisits stand (xs ++ ys)
-visits_more stand xs ys quiet x = record {
+-- of a round that was made to its end, this follows
+whole : {E : Type 0} (result : Result (Option Stopped) E) (Had So : Type 0) → (Had → So) → IfWhole result Had → IfWhole result So
+whole (Ok None) Had So so had = so had
+whole (Ok (Some stopped)) Had So so had = tt
+whole (Err error) Had So so had = tt
+
+visits_more : (stands : ℕ → Standing) (xs ys : List Work) → IsQuiet ys → ComesByVisits stands xs → ComesByVisits stands (xs ++ ys)
+visits_more stands xs ys quiet x = record {
   visits = x.visits;
   rest = x.rest ++ ys;
   all = ap (λ (l : List Work). l ++ ys) x.all ∙ append_assoc (all_works x.visits) x.rest ys;
@@ -183,16 +220,16 @@ visits_more stand xs ys quiet x = record {
 gives_more : (stands : Standings) (xs ys : List Work) → IsQuiet ys → GivesTurns stands xs → GivesTurns stands (xs ++ ys)
 gives_more stands [] ys quiet gives = absurd gives
 gives_more stands (wakes places ∷ xs) ys quiet gives = (
-  record { clients = λ c is. enough_left c xs ys (gives.0.clients c is); office = λ is. any_left is_office_turn xs ys (gives.0.office is) },
-  visits_more (office_after stands.office (wakes places)) xs ys quiet gives.1,
+  record { clients = λ c is. enough_left c xs ys (gives.0.clients c is); offices = λ k is. any_left (is_office_turn k) xs ys (gives.0.offices k is) },
+  visits_more (λ k. office_after k (stands.offices k) (wakes places)) xs ys quiet gives.1,
 )
 gives_more stands (opens s c ∷ xs) ys quiet gives = absurd gives
 gives_more stands (acts s c act ∷ xs) ys quiet gives = absurd gives
 gives_more stands (waits s c ∷ xs) ys quiet gives = absurd gives
 gives_more stands (ends s c cause deeds said ∷ xs) ys quiet gives = absurd gives
-gives_more stands (office_comes o ∷ xs) ys quiet gives = absurd gives
-gives_more stands (enters o text turned deeds said ∷ xs) ys quiet gives = absurd gives
-gives_more stands (office_leaves o ∷ xs) ys quiet gives = absurd gives
+gives_more stands (office_comes o k ∷ xs) ys quiet gives = absurd gives
+gives_more stands (enters o k text turned deeds said ∷ xs) ys quiet gives = absurd gives
+gives_more stands (office_leaves o k overdue ∷ xs) ys quiet gives = absurd gives
 gives_more stands (aside deeds said ∷ xs) ys quiet gives = absurd gives
 
 cut_off : {E : Type 0} (So : Type 0) (result : Result (Option Stopped) E) → IfWhole result ⊥ → IfWhole result So
@@ -208,14 +245,14 @@ paced-append m n most a b d xs ys within x y =
     record {
       few = omega (arith, count, few, more, within);
       stand = λ c. y.stand c ∙ (ap (λ (it : Standing). stands_in c it ys) (x.stand c) ∙ sym (stands_in-append c (a.clients c) xs ys));
-      office = y.office ∙ (ap (λ (it : Standing). office_in it ys) x.office ∙ sym (office_in-append a.office xs ys));
+      offices = λ k. y.offices k ∙ (ap (λ (it : Standing). office_in k it ys) (x.offices k) ∙ sym (office_in-append k (a.offices k) xs ys));
     }
 
 pub paced-nil : (most : ℕ) (a : Standings) → IsPaced most a a []
-paced-nil most a = record { few = omega arith; stand = λ c. refl; office = refl }
+paced-nil most a = record { few = omega arith; stand = λ c. refl; offices = λ k. refl }
 
 pub paced-more : (m most : ℕ) (a b : Standings) (xs : List Work) → m ≤ most → IsPaced m a b xs → IsPaced most a b xs
-paced-more m most a b xs within x = let few = x.few in record { few = omega (arith, few, within); stand = x.stand; office = x.office }
+paced-more m most a b xs within x = let few = x.few in record { few = omega (arith, few, within); stand = x.stand; offices = x.offices }
 
 pub doors-append : (m n most : ℕ) (a b d : Standings) (xs ys : List Work) → m + n ≤ most → IsAtDoors m a b xs → IsAtDoors n b d ys → IsAtDoors most a d (xs ++ ys)
 doors-append m n most a b d xs ys within x y = record { paced = paced-append m n most a b d xs ys within x.paced y.paced; quiet = quiet-append xs ys x.quiet y.quiet }
@@ -227,18 +264,18 @@ pub doors-more : (m most : ℕ) (a b : Standings) (xs : List Work) → m ≤ mos
 doors-more m most a b xs within x = record { paced = paced-more m most a b xs within x.paced; quiet = x.quiet }
 
 pub passes-nil : (most : ℕ) (a : Standings) → LosesNobody most a a []
-passes-nil most a = record { paced = paced-nil most a; kept = λ c is. inr is; kept_office = λ is. inr is }
+passes-nil most a = record { paced = paced-nil most a; kept = λ c is. inr is; kept_office = λ k is. inr is }
 
 pub passes-more : (m most : ℕ) (a b : Standings) (xs : List Work) → m ≤ most → LosesNobody m a b xs → LosesNobody most a b xs
 passes-more m most a b xs within x = record { paced = paced-more m most a b xs within x.paced; kept = x.kept; kept_office = x.kept_office }
 
-kept_then : (a b d : Standings) (xs ys : List Work) → (a.office ≡ ready → (any_of is_office_turn xs ≡ true) ⊎ (b.office ≡ ready)) → (b.office ≡ ready → (any_of is_office_turn ys ≡ true) ⊎ (d.office ≡ ready))
-    → a.office ≡ ready → (any_of is_office_turn (xs ++ ys) ≡ true) ⊎ (d.office ≡ ready)
-kept_then a b d xs ys x y is = elim (x is) [
-  | inl had ↦ inl (any_left is_office_turn xs ys had)
+kept_then : (a b d : Standings) (xs ys : List Work) → ((k : ℕ) → a.offices k ≡ ready → (any_of (is_office_turn k) xs ≡ true) ⊎ (b.offices k ≡ ready))
+    → ((k : ℕ) → b.offices k ≡ ready → (any_of (is_office_turn k) ys ≡ true) ⊎ (d.offices k ≡ ready)) → (k : ℕ) → a.offices k ≡ ready → (any_of (is_office_turn k) (xs ++ ys) ≡ true) ⊎ (d.offices k ≡ ready)
+kept_then a b d xs ys x y k is = elim (x k is) [
+  | inl had ↦ inl (any_left (is_office_turn k) xs ys had)
   | inr still ↦
-      elim (y still) [
-        | inl has ↦ inl (any_right is_office_turn xs ys has)
+      elim (y k still) [
+        | inl has ↦ inl (any_right (is_office_turn k) xs ys has)
         | inr stays ↦ inr stays
       ]
 ]
@@ -257,32 +294,81 @@ passes-append m n most a b d xs ys within x y = record {
   kept_office = kept_then a b d xs ys x.kept_office y.kept_office;
 }
 
--- the land office had its turns, and the clients stand as they did
-pub office_passes : (most : ℕ) (a b : Standings) (xs : List Work) → IsPaced most a b xs → ((c : ℕ) → b.clients c ≡ a.clients c) → any_of is_office_turn xs ≡ true → IsQuiet xs → ServesOffice most a b xs
-office_passes most a b xs paced same turn quiet = record { passes = record { paced = paced; kept = λ c is. inr (same c ∙ is); kept_office = λ is. inl turn }; quiet = quiet; turn = λ is. turn }
+-- connection k of the land office had its turns, and all others stand as they did
+pub office_passes : (k most : ℕ) (a b : Standings) (xs : List Work) → IsPaced most a b xs → ((c : ℕ) → b.clients c ≡ a.clients c) → ((j : ℕ) → nat_eq k j ≡ false → b.offices j ≡ a.offices j) → any_of (is_office_turn k) xs ≡ true → IsQuiet xs
+    → ServesOffice k most a b xs
+office_passes k most a b xs paced same others turn quiet = record { passes = record { paced = paced; kept = λ c is. inr (same c ∙ is); kept_office = λ j is. go j is (nat_eq k j) refl }; quiet = quiet; turn = λ is. turn }
+  where
+    go : (j : ℕ) → a.offices j ≡ ready → (own : Bool) → nat_eq k j ≡ own → (any_of (is_office_turn j) xs ≡ true) ⊎ (b.offices j ≡ ready)
+    go j is true e = inl (subst (λ (n : ℕ). any_of (is_office_turn n) xs ≡ true) (eqb-true k j e) turn)
+    go j is false e = inr (others j e ∙ is)
 
 -- it has none, since it may not go on
-pub office_none : (most : ℕ) (a : Standings) → (a.office ≡ ready → ⊥) → ServesOffice most a a []
-office_none most a not = record { passes = passes-nil most a; quiet = λ c. refl; turn = λ is. absurd (not is) }
+pub office_none : (k most : ℕ) (a : Standings) → (a.offices k ≡ ready → ⊥) → ServesOffice k most a a []
+office_none k most a not = record { passes = passes-nil most a; quiet = λ c. refl; turn = λ is. absurd (not is) }
 
--- the land office waits, or is not here
-pub office_rests : (office : AtOffice) → standing_office office false ≡ ready → ⊥
+-- it waits, or is not open
+pub office_rests : (office : AtOffice) → standing_office office (Some false) ≡ ready → ⊥
 office_rests None e = none_ready e
 office_rests (Some office) e = waiting_ready e
 
-pub office_unready : {S : Type 0} (peers : Peers S) (office : AtOffice) → peers.ready.office ≡ false → ServesOffice 8 (standings peers office) (standings peers office) []
-office_unready peers office unready = office_none 8 (standings peers office) (go peers.ready.office unready)
+pub office_unready : {S : Type 0} (k : ℕ) (peers : Peers S) (offices : AtOffices) → Some false ≡ flag_at peers.ready k → ServesOffice k 8 (standings peers offices) (standings peers offices) []
+office_unready k peers offices unready = office_none k 8 (standings peers offices) (λ is. office_rests (offices k) (ap (λ (flag : Option Bool). standing_office (offices k) flag) unready ∙ is))
+
+-- the connections of the land office have their turns, one after the other
+pub offices-nil : (a : Standings) → ServesOfficesBelow 0 a a []
+offices-nil a = record { passes = passes-nil 0 a; quiet = λ c. refl; turns = λ j within is. absurd (omega (arith, within)) }
+
+pub offices-then : (k : ℕ) (a b d : Standings) (xs ys : List Work) → ServesOfficesBelow k a b xs → ServesOffice k most_for_office b d ys → ServesOfficesBelow (k + 1) a d (xs ++ ys)
+offices-then k a b d xs ys x y = record {
+  passes = passes-append (most_for_office * k) most_for_office (most_for_office * (k + 1)) a b d xs ys (omega arith) x.passes y.passes;
+  quiet = quiet-append xs ys x.quiet y.quiet;
+  turns = λ j within is. elim (cases_lt j k) [
+    | inl before ↦ any_left (is_office_turn j) xs ys (x.turns j before is)
+    | inr past ↦
+        let same : j ≡ k = omega (arith, within, past) in
+        elim (x.passes.kept_office j is) [
+          | inl had ↦ any_left (is_office_turn j) xs ys had
+          | inr still ↦ any_right (is_office_turn j) xs ys (subst (λ (n : ℕ). any_of (is_office_turn n) ys ≡ true) (sym same) (y.turn (ap b.offices (sym same) ∙ still)))
+        ]
+  ];
+}
+
+-- there are no others
+pub offices_served : (k : ℕ) (a b : Standings) (xs : List Work) → ((j : ℕ) → 4 ≤ j → a.offices j ≡ absent) → 4 ≤ k → k ≤ 4 → ServesOfficesBelow k a b xs → ServesOffices 32 None a b xs
+offices_served k a b xs none least most x = record {
+  passes = passes-more (most_for_office * k) 32 a b xs (omega (arith, most)) x.passes;
+  quiet = x.quiet;
+  turns = λ j is. elim (cases_lt j k) [
+    | inl within ↦ x.turns j within is
+    | inr past ↦ absurd (none_ready (sym (none j (omega (arith, least, past))) ∙ is))
+  ];
+}
+
+-- hosting ends meanwhile
+pub offices_cut : (stopped : Stopped) (k : ℕ) (a b d : Standings) (xs ys : List Work) → k < 4 → ServesOfficesBelow k a b xs → ServesOffice k most_for_office b d ys → ServesOffices 32 (Some stopped) a d (xs ++ ys)
+offices_cut stopped k a b d xs ys within x y = record {
+  passes = passes-append (most_for_office * k) most_for_office 32 a b d xs ys (omega (arith, within)) x.passes y.passes;
+  quiet = quiet-append xs ys x.quiet y.quiet;
+  turns = tt;
+}
+
+-- no connection has a number above the last
+pub offices_beyond : {S : Type 0} (peers : Peers S) (offices : AtOffices) (k : ℕ) → 4 ≤ k → (standings peers offices).offices k ≡ absent
+offices_beyond peers offices k past =
+    let room = peers.ready.room in
+    ap (λ (flag : Option Bool). standing_office (offices k) flag) (slice_get_past peers.ready.offices k (omega (arith, past, room))) ∙ go (offices k)
   where
-    go : (flag : Bool) → flag ≡ false → standing_office office flag ≡ ready → ⊥
-    go true e = absurd (let clash : true ≡ false = e in cc)
-    go false e = office_rests office
+    go : (office : AtOffice) → standing_office office None ≡ absent
+    go None = refl
+    go (Some office) = refl
 
 -- the network is asked who may go on
 pub asked_stands : (a b : Standings) (xs : List Work) → (asked : IsAsked a b xs) → (c : ℕ) → b.clients c ≡ stands_in c (a.clients c) (wakes asked.0 ∷ [])
 asked_stands a b xs asked c = asked.2.stand c ∙ ap (λ (l : List Work). stands_in c (a.clients c) l) asked.1
 
-pub asked_office : (a b : Standings) (xs : List Work) → (asked : IsAsked a b xs) → b.office ≡ office_in a.office (wakes asked.0 ∷ [])
-asked_office a b xs asked = asked.2.office ∙ ap (λ (l : List Work). office_in a.office l) asked.1
+pub asked_office : (a b : Standings) (xs : List Work) → (asked : IsAsked a b xs) → (k : ℕ) → b.offices k ≡ office_in k (a.offices k) (wakes asked.0 ∷ [])
+asked_office a b xs asked k = asked.2.offices k ∙ ap (λ (l : List Work). office_in k (a.offices k) l) asked.1
 
 pub asked_quiet : (a b : Standings) (xs : List Work) → IsAsked a b xs → IsQuiet xs
 asked_quiet a b xs asked = subst IsQuiet (sym asked.1) (λ c. refl)
@@ -291,7 +377,7 @@ pub asked_passes : (most : ℕ) (a b : Standings) (xs : List Work) → 1 ≤ mos
 asked_passes most a b xs some asked = record {
   paced = paced-more 1 most a b xs some asked.2;
   kept = λ c is. inr (asked_stands a b xs asked c ∙ woken_if (is_among c asked.0) (a.clients c) is);
-  kept_office = λ is. inr (asked_office a b xs asked ∙ woken_if (is_among office_place asked.0) a.office is);
+  kept_office = λ k is. inr (asked_office a b xs asked k ∙ woken_if (is_among (office_place k) asked.0) (a.offices k) is);
 }
 
 pub turn_passes : (c m : ℕ) (a b : Standings) (xs : List Work) → GivesTurn c m a b xs → LosesNobody m a b xs
@@ -316,55 +402,56 @@ is_ready_of (Some client) e = go client.is_ready e
     go false e = absurd (waiting_ready e)
 
 -- it has none, since it may not go on
-pub turn_none : {S : Type 0} (c most : ℕ) (peers : Peers S) (office : AtOffice) → (IsSomeAnd (client_at peers.clients c) MayGoOn → ⊥) → GivesTurn c most (standings peers office) (standings peers office) []
-turn_none c most peers office not = record { passes = passes-nil most (standings peers office); turn = λ is. absurd (not (is_ready_of (client_at peers.clients c) is)) }
+pub turn_none : {S : Type 0} (c most : ℕ) (peers : Peers S) (offices : AtOffices) → (IsSomeAnd (client_at peers.clients c) MayGoOn → ⊥) → GivesTurn c most (standings peers offices) (standings peers offices) []
+turn_none c most peers offices not = record { passes = passes-nil most (standings peers offices); turn = λ is. absurd (not (is_ready_of (client_at peers.clients c) is)) }
 
 -- the network tells, and then the land office has its turns
-pub hears_then : {E : Type 0} (result : Result (Option Stopped) E) (a b d : Standings) (xs ys : List Work) → IsAsked a b xs → ServesOffice 8 b d ys → HearsBetween 9 result a d (xs ++ ys)
-hears_then result a b d xs ys asked served = record {
-  passes = passes-append 1 8 9 a b d xs ys (omega arith) (asked_passes 1 a b xs (omega arith) asked) served.passes;
+pub hears_then : {E : Type 0} (end : Option Stopped) (a b d : Standings) (xs ys : List Work) → IsAsked a b xs → ServesOffices 32 end b d ys → HearsBetween {E = E} 33 (Ok end) a d (xs ++ ys)
+hears_then {E} end a b d xs ys asked served = record {
+  passes = passes-append 1 32 33 a b d xs ys (omega arith) (asked_passes 1 a b xs (omega arith) asked) served.passes;
   quiet = quiet-append xs ys (asked_quiet a b xs asked) served.quiet;
-  hears = whole result (HearsOffice a.office (xs ++ ys)) (subst (λ (l : List Work). HearsOffice a.office (l ++ ys)) (sym asked.1) (λ is. served.turn (asked_office a b xs asked ∙ is)));
+  hears = whole {E = E} (Ok end) ((k : ℕ) → b.offices k ≡ ready → any_of (is_office_turn k) ys ≡ true) ((k : ℕ) → HearsOffice k (a.offices k) (xs ++ ys))
+      (λ turns k. subst (λ (l : List Work). HearsOffice k (a.offices k) (l ++ ys)) (sym asked.1) (λ is. turns k (asked_office a b xs asked k ∙ is))) served.turns;
 }
 
 -- the system refuses that
-pub hears_cut : {E : Type 0} (error : E) (a b : Standings) (xs : List Work) → IsAsked a b xs → HearsBetween 9 (Err error) a b xs
-hears_cut error a b xs asked = record { passes = asked_passes 9 a b xs (omega arith) asked; quiet = asked_quiet a b xs asked; hears = tt }
+pub hears_cut : {E : Type 0} (error : E) (a b : Standings) (xs : List Work) → IsAsked a b xs → HearsBetween 33 (Err error) a b xs
+hears_cut error a b xs asked = record { passes = asked_passes 33 a b xs (omega arith) asked; quiet = asked_quiet a b xs asked; hears = tt }
 
 -- it is not here
-pub hears_none : {E : Type 0} (a : Standings) → a.office ≡ absent → HearsBetween {E = E} 9 (Ok None) a a []
-hears_none a is = record { passes = passes-nil 9 a; quiet = λ c. refl; hears = is }
+pub hears_none : {E : Type 0} (a : Standings) → ((k : ℕ) → a.offices k ≡ absent) → HearsBetween {E = E} 33 (Ok None) a a []
+hears_none a is = record { passes = passes-nil 33 a; quiet = λ c. refl; hears = is }
 
 -- a client and then the land office
-visit_one : (c m n : ℕ) (E : Type 0) (a b d : Standings) (xs ys : List Work) → GivesTurnAlone c m a b xs → HearsBetween {E = E} n (Ok None) b d ys → HasVisits a.office (xs ++ ys)
+visit_one : (c m n : ℕ) (E : Type 0) (a b d : Standings) (xs ys : List Work) → GivesTurnAlone c m a b xs → HearsBetween {E = E} n (Ok None) b d ys → HasVisits a.offices (xs ++ ys)
 visit_one c m n E a b d xs ys x y = record {
   visits = (xs ++ ys) ∷ [];
   all = sym (append-nil (xs ++ ys));
-  are = (record { c = c; own = xs; later = ys; all = refl; alone = x.alone; quiet = y.quiet; hears = subst (λ (it : Standing). HearsOffice it ys) x.gives.passes.paced.office y.hears }, tt);
+  are = (record { c = c; own = xs; later = ys; all = refl; alone = x.alone; quiet = y.quiet; hears = λ k. subst (λ (it : Standing). HearsOffice k it ys) (x.gives.passes.paced.offices k) (y.hears k) }, tt);
 }
 
-pub visit_then : {E : Type 0} (result : Result (Option Stopped) E) (c : ℕ) (a b d : Standings) (xs ys : List Work) → GivesTurnAlone c 4 a b xs → HearsBetween 9 result b d ys → VisitsClient c 13 result a d (xs ++ ys)
-visit_then {E} result c a b d xs ys x y = record { gives = turn_then c 4 9 13 a b d xs ys (omega arith) x.gives y.passes; visits = go result y }
+pub visit_then : {E : Type 0} (result : Result (Option Stopped) E) (c : ℕ) (a b d : Standings) (xs ys : List Work) → GivesTurnAlone c 4 a b xs → HearsBetween 33 result b d ys → VisitsClient c 37 result a d (xs ++ ys)
+visit_then {E} result c a b d xs ys x y = record { gives = turn_then c 4 33 37 a b d xs ys (omega arith) x.gives y.passes; visits = go result y }
   where
-    go : (result : Result (Option Stopped) E) → HearsBetween 9 result b d ys → IfWhole result (HasVisits a.office (xs ++ ys))
-    go (Ok None) y = visit_one c 4 9 E a b d xs ys x y
+    go : (result : Result (Option Stopped) E) → HearsBetween 33 result b d ys → IfWhole result (HasVisits a.offices (xs ++ ys))
+    go (Ok None) y = visit_one c 4 33 E a b d xs ys x y
     go (Ok (Some stopped)) y = tt
     go (Err error) y = tt
 
 -- hosting ends by the client
-pub visit_cut : {E : Type 0} (stopped : Stopped) (c : ℕ) (a b : Standings) (xs : List Work) → GivesTurnAlone c 4 a b xs → VisitsClient {E = E} c 13 (Ok (Some stopped)) a b xs
-visit_cut stopped c a b xs x = record { gives = turn_more c 4 13 a b xs (omega arith) x.gives; visits = tt }
+pub visit_cut : {E : Type 0} (stopped : Stopped) (c : ℕ) (a b : Standings) (xs : List Work) → GivesTurnAlone c 4 a b xs → VisitsClient {E = E} c 37 (Ok (Some stopped)) a b xs
+visit_cut stopped c a b xs x = record { gives = turn_more c 4 37 a b xs (omega arith) x.gives; visits = tt }
 
 -- there is no visit, since it may not go on
-pub visit_none : {S E : Type 0} (c : ℕ) (peers : Peers S) (office : AtOffice) → (IsSomeAnd (client_at peers.clients c) MayGoOn → ⊥) → VisitsClient {E = E} c 13 (Ok None) (standings peers office) (standings peers office) []
-visit_none c peers office not = record { gives = turn_none c 13 peers office not; visits = visits-nil (standing_office office peers.ready.office) }
+pub visit_none : {S E : Type 0} (c : ℕ) (peers : Peers S) (offices : AtOffices) → (IsSomeAnd (client_at peers.clients c) MayGoOn → ⊥) → VisitsClient {E = E} c 37 (Ok None) (standings peers offices) (standings peers offices) []
+visit_none c peers offices not = record { gives = turn_none c 37 peers offices not; visits = visits-nil (standings peers offices).offices }
 
 pub below-nil : (a : Standings) → GivesTurnsBelow 0 a a []
-below-nil a = record { passes = passes-nil 0 a; turns = λ d within is. absurd (omega (arith, within)); visits = visits-nil a.office }
+below-nil a = record { passes = passes-nil 0 a; turns = λ d within is. absurd (omega (arith, within)); visits = visits-nil a.offices }
 
 pub below-then : {E : Type 0} (c : ℕ) (a b d : Standings) (xs ys : List Work) → GivesTurnsBelow c a b xs → VisitsClient {E = E} c most_for_one (Ok None) b d ys → GivesTurnsBelow (c + 1) a d (xs ++ ys)
 below-then c a b d xs ys x y = record {
-  visits = visits-then a.office xs ys x.visits (subst (λ (it : Standing). HasVisits it ys) x.passes.paced.office y.visits);
+  visits = visits-then a.offices xs ys x.visits (has_alike b.offices (offices_in a.offices xs) ys (λ k. sym (x.passes.paced.offices k)) y.visits);
   passes = passes-append (most_for_one * c) most_for_one (most_for_one * (c + 1)) a b d xs ys (omega arith) x.passes y.gives.passes;
   turns = λ e within is. elim (cases_lt e c) [
     | inl before ↦ enough_left e xs ys (x.turns e before is)
@@ -399,7 +486,7 @@ pub some_served : {E : Type 0} (result : Result (Option Stopped) E) (c : ℕ) (a
     → ServesAll result a d (xs ++ ys)
 some_served result c a b d xs ys within cut x y = record {
   paced = paced-append (most_for_one * c) most_for_one (most_for_one * 64) a b d xs ys (omega (arith, within)) x.passes.paced y.gives.passes.paced;
-  turns = cut_off (((c : ℕ) → a.clients c ≡ ready → HasEnough c (xs ++ ys)) × HasVisits a.office (xs ++ ys)) result cut;
+  turns = cut_off (((c : ℕ) → a.clients c ≡ ready → HasEnough c (xs ++ ys)) × HasVisits a.offices (xs ++ ys)) result cut;
   kept_office = kept_then a b d xs ys x.passes.kept_office y.gives.passes.kept_office;
 }
 
@@ -407,36 +494,36 @@ pub error_served : {E F : Type 0} (error : E) (other : F) (c : ℕ) (a b d : Sta
 error_served error other c a b d xs ys within x y = record { paced = (some_served (Err other) c a b d xs ys within tt x y).paced; turns = tt; kept_office = (some_served (Err other) c a b d xs ys within tt x y).kept_office }
 
 -- the clients have their turns, and then the land office
-pub office_then : {E F : Type 0} (result : Result (Option Stopped) F) (a b d : Standings) (xs ys : List Work) → ServesAll {E = E} (Ok None) a b xs → ServesOffice 8 b d ys → ServesEach 840 result a d (xs ++ ys)
-office_then result a b d xs ys x y = record {
-  paced = paced-append 832 8 840 a b d xs ys (omega arith) x.paced y.passes.paced;
-  turns = whole result (EachHasTurn a (xs ++ ys) × ComesByVisits a.office (xs ++ ys)) (
+pub office_then : {E F : Type 0} (end : Option Stopped) (a b d : Standings) (xs ys : List Work) → ServesAll {E = E} (Ok None) a b xs → ServesOffices 32 end b d ys → ServesEach {E = F} 2400 (Ok end) a d (xs ++ ys)
+office_then {E} {F} end a b d xs ys x y = record {
+  paced = paced-append 2368 32 2400 a b d xs ys (omega arith) x.paced y.passes.paced;
+  turns = whole {E = F} (Ok end) ((k : ℕ) → b.offices k ≡ ready → any_of (is_office_turn k) ys ≡ true) (EachHasTurn a (xs ++ ys) × ComesByVisits a.offices (xs ++ ys)) (λ turns. (
     record {
       clients = λ c is. enough_left c xs ys (x.turns.0 c is);
-      office = λ is. elim (x.kept_office is) [
-        | inl had ↦ any_left is_office_turn xs ys had
-        | inr still ↦ any_right is_office_turn xs ys (y.turn still)
+      offices = λ k is. elim (x.kept_office k is) [
+        | inl had ↦ any_left (is_office_turn k) xs ys had
+        | inr still ↦ any_right (is_office_turn k) xs ys (turns k still)
       ];
     },
     record { visits = x.turns.1.visits; rest = ys; all = ap (λ (l : List Work). l ++ ys) x.turns.1.all; are = x.turns.1.are; quiet = y.quiet },
-  );
+  )) y.turns;
 }
 
 -- hosting ended before it had
-pub office_cut : {E : Type 0} (result : Result (Option Stopped) E) (a b : Standings) (xs : List Work) → IfWhole result ⊥ → ServesAll result a b xs → ServesEach 840 result a b xs
-office_cut result a b xs cut x = record { paced = paced-more 832 840 a b xs (omega arith) x.paced; turns = cut_off (EachHasTurn a xs × ComesByVisits a.office xs) result cut }
+pub office_cut : {E : Type 0} (result : Result (Option Stopped) E) (a b : Standings) (xs : List Work) → IfWhole result ⊥ → ServesAll result a b xs → ServesEach 2400 result a b xs
+office_cut result a b xs cut x = record { paced = paced-more 2368 2400 a b xs (omega arith) x.paced; turns = cut_off (EachHasTurn a xs × ComesByVisits a.offices xs) result cut }
 
 -- the network tells who may go on, and they have their turns
-pub asked_served : {E : Type 0} (result : Result (Option Stopped) E) (a b d : Standings) (xs ys : List Work) → IsAsked a b xs → ServesEach 840 result b d ys → MakesRound 841 result a d (xs ++ ys)
+pub asked_served : {E : Type 0} (result : Result (Option Stopped) E) (a b d : Standings) (xs ys : List Work) → IsAsked a b xs → ServesEach 2400 result b d ys → MakesRound 2401 result a d (xs ++ ys)
 asked_served result a b d xs ys asked served = record {
-  paced = paced-append 1 840 841 a b d xs ys (omega arith) asked.2 served.paced;
+  paced = paced-append 1 2400 2401 a b d xs ys (omega arith) asked.2 served.paced;
   gives = subst (λ (works : List Work). IfWhole result (GivesTurns a (works ++ ys))) (sym asked.1) (go result served.turns);
 }
   where
-    go : {E : Type 0} (result : Result (Option Stopped) E) → IfWhole result (EachHasTurn b ys × ComesByVisits b.office ys) → IfWhole result (GivesTurns a (wakes asked.0 ∷ ys))
+    go : {E : Type 0} (result : Result (Option Stopped) E) → IfWhole result (EachHasTurn b ys × ComesByVisits b.offices ys) → IfWhole result (GivesTurns a (wakes asked.0 ∷ ys))
     go (Ok None) turns = (
-      record { clients = λ c is. turns.0.clients c (asked_stands a b xs asked c ∙ is); office = λ is. turns.0.office (asked_office a b xs asked ∙ is) },
-      subst (λ (it : Standing). ComesByVisits it ys) (asked_office a b xs asked) turns.1,
+      record { clients = λ c is. turns.0.clients c (asked_stands a b xs asked c ∙ is); offices = λ k is. turns.0.offices k (asked_office a b xs asked k ∙ is) },
+      comes_alike b.offices (λ k. office_after k (a.offices k) (wakes asked.0)) ys (λ k. sym (asked_office a b xs asked k)) turns.1,
     )
     go (Ok (Some stopped)) turns = tt
     go (Err error) turns = tt
@@ -449,7 +536,7 @@ asked_only most error a b xs some asked = record { paced = paced-more 1 most a b
 pub round_then : {E F : Type 0} (result : Result (Option Stopped) F) (m n most : ℕ) (a b d : Standings) (xs ys : List Work) → m + n ≤ most → MakesRound {E = E} m (Ok None) a b xs → IsAtDoors n b d ys → MakesRound most result a d (xs ++ ys)
 round_then result m n most a b d xs ys within x y = record {
   paced = paced-append m n most a b d xs ys within x.paced y.paced;
-  gives = whole result (GivesTurns a (xs ++ ys)) (gives_more a xs ys y.quiet x.gives);
+  gives = certain result (GivesTurns a (xs ++ ys)) (gives_more a xs ys y.quiet x.gives);
 }
 
 pub round_cut : {E : Type 0} (result : Result (Option Stopped) E) (m most : ℕ) (a b : Standings) (xs : List Work) → m ≤ most → MakesRound m result a b xs → MakesRound most result a b xs
@@ -461,24 +548,24 @@ all_works-append (first ∷ rounds) round = ap (λ (l : List Work). first ++ l) 
 
 -- all stand alike
 abbrev pub AreAlike : Standings → Standings → Type 0
-AreAlike some other = ((c : ℕ) → other.clients c ≡ some.clients c) × (other.office ≡ some.office)
+AreAlike some other = ((c : ℕ) → other.clients c ≡ some.clients c) × ((k : ℕ) → other.offices k ≡ some.offices k)
 
 gives_alike : (some other : Standings) (works : List Work) → AreAlike some other → GivesTurns some works → GivesTurns other works
 gives_alike some other [] alike gives = absurd gives
 gives_alike some other (wakes places ∷ later) alike gives = (
   record {
     clients = λ c is. gives.0.clients c (sym (ap (λ (it : Standing). stands_after c it (wakes places)) (alike.0 c)) ∙ is);
-    office = λ is. gives.0.office (sym (ap (λ (it : Standing). office_after it (wakes places)) alike.1) ∙ is);
+    offices = λ k is. gives.0.offices k (sym (ap (λ (it : Standing). office_after k it (wakes places)) (alike.1 k)) ∙ is);
   },
-  subst (λ (it : Standing). ComesByVisits it later) (sym (ap (λ (it : Standing). office_after it (wakes places)) alike.1)) gives.1,
+  comes_alike (λ k. office_after k (some.offices k) (wakes places)) (λ k. office_after k (other.offices k) (wakes places)) later (λ k. ap (λ (it : Standing). office_after k it (wakes places)) (alike.1 k)) gives.1,
 )
 gives_alike some other (opens s c ∷ later) alike gives = absurd gives
 gives_alike some other (acts s c act ∷ later) alike gives = absurd gives
 gives_alike some other (waits s c ∷ later) alike gives = absurd gives
 gives_alike some other (ends s c cause deeds said ∷ later) alike gives = absurd gives
-gives_alike some other (office_comes o ∷ later) alike gives = absurd gives
-gives_alike some other (enters o text turned deeds said ∷ later) alike gives = absurd gives
-gives_alike some other (office_leaves o ∷ later) alike gives = absurd gives
+gives_alike some other (office_comes o k ∷ later) alike gives = absurd gives
+gives_alike some other (enters o k text turned deeds said ∷ later) alike gives = absurd gives
+gives_alike some other (office_leaves o k overdue ∷ later) alike gives = absurd gives
 gives_alike some other (aside deeds said ∷ later) alike gives = absurd gives
 
 pub round_alike : (some other : Standings) (round : List Work) → AreAlike some other → IsRound some round → IsRound other round
@@ -489,31 +576,31 @@ rounds_alike some other [] alike are = tt
 rounds_alike some other (round ∷ rounds) alike are = (
   round_alike some other round alike are.0,
   rounds_alike (all_after some round) (all_after other round) rounds
-      ((λ c. ap (λ (it : Standing). stands_in c it round) (alike.0 c)), ap (λ (it : Standing). office_in it round) alike.1) are.1,
+      ((λ c. ap (λ (it : Standing). stands_in c it round) (alike.0 c)), λ k. ap (λ (it : Standing). office_in k it round) (alike.1 k)) are.1,
 )
 
 -- one more round
 rounds_more : (stands : Standings) (rounds : List (List Work)) (round : List Work) → AreRounds stands rounds → IsRound (all_after stands (all_works rounds)) round → AreRounds stands (rounds ++ round ∷ [])
-rounds_more stands [] round are is = (round_alike (all_after stands []) stands round ((λ c. refl), refl) is, tt)
+rounds_more stands [] round are is = (round_alike (all_after stands []) stands round ((λ c. refl), λ k. refl) is, tt)
 rounds_more stands (first ∷ rounds) round are is = (
   are.0,
   rounds_more (all_after stands first) rounds round are.1
       (round_alike (all_after stands (all_works (first ∷ rounds))) (all_after (all_after stands first) (all_works rounds)) round
-      ((λ c. sym (stands_in-append c (stands.clients c) first (all_works rounds))), sym (office_in-append stands.office first (all_works rounds))) is),
+      ((λ c. sym (stands_in-append c (stands.clients c) first (all_works rounds))), λ k. sym (office_in-append k (stands.offices k) first (all_works rounds))) is),
 )
 
 pub rounds-nil : (a : Standings) → MadeRounds a a []
-rounds-nil a = record { rounds = []; all = refl; served = tt; stand = λ c. refl; office = refl }
+rounds-nil a = record { rounds = []; all = refl; served = tt; stand = λ c. refl; offices = λ k. refl }
 
 pub rounds-then : {E : Type 0} (a b d : Standings) (xs ys : List Work) → MadeRounds a b xs → MakesRound {E = E} most_in_round (Ok None) b d ys → MadeRounds a d (xs ++ ys)
 rounds-then a b d xs ys x y = record {
   rounds = x.rounds ++ ys ∷ [];
   all = ap (λ (l : List Work). l ++ ys) x.all ∙ sym (all_works-append x.rounds ys);
   served = rounds_more a x.rounds ys x.served (round_alike b (all_after a (all_works x.rounds)) ys
-      ((λ c. sym (x.stand c ∙ ap (λ (l : List Work). stands_in c (a.clients c) l) x.all)), sym (x.office ∙ ap (λ (l : List Work). office_in a.office l) x.all))
+      ((λ c. sym (x.stand c ∙ ap (λ (l : List Work). stands_in c (a.clients c) l) x.all)), λ k. sym (x.offices k ∙ ap (λ (l : List Work). office_in k (a.offices k) l) x.all))
       (record { gives = y.gives; few = y.paced.few }));
   stand = λ c. y.paced.stand c ∙ (ap (λ (it : Standing). stands_in c it ys) (x.stand c) ∙ sym (stands_in-append c (a.clients c) xs ys));
-  office = y.paced.office ∙ (ap (λ (it : Standing). office_in it ys) x.office ∙ sym (office_in-append a.office xs ys));
+  offices = λ k. y.paced.offices k ∙ (ap (λ (it : Standing). office_in k it ys) (x.offices k) ∙ sym (office_in-append k (a.offices k) xs ys));
 }
 
 -- hosting ends within a round, or after one

@@ -1,6 +1,6 @@
 -- What is written to the land office is the answers to the lines that were read of it.
 use Rattle.std.proofs.Common.{◌≡◌, ◌⊎◌, ℕ, nat_eq, Bool, true, false, cond, not, ◌&&◌, List, [], ◌∷◌, ◌++◌, codes, length, map, filter, None, Some, refl, sym, ap, subst, ◌∙◌, append-nil, append_assoc, inl, inr, if◌then◌else◌, arith}
-use Rattle.std.proofs.lemmas.Bool.{eq-eqb}
+use Rattle.std.proofs.lemmas.Bool.{eqb-true, eq-eqb}
 use Rattle.std.proofs.lemmas.Bool.Decides.{nat_tests}
 use Rattle.std.specs.List.{list_all, slice_split}
 use Rattle.cad_stream.specs.declared.responder.Responder.{Ghosts}
@@ -15,11 +15,11 @@ use Rattle.cad_office_socket.specs.declared.turned.EntryTurned.TheVariants.{Wrot
 use Rattle.cad_office_socket.specs.Buffering.{IsOfOneLine}
 use Rattle.cad_office_socket.specs.Checks.{IsCheckOf}
 use Rattle.cad_office_socket.specs.Turns.{unread, unwritten, has_ended, HasBegun, EndsLine, IsTaken, IsCutOff, IsEntryTurn}
-use Rattle.cad_event_loop.specs.Works.{AtOffice, Place, Work, wakes, opens, acts, waits, ends, office_comes, enters, office_leaves, aside, is_last, deeds_in, deeds_of, all_deeds, Works, Goes}
+use Rattle.cad_event_loop.specs.Works.{AtOffice, AtOffices, Place, Puts, Same, Said, Work, wakes, opens, acts, waits, ends, office_comes, enters, office_leaves, aside, is_last, deeds_in, deeds_of, all_deeds, Works, Goes}
 use Rattle.cad_event_loop.specs.Streams.{ends_line, answer_text, answer_texts, IsLeftWell, EndsWell, TakesLine, LinesCome, OfficeIsAnswered}
 use Rattle.cad_event_loop.proofs.GoesLemmas.{all_deeds-append, aside_passes, woken_quiet}
 use Rattle.cad_event_loop.proofs.LifeLemmas.{apart, none_some, one_some}
-use Rattle.cad_event_loop.proofs.ApartLemmas.{NotIn, NotHeld, puts_other, puts_none, act_quiet, differs, leaves_quiet, kept_slots, unheld}
+use Rattle.cad_event_loop.proofs.ApartLemmas.{NotIn, NotHeld, puts_other, puts_none, act_quiet, differs, leaves_quiet, enters_apart, kept_slots, unheld}
 
 -- ---- lines
 
@@ -399,22 +399,22 @@ module _ {R : Type 0} (g : Ghosts R) (o : ℕ) where
       let step = apart_step (ends s c cause deeds said) (all_deeds later) old goes.0 here goes.1 not goes.2 none in
       let rest = gone later goes.0 new goes.1 next goes.3 step.0 step.1 in
       record { come = rest.come; texts = rest.texts; never = rest.never }
-  gone (office_comes p ∷ later) old new here next goes not none =
-      let step = apart_step (office_comes p) (all_deeds later) old goes.0 here goes.1 not goes.2 none in
+  gone (office_comes p j ∷ later) old new here next goes not none =
+      let step = apart_step (office_comes p j) (all_deeds later) old goes.0 here goes.1 not goes.2 none in
       let rest = gone later goes.0 new goes.1 next goes.3 step.0 step.1 in
       record { come = rest.come; texts = rest.texts; never = rest.never }
-  gone (office_leaves p ∷ later) old new here next goes not none =
-      let step = apart_step (office_leaves p) (all_deeds later) old goes.0 here goes.1 not goes.2 none in
+  gone (office_leaves p j overdue ∷ later) old new here next goes not none =
+      let step = apart_step (office_leaves p j overdue) (all_deeds later) old goes.0 here goes.1 not goes.2 none in
       let rest = gone later goes.0 new goes.1 next goes.3 step.0 step.1 in
       record { come = rest.come; texts = rest.texts; never = rest.never }
   gone (aside deeds said ∷ later) old new here next goes not none =
       let step = apart_step (aside deeds said) (all_deeds later) old goes.0 here goes.1 not goes.2 none in
       let rest = gone later goes.0 new goes.1 next goes.3 step.0 step.1 in
       record { come = rest.come; texts = rest.texts; never = rest.never }
-  gone (enters p text turned deeds said ∷ later) old new here next goes not none =
-      let step = apart_step (enters p text turned deeds said) (all_deeds later) old goes.0 here goes.1 not goes.2 none in
+  gone (enters p j text turned deeds said ∷ later) old new here next goes not none =
+      let step = apart_step (enters p j text turned deeds said) (all_deeds later) old goes.0 here goes.1 not goes.2 none in
       let rest = gone later goes.0 new goes.1 next goes.3 step.0 step.1 in
-      let other = differs p o (λ same. not.1 goes.2.0 (goes.2.3 ∙ ap (λ (n : ℕ). Some (n, goes.2.0)) same)) in
+      let other = differs p o (λ same. not.1 j goes.2.0 (goes.2.3 ∙ ap (λ (n : ℕ). Some (n, goes.2.0)) same)) in
       record {
         come = rw other rest.come;
         texts = rw other rest.texts;
@@ -447,6 +447,27 @@ module _ {R : Type 0} (g : Ghosts R) (o : ℕ) where
   beside begun entry deeds later old new here next goes quiet s =
       same_bytes begun entry (LinesCome g o later old new here next goes) (answer_texts o later) (EndsWell o later) (given_by o (all_deeds later)) (taken_by o (all_deeds later)) (given_by o (deeds ++ all_deeds later)) (taken_by o (deeds ++ all_deeds later))
       (given_more deeds (all_deeds later) quiet) (taken_more deeds (all_deeds later) quiet) s
+
+  -- a turn of another connection of the land office
+  beside_turn : (p j : ℕ) (text : List ℕ) (turned : EntryTurned) (deeds : List Deed) (said : Said) (was mid : Desk R) (begun : List ℕ) (entry : Entry) (later : List Work) (new : Desk R) (here next : Place) (goes : Goes g mid here later new next)
+      → nat_eq p o ≡ false → IsQuiet o deeds → Streams begun entry later mid new here next goes
+      → IsStream begun entry (TakesLine g (nat_eq p o && ends_line turned) was turned mid (LinesCome g o later mid new here next goes)) (if nat_eq p o then answer_text turned ++ answer_texts o later else answer_texts o later)
+      (((p ≡ o) × IsLeftWell o turned deeds) ⊎ EndsWell o later) (given_by o (deeds ++ all_deeds later)) (taken_by o (deeds ++ all_deeds later))
+  beside_turn p j text turned deeds said was mid begun entry later new here next goes other quiet s =
+      let t = beside begun entry deeds later mid new here next goes quiet s in
+      rw other record {
+        lines = t.lines;
+        more = t.more;
+        rest = t.rest;
+        ended = t.ended;
+        come = t.come;
+        answered = t.answered;
+        all = λ well. elim well [
+          | inl now ↦ absurd (apart p o other now.0)
+          | inr later_on ↦ t.all later_on
+        ];
+        none = t.none;
+      }
 
   last_passes : (own : List Deed) (last : Bool) → (given_by o (own ++ (if last then left o ∷ [] else [])) ≡ given_by o own) × (taken_by o (own ++ (if last then left o ∷ [] else [])) ≡ taken_by o own)
   last_passes own true = (given_by-append o own (left o ∷ []) ∙ append-nil (given_by o own), taken_by-append o own (left o ∷ []) ∙ append-nil (taken_by o own))
@@ -526,9 +547,39 @@ module _ {R : Type 0} (g : Ghosts R) (o : ℕ) where
       let both = one_some {X = ℕ × Entry} (p, other) (o, entry) (sym x ∙ y) in
       (ap (λ (it : ℕ × Entry). it.0) both, ap (λ (it : ℕ × Entry). it.1) both)
 
-  streams : (works : List Work) (old new : Desk R) (here next : Place) (goes : Goes g old here works new next) (begun : List ℕ) (entry : Entry) → here.office ≡ Some (o, entry) → NotIn o here.slots → comes o (all_deeds works) ≡ false → IsReady begun entry
+  -- no other connection of the land office has this socket
+  abbrev NotBeside : ℕ → AtOffices → Type 0
+  NotBeside k offices = (j : ℕ) (entry : Entry) → nat_eq k j ≡ false → offices j ≡ Some (o, entry) → ⊥
+
+  kept_beside : (k : ℕ) (old new : AtOffices) → Same old new → NotBeside k old → NotBeside k new
+  kept_beside k old new same not j entry other at = not j entry other (sym (same j) ∙ at)
+
+  -- another connection changes
+  put_beside : (k i p : ℕ) (one : AtOffice) (old new : AtOffices) → ((entry : Entry) → one ≡ Some (o, entry) → ⊥) → Puts old new i one → NotBeside k old → NotBeside k new
+  put_beside k i p one old new apart_from puts not j entry other at = go (nat_eq i j) refl
+    where
+      go : (same : Bool) → nat_eq i j ≡ same → ⊥
+      go true e = apart_from entry (sym (puts j ∙ rw e refl) ∙ at)
+      go false e = not j entry other (sym (puts j ∙ rw e refl) ∙ at)
+
+  -- this one changes
+  put_own : (k : ℕ) (one : AtOffice) (old new : AtOffices) → Puts old new k one → NotBeside k old → NotBeside k new
+  put_own k one old new puts not j entry other at = not j entry other (sym (puts j ∙ rw other refl) ∙ at)
+
+  -- and was its only one
+  gone_beside : (k : ℕ) (old new : AtOffices) → Puts old new k None → NotBeside k old → (j : ℕ) (entry : Entry) → new j ≡ Some (o, entry) → ⊥
+  gone_beside k old new puts not j entry at = go (nat_eq k j) refl
+    where
+      go : (same : Bool) → nat_eq k j ≡ same → ⊥
+      go true e = none_some {X = ℕ × Entry} (o, entry) (sym (puts j ∙ rw e refl) ∙ at)
+      go false e = not j entry e (sym (puts j ∙ rw e refl) ∙ at)
+
+  at_other : (k i : ℕ) (one : AtOffice) (old new : AtOffices) (entry : Entry) → nat_eq i k ≡ false → Puts old new i one → old k ≡ Some (o, entry) → new k ≡ Some (o, entry)
+  at_other k i one old new entry other puts at = puts k ∙ rw other at
+
+  streams : (k : ℕ) (works : List Work) (old new : Desk R) (here next : Place) (goes : Goes g old here works new next) (begun : List ℕ) (entry : Entry) → here.offices k ≡ Some (o, entry) → NotBeside k here.offices → NotIn o here.slots → comes o (all_deeds works) ≡ false → IsReady begun entry
       → Streams begun entry works old new here next goes
-  streams [] old new here next goes begun entry at not none ready = record {
+  streams k [] old new here next goes begun entry at alone not none ready = record {
     lines = [];
     more = lines_in (begun ++ (unread entry ++ []));
     rest = unwritten entry;
@@ -538,69 +589,100 @@ module _ {R : Type 0} (g : Ghosts R) (o : ℕ) where
     all = λ well. absurd well;
     none = λ ended. refl;
   }
-  streams (wakes places ∷ later) old new here next goes begun entry at not none ready =
+  streams k (wakes places ∷ later) old new here next goes begun entry at alone not none ready =
       let parts = or_none (comes o (map woke places)) (comes o (all_deeds later)) (sym (comes-append o (map woke places) (all_deeds later)) ∙ none) in
       beside begun entry (map woke places) later goes.0 new goes.1 next goes.3 (woken_quiet o places)
-      (streams later goes.0 new goes.1 next goes.3 begun entry (goes.2.2 ∙ at) (kept_slots g o here.slots goes.1.slots goes.2.1 not) parts.1 ready)
-  streams (opens s c ∷ later) old new here next goes begun entry at not none ready =
+      (streams k later goes.0 new goes.1 next goes.3 begun entry (goes.2.2 k ∙ at) (kept_beside k here.offices goes.1.offices goes.2.2 alone) (kept_slots g o here.slots goes.1.slots goes.2.1 not) parts.1 ready)
+  streams k (opens s c ∷ later) old new here next goes begun entry at alone not none ready =
       let parts = or_none (nat_eq s o) (comes o (all_deeds later)) none in
-      streams later goes.0 new goes.1 next goes.3 begun entry (goes.2.5 ∙ at) (puts_other o c s goes.2.0 here.slots goes.1.slots parts.0 goes.2.4 not) parts.1 ready
-  streams (acts s c act ∷ later) old new here next goes begun entry at not none ready =
+      streams k later goes.0 new goes.1 next goes.3 begun entry (goes.2.5 k ∙ at) (kept_beside k here.offices goes.1.offices goes.2.5 alone) (puts_other o c s goes.2.0 here.slots goes.1.slots parts.0 goes.2.4 not) parts.1 ready
+  streams k (acts s c act ∷ later) old new here next goes begun entry at alone not none ready =
       let other = differs s o (λ same. not c goes.2.0 (goes.2.2 ∙ ap (λ (n : ℕ). Some (n, goes.2.0)) same)) in
       let parts = or_none (comes o (deeds_in s act)) (comes o (all_deeds later)) (sym (comes-append o (deeds_in s act) (all_deeds later)) ∙ none) in
       beside begun entry (deeds_in s act) later goes.0 new goes.1 next goes.3 (act_quiet o s act other)
-      (streams later goes.0 new goes.1 next goes.3 begun entry (goes.2.5 ∙ at) (puts_other o c s goes.2.1 here.slots goes.1.slots other goes.2.4 not) parts.1 ready)
-  streams (waits s c ∷ later) old new here next goes begun entry at not none ready =
-      streams later goes.0 new goes.1 next goes.3 begun entry (goes.2.5 ∙ at) (kept_slots g o here.slots goes.1.slots goes.2.4 not) none ready
-  streams (ends s c cause deeds said ∷ later) old new here next goes begun entry at not none ready =
+      (streams k later goes.0 new goes.1 next goes.3 begun entry (goes.2.5 k ∙ at) (kept_beside k here.offices goes.1.offices goes.2.5 alone) (puts_other o c s goes.2.1 here.slots goes.1.slots other goes.2.4 not) parts.1 ready)
+  streams k (waits s c ∷ later) old new here next goes begun entry at alone not none ready =
+      streams k later goes.0 new goes.1 next goes.3 begun entry (goes.2.5 k ∙ at) (kept_beside k here.offices goes.1.offices goes.2.5 alone) (kept_slots g o here.slots goes.1.slots goes.2.4 not) none ready
+  streams k (ends s c cause deeds said ∷ later) old new here next goes begun entry at alone not none ready =
       let other = differs s o (λ same. not c goes.2.0 (goes.2.1 ∙ ap (λ (n : ℕ). Some (n, goes.2.0)) same)) in
       let parts = or_none (comes o deeds) (comes o (all_deeds later)) (sym (comes-append o deeds (all_deeds later)) ∙ none) in
       beside begun entry deeds later goes.0 new goes.1 next goes.3 (leaves_quiet g o c s old goes.0 goes.2.0 cause deeds other goes.2.2)
-      (streams later goes.0 new goes.1 next goes.3 begun entry (goes.2.6 ∙ at) (puts_none o c here.slots goes.1.slots goes.2.5 not) parts.1 ready)
-  streams (office_comes p ∷ later) old new here next goes begun entry at not none ready = absurd (none_some {X = ℕ × Entry} (o, entry) (sym goes.2.1 ∙ at))
-  streams (office_leaves p ∷ later) old new here next goes begun entry at not none ready =
-      gone_streams begun entry later goes.0 new goes.1 next goes.3 (kept_slots g o here.slots goes.1.slots goes.2.3 not, λ it is. none_some {X = ℕ × Entry} (o, it) (sym goes.2.2 ∙ is)) none
-  streams (aside deeds said ∷ later) old new here next goes begun entry at not none ready =
+      (streams k later goes.0 new goes.1 next goes.3 begun entry (goes.2.6 k ∙ at) (kept_beside k here.offices goes.1.offices goes.2.6 alone) (puts_none o c here.slots goes.1.slots goes.2.5 not) parts.1 ready)
+  streams k (office_comes p j ∷ later) old new here next goes begun entry at alone not none ready =
+      let parts = or_none (nat_eq p o) (comes o (all_deeds later)) none in
+      let other : nat_eq j k ≡ false = differs j k (λ same. none_some {X = ℕ × Entry} (o, entry) (sym goes.2.1 ∙ (ap here.offices same ∙ at))) in
+      let beside_it = put_beside k j p (Some (p, goes.2.0)) here.offices goes.1.offices (λ it is. apart p o parts.0 (ap (λ (both : ℕ × Entry). both.0) (one_some {X = ℕ × Entry} (p, goes.2.0) (o, it) is))) goes.2.3 alone in
+      streams k later goes.0 new goes.1 next goes.3 begun entry (at_other k j (Some (p, goes.2.0)) here.offices goes.1.offices entry other goes.2.3 at) beside_it (kept_slots g o here.slots goes.1.slots goes.2.4 not) parts.1 ready
+  streams k (office_leaves p j overdue ∷ later) old new here next goes begun entry at alone not none ready =
+      go (λ there beside_it. streams k later goes.0 new goes.1 next goes.3 begun entry there beside_it (kept_slots g o here.slots goes.1.slots goes.2.3 not) none ready) (nat_eq j k) refl
+    where
+      go : (goes.1.offices k ≡ Some (o, entry) → NotBeside k goes.1.offices → Streams begun entry later goes.0 new goes.1 next goes.3) → (same : Bool) → nat_eq j k ≡ same → Streams begun entry (office_leaves p j overdue ∷ later) old new here next goes
+      go more true e =
+          let puts = subst (λ (n : ℕ). Puts here.offices goes.1.offices n None) (eqb-true j k e) goes.2.2 in
+          gone_streams begun entry later goes.0 new goes.1 next goes.3 (kept_slots g o here.slots goes.1.slots goes.2.3 not, gone_beside k here.offices goes.1.offices puts alone) none
+      go more false e = more (at_other k j None here.offices goes.1.offices entry e goes.2.2 at) (put_beside k j p None here.offices goes.1.offices (λ it is. none_some {X = ℕ × Entry} (o, it) is) goes.2.2 alone)
+  streams k (aside deeds said ∷ later) old new here next goes begun entry at alone not none ready =
       let parts = or_none (comes o deeds) (comes o (all_deeds later)) (sym (comes-append o deeds (all_deeds later)) ∙ none) in
       beside begun entry deeds later goes.0 new goes.1 next goes.3 (aside_passes deeds goes.2.3 o parts.0)
-      (streams later goes.0 new goes.1 next goes.3 begun entry (goes.2.4 ∙ at) (kept_slots g o here.slots goes.1.slots goes.2.2 not) parts.1 ready)
-  streams (enters p text turned deeds said ∷ later) old new here next goes begun entry at not none ready =
-      let w = goes.2 in
-      let same = same_office p entry w.0 here.office w.3 at in
-      let turn : IsEntryTurn g o old entry turned goes.0 w.1 w.2 = subst (λ (n : ℕ). IsEntryTurn g n old entry turned goes.0 w.1 w.2) same.0 (subst (λ (it : Entry). IsEntryTurn g p old it turned goes.0 w.1 w.2) same.1 w.4) in
-      let are : deeds ≡ w.2 ++ (if is_last turned then left o ∷ [] else []) = w.5 ∙ ap (λ (n : ℕ). w.2 ++ (if is_last turned then left n ∷ [] else [])) same.0 in
+      (streams k later goes.0 new goes.1 next goes.3 begun entry (goes.2.4 k ∙ at) (kept_beside k here.offices goes.1.offices goes.2.4 alone) (kept_slots g o here.slots goes.1.slots goes.2.2 not) parts.1 ready)
+  streams k (enters p j text turned deeds said ∷ later) old new here next goes begun entry at alone not none ready =
       let parts = or_none (comes o deeds) (comes o (all_deeds later)) (sym (comes-append o deeds (all_deeds later)) ∙ none) in
-      let slots = kept_slots g o here.slots goes.1.slots w.9 not in
-      let there : goes.1.office ≡ (if is_last turned then None else Some (o, w.1)) = w.8 ∙ ap (λ (n : ℕ). if◌then◌else◌ {A = AtOffice} (is_last turned) None (Some (n, w.1))) same.0 in
-      let bytes = last_passes w.2 (is_last turned) in
-      entered p begun entry turned old goes.0 deeds w.2 (LinesCome g o later goes.0 new goes.1 next goes.3) (answer_texts o later) (EndsWell o later) (all_deeds later) []
-      (eq-eqb p o same.0) (ap (λ (l : List Deed). given_by o l) are ∙ bytes.0, ap (λ (l : List Deed). taken_by o l) are ∙ bytes.1)
-      (by_last (is_last turned) refl are there (λ it is. streams later goes.0 new goes.1 next goes.3 it w.1 is slots parts.1) slots parts.1 turn)
+      let slots = kept_slots g o here.slots goes.1.slots goes.2.9 not in
+      by_number (λ it next_begun at_next alone_next is. streams k later goes.0 new goes.1 next goes.3 next_begun it at_next alone_next slots parts.1 is) slots parts.1 (nat_eq j k) refl
     where
-      by_last : (last : Bool) → is_last turned ≡ last → deeds ≡ goes.2.2 ++ (if last then left o ∷ [] else []) → goes.1.office ≡ if◌then◌else◌ {A = AtOffice} last None (Some (o, goes.2.1))
-          → ((it : List ℕ) → goes.1.office ≡ Some (o, goes.2.1) → IsReady it goes.2.1 → Streams it goes.2.1 later goes.0 new goes.1 next goes.3)
+      by_last : (last : Bool) → is_last turned ≡ last → deeds ≡ goes.2.2 ++ (if last then left o ∷ [] else []) → Puts here.offices goes.1.offices k (if◌then◌else◌ {A = AtOffice} last None (Some (o, goes.2.1)))
+          → ((it : List ℕ) → goes.1.offices k ≡ Some (o, goes.2.1) → IsReady it goes.2.1 → Streams it goes.2.1 later goes.0 new goes.1 next goes.3)
           → NotIn o goes.1.slots → comes o (all_deeds later) ≡ false → IsEntryTurn g o old entry turned goes.0 goes.2.1 goes.2.2
           → IsStream begun entry (TakesLine g (ends_line turned) old turned goes.0 (LinesCome g o later goes.0 new goes.1 next goes.3)) (answer_text turned ++ answer_texts o later) (IsLeftWell o turned deeds ⊎ EndsWell o later)
           (given_by o goes.2.2 ++ given_by o (all_deeds later)) (taken_by o goes.2.2 ++ taken_by o (all_deeds later))
-      by_last true is are there more slots none_later turn =
-          let gone_now : NotHeld o goes.1 = (slots, λ it held. none_some {X = ℕ × Entry} (o, it) (sym there ∙ held)) in
+      by_last true is are puts more slots none_later turn =
+          let gone_now : NotHeld o goes.1 = (slots, gone_beside k here.offices goes.1.offices puts alone) in
           let rest = gone later goes.0 new goes.1 next goes.3 gone_now none_later in
           let quiet = (unheld g o later goes.0 new goes.1 next goes.3 gone_now none_later).0 in
           turn_ends begun entry goes.2.1 turned old goes.0 goes.2.2 (LinesCome g o later goes.0 new goes.1 next goes.3) (answer_texts o later) (EndsWell o later) (given_by o (all_deeds later)) (taken_by o (all_deeds later)) ready turn deeds are
           rest.come rest.texts rest.never quiet.0 quiet.1
-      by_last false is are there more slots none_later turn =
+      by_last false is are puts more slots none_later turn =
           turn_goes begun entry goes.2.1 turned old goes.0 goes.2.2 (LinesCome g o later goes.0 new goes.1 next goes.3) (answer_texts o later) (EndsWell o later) (given_by o (all_deeds later)) (taken_by o (all_deeds later)) ready turn deeds
-          (λ over. (let clash : true ≡ false = sym (ap is_last over) ∙ is in cc)) (λ it stands. more it there stands)
+          (λ over. (let clash : true ≡ false = sym (ap is_last over) ∙ is in cc)) (λ it stands. more it (puts k ∙ rw (eq-eqb k k refl) refl) stands)
+
+      by_number : ((it : Entry) (begun : List ℕ) → goes.1.offices k ≡ Some (o, it) → NotBeside k goes.1.offices → IsReady begun it → Streams begun it later goes.0 new goes.1 next goes.3) → NotIn o goes.1.slots → comes o (all_deeds later) ≡ false
+          → (own : Bool) → nat_eq j k ≡ own → Streams begun entry (enters p j text turned deeds said ∷ later) old new here next goes
+      by_number more slots none_later true e =
+          let w = goes.2 in
+          let number = eqb-true j k e in
+          let held : here.offices k ≡ Some (p, w.0) = ap here.offices (sym number) ∙ w.3 in
+          let same = same_office p entry w.0 (here.offices k) held at in
+          let turn : IsEntryTurn g o old entry turned goes.0 w.1 w.2 = subst (λ (n : ℕ). IsEntryTurn g n old entry turned goes.0 w.1 w.2) same.0 (subst (λ (it : Entry). IsEntryTurn g p old it turned goes.0 w.1 w.2) same.1 w.4) in
+          let are : deeds ≡ w.2 ++ (if is_last turned then left o ∷ [] else []) = w.5 ∙ ap (λ (n : ℕ). w.2 ++ (if is_last turned then left n ∷ [] else [])) same.0 in
+          let puts = subst (λ (i : ℕ). Puts here.offices goes.1.offices i (if◌then◌else◌ {A = AtOffice} (is_last turned) None (Some (o, w.1)))) number
+          (subst (λ (n : ℕ). Puts here.offices goes.1.offices j (if◌then◌else◌ {A = AtOffice} (is_last turned) None (Some (n, w.1)))) same.0 w.8) in
+          let bytes = last_passes w.2 (is_last turned) in
+          entered p begun entry turned old goes.0 deeds w.2 (LinesCome g o later goes.0 new goes.1 next goes.3) (answer_texts o later) (EndsWell o later) (all_deeds later) []
+          (eq-eqb p o same.0) (ap (λ (l : List Deed). given_by o l) are ∙ bytes.0, ap (λ (l : List Deed). taken_by o l) are ∙ bytes.1)
+          (by_last (is_last turned) refl are puts (λ it at_next is. more w.1 it at_next (put_own k (if◌then◌else◌ {A = AtOffice} (is_last turned) None (Some (o, w.1))) here.offices goes.1.offices puts alone) is) slots none_later turn)
+      by_number more slots none_later false e =
+          let w = goes.2 in
+          let other : nat_eq p o ≡ false = differs p o (λ same. alone j w.0 (differs k j (λ is. apart j k e (sym is))) (w.3 ∙ ap (λ (n : ℕ). Some (n, w.0)) same)) in
+          let one : AtOffice = if◌then◌else◌ {A = AtOffice} (is_last turned) None (Some (p, w.1)) in
+          let none_of_it : ((it : Entry) → one ≡ Some (o, it) → ⊥) = (λ it is. not_here (is_last turned) it other is) in
+          let rest = more entry begun (at_other k j one here.offices goes.1.offices entry e w.8 at) (put_beside k j p one here.offices goes.1.offices none_of_it w.8 alone) ready in
+          let quiet = enters_apart g o p old goes.0 w.0 w.1 turned deeds w.2 other w.5 w.4 in
+          beside_turn p j text turned deeds said old goes.0 begun entry later new goes.1 next goes.3 other quiet rest
+        where
+          not_here : (last : Bool) (it : Entry) → nat_eq p o ≡ false → ◌≡◌ {A = AtOffice} (if◌then◌else◌ {A = AtOffice} last None (Some (p, goes.2.1))) (Some (o, it)) → ⊥
+          not_here true it other is = none_some {X = ℕ × Entry} (o, it) is
+          not_here false it other is = apart p o other (ap (λ (both : ℕ × Entry). both.0) (one_some {X = ℕ × Entry} (p, goes.2.1) (o, it) is))
 
 pub office_is_answered : {R : Type 0} (g : Ghosts R) → OfficeIsAnswered g
-office_is_answered g o before later old mid new first here next empty goes_before goes none_before none_later =
-    let nobody : NotHeld o first = ((λ d channel at. none_some {X = ℕ × Channel} (o, channel) (sym (empty.0 d) ∙ at)), (λ entry at. none_some {X = ℕ × Entry} (o, entry) (sym empty.1 ∙ at))) in
+office_is_answered g o k before later old mid new first here next empty goes_before goes none_before none_later =
+    let nobody : NotHeld o first = ((λ d channel at. none_some {X = ℕ × Channel} (o, channel) (sym (empty.0 d) ∙ at)), (λ j entry at. none_some {X = ℕ × Entry} (o, entry) (sym (empty.1 j) ∙ at))) in
     let quiet = unheld g o before old mid first here goes_before nobody none_before in
     let w = goes.2 in
     let new_entry = w.2 in
     let ready : IsReady [] w.0 = record { has = new_entry.none_begun; one = refl; ended = λ ended. (new_entry.none_read, refl) } in
-    let s = streams g o later goes.0 new goes.1 next goes.3 [] w.0 w.3 (kept_slots g o here.slots goes.1.slots w.4 quiet.1.0) none_later ready in
-    let all = all_deeds-append before (office_comes o ∷ later) in
+    let alone = put_own g o k (Some (o, w.0)) here.offices goes.1.offices w.3 (λ j it other at. quiet.1.1 j it at) in
+    let s = streams g o k later goes.0 new goes.1 next goes.3 [] w.0 (w.3 k ∙ rw (eq-eqb k k refl) refl) alone (kept_slots g o here.slots goes.1.slots w.4 quiet.1.0) none_later ready in
+    let all = all_deeds-append before (office_comes o k ∷ later) in
     let read = ap (λ (l : List Deed). given_by o l) all ∙ given_more g o (all_deeds before) (office_came o ∷ all_deeds later) quiet.0 in
     let written = ap (λ (l : List Deed). taken_by o l) all ∙ taken_more g o (all_deeds before) (office_came o ∷ all_deeds later) quiet.0 in
     record {

@@ -1,5 +1,5 @@
 -- What hosting does, by how it ended (own profile).
-use Rattle.std.specs.Prelude.{◌≡◌, ◌⊎◌, ⊤, ℕ, List, [], ◌++◌, ◌∷◌, Option, None, Some, Result, Ok, Err, IsErr}
+use Rattle.std.specs.Prelude.{◌≡◌, ◌⊎◌, ⊤, ℕ, true, false, List, [], ◌++◌, ◌∷◌, Option, None, Some, Result, Ok, Err, IsErr}
 use Rattle.cad_stream.specs.declared.responder.Responder.{Ghosts}
 use Rattle.cad_desk.specs.declared.desk.Desk.{Desk}
 use Rattle.cad_desk.specs.declared.fault.DeskFault.TheVariants.{Memory}
@@ -47,9 +47,9 @@ module _ (May : Work → Type 0) where
   Each [] = ⊤
   Each (work ∷ later) = May work × Each later
 
--- while clients and the land office are served, the land office is let go only if it is over
+-- while clients and the land office are served, a connection of the land office is let go only if it is over, or if its answer is overdue
 abbrev pub IsServing : Work → Type 0
-IsServing (office_leaves o) = ⊥
+IsServing (office_leaves o k overdue) = overdue ≡ true
 IsServing other = ⊤
 
 -- when hosting ends, nobody comes and nothing is read or answered: what is under way is written, and all are let go
@@ -74,9 +74,9 @@ IsClosing (opens s c) = ⊥
 IsClosing (acts s c act) = IsLastAct act
 IsClosing (waits s c) = ⊤
 IsClosing (ends s c cause deeds said) = IsLastEnding cause
-IsClosing (office_comes o) = ⊥
-IsClosing (enters o text turned deeds said) = IsLastTurn turned
-IsClosing (office_leaves o) = ⊤
+IsClosing (office_comes o k) = ⊥
+IsClosing (enters o k text turned deeds said) = IsLastTurn turned
+IsClosing (office_leaves o k overdue) = overdue ≡ false
 IsClosing (aside deeds said) = deeds ≡ []
 
 module _ {R : Type 0} (g : Ghosts R) where

@@ -31,9 +31,9 @@ commands_in commands (opens s c ∷ later) = commands_in commands later
 commands_in commands (acts s c act ∷ later) = commands_in commands later
 commands_in commands (waits s c ∷ later) = commands_in commands later
 commands_in commands (ends s c cause deeds said ∷ later) = commands_in commands later
-commands_in commands (office_comes o ∷ later) = commands_in commands later
-commands_in commands (enters o text turned deeds said ∷ later) = commands_in (commands_by commands said) later
-commands_in commands (office_leaves o ∷ later) = commands_in commands later
+commands_in commands (office_comes o k ∷ later) = commands_in commands later
+commands_in commands (enters o k text turned deeds said ∷ later) = commands_in (commands_by commands said) later
+commands_in commands (office_leaves o k overdue ∷ later) = commands_in commands later
 commands_in commands (aside deeds said ∷ later) = commands_in commands later
 
 -- These commands, after so many, are those that were entered, in their order.
@@ -53,7 +53,7 @@ module _ (AreLater : ℕ → List Command → Type 0) where
 
 abbrev pub AreEntered : List Work → ℕ → List Command → Type 0
 AreEntered [] count entered = entered ≡ []
-AreEntered (enters o text turned deeds said ∷ later) count entered = AreFirstBy (AreEntered later) count text turned entered
+AreEntered (enters o k text turned deeds said ∷ later) count entered = AreFirstBy (AreEntered later) count text turned entered
 AreEntered (other ∷ later) count entered = AreEntered later count entered
 
 module _ {R : Type 0} (g : Ghosts R) where

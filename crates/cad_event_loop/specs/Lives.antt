@@ -32,9 +32,9 @@ life_of c (opens s d ∷ later) = other (Open d) (Ok Opened) ∷ life_of c later
 life_of c (acts s d act ∷ later) = if nat_eq d c then own act ∷ life_of c later else by_another d act (life_of c later)
 life_of c (waits s d ∷ later) = life_of c later
 life_of c (ends s d cause deeds said ∷ later) = if nat_eq d c then [] else by_desk said (life_of c later)
-life_of c (office_comes o ∷ later) = life_of c later
-life_of c (enters o text turned deeds said ∷ later) = by_desk said (life_of c later)
-life_of c (office_leaves o ∷ later) = life_of c later
+life_of c (office_comes o k ∷ later) = life_of c later
+life_of c (enters o k text turned deeds said ∷ later) = by_desk said (life_of c later)
+life_of c (office_leaves o k overdue ∷ later) = life_of c later
 life_of c (aside deeds said ∷ later) = by_desk said (life_of c later)
 
 -- the deeds that are its own, up to its end
@@ -45,9 +45,9 @@ own_deeds c (opens s d ∷ later) = own_deeds c later
 own_deeds c (acts s d act ∷ later) = if nat_eq d c then deeds_in s act ++ own_deeds c later else own_deeds c later
 own_deeds c (waits s d ∷ later) = own_deeds c later
 own_deeds c (ends s d cause deeds said ∷ later) = if nat_eq d c then deeds else own_deeds c later
-own_deeds c (office_comes o ∷ later) = own_deeds c later
-own_deeds c (enters o text turned deeds said ∷ later) = own_deeds c later
-own_deeds c (office_leaves o ∷ later) = own_deeds c later
+own_deeds c (office_comes o k ∷ later) = own_deeds c later
+own_deeds c (enters o k text turned deeds said ∷ later) = own_deeds c later
+own_deeds c (office_leaves o k overdue ∷ later) = own_deeds c later
 own_deeds c (aside deeds said ∷ later) = own_deeds c later
 
 -- the cause and the deeds of its end, if it ends
@@ -58,9 +58,9 @@ end_of c (opens s d ∷ later) = end_of c later
 end_of c (acts s d act ∷ later) = end_of c later
 end_of c (waits s d ∷ later) = end_of c later
 end_of c (ends s d cause deeds said ∷ later) = if nat_eq d c then Some (cause, deeds) else end_of c later
-end_of c (office_comes o ∷ later) = end_of c later
-end_of c (enters o text turned deeds said ∷ later) = end_of c later
-end_of c (office_leaves o ∷ later) = end_of c later
+end_of c (office_comes o k ∷ later) = end_of c later
+end_of c (enters o k text turned deeds said ∷ later) = end_of c later
+end_of c (office_leaves o k overdue ∷ later) = end_of c later
 end_of c (aside deeds said ∷ later) = end_of c later
 
 abbrev pub last_deeds : Option (Option Ending × List Deed) → List Deed

@@ -31,7 +31,7 @@ answer_text other = []
 -- in all turns at socket o
 abbrev pub answer_texts : ℕ → List Work → List ℕ
 answer_texts o [] = []
-answer_texts o (enters p text turned deeds said ∷ later) = if nat_eq p o then answer_text turned ++ answer_texts o later else answer_texts o later
+answer_texts o (enters p j text turned deeds said ∷ later) = if nat_eq p o then answer_text turned ++ answer_texts o later else answer_texts o later
 answer_texts o (other ∷ later) = answer_texts o later
 
 -- its connection ended at a turn at which no read and no write failed: the office sent no more, and was answered
@@ -41,7 +41,7 @@ IsLeftWell o other deeds = ⊥
 
 abbrev pub EndsWell : ℕ → List Work → Type 0
 EndsWell o [] = ⊥
-EndsWell o (enters p text turned deeds said ∷ later) = ((p ≡ o) × IsLeftWell o turned deeds) ⊎ EndsWell o later
+EndsWell o (enters p j text turned deeds said ∷ later) = ((p ≡ o) × IsLeftWell o turned deeds) ⊎ EndsWell o later
 EndsWell o (other ∷ later) = EndsWell o later
 
 module _ {R : Type 0} (g : Ghosts R) where
@@ -63,7 +63,7 @@ module _ {R : Type 0} (g : Ghosts R) where
   -- these lines ended in the turns at socket o, one in each, and nothing else
   abbrev pub LinesCome : (o : ℕ) (works : List Work) (old new : Desk R) (here next : Place) → Goes g old here works new next → List (List ℕ) → Type 0
   LinesCome o [] old new here next goes lines = lines ≡ []
-  LinesCome o (enters p text turned deeds said ∷ later) old new here next goes lines =
+  LinesCome o (enters p j text turned deeds said ∷ later) old new here next goes lines =
       TakesLine (nat_eq p o && ends_line turned) old turned goes.0 (LinesCome o later goes.0 new goes.1 next goes.3) lines
   LinesCome o (other ∷ later) old new here next goes lines = LinesCome o later goes.0 new goes.1 next goes.3 lines
 
@@ -82,7 +82,7 @@ module _ {R : Type 0} (g : Ghosts R) where
 
   -- for a socket of the land office that came once, and for all else that may be done
   abbrev pub OfficeIsAnswered : Type 0
-  OfficeIsAnswered = (o : ℕ) (before later : List Work) (old mid new : Desk R) (first here next : Place)
-      → IsEmpty first → Goes g old first before mid here → (goes : Goes g mid here (office_comes o ∷ later) new next)
+  OfficeIsAnswered = (o k : ℕ) (before later : List Work) (old mid new : Desk R) (first here next : Place)
+      → IsEmpty first → Goes g old first before mid here → (goes : Goes g mid here (office_comes o k ∷ later) new next)
       → comes o (all_deeds before) ≡ false → comes o (all_deeds later) ≡ false
-      → IsOfficeStream o (office_comes o ∷ later) mid new here next goes (given_by o (all_deeds (before ++ office_comes o ∷ later))) (taken_by o (all_deeds (before ++ office_comes o ∷ later)))
+      → IsOfficeStream o (office_comes o k ∷ later) mid new here next goes (given_by o (all_deeds (before ++ office_comes o k ∷ later))) (taken_by o (all_deeds (before ++ office_comes o k ∷ later)))

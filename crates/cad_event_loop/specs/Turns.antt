@@ -12,14 +12,14 @@ pub data Standing : Type 0 where
   waiting : Standing
   ready : Standing
 
--- the state of each connection, by its number, and of the land office
+-- the state of each connection, by its number, and of each of the land office
 pub record Standings : Type 0 where
   pub clients : ℕ → Standing
-  pub office : Standing
+  pub offices : ℕ → Standing
 
 -- nobody is here
 abbrev pub nobody : Standings
-nobody = record { clients = λ c. absent; office = absent }
+nobody = record { clients = λ c. absent; offices = λ k. absent }
 
 -- the network reports its socket
 abbrev pub woken : Standing → Standing
@@ -32,9 +32,9 @@ abbrev pub is_among : ℕ → List ℕ → Bool
 is_among c [] = false
 is_among c (place ∷ places) = nat_eq place c || is_among c places
 
--- the place by which it reports the land office: the places of the clients are their numbers
-abbrev pub office_place : ℕ
-office_place = 66
+-- the place by which it reports connection k of the land office: the places of the clients are their numbers
+abbrev pub office_place : ℕ → ℕ
+office_place k = 66 + k
 
 -- The state of connection c after one thing is done.
 -- It may continue after it was opened, or the network reported it, or it had a turn at which it did not wait.
@@ -44,9 +44,9 @@ stands_after c old (opens s d) = if nat_eq d c then ready else old
 stands_after c old (acts s d act) = if nat_eq d c then ready else old
 stands_after c old (waits s d) = if nat_eq d c then waiting else old
 stands_after c old (ends s d cause deeds said) = if nat_eq d c then absent else old
-stands_after c old (office_comes o) = old
-stands_after c old (enters o text turned deeds said) = old
-stands_after c old (office_leaves o) = old
+stands_after c old (office_comes o k) = old
+stands_after c old (enters o k text turned deeds said) = old
+stands_after c old (office_leaves o k overdue) = old
 stands_after c old (aside deeds said) = old
 
 -- and after all of these
@@ -54,31 +54,31 @@ abbrev pub stands_in : ℕ → Standing → List Work → Standing
 stands_in c old [] = old
 stands_in c old (work ∷ later) = stands_in c (stands_after c old work) later
 
--- and of the land office, after a turn of it: it may continue if it is not over and did not wait
+-- and of a connection of the land office, after a turn of it: it may continue if it is not over and did not wait
 abbrev pub office_turned : Bool → EntryTurned → Standing
 office_turned true turned = absent
 office_turned false turn.Waits = waiting
 office_turned false other = ready
 
--- after one thing is done, and after all of these
-abbrev pub office_after : Standing → Work → Standing
-office_after old (wakes places) = if is_among office_place places then woken old else old
-office_after old (opens s c) = old
-office_after old (acts s c act) = old
-office_after old (waits s c) = old
-office_after old (ends s c cause deeds said) = old
-office_after old (office_comes o) = ready
-office_after old (enters o text turned deeds said) = office_turned (is_last turned) turned
-office_after old (office_leaves o) = absent
-office_after old (aside deeds said) = old
+-- the state of connection k of the land office after one thing is done, and after all of these
+abbrev pub office_after : ℕ → Standing → Work → Standing
+office_after k old (wakes places) = if is_among (office_place k) places then woken old else old
+office_after k old (opens s c) = old
+office_after k old (acts s c act) = old
+office_after k old (waits s c) = old
+office_after k old (ends s c cause deeds said) = old
+office_after k old (office_comes o j) = if nat_eq j k then ready else old
+office_after k old (enters o j text turned deeds said) = if nat_eq j k then office_turned (is_last turned) turned else old
+office_after k old (office_leaves o j overdue) = if nat_eq j k then absent else old
+office_after k old (aside deeds said) = old
 
-abbrev pub office_in : Standing → List Work → Standing
-office_in old [] = old
-office_in old (work ∷ later) = office_in (office_after old work) later
+abbrev pub office_in : ℕ → Standing → List Work → Standing
+office_in k old [] = old
+office_in k old (work ∷ later) = office_in k (office_after k old work) later
 
 -- all of them
 abbrev pub all_after : Standings → List Work → Standings
-all_after old works = record { clients = λ c. stands_in c (old.clients c) works; office = office_in old.office works }
+all_after old works = record { clients = λ c. stands_in c (old.clients c) works; offices = λ k. office_in k (old.offices k) works }
 
 -- it is a turn of connection c: it writes, reads, has the desk take something, waits, or ends by itself
 abbrev pub is_turn_of : ℕ → Work → Bool
@@ -97,10 +97,10 @@ abbrev pub is_end_of : ℕ → Work → Bool
 is_end_of c (ends s d (Some ending) deeds said) = nat_eq d c
 is_end_of c other = false
 
--- it is a turn of the land office
-abbrev pub is_office_turn : Work → Bool
-is_office_turn (enters o text turned deeds said) = true
-is_office_turn other = false
+-- it is a turn of connection k of the land office
+abbrev pub is_office_turn : ℕ → Work → Bool
+is_office_turn k (enters o j text turned deeds said) = nat_eq j k
+is_office_turn k other = false
 
 -- one of these is such a work
 abbrev pub any_of : (Work → Bool) → List Work → Bool
@@ -141,10 +141,10 @@ pub record HasEnough (c : ℕ) (works : List Work) : Type 0 where
   pub turn : has_turn c works ≡ true
   pub enough : (any_of (is_end_of c) works ≡ true) ⊎ ((any_of (is_wait_of c) works ≡ true) ⊎ (Replies c works ⊎ (4 ≤ turns_of c works)))
 
--- each connection that may continue has its turns, and the land office has one, if it may continue
+-- each connection that may continue has its turns, and each of the land office has one, if it may continue
 pub record EachHasTurn (stands : Standings) (works : List Work) : Type 0 where
   pub clients : (c : ℕ) → stands.clients c ≡ ready → HasEnough c works
-  pub office : stands.office ≡ ready → any_of is_office_turn works ≡ true
+  pub offices : (k : ℕ) → stands.offices k ≡ ready → any_of (is_office_turn k) works ≡ true
 
 -- the works of them all
 abbrev pub all_works : List (List Work) → List Work
@@ -155,44 +155,45 @@ all_works (some ∷ more) = some ++ all_works more
 abbrev pub IsQuiet : List Work → Type 0
 IsQuiet works = (c : ℕ) → has_turn c works ≡ false
 
--- the land office is not here; or the network reports who may continue, and then it has a turn, if it may continue
-abbrev pub HearsOffice : Standing → List Work → Type 0
-HearsOffice stand [] = stand ≡ absent
-HearsOffice stand (wakes places ∷ later) = (office_after stand (wakes places) ≡ ready → any_of is_office_turn later ≡ true)
-HearsOffice stand other = ⊥
+-- connection k of the land office is not open; or the network reports who may continue, and then it has a turn, if it may continue
+abbrev pub HearsOffice : ℕ → Standing → List Work → Type 0
+HearsOffice k stand [] = stand ≡ absent
+HearsOffice k stand (wakes places ∷ later) = (office_after k stand (wakes places) ≡ ready → any_of (is_office_turn k) later ≡ true)
+HearsOffice k stand other = ⊥
 
--- turns of one client and of no other, and then the land office is heard
-pub record IsVisit (stand : Standing) (works : List Work) : Type 0 where
+-- turns of one client and of no other, and then each connection of the land office is heard
+pub record IsVisit (stands : ℕ → Standing) (works : List Work) : Type 0 where
   pub c : ℕ
   pub own : List Work
   pub later : List Work
   pub all : works ≡ own ++ later
   pub alone : (d : ℕ) → nat_eq c d ≡ false → has_turn d own ≡ false
   pub quiet : IsQuiet later
-  pub hears : HearsOffice (office_in stand own) later
+  pub hears : (k : ℕ) → HearsOffice k (office_in k (stands k) own) later
 
-abbrev pub AreVisits : Standing → List (List Work) → Type 0
-AreVisits stand [] = ⊤
-AreVisits stand (visit ∷ visits) = IsVisit stand visit × AreVisits (office_in stand visit) visits
+abbrev pub AreVisits : (ℕ → Standing) → List (List Work) → Type 0
+AreVisits stands [] = ⊤
+AreVisits stands (visit ∷ visits) = IsVisit stands visit × AreVisits (λ k. office_in k (stands k) visit) visits
 
 -- clients have their turns only in visits
-pub record ComesByVisits (stand : Standing) (works : List Work) : Type 0 where
+pub record ComesByVisits (stands : ℕ → Standing) (works : List Work) : Type 0 where
   pub visits : List (List Work)
   pub rest : List Work
   pub all : works ≡ all_works visits ++ rest
-  pub are : AreVisits stand visits
+  pub are : AreVisits stands visits
   pub quiet : IsQuiet rest
 
 -- The network reports whose sockets may continue. Then each client that may continue has its turns, one client after the other.
--- The land office has one after each of them.
+-- Each connection of the land office has one after each of them.
 abbrev pub GivesTurns : Standings → List Work → Type 0
-GivesTurns stands (wakes places ∷ later) = EachHasTurn (all_after stands (wakes places ∷ [])) later × ComesByVisits (office_after stands.office (wakes places)) later
+GivesTurns stands (wakes places ∷ later) = EachHasTurn (all_after stands (wakes places ∷ [])) later × ComesByVisits (λ k. office_after k (stands.offices k) (wakes places)) later
 GivesTurns stands other = ⊥
 
 -- The most that is done in a round. The network reports readiness. For each of 64 clients there are four turns, a further report of the
--- network and eight turns of the land office. The office has eight more; 64 clients are dropped, 64 come, and the land office comes.
+-- network and eight turns of each of the land office's four connections. These have eight more each. 64 clients are dropped, 64 come, the
+-- land office's four connections are dropped, and one comes.
 abbrev pub most_in_round : ℕ
-most_in_round = 970
+most_in_round = 2534
 
 -- a round
 pub record IsRound (stands : Standings) (works : List Work) : Type 0 where

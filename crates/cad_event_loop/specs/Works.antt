@@ -1,5 +1,5 @@
 -- What is done for clients and the land office at a desk and at their sockets, one thing after the other (own profile).
-use Rattle.std.specs.Prelude.{◌≡◌, ◌⊎◌, ⊤, ℕ, ◌≤◌, nat_eq, Bool, true, false, not, List, [], ◌∷◌, ◌++◌, length, map, codes, Option, None, Some, IsErr, Result, Ok, Err, IfErr, if◌then◌else◌}
+use Rattle.std.specs.Prelude.{◌≡◌, ◌⊎◌, ⊤, ℕ, ◌≤◌, ◌<◌, nat_eq, Bool, true, false, not, List, [], ◌∷◌, ◌++◌, length, map, codes, Option, None, Some, IsErr, Result, Ok, Err, IfErr, if◌then◌else◌}
 use Rattle.std.specs.Option.{option_or}
 use Rattle.cad_versions.specs.declared.command.Command.{Command}
 use Rattle.cad_versions.specs.declared.fault.RegisterFault.{RegisterFault}
@@ -37,7 +37,7 @@ use Rattle.cad_dry_run.specs.declared.report.Report.TheVariants as report
 use Rattle.cad_dry_run.specs.Reports.{answer_of}
 use Rattle.cad_office_socket.specs.Checks.{IsCheckOf}
 use Rattle.cad_office_socket.specs.Serving as serving
-use Rattle.cad_office_socket.specs.Turns.{IsNewEntry, IsAsking, IsEntryTurn}
+use Rattle.cad_office_socket.specs.Turns.{IsNewEntry, IsAsking, IsEntryTurn, IsSending}
 use Rattle.cad_event_loop.specs.declared.stopped.Stopped.{Stopped}
 use Rattle.cad_event_loop.specs.declared.stopped.Stopped.TheVariants.{Asked, StoreRefused}
 
@@ -53,27 +53,35 @@ abbrev pub held_at : {S : Type 0} → (S → ℕ) → Clients S → Held
 held_at name clients c = held_of name (client_at clients c)
 
 -- connection c is this one afterwards, or is not open, and all others are as they were
-abbrev pub Puts : Held → Held → ℕ → Option (ℕ × Channel) → Type 0
+abbrev pub Puts : {X : Type 0} → (ℕ → Option X) → (ℕ → Option X) → ℕ → Option X → Type 0
 Puts old new c one = (d : ℕ) → new d ≡ (if nat_eq c d then one else old d)
 
-abbrev pub Same : Held → Held → Type 0
+abbrev pub Same : {X : Type 0} → (ℕ → Option X) → (ℕ → Option X) → Type 0
 Same old new = (d : ℕ) → new d ≡ old d
 
--- the land office, if it is here: the name of its socket, and what its connection holds
+-- a connection of the land office, if it is open: the name of its socket, and what it holds
 abbrev pub AtOffice : Type 0
 AtOffice = Option (ℕ × Entry)
+
+-- all of them by their numbers
+abbrev pub AtOffices : Type 0
+AtOffices = ℕ → AtOffice
+
+-- how many may be open
+abbrev pub most_offices : ℕ
+most_offices = 4
 
 -- who is here
 pub record Place : Type 0 where
   pub slots : Held
-  pub office : AtOffice
+  pub offices : AtOffices
 
-abbrev pub place_of : {S : Type 0} → (S → ℕ) → Clients S → AtOffice → Place
-place_of name clients office = record { slots = held_at name clients; office = office }
+abbrev pub place_of : {S : Type 0} → (S → ℕ) → Clients S → AtOffices → Place
+place_of name clients offices = record { slots = held_at name clients; offices = offices }
 
 -- nobody is here
 abbrev pub IsEmpty : Place → Type 0
-IsEmpty place = ((c : ℕ) → place.slots c ≡ None) × (place.office ≡ None)
+IsEmpty place = ((c : ℕ) → place.slots c ≡ None) × ((k : ℕ) → place.offices k ≡ None)
 
 -- what the desk gets, and its answer: an event, or the land office's question what would be answered to a command
 pub data DeskCall : Type 0 where
@@ -87,17 +95,17 @@ Said = Option DeskCall
 -- One of these is done:
 -- the network reports that the sockets at these places may continue; socket s comes and is connection c; connection c acts at socket s;
 -- its socket gives or takes nothing for now; it ends, by a turn of its own or because it is closed, with these deeds;
--- the land office comes at socket o; it has a turn there, in which the line with this text ends, if one does; it is let go;
--- or something is done for none of them
+-- the land office comes at socket o and has connection k; it has a turn there, in which the line with this text ends, if one does; this
+-- connection is let go, since its answer is overdue or since hosting ends; or something is done for none of them
 pub data Work : Type 0 where
   wakes : List ℕ → Work
   opens : ℕ → ℕ → Work
   acts : ℕ → ℕ → Act → Work
   waits : ℕ → ℕ → Work
   ends : ℕ → ℕ → Option Ending → List Deed → Said → Work
-  office_comes : ℕ → Work
-  enters : ℕ → List ℕ → EntryTurned → List Deed → Said → Work
-  office_leaves : ℕ → Work
+  office_comes : ℕ → ℕ → Work
+  enters : ℕ → ℕ → List ℕ → EntryTurned → List Deed → Said → Work
+  office_leaves : ℕ → ℕ → Bool → Work
   aside : List Deed → Said → Work
 
 -- the deeds of each
@@ -112,9 +120,9 @@ deeds_of (opens s c) = came s ∷ []
 deeds_of (acts s c act) = deeds_in s act
 deeds_of (waits s c) = blocked s ∷ []
 deeds_of (ends s c cause deeds said) = deeds
-deeds_of (office_comes o) = office_came o ∷ []
-deeds_of (enters o text turned deeds said) = deeds
-deeds_of (office_leaves o) = left o ∷ []
+deeds_of (office_comes o k) = office_came o ∷ []
+deeds_of (enters o k text turned deeds said) = deeds
+deeds_of (office_leaves o k overdue) = left o ∷ []
 deeds_of (aside deeds said) = deeds
 
 abbrev pub all_deeds : List Work → List Deed
@@ -128,9 +136,9 @@ said_by (opens s c) = None
 said_by (acts s c act) = None
 said_by (waits s c) = None
 said_by (ends s c cause deeds said) = said
-said_by (office_comes o) = None
-said_by (enters o text turned deeds said) = said
-said_by (office_leaves o) = None
+said_by (office_comes o k) = None
+said_by (enters o k text turned deeds said) = said
+said_by (office_leaves o k overdue) = None
 said_by (aside deeds said) = said
 
 -- the register's database refused
@@ -173,9 +181,9 @@ end_by (opens s c) = None
 end_by (acts s c act) = None
 end_by (waits s c) = None
 end_by (ends s c cause deeds said) = end_of_cause cause
-end_by (office_comes o) = None
-end_by (enters o text turned deeds said) = end_of_turned turned
-end_by (office_leaves o) = None
+end_by (office_comes o k) = None
+end_by (enters o k text turned deeds said) = end_of_turned turned
+end_by (office_leaves o k overdue) = None
 end_by (aside deeds said) = None
 
 -- and after the first of these that ends it
@@ -234,7 +242,7 @@ IsLineSaid text (turn.CheckLost it) said = IsCheckSaid text it said
 IsLineSaid text turn.Stops said = (text ≡ codes "stop") × (said ≡ None)
 IsLineSaid text other said = said ≡ None
 
--- whether the land office is over by the turn: nothing more can be written to it, and hosting continues without it
+-- whether the land office's connection is over by the turn: nothing more can be written to it, and hosting continues without it
 abbrev pub is_last : EntryTurned → Bool
 is_last turn.Over = true
 is_last (turn.Lost answer) = not (serving.is_store answer)
@@ -260,23 +268,23 @@ module _ {R : Type 0} (g : Ghosts R) where
 
   -- one thing is done
   abbrev pub Works : Desk R → Place → Work → Desk R → Place → Type 0
-  Works old here (wakes places) new next = (new ≡ old) × Same here.slots next.slots × (next.office ≡ here.office)
+  Works old here (wakes places) new next = (new ≡ old) × Same here.slots next.slots × Same here.offices next.offices
   Works old here (opens s c) new next =
-      (channel : Channel) × (here.slots c ≡ None) × IsNew channel × Steps g old (Open c) (Ok reply.Opened) new × Puts here.slots next.slots c (Some (s, channel)) × (next.office ≡ here.office)
+      (channel : Channel) × (here.slots c ≡ None) × IsNew channel × Steps g old (Open c) (Ok reply.Opened) new × Puts here.slots next.slots c (Some (s, channel)) × Same here.offices next.offices
   Works old here (acts s c act) new next =
-      (channel : Channel) × (after : Channel) × (here.slots c ≡ Some (s, channel)) × Does g c old channel act new after × Puts here.slots next.slots c (Some (s, after)) × (next.office ≡ here.office)
+      (channel : Channel) × (after : Channel) × (here.slots c ≡ Some (s, channel)) × Does g c old channel act new after × Puts here.slots next.slots c (Some (s, after)) × Same here.offices next.offices
   Works old here (waits s c) new next =
-      (channel : Channel) × (here.slots c ≡ Some (s, channel)) × MayWait channel × (new ≡ old) × Same here.slots next.slots × (next.office ≡ here.office)
+      (channel : Channel) × (here.slots c ≡ Some (s, channel)) × MayWait channel × (new ≡ old) × Same here.slots next.slots × Same here.offices next.offices
   Works old here (ends s c cause deeds said) new next =
-      (channel : Channel) × (here.slots c ≡ Some (s, channel)) × Leaves c s old channel cause deeds new × IsOf c said × Tells old said new × Puts here.slots next.slots c None × (next.office ≡ here.office)
-  Works old here (office_comes o) new next =
-      (entry : Entry) × (here.office ≡ None) × IsNewEntry entry × (next.office ≡ Some (o, entry)) × Same here.slots next.slots × (new ≡ old)
-  Works old here (enters o text turned deeds said) new next =
-      (entry : Entry) × (after : Entry) × (own : List Deed) × (here.office ≡ Some (o, entry)) × IsEntryTurn g o old entry turned new after own × (deeds ≡ own ++ (if is_last turned then left o ∷ [] else []))
-      × IsLineSaid text turned said × Tells old said new × (next.office ≡ (if is_last turned then None else Some (o, after))) × Same here.slots next.slots
-  Works old here (office_leaves o) new next =
-      (entry : Entry) × (here.office ≡ Some (o, entry)) × (next.office ≡ None) × Same here.slots next.slots × (new ≡ old)
-  Works old here (aside deeds said) new next = IsOfNone here.slots said × Tells old said new × Same here.slots next.slots × IsAside deeds × (next.office ≡ here.office)
+      (channel : Channel) × (here.slots c ≡ Some (s, channel)) × Leaves c s old channel cause deeds new × IsOf c said × Tells old said new × Puts here.slots next.slots c None × Same here.offices next.offices
+  Works old here (office_comes o k) new next =
+      (entry : Entry) × (here.offices k ≡ None) × IsNewEntry entry × Puts here.offices next.offices k (Some (o, entry)) × Same here.slots next.slots × (new ≡ old) × (k < most_offices)
+  Works old here (enters o k text turned deeds said) new next =
+      (entry : Entry) × (after : Entry) × (own : List Deed) × (here.offices k ≡ Some (o, entry)) × IsEntryTurn g o old entry turned new after own × (deeds ≡ own ++ (if is_last turned then left o ∷ [] else []))
+      × IsLineSaid text turned said × Tells old said new × Puts here.offices next.offices k (if is_last turned then None else Some (o, after)) × Same here.slots next.slots
+  Works old here (office_leaves o k overdue) new next =
+      (entry : Entry) × (here.offices k ≡ Some (o, entry)) × Puts here.offices next.offices k None × Same here.slots next.slots × (new ≡ old) × (overdue ≡ true → IsSending entry)
+  Works old here (aside deeds said) new next = IsOfNone here.slots said × Tells old said new × Same here.slots next.slots × IsAside deeds × Same here.offices next.offices
 
   -- these things are done, one after the other
   abbrev pub Goes : Desk R → Place → List Work → Desk R → Place → Type 0

@@ -1,5 +1,6 @@
 //! Writing what is under way when hosting ends, and letting all go.
 
+use crate::readiness::MOST_OFFICES;
 use crate::rounds::Rounds;
 use cad_desk::Desk;
 use cad_network::Network;
@@ -7,16 +8,16 @@ use cad_office_socket::EntryTurned;
 use cad_stream::Responder;
 use std::io::Result;
 
-/// For how many seconds replies and the office's answer are written once hosting ends.
+/// For how many seconds replies and the office's answers are written once hosting ends.
 const LAST_SECONDS: u64 = 5;
 
 /// The most milliseconds of one wait meanwhile.
 const LAST_PATIENCE: u64 = 100;
 
 impl<S: Drop> Rounds<S> {
-    ghost use Rattle.std.specs.Prelude.{◌≡◌, None, IsTrue};
+    ghost use Rattle.std.specs.Prelude.{◌≡◌, ◌<◌, ℕ, None};
     ghost use Rattle.cad_event_loop.specs.Hosting.{Hosts, IsClosing};
-    ghost use Rattle.cad_event_loop.specs.inner.Offices.{IsOfficeSending};
+    ghost use Rattle.cad_event_loop.specs.inner.Offices.{seat_at, Seats};
     ghost use Rattle.cad_event_loop.specs.inner.Rounds.{here};
     ghost use Rattle.cad_event_loop.specs.Works.{IsEmpty};
 
@@ -31,29 +32,40 @@ impl<S: Drop> Rounds<S> {
         self.peers.wait(net, LAST_PATIENCE)
     }
 
-    /// Whether an answer to the land office is not fully written.
-    fn is_office_sending(&self) -> bool
-        ensures { IsTrue result → IsOfficeSending self.now.office }
-    {
-        match &self.office {
-            Some(office) => office.entry.is_sending(),
-            None => false,
-        }
-    }
-
-    /// Writes once to the land office what is not written of its answer, if its socket may take something.
-    fn send_office<N: Network<Socket = S>, R: Responder>(&mut self, net: &mut N, desk: &mut Desk<R>)
+    /// Writes once to a connection of the land office what is not written of its answer, if its socket may take something.
+    fn send_office<N: Network<Socket = S>, R: Responder>(
+        &mut self,
+        k: usize,
+        net: &mut N,
+        desk: &mut Desk<R>,
+    )
+        requires { k < 4 }
         ensures { Hosts R.Responder IsClosing None (N.history net.old) desk.old (here N.name self.old) (N.history net.new) desk.new (here N.name self.new) }
     {
-        if !self.peers.ready.office || !self.is_office_sending() {
+        if !self.peers.ready.office(k) || !self.offices.is_sending(k) {
             return;
         }
-        let Some(office) = self.office.take() else {
+        let Some(office) = self.offices.take(k) else {
             return;
         };
         let (turned, office) = office.send(net);
-        self.office = office;
-        self.peers.ready.office = !matches!(turned, EntryTurned::Waits);
+        self.offices.put(k, office);
+        self.peers
+            .ready
+            .set_office(k, !matches!(turned, EntryTurned::Waits));
+    }
+
+    /// The same for each of them.
+    fn send_offices<N: Network<Socket = S>, R: Responder>(
+        &mut self,
+        net: &mut N,
+        desk: &mut Desk<R>,
+    )
+        ensures { Hosts R.Responder IsClosing None (N.history net.old) desk.old (here N.name self.old) (N.history net.new) desk.new (here N.name self.new) }
+    {
+        for k in 0..MOST_OFFICES {
+            self.send_office(k, net, desk);
+        }
     }
 
     /// Writes once to the clients and the land office what is not written yet, if their sockets may take something.
@@ -61,10 +73,10 @@ impl<S: Drop> Rounds<S> {
         ensures { Hosts R.Responder IsClosing None (N.history net.old) desk.old (here N.name self.old) (N.history net.new) desk.new (here N.name self.new) }
     {
         self.peers.send_ready(net, desk);
-        self.send_office(net, desk);
+        self.send_offices(net, desk);
     }
 
-    /// Writes the replies and the office's answer that are under way, for at most five seconds. Nothing is read or answered.
+    /// Writes the replies and the office's answers that are under way, for at most five seconds. Nothing is read or answered.
     fn send_last<N: Network<Socket = S>, R: Responder>(
         &mut self,
         net: &mut N,
@@ -75,7 +87,7 @@ impl<S: Drop> Rounds<S> {
         let began = self.peers.now;
         for _ in 0..u64::MAX {
             self.send_all(net, desk);
-            let is_sending = self.is_office_sending() || self.peers.any_sending();
+            let is_sending = self.offices.any_sending() || self.peers.any_sending();
             if !is_sending || LAST_SECONDS <= self.peers.now.saturating_sub(began) {
                 return Ok(());
             }
@@ -100,14 +112,35 @@ impl<S: Drop> Rounds<S> {
         }
     }
 
-    /// Lets the land office go, if it is here.
-    fn part_office<N: Network<Socket = S>, R: Responder>(&mut self, net: &mut N, desk: &mut Desk<R>)
+    /// Lets a connection of the land office go, if it is open.
+    fn part_office<N: Network<Socket = S>, R: Responder>(
+        &mut self,
+        k: usize,
+        net: &mut N,
+        desk: &mut Desk<R>,
+    )
+        requires { k < 4 }
         ensures clients { self.new.peers ≡ self.old.peers }
-        ensures nobody { self.new.office ≡ None }
+        ensures gone { Seats self.old.offices self.new.offices k None }
         ensures hosts { Hosts R.Responder IsClosing None (N.history net.old) desk.old (here N.name self.old) (N.history net.new) desk.new (here N.name self.new) }
     {
-        if let Some(office) = self.office.take() {
+        if let Some(office) = self.offices.take(k) {
             net.let_go(office.into_socket());
+        }
+    }
+
+    /// Lets each connection of the land office go.
+    fn part_offices<N: Network<Socket = S>, R: Responder>(
+        &mut self,
+        net: &mut N,
+        desk: &mut Desk<R>,
+    )
+        ensures clients { self.new.peers ≡ self.old.peers }
+        ensures nobody { (k : ℕ) → seat_at self.new.offices k ≡ None }
+        ensures hosts { Hosts R.Responder IsClosing None (N.history net.old) desk.old (here N.name self.old) (N.history net.new) desk.new (here N.name self.new) }
+    {
+        for k in 0..MOST_OFFICES {
+            self.part_office(k, net, desk);
         }
     }
 
@@ -117,7 +150,7 @@ impl<S: Drop> Rounds<S> {
         ensures hosts { Hosts R.Responder IsClosing None (N.history net.old) desk.old (here N.name self.old) (N.history net.new) desk.new (here N.name self.new) }
     {
         self.peers.part(net, desk);
-        self.part_office(net, desk);
+        self.part_offices(net, desk);
     }
 
     /// Writes what is under way, if the network did not fail before, and then lets all go.

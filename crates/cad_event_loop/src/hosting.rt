@@ -26,11 +26,11 @@ fn last_of(hosted: Result<Stopped>, ended: Result<()>) -> Result<Stopped>
     }
 }
 
-/// Takes clients at one door of a network, up to 64 at once, and the land office at the other, one at a time. Serves them alternately until
-/// the office asks to stop or the register's database refuses, whether or not the office gets that answer. A client that comes when 64 are
-/// connected gets a fixed head that says so. One that neither sends nor takes a byte for 60 seconds is dropped, and so is one whose request
-/// and its reply take 300 seconds. Replies and the office's answer that are under way at the end are written for at most five seconds; then
-/// all are let go.
+/// Takes clients at one door of a network, up to 64 at once, and the land office at the other, up to four connections at once. Serves them
+/// alternately until the office asks to stop or the register's database refuses, whether or not the office gets that answer. A client that
+/// comes when 64 are connected gets a fixed head that says so. One that neither sends nor takes a byte for 60 seconds is dropped, and so is
+/// one whose request and its reply take 300 seconds. A connection of the office that takes no byte of an answer for 300 seconds is dropped.
+/// Replies and the office's answers that are under way at the end are written for at most five seconds; then all are let go.
 pub fn host<N: Network, R: Responder, L: AccessLog<N::Socket>>(
     alloc: Global,
     net: &mut N,

@@ -1,4 +1,5 @@
-//! Many clients and one land office at a desk, in one thread, over any network: the readiness of sockets determines whose turn it is.
+//! Many clients and a land office with up to four connections at a desk, in one thread, over any network: the readiness of sockets determines
+//! whose turn it is.
 //!
 //! - `host`: takes clients at one door and the land office at another, until the office asks to stop
 //! - `Stopped`: why hosting ended
@@ -10,8 +11,8 @@
 //! It ends as the office's wish only if a connection of the office read `stop`. The work by which it ends is the last before it closes. It
 //! closes without reading or answering, and at every end each socket is let go.
 //!
-//! The works are rounds. In each round, each connection that may continue has its turns, and the land office has one after each client's. A
-//! connection may continue if it came or the network reported it since its last turn, or if it did not wait then. A connection has turns up
+//! The works are rounds. In each round, each connection that may continue has its turns, and each of the land office has one after each
+//! client's. A connection may continue if it came or the network reported it since its last turn, or if it did not wait then. A connection has turns up
 //! to one at which it waits or is over, or a reply is written, or it has four. `laws` has what follows for a client's socket, for the
 //! office's and for the ledger.
 //!
@@ -19,8 +20,9 @@
 //! and `scripts/check_proxy`:
 //!
 //! - the times: each round drops the clients that `Clients::is_overdue` reports, by limits of 60 and 300 seconds and the seconds that the
-//!   network reported; five seconds for replies and the office's answer at the end; 50 milliseconds for a wait while somebody may stand at
-//!   a door, as after the system could not hand over a connection, or after 64 clients came in a round.
+//!   network reported, and the connections of the land office that took no byte of an answer for 300 seconds; five seconds for replies and
+//!   the office's answers at the end; 50 milliseconds for a wait while somebody may stand at a door, as after the system could not hand over a
+//!   connection, or after 64 clients came in a round.
 //!
 //! ```text
 //! host(alloc, &mut net, &mut desk, &mut NoLog)?    // Stopped::Asked after the office's line `stop`
@@ -31,6 +33,7 @@ mod closing;
 mod hosting;
 pub mod laws;
 mod office;
+mod offices;
 mod peers;
 mod readiness;
 mod rounds;

@@ -1,4 +1,4 @@
-//! The land office and its socket.
+//! A connection of the land office and its socket.
 
 ghost use Rattle.std.specs.Prelude.{◌≡◌};
 ghost use Rattle.cad_event_loop.specs.inner.Offices.{end_of_office, is_over as is_over_of, may_go_on as may_go_on_of};
@@ -13,6 +13,9 @@ use cad_office_socket::{Entry, EntryServed, EntryTurned};
 use cad_stream::Responder;
 use cad_versions::RegisterFault;
 use std::alloc::Global;
+
+/// For how many seconds the office may take no byte of an answer.
+const LONGEST_PAUSE: u64 = 300;
 
 /// Why hosting ends after serving the office with this result, if it does.
 pub(crate) fn end_of(served: EntryServed) -> Option<Stopped>
@@ -57,26 +60,36 @@ fn is_last(turned: &EntryTurned) -> bool
     }
 }
 
-/// The land office and its socket.
+/// When an answer began or a byte of it was written last, if so many bytes were unwritten before it was served and so many are now. An
+/// office is not served beyond the end of an answer: if the same number is unwritten, no byte was written.
+fn moved_after(before: usize, after: usize, moved: u64, now: u64) -> u64 {
+    if before == after { moved } else { now }
+}
+
+/// A connection of the land office and its socket.
 #[derive(Drop)]
 pub(crate) struct Office<S> {
     pub(crate) socket: S,
     pub(crate) entry: Entry,
+    /// When the answer that is to be written began, or a byte of it was written last. This is in seconds, as the network reported them.
+    moved: u64,
 }
 
 impl<S: Drop> Office<S> {
+    ghost use Rattle.std.specs.Prelude.{IsTrue};
     ghost use Rattle.cad_network.specs.Deeds.{AddsSome};
     ghost use Rattle.cad_office_socket.specs.Turns.{IsNewEntry, IsSending};
     ghost use Rattle.cad_event_loop.specs.inner.Offices.{HasOfficeTurns, HasSent};
 
     /// An office from which nothing was read.
-    pub(crate) fn new(alloc: Global, socket: S) -> Office<S>
+    pub(crate) fn new(alloc: Global, socket: S, now: u64) -> Office<S>
         ensures socket { result.socket ≡ socket }
         ensures new { IsNewEntry result.entry }
     {
         Office {
             socket,
             entry: Entry::new(alloc),
+            moved: now,
         }
     }
 
@@ -84,26 +97,51 @@ impl<S: Drop> Office<S> {
     pub(crate) fn into_socket(self) -> S
         ensures { result ≡ self.socket }
     {
-        let Office { socket, entry: _ } = self;
+        let Office {
+            socket,
+            entry: _,
+            moved: _,
+        } = self;
         socket
+    }
+
+    /// Whether its socket took no byte of an answer for too long.
+    pub(crate) fn is_overdue(&self, now: u64) -> bool
+        ensures { IsTrue result → IsSending self.now.entry }
+    {
+        self.entry.is_sending() && LONGEST_PAUSE <= now.saturating_sub(self.moved)
     }
 
     /// Serves the office with some turns, and returns it. If its connection is over, its socket is let go and no office is returned.
     pub(crate) fn serve<N: Network<Socket = S>, R: Responder>(
         self,
         alloc: Global,
+        now: u64,
         net: &mut N,
         desk: &mut Desk<R>,
     ) -> (EntryServed, Option<Office<S>>)
         ensures { AddsSome (N.history net.old) (N.history net.new) (HasOfficeTurns R.Responder N.name desk.old self result desk.new) }
     {
-        let Office { socket, mut entry } = self;
+        let Office {
+            socket,
+            mut entry,
+            moved,
+        } = self;
+        let before = entry.unwritten_len();
         let served = entry.serve(alloc, net, &socket, desk);
         if is_over(served) {
             net.let_go(socket);
             return (served, None);
         }
-        (served, Some(Office { socket, entry }))
+        let moved = moved_after(before, entry.unwritten_len(), moved, now);
+        (
+            served,
+            Some(Office {
+                socket,
+                entry,
+                moved,
+            }),
+        )
     }
 
     /// Writes once what is not written of the answer, and returns the office. Nothing is read. If its connection is over, its socket is let
@@ -115,12 +153,23 @@ impl<S: Drop> Office<S> {
         requires { IsSending self.entry }
         ensures { AddsSome (N.history net.old) (N.history net.new) (HasSent N.name self result) }
     {
-        let Office { socket, mut entry } = self;
+        let Office {
+            socket,
+            mut entry,
+            moved,
+        } = self;
         let turned = entry.send(net, &socket);
         if is_last(&turned) {
             net.let_go(socket);
             return (turned, None);
         }
-        (turned, Some(Office { socket, entry }))
+        (
+            turned,
+            Some(Office {
+                socket,
+                entry,
+                moved,
+            }),
+        )
     }
 }

@@ -44,13 +44,13 @@ fn end_of(served: Served) -> Option<Stopped>
 }
 
 impl<S: Drop> Peers<S> {
-    ghost use Rattle.std.specs.Prelude.{ℕ, nat_eq, ◌||◌, List, [], ◌∷◌, Option, None, IfOk, if◌then◌else◌};
+    ghost use Rattle.std.specs.Prelude.{ℕ, nat_eq, List, [], ◌∷◌, Option, None, IfOk, if◌then◌else◌};
     ghost use Rattle.cad_network.specs.Deeds.{Deed, came, Adds, AddsSome};
     ghost use Rattle.cad_clients.specs.Slots.{client_at};
     ghost use Rattle.cad_event_loop.specs.Hosting.{Hosts, IsClosing, IsTurnedAway, Serves};
-    ghost use Rattle.cad_event_loop.specs.inner.Standing.{standing_at, standings, GivesTurnAlone, IsAtDoors, IsWoken};
+    ghost use Rattle.cad_event_loop.specs.inner.Standing.{flag_at, standing_at, standings, told_flag, GivesTurnAlone, IsAtDoors, IsWoken};
     ghost use Rattle.cad_event_loop.specs.Turns.{office_place, woken};
-    ghost use Rattle.cad_event_loop.specs.Works.{held_at, place_of, AtOffice, Same};
+    ghost use Rattle.cad_event_loop.specs.Works.{held_at, place_of, AtOffices, Same};
 
     /// No client.
     pub(crate) fn new(alloc: Global) -> std::result::Result<Peers<S>, AllocError>
@@ -77,15 +77,15 @@ impl<S: Drop> Peers<S> {
     /// The socket at this place may give or take something.
     fn mark<N: Network<Socket = S>>(&mut self, place: usize)
         ensures woken { (c : ℕ) → standing_at self.new.clients c ≡ (if nat_eq place c then woken (standing_at self.old.clients c) else standing_at self.old.clients c) }
-        ensures office { self.new.ready.office ≡ (nat_eq place office_place || self.old.ready.office) }
+        ensures offices { (k : ℕ) → flag_at self.new.ready k ≡ told_flag (nat_eq place (office_place k)) (flag_at self.old.ready k) }
         ensures held { Same (held_at N.name self.old.clients) (held_at N.name self.new.clients) }
     {
         if place == CLIENTS_DOOR {
             self.ready.clients_door = true;
         } else if place == OFFICE_DOOR {
             self.ready.office_door = true;
-        } else if place == OFFICE {
-            self.ready.office = true;
+        } else if OFFICE <= place && place < PLACES {
+            self.ready.set_office(place - OFFICE, true);
         } else if let Ok(c) = u32::try_from(place) {
             self.clients.mark(c);
         }
@@ -127,8 +127,8 @@ impl<S: Drop> Peers<S> {
         desk: &mut Desk<R>,
         log: &mut L,
     ) -> Option<Stopped>
-        ensures { (office : AtOffice) → Serves R.Responder (GivesTurnAlone c 4 (standings self.old office) (standings self.new office)) result (N.history net.old) desk.old (place_of N.name self.old.clients office)
-            (N.history net.new) desk.new (place_of N.name self.new.clients office) }
+        ensures { (offices : AtOffices) → Serves R.Responder (GivesTurnAlone c 4 (standings self.old offices) (standings self.new offices)) result (N.history net.old) desk.old (place_of N.name self.old.clients offices)
+            (N.history net.new) desk.new (place_of N.name self.new.clients offices) }
     {
         end_of(self.clients.serve(self.alloc, c, self.now, net, desk, log))
     }
@@ -140,8 +140,8 @@ impl<S: Drop> Peers<S> {
         net: &mut N,
         desk: &mut Desk<R>,
     )
-        ensures { (office : AtOffice) → Hosts R.Responder IsClosing None (N.history net.old) desk.old (place_of N.name self.old.clients office)
-            (N.history net.new) desk.new (place_of N.name self.new.clients office) }
+        ensures { (offices : AtOffices) → Hosts R.Responder IsClosing None (N.history net.old) desk.old (place_of N.name self.old.clients offices)
+            (N.history net.new) desk.new (place_of N.name self.new.clients offices) }
     {
         if self.clients.is_ready(c) && self.clients.is_sending(c) {
             let _ = self.clients.turn(self.alloc, c, self.now, net, desk);
@@ -154,8 +154,8 @@ impl<S: Drop> Peers<S> {
         net: &mut N,
         desk: &mut Desk<R>,
     )
-        ensures { (office : AtOffice) → Hosts R.Responder IsClosing None (N.history net.old) desk.old (place_of N.name self.old.clients office)
-            (N.history net.new) desk.new (place_of N.name self.new.clients office) }
+        ensures { (offices : AtOffices) → Hosts R.Responder IsClosing None (N.history net.old) desk.old (place_of N.name self.old.clients offices)
+            (N.history net.new) desk.new (place_of N.name self.new.clients offices) }
     {
         for c in 0..ROOM {
             self.send_one(c, net, desk);
@@ -169,8 +169,8 @@ impl<S: Drop> Peers<S> {
         net: &mut N,
         desk: &mut Desk<R>,
     )
-        ensures { (office : AtOffice) → Serves R.Responder (IsAtDoors 1 (standings self.old office) (standings self.new office)) None (N.history net.old) desk.old (place_of N.name self.old.clients office)
-            (N.history net.new) desk.new (place_of N.name self.new.clients office) }
+        ensures { (offices : AtOffices) → Serves R.Responder (IsAtDoors 1 (standings self.old offices) (standings self.new offices)) None (N.history net.old) desk.old (place_of N.name self.old.clients offices)
+            (N.history net.new) desk.new (place_of N.name self.new.clients offices) }
     {
         if self.clients.is_overdue(c, self.now, &LIMITS) {
             self.clients.close(c, net, desk);
@@ -183,8 +183,8 @@ impl<S: Drop> Peers<S> {
         net: &mut N,
         desk: &mut Desk<R>,
     )
-        ensures { (office : AtOffice) → Serves R.Responder (IsAtDoors 64 (standings self.old office) (standings self.new office)) None (N.history net.old) desk.old (place_of N.name self.old.clients office)
-            (N.history net.new) desk.new (place_of N.name self.new.clients office) }
+        ensures { (offices : AtOffices) → Serves R.Responder (IsAtDoors 64 (standings self.old offices) (standings self.new offices)) None (N.history net.old) desk.old (place_of N.name self.old.clients offices)
+            (N.history net.new) desk.new (place_of N.name self.new.clients offices) }
     {
         for c in 0..ROOM {
             self.drop_one(c, net, desk);
@@ -197,8 +197,8 @@ impl<S: Drop> Peers<S> {
         net: &mut N,
         desk: &mut Desk<R>,
     )
-        ensures hosts { (office : AtOffice) → Hosts R.Responder IsClosing None (N.history net.old) desk.old (place_of N.name self.old.clients office)
-            (N.history net.new) desk.new (place_of N.name self.new.clients office) }
+        ensures hosts { (offices : AtOffices) → Hosts R.Responder IsClosing None (N.history net.old) desk.old (place_of N.name self.old.clients offices)
+            (N.history net.new) desk.new (place_of N.name self.new.clients offices) }
         ensures nobody { (c : ℕ) → held_at N.name self.new.clients c ≡ None }
     {
         for c in 0..ROOM {
@@ -223,9 +223,9 @@ impl<S: Drop> Peers<S> {
         desk: &mut Desk<R>,
         log: &mut L,
     )
-        ensures { (office : AtOffice) (before : Option (List Deed)) → Adds before (N.history net.old) (came (N.name socket) ∷ [])
-            → Serves R.Responder (IsAtDoors 1 (standings self.old office) (standings self.new office)) None before desk.old (place_of N.name self.old.clients office)
-            (N.history net.new) desk.new (place_of N.name self.new.clients office) }
+        ensures { (offices : AtOffices) (before : Option (List Deed)) → Adds before (N.history net.old) (came (N.name socket) ∷ [])
+            → Serves R.Responder (IsAtDoors 1 (standings self.old offices) (standings self.new offices)) None before desk.old (place_of N.name self.old.clients offices)
+            (N.history net.new) desk.new (place_of N.name self.new.clients offices) }
     {
         let Some(c) = self.clients.free_number() else {
             self.turn_away(socket, net);
@@ -249,8 +249,8 @@ impl<S: Drop> Peers<S> {
         desk: &mut Desk<R>,
         log: &mut L,
     ) -> bool
-        ensures { (office : AtOffice) → Serves R.Responder (IsAtDoors 1 (standings self.old office) (standings self.new office)) None (N.history net.old) desk.old (place_of N.name self.old.clients office)
-            (N.history net.new) desk.new (place_of N.name self.new.clients office) }
+        ensures { (offices : AtOffices) → Serves R.Responder (IsAtDoors 1 (standings self.old offices) (standings self.new offices)) None (N.history net.old) desk.old (place_of N.name self.old.clients offices)
+            (N.history net.new) desk.new (place_of N.name self.new.clients offices) }
     {
         match net.accept() {
             Ok(socket) => {
@@ -268,8 +268,8 @@ impl<S: Drop> Peers<S> {
         desk: &mut Desk<R>,
         log: &mut L,
     )
-        ensures { (office : AtOffice) → Serves R.Responder (IsAtDoors 64 (standings self.old office) (standings self.new office)) None (N.history net.old) desk.old (place_of N.name self.old.clients office)
-            (N.history net.new) desk.new (place_of N.name self.new.clients office) }
+        ensures { (offices : AtOffices) → Serves R.Responder (IsAtDoors 64 (standings self.old offices) (standings self.new offices)) None (N.history net.old) desk.old (place_of N.name self.old.clients offices)
+            (N.history net.new) desk.new (place_of N.name self.new.clients offices) }
     {
         if !self.ready.clients_door {
             return;

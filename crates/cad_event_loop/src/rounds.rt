@@ -1,8 +1,9 @@
 //! The clients and the land office, served alternately.
 
 use crate::office::{Office, end_of, may_go_on};
+use crate::offices::Offices;
 use crate::peers::Peers;
-use crate::readiness::OFFICE;
+use crate::readiness::{MOST_OFFICES, OFFICE};
 use crate::stopped::Stopped;
 use cad_clients::{AccessLog, ROOM};
 use cad_desk::Desk;
@@ -17,30 +18,29 @@ const PATIENCE: u64 = 1000;
 /// The same if somebody may still wait at a door, as after the system could not hand over a connection.
 const IMPATIENCE: u64 = 50;
 
-/// The clients and the land office.
+/// The clients and the land office's connections.
 #[derive(Drop)]
 pub(crate) struct Rounds<S> {
     pub(crate) peers: Peers<S>,
-    pub(crate) office: Option<Office<S>>,
+    pub(crate) offices: Offices<S>,
 }
 
 impl<S: Drop> Rounds<S> {
-    ghost use Rattle.std.specs.Prelude.{◌≡◌, List, [], ◌∷◌, Option, None, IfOk};
+    ghost use Rattle.std.specs.Prelude.{◌≡◌, ◌<◌, List, [], ◌∷◌, Option, None, IfOk};
     ghost use Rattle.cad_network.specs.Deeds.{Deed, office_came, Adds};
     ghost use Rattle.cad_event_loop.specs.Hosting.{end_of_round, end_of_rounds, Serves};
-    ghost use Rattle.cad_event_loop.specs.inner.Offices.{HasBegun, HasBegunUnless};
+    ghost use Rattle.cad_event_loop.specs.inner.Offices.{seat_at, HaveBegun, HaveBegunUnless};
     ghost use Rattle.cad_event_loop.specs.inner.Rounds.{here, standing, IsNobody};
-    ghost use Rattle.cad_event_loop.specs.inner.Standing.{GivesTurnAlone, HearsBetween, IsAsked, IsAtDoors, MakesRound, ServesAll, ServesOffice, VisitsClient};
+    ghost use Rattle.cad_event_loop.specs.inner.Standing.{GivesTurnAlone, HearsBetween, IsAsked, IsAtDoors, MakesRound, ServesAll, ServesOffice, ServesOffices, VisitsClient};
     ghost use Rattle.cad_event_loop.specs.Turns.{most_in_round, AreServed};
 
     /// Without clients and land office.
     pub(crate) fn new(alloc: Global) -> std::result::Result<Rounds<S>, AllocError>
         ensures { IfOk result IsNobody }
     {
-        Ok(Rounds {
-            peers: Peers::new(alloc)?,
-            office: None,
-        })
+        let peers = Peers::new(alloc)?;
+        let offices = Offices::new(alloc)?;
+        Ok(Rounds { peers, offices })
     }
 
     /// Waits until a socket may give or take something, or until the time is over, while clients are served.
@@ -50,63 +50,85 @@ impl<S: Drop> Rounds<S> {
         desk: &mut Desk<R>,
         milliseconds: u64,
     ) -> Result<()>
-        ensures office { self.new.office ≡ self.old.office }
+        ensures offices { self.new.offices ≡ self.old.offices }
         ensures hosts { Serves R.Responder (IsAsked (standing N.name self.old) (standing N.name self.new)) None (N.history net.old) desk.old (here N.name self.old) (N.history net.new) desk.new (here N.name self.new) }
     {
         self.peers.wait(net, milliseconds)
     }
 
-    /// Serves the land office with some turns, if it is here.
+    /// Serves a connection of the land office with some turns, if it is open.
     fn serve_office_once<N: Network<Socket = S>, R: Responder>(
         &mut self,
+        k: usize,
         net: &mut N,
         desk: &mut Desk<R>,
     ) -> Option<Stopped>
-        requires { HasBegun self.old.office }
-        ensures begun { HasBegunUnless result self.new.office }
-        ensures hosts { Serves R.Responder (ServesOffice 8 (standing N.name self.old) (standing N.name self.new)) result (N.history net.old) desk.old (here N.name self.old) (N.history net.new) desk.new (here N.name self.new) }
+        requires number { k < 4 }
+        requires begun { HaveBegun self.old.offices }
+        ensures begun { HaveBegunUnless result self.new.offices }
+        ensures hosts { Serves R.Responder (ServesOffice k 8 (standing N.name self.old) (standing N.name self.new)) result (N.history net.old) desk.old (here N.name self.old) (N.history net.new) desk.new (here N.name self.new) }
     {
-        let Some(office) = self.office.take() else {
-            self.peers.ready.office = false;
+        let Some(office) = self.offices.take(k) else {
+            self.peers.ready.set_office(k, false);
             return None;
         };
-        let (served, office) = office.serve(self.peers.alloc, net, desk);
-        self.office = office;
-        self.peers.ready.office = may_go_on(served);
+        let (served, office) = office.serve(self.peers.alloc, self.peers.now, net, desk);
+        self.offices.put(k, office);
+        self.peers.ready.set_office(k, may_go_on(served));
         end_of(served)
     }
 
-    /// Serves the land office, if it may continue.
+    /// Serves a connection of the land office, if it may continue.
     fn serve_office<N: Network<Socket = S>, R: Responder>(
+        &mut self,
+        k: usize,
+        net: &mut N,
+        desk: &mut Desk<R>,
+    ) -> Option<Stopped>
+        requires number { k < 4 }
+        requires begun { HaveBegun self.old.offices }
+        ensures begun { HaveBegunUnless result self.new.offices }
+        ensures hosts { Serves R.Responder (ServesOffice k 8 (standing N.name self.old) (standing N.name self.new)) result (N.history net.old) desk.old (here N.name self.old) (N.history net.new) desk.new (here N.name self.new) }
+    {
+        if !self.peers.ready.office(k) {
+            return None;
+        }
+        self.serve_office_once(k, net, desk)
+    }
+
+    /// Serves each connection of the land office that may continue.
+    fn serve_offices<N: Network<Socket = S>, R: Responder>(
         &mut self,
         net: &mut N,
         desk: &mut Desk<R>,
     ) -> Option<Stopped>
-        requires { HasBegun self.old.office }
-        ensures begun { HasBegunUnless result self.new.office }
-        ensures hosts { Serves R.Responder (ServesOffice 8 (standing N.name self.old) (standing N.name self.new)) result (N.history net.old) desk.old (here N.name self.old) (N.history net.new) desk.new (here N.name self.new) }
+        requires { HaveBegun self.old.offices }
+        ensures begun { HaveBegunUnless result self.new.offices }
+        ensures hosts { Serves R.Responder (ServesOffices 32 result (standing N.name self.old) (standing N.name self.new)) result (N.history net.old) desk.old (here N.name self.old) (N.history net.new) desk.new (here N.name self.new) }
     {
-        if !self.peers.ready.office {
-            return None;
+        for k in 0..MOST_OFFICES {
+            if let Some(stopped) = self.serve_office(k, net, desk) {
+                return Some(stopped);
+            }
         }
-        self.serve_office_once(net, desk)
+        None
     }
 
     /// Serves the land office between two clients, with what it sent meanwhile.
-    fn serve_office_between<N: Network<Socket = S>, R: Responder>(
+    fn serve_offices_between<N: Network<Socket = S>, R: Responder>(
         &mut self,
         net: &mut N,
         desk: &mut Desk<R>,
     ) -> Result<Option<Stopped>>
-        requires { HasBegun self.old.office }
-        ensures begun { HasBegunUnless (end_of_round result) self.new.office }
-        ensures hosts { Serves R.Responder (HearsBetween 9 result (standing N.name self.old) (standing N.name self.new)) (end_of_round result) (N.history net.old) desk.old (here N.name self.old) (N.history net.new) desk.new (here N.name self.new) }
+        requires { HaveBegun self.old.offices }
+        ensures begun { HaveBegunUnless (end_of_round result) self.new.offices }
+        ensures hosts { Serves R.Responder (HearsBetween 33 result (standing N.name self.old) (standing N.name self.new)) (end_of_round result) (N.history net.old) desk.old (here N.name self.old) (N.history net.new) desk.new (here N.name self.new) }
     {
-        if self.office.is_none() {
+        if self.offices.is_empty() {
             return Ok(None);
         }
         self.wait(net, desk, 0)?;
-        Ok(self.serve_office(net, desk))
+        Ok(self.serve_offices(net, desk))
     }
 
     /// Serves a client, if it may continue. Returns why hosting ends by that, if it does.
@@ -117,7 +139,7 @@ impl<S: Drop> Rounds<S> {
         desk: &mut Desk<R>,
         log: &mut L,
     ) -> Option<Stopped>
-        ensures office { self.new.office ≡ self.old.office }
+        ensures offices { self.new.offices ≡ self.old.offices }
         ensures hosts { Serves R.Responder (GivesTurnAlone c 4 (standing N.name self.old) (standing N.name self.new)) result (N.history net.old) desk.old (here N.name self.old) (N.history net.new) desk.new (here N.name self.new) }
     {
         self.peers.serve_one(c, net, desk, log)
@@ -131,9 +153,9 @@ impl<S: Drop> Rounds<S> {
         desk: &mut Desk<R>,
         log: &mut L,
     ) -> Result<Option<Stopped>>
-        requires { HasBegun self.old.office }
-        ensures begun { HasBegunUnless (end_of_round result) self.new.office }
-        ensures hosts { Serves R.Responder (VisitsClient c 13 result (standing N.name self.old) (standing N.name self.new)) (end_of_round result) (N.history net.old) desk.old (here N.name self.old) (N.history net.new) desk.new (here N.name self.new) }
+        requires { HaveBegun self.old.offices }
+        ensures begun { HaveBegunUnless (end_of_round result) self.new.offices }
+        ensures hosts { Serves R.Responder (VisitsClient c 37 result (standing N.name self.old) (standing N.name self.new)) (end_of_round result) (N.history net.old) desk.old (here N.name self.old) (N.history net.new) desk.new (here N.name self.new) }
     {
         if !self.peers.clients.is_ready(c) {
             return Ok(None);
@@ -141,7 +163,7 @@ impl<S: Drop> Rounds<S> {
         if let Some(stopped) = self.serve_peer(c, net, desk, log) {
             return Ok(Some(stopped));
         }
-        self.serve_office_between(net, desk)
+        self.serve_offices_between(net, desk)
     }
 
     /// Serves each client that may continue once, and the land office after each of them.
@@ -151,8 +173,8 @@ impl<S: Drop> Rounds<S> {
         desk: &mut Desk<R>,
         log: &mut L,
     ) -> Result<Option<Stopped>>
-        requires { HasBegun self.old.office }
-        ensures begun { HasBegunUnless (end_of_round result) self.new.office }
+        requires { HaveBegun self.old.offices }
+        ensures begun { HaveBegunUnless (end_of_round result) self.new.offices }
         ensures hosts { Serves R.Responder (ServesAll result (standing N.name self.old) (standing N.name self.new)) (end_of_round result) (N.history net.old) desk.old (here N.name self.old) (N.history net.new) desk.new (here N.name self.new) }
     {
         for c in 0..ROOM {
@@ -163,39 +185,95 @@ impl<S: Drop> Rounds<S> {
         Ok(None)
     }
 
-    /// Keeps the land office's socket, if the network can watch it.
+    /// Keeps a socket of the land office under this number, if the network can watch it.
     fn admit_office<N: Network<Socket = S>, R: Responder>(
         &mut self,
+        k: usize,
         mut socket: S,
         net: &mut N,
         desk: &mut Desk<R>,
     )
-        requires { self.old.office ≡ None }
-        ensures begun { HasBegun self.new.office }
+        requires number { k < 4 }
+        requires free { seat_at self.old.offices k ≡ None }
+        requires begun { HaveBegun self.old.offices }
+        ensures begun { HaveBegun self.new.offices }
         ensures hosts { (before : Option (List Deed)) → Adds before (N.history net.old) (office_came (N.name socket) ∷ [])
             → Serves R.Responder (IsAtDoors 1 (standing N.name self.old) (standing N.name self.new)) None before desk.old (here N.name self.old) (N.history net.new) desk.new (here N.name self.new) }
     {
-        if net.watch(&mut socket, OFFICE).is_err() {
+        if net.watch(&mut socket, OFFICE + k).is_err() {
             net.let_go(socket);
             return;
         }
-        self.office = Some(Office::new(self.peers.alloc, socket));
-        self.peers.ready.office = true;
+        let office = Office::new(self.peers.alloc, socket, self.peers.now);
+        self.offices.put(k, Some(office));
+        self.peers.ready.set_office(k, true);
     }
 
-    /// Takes the land office that waits, if one waits and none is here.
+    /// Takes the land office that waits at its door, if one waits and fewer than four connections are open.
     fn take_office<N: Network<Socket = S>, R: Responder>(&mut self, net: &mut N, desk: &mut Desk<R>)
-        requires { HasBegun self.old.office }
-        ensures begun { HasBegun self.new.office }
+        requires { HaveBegun self.old.offices }
+        ensures begun { HaveBegun self.new.offices }
         ensures hosts { Serves R.Responder (IsAtDoors 1 (standing N.name self.old) (standing N.name self.new)) None (N.history net.old) desk.old (here N.name self.old) (N.history net.new) desk.new (here N.name self.new) }
     {
-        if !self.peers.ready.office_door || self.office.is_some() {
+        if !self.peers.ready.office_door {
             return;
         }
+        let Some(k) = self.offices.free_number() else {
+            return;
+        };
         match net.accept_office() {
-            Ok(socket) => self.admit_office(socket, net, desk),
+            Ok(socket) => self.admit_office(k, socket, net, desk),
             Err(error) => self.peers.ready.office_door = !is_blocked(&error),
         }
+    }
+
+    /// Drops a connection of the land office, if its answer is overdue.
+    fn drop_office<N: Network<Socket = S>, R: Responder>(
+        &mut self,
+        k: usize,
+        net: &mut N,
+        desk: &mut Desk<R>,
+    )
+        requires number { k < 4 }
+        requires begun { HaveBegun self.old.offices }
+        ensures begun { HaveBegun self.new.offices }
+        ensures hosts { Serves R.Responder (IsAtDoors 1 (standing N.name self.old) (standing N.name self.new)) None (N.history net.old) desk.old (here N.name self.old) (N.history net.new) desk.new (here N.name self.new) }
+    {
+        if !self.offices.is_overdue(k, self.peers.now) {
+            return;
+        }
+        if let Some(office) = self.offices.take(k) {
+            net.let_go(office.into_socket());
+        }
+    }
+
+    /// Drops the connections of the land office whose answers are overdue.
+    fn drop_offices<N: Network<Socket = S>, R: Responder>(
+        &mut self,
+        net: &mut N,
+        desk: &mut Desk<R>,
+    )
+        requires { HaveBegun self.old.offices }
+        ensures begun { HaveBegun self.new.offices }
+        ensures hosts { Serves R.Responder (IsAtDoors 4 (standing N.name self.old) (standing N.name self.new)) None (N.history net.old) desk.old (here N.name self.old) (N.history net.new) desk.new (here N.name self.new) }
+    {
+        for k in 0..MOST_OFFICES {
+            self.drop_office(k, net, desk);
+        }
+    }
+
+    /// Drops the connections of the land office whose answers are overdue, and takes one that waits at its door, if there is room.
+    fn change_offices<N: Network<Socket = S>, R: Responder>(
+        &mut self,
+        net: &mut N,
+        desk: &mut Desk<R>,
+    )
+        requires { HaveBegun self.old.offices }
+        ensures begun { HaveBegun self.new.offices }
+        ensures hosts { Serves R.Responder (IsAtDoors 5 (standing N.name self.old) (standing N.name self.new)) None (N.history net.old) desk.old (here N.name self.old) (N.history net.new) desk.new (here N.name self.new) }
+    {
+        self.drop_offices(net, desk);
+        self.take_office(net, desk);
     }
 
     /// Drops the clients that are overdue, and takes those that wait at their door.
@@ -205,7 +283,7 @@ impl<S: Drop> Rounds<S> {
         desk: &mut Desk<R>,
         log: &mut L,
     )
-        ensures office { self.new.office ≡ self.old.office }
+        ensures offices { self.new.offices ≡ self.old.offices }
         ensures hosts { Serves R.Responder (IsAtDoors 128 (standing N.name self.old) (standing N.name self.new)) None (N.history net.old) desk.old (here N.name self.old) (N.history net.new) desk.new (here N.name self.new) }
     {
         self.peers.drop_overdue(net, desk);
@@ -214,10 +292,10 @@ impl<S: Drop> Rounds<S> {
 
     /// The most milliseconds of the next wait.
     fn patience(&self) -> u64 {
-        if self.peers.any_ready() || self.peers.ready.office {
+        if self.peers.any_ready() || self.peers.ready.any_office() {
             0
         } else if self.peers.ready.clients_door
-            || self.peers.ready.office_door && self.office.is_none()
+            || self.peers.ready.office_door && self.offices.free_number().is_some()
         {
             IMPATIENCE
         } else {
@@ -232,16 +310,16 @@ impl<S: Drop> Rounds<S> {
         desk: &mut Desk<R>,
         log: &mut L,
     ) -> Result<Option<Stopped>>
-        requires { HasBegun self.old.office }
-        ensures begun { HasBegunUnless (end_of_round result) self.new.office }
-        ensures hosts { Serves R.Responder (MakesRound 841 result (standing N.name self.old) (standing N.name self.new)) (end_of_round result) (N.history net.old) desk.old (here N.name self.old) (N.history net.new) desk.new (here N.name self.new) }
+        requires { HaveBegun self.old.offices }
+        ensures begun { HaveBegunUnless (end_of_round result) self.new.offices }
+        ensures hosts { Serves R.Responder (MakesRound 2401 result (standing N.name self.old) (standing N.name self.new)) (end_of_round result) (N.history net.old) desk.old (here N.name self.old) (N.history net.new) desk.new (here N.name self.new) }
     {
         let patience = self.patience();
         self.wait(net, desk, patience)?;
         if let Some(stopped) = self.serve_clients(net, desk, log)? {
             return Ok(Some(stopped));
         }
-        Ok(self.serve_office(net, desk))
+        Ok(self.serve_offices(net, desk))
     }
 
     /// A round: all that may continue are served, and then those that wait at the doors are taken.
@@ -251,15 +329,15 @@ impl<S: Drop> Rounds<S> {
         desk: &mut Desk<R>,
         log: &mut L,
     ) -> Result<Option<Stopped>>
-        requires { HasBegun self.old.office }
-        ensures begun { HasBegunUnless (end_of_round result) self.new.office }
+        requires { HaveBegun self.old.offices }
+        ensures begun { HaveBegunUnless (end_of_round result) self.new.offices }
         ensures hosts { Serves R.Responder (MakesRound most_in_round result (standing N.name self.old) (standing N.name self.new)) (end_of_round result) (N.history net.old) desk.old (here N.name self.old) (N.history net.new) desk.new (here N.name self.new) }
     {
         if let Some(stopped) = self.serve_all(net, desk, log)? {
             return Ok(Some(stopped));
         }
         self.change_clients(net, desk, log);
-        self.take_office(net, desk);
+        self.change_offices(net, desk);
         Ok(None)
     }
 
@@ -270,7 +348,7 @@ impl<S: Drop> Rounds<S> {
         desk: &mut Desk<R>,
         log: &mut L,
     ) -> Result<Stopped>
-        requires { HasBegun self.old.office }
+        requires { HaveBegun self.old.offices }
         ensures { Serves R.Responder (AreServed (standing N.name self.old)) (end_of_rounds result) (N.history net.old) desk.old (here N.name self.old) (N.history net.new) desk.new (here N.name self.new) }
     {
         for _ in 0..u64::MAX {

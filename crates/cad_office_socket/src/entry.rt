@@ -76,6 +76,13 @@ impl Entry {
         self.output_at < self.output.len()
     }
 
+    /// How many bytes of an answer are not written.
+    pub fn unwritten_len(&self) -> usize
+        ensures { result ≡ length (unwritten self.now) }
+    {
+        self.output.len() - self.output_at
+    }
+
     /// One write of an answer that is not fully written.
     pub fn send<N: Network>(&mut self, net: &mut N, socket: &N::Socket) -> EntryTurned
         requires { IsSending self.old }

@@ -27,9 +27,9 @@ module _ {R : Type 0} (g : Ghosts R) where
   clean_work old mid here next (acts s c act) w counts = clean_act c old mid w.0 w.1 act w.3 counts
   clean_work old mid here next (waits s c) w counts = clean_same old mid w.3 counts
   clean_work old mid here next (ends s c cause deeds said) w counts = clean_told old mid said w.4 counts
-  clean_work old mid here next (office_comes o) w counts = clean_same old mid w.5 counts
-  clean_work old mid here next (enters o text turned deeds said) w counts = clean_told old mid said w.7 counts
-  clean_work old mid here next (office_leaves o) w counts = clean_same old mid w.4 counts
+  clean_work old mid here next (office_comes o k) w counts = clean_same old mid w.5 counts
+  clean_work old mid here next (enters o k text turned deeds said) w counts = clean_told old mid said w.7 counts
+  clean_work old mid here next (office_leaves o k overdue) w counts = clean_same old mid w.4 counts
   clean_work old mid here next (aside deeds said) w counts = clean_told old mid said w.1 counts
 
   pub clean_goes : (works : List Work) (old new : Desk R) (here next : Place) → Goes g old here works new next → g.counts (responder_of new) → g.counts (responder_of old)

@@ -25,7 +25,7 @@
 //!   was written to each, and whether its socket was let go.
 //!
 //! In what was written `|` means LF. A request is answered with its method, its target and the revision in force. Any other line is
-//! answered by `no case`, and an empty one is skipped.
+//! answered by `no case`. An empty one is skipped, and so is one that begins with `#`.
 #![tactic(auto)]
 
 mod history;
@@ -50,7 +50,7 @@ fn print_answer(rt: &HostRuntime, room: &mut Room, line: &[u8]) -> Result<()> {
 
 fn print_answers(rt: &HostRuntime, room: &mut Room, lines: &[u8]) -> Result<()> {
     for line in lines.split(|byte| *byte == b'\n') {
-        if !line.is_empty() {
+        if !line.is_empty() && !line.starts_with(b"#") {
             print_answer(rt, room, line)?;
         }
     }

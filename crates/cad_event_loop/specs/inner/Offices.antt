@@ -1,5 +1,6 @@
 -- The land office as the code holds it, and how it is served (own profile).
-use Rattle.std.specs.Prelude.{◌≡◌, ⊤, ℕ, Bool, true, false, List, [], ◌∷◌, ◌++◌, Option, None, Some, if◌then◌else◌}
+use Rattle.std.specs.Prelude.{◌≡◌, ⊤, ℕ, nat_eq, Bool, true, false, List, [], ◌∷◌, ◌++◌, Option, None, Some, if◌then◌else◌}
+use Rattle.std.specs.List.{slice_get}
 use Rattle.cad_stream.specs.declared.responder.Responder.{Ghosts}
 use Rattle.cad_desk.specs.declared.desk.Desk.{Desk}
 use Rattle.cad_network.specs.Deeds.{Deed, left}
@@ -10,15 +11,34 @@ use Rattle.cad_office_socket.specs.declared.turned.EntryTurned.{EntryTurned}
 use Rattle.cad_office_socket.specs.Serving.{IsEntryServed}
 use Rattle.cad_office_socket.specs.Turns.{IsBegun, IsSending, SendsSome}
 use Rattle.cad_event_loop.specs.declared.office.Office.{Office}
+use Rattle.cad_event_loop.specs.declared.offices.Offices.{Offices}
 use Rattle.cad_event_loop.specs.declared.stopped.Stopped.{Stopped}
 use Rattle.cad_event_loop.specs.declared.stopped.Stopped.TheVariants.{Asked, StoreRefused}
-use Rattle.cad_event_loop.specs.Works.{AtOffice, is_last}
+use Rattle.cad_event_loop.specs.Works.{AtOffice, AtOffices, is_last}
 
 abbrev pub office_at : {S : Type 0} → (S → ℕ) → Option (Office S) → AtOffice
 office_at name None = None
 office_at name (Some office) = Some (name office.socket, office.entry)
 
--- a line of the land office has begun, if it is here
+-- what a place of the table holds
+abbrev pub seat_in : {S : Type 0} → Option (Option (Office S)) → Option (Office S)
+seat_in None = None
+seat_in (Some None) = None
+seat_in (Some (Some office)) = Some office
+
+-- connection k of the land office, if it is open
+abbrev pub seat_at : {S : Type 0} → Offices S → ℕ → Option (Office S)
+seat_at offices k = seat_in (slice_get offices.seats.items k)
+
+-- it is this one afterwards, or is not open, and all others are as they were
+abbrev pub Seats : {S : Type 0} → Offices S → Offices S → ℕ → Option (Office S) → Type 0
+Seats old new k one = (j : ℕ) → seat_at new j ≡ (if nat_eq k j then one else seat_at old j)
+
+-- all of them, if sockets of this type have these names
+abbrev pub offices_at : {S : Type 0} → (S → ℕ) → Offices S → AtOffices
+offices_at name offices k = office_at name (seat_at offices k)
+
+-- a line of it has begun, if it is open
 abbrev pub HasBegun : {S : Type 0} → Option (Office S) → Type 0
 HasBegun None = ⊤
 HasBegun (Some office) = IsBegun office.entry
@@ -28,10 +48,14 @@ abbrev pub IsOfficeSending : {S : Type 0} → Option (Office S) → Type 0
 IsOfficeSending None = ⊥
 IsOfficeSending (Some office) = IsSending office.entry
 
+-- a line of each has begun
+pub record HaveBegun {S : Type 0} (offices : Offices S) : Type 0 where
+  pub each : (k : ℕ) → HasBegun (seat_at offices k)
+
 -- the same, if hosting continues
-abbrev pub HasBegunUnless : {S : Type 0} → Option Stopped → Option (Office S) → Type 0
-HasBegunUnless None office = HasBegun office
-HasBegunUnless (Some stopped) office = ⊤
+abbrev pub HaveBegunUnless : {S : Type 0} → Option Stopped → Offices S → Type 0
+HaveBegunUnless None offices = HaveBegun offices
+HaveBegunUnless (Some stopped) offices = ⊤
 
 -- why hosting ends after serving the land office with this result, if it does
 abbrev pub end_of_office : EntryServed → Option Stopped

@@ -1,11 +1,11 @@
 use Rattle.std.specs.declared.io.Error.{Error}
 use Rattle.cad_event_loop.proofs.HostLemmas.{hosted_so, nobody_is}
-use Rattle.std.proofs.Common.{◌≡◌, ℕ, Option, inl, ap, sym}
+use Rattle.std.proofs.Common.{◌≡◌, ℕ, Option, inl, ap, sym, subst}
 use Rattle.cad_clients.specs.declared.client.Client.{Client}
 use Rattle.cad_event_loop.specs.Turns.{nobody, AreServed}
 use Rattle.cad_event_loop.specs.declared.office.Office.{Office}
-use Rattle.cad_event_loop.specs.inner.Offices.{office_at}
-use Rattle.cad_event_loop.specs.inner.Standing.{standing_of, standing_office}
+use Rattle.cad_event_loop.specs.inner.Offices.{office_at, HasBegun}
+use Rattle.cad_event_loop.specs.inner.Standing.{flag_at, standing_of, standing_office}
 use Rattle.cad_event_loop.proofs.StandingLemmas.{served_alike}
 use Rattle.cad_event_loop.proofs.GoesLemmas.{serves-so}
 use Rattle.cad_event_loop.specs.Hosting.{end_of_rounds}
@@ -20,7 +20,7 @@ returns-in_err-rounds g c =
     rw p.1 (inl (unhosted g.R.Responder (g.N.Network.history c.args.net.now) c.args.desk.now))
 
 pub run-hosted-requires : goal.run-hosted-requires
-run-hosted-requires g c = rw c.in_ok-rounds.ensures.1 tt
+run-hosted-requires g c = record { each = λ k. subst (λ (o : Option (Office _)). HasBegun o) (sym (c.in_ok-rounds.ensures.1 k)) tt }
 
 pub returns : goal.returns
 returns g c =
@@ -28,9 +28,9 @@ returns g c =
     let rounds = c.in_ok-rounds.rounds in
     let stand = standing g.N.Network.name rounds in
     let clients : ((d : ℕ) → nobody.clients d ≡ stand.clients d) = (λ d. sym (ap (λ (o : Option (Client _)). standing_of o) (c.in_ok-rounds.ensures.0 d))) in
-    let office : nobody.office ≡ stand.office = sym (ap (λ (o : Option (Office _)). standing_office (office_at g.N.Network.name o) rounds.peers.ready.office) c.in_ok-rounds.ensures.1) in
+    let offices : ((k : ℕ) → nobody.offices k ≡ stand.offices k) = (λ k. sym (ap (λ (o : Option (Office _)). standing_office (office_at g.N.Network.name o) (flag_at rounds.peers.ready k)) (c.in_ok-rounds.ensures.1 k))) in
     let served =
     serves-so g.R.Responder (AreServed stand) (AreServed nobody) (end_of_rounds c.run-hosted.result) _ _ c.args.desk.now c.run-hosted.new.desk _ _
-    (λ works. served_alike stand nobody works (clients, office)) c.run-hosted.ensures in
+    (λ works. served_alike stand nobody works (clients, offices)) c.run-hosted.ensures in
     let all = hosted_by g.R.Responder (end_of_rounds c.run-hosted.result) _ _ _ c.args.desk.now c.run-hosted.new.desk c.end-ended.new.desk (here g.N.Network.name c.in_ok-rounds.rounds) (here g.N.Network.name c.run-hosted.new.self) (here g.N.Network.name c.end-ended.new.self) first c.end-ended.ensures.nobody served c.end-ended.ensures.hosts in
     hosted_so g.R.Responder Error c.run-hosted.result c.last_of.result _ _ c.args.desk.now c.end-ended.new.desk c.last_of.ensures all

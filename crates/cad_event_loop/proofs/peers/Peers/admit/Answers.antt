@@ -2,7 +2,7 @@ use Rattle.std.proofs.Common.{ℕ, [], ◌∷◌, sym, subst}
 use Rattle.cad_network.specs.Deeds.{Adds, AddsSome, came}
 use Rattle.cad_network.specs.lemmas.DeedLemmas.{Adds-trans}
 use Rattle.cad_event_loop.specs.Hosting.{IsTurnedAway}
-use Rattle.cad_event_loop.specs.inner.Standing.{standings}
+use Rattle.cad_event_loop.specs.inner.Standing.{flag_at, standings}
 use Rattle.cad_event_loop.specs.Works.{place_of}
 use Rattle.cad_event_loop.proofs.GoesLemmas.{opened_hosts, away_hosts}
 use Rattle.cad_event_loop.proofs.peers.Peers.admit.Goals as goal
@@ -19,4 +19,4 @@ pub returns : goal.returns
 returns g c = λ office before comes.
     let watched = Adds-trans _ _ _ (came (g.N.Network.name c.args.socket) ∷ []) [] comes c.watch.ensures.done in
     let renamed = subst (λ (n : ℕ). Adds before (g.N.Network.history c.watch.new.self) (came n ∷ [])) (sym c.watch.ensures.same) watched in
-    opened_hosts g.R.Responder g.N.Network.name c.in-Some.c office c.args.self.now.ready.office c.args.self.now.now c.open-2.result c.watch.new.socket before _ _ c.args.desk.now c.open-2.new.desk c.args.self.now.clients c.open-2.new.self c.in-Some.ensures.free.1 renamed c.open-2.ensures
+    opened_hosts g.R.Responder g.N.Network.name c.in-Some.c office (flag_at c.args.self.now.ready) c.args.self.now.now c.open-2.result c.watch.new.socket before _ _ c.args.desk.now c.open-2.new.desk c.args.self.now.clients c.open-2.new.self c.in-Some.ensures.free.1 renamed c.open-2.ensures

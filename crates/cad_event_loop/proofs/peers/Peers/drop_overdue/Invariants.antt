@@ -1,9 +1,9 @@
 use Rattle.std.proofs.Common.{None}
 use Rattle.cad_event_loop.specs.Hosting.{Serves}
 use Rattle.cad_event_loop.specs.inner.Standing.{standings, IsAtDoors}
-use Rattle.cad_event_loop.specs.Works.{place_of, AtOffice}
+use Rattle.cad_event_loop.specs.Works.{place_of, AtOffices}
 use Rattle.cad_event_loop.proofs.peers.Peers.drop_overdue.Given as goal
 
 abbrev pub invariant-loop-c : goal.invariant-loop-c
 invariant-loop-c g l =
-    (office : AtOffice) → Serves g.R.Responder (IsAtDoors l.c (standings l.fn.self office) (standings l.self office)) None (g.N.Network.history l.fn.net) l.fn.desk (place_of g.N.Network.name l.fn.self.clients office) (g.N.Network.history l.net) l.desk (place_of g.N.Network.name l.self.clients office)
+    (office : AtOffices) → Serves g.R.Responder (IsAtDoors l.c (standings l.fn.self office) (standings l.self office)) None (g.N.Network.history l.fn.net) l.fn.desk (place_of g.N.Network.name l.fn.self.clients office) (g.N.Network.history l.net) l.desk (place_of g.N.Network.name l.self.clients office)

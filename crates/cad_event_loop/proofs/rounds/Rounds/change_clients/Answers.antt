@@ -1,5 +1,5 @@
 use Rattle.std.proofs.Common.{None, arith}
-use Rattle.cad_event_loop.specs.inner.Offices.{office_at}
+use Rattle.cad_event_loop.specs.inner.Offices.{offices_at}
 use Rattle.cad_event_loop.specs.inner.Standing.{standings, IsAtDoors}
 use Rattle.cad_event_loop.proofs.StandingLemmas.{doors-append}
 use Rattle.cad_event_loop.proofs.GoesLemmas.{serves-then}
@@ -7,7 +7,7 @@ use Rattle.cad_event_loop.proofs.rounds.Rounds.change_clients.Goals as goal
 
 pub returns-clause-hosts : goal.returns-clause-hosts
 returns-clause-hosts g c =
-    let office = office_at g.N.Network.name c.args.self.now.office in
+    let office = offices_at g.N.Network.name c.args.self.now.offices in
     let first = standings c.args.self.now.peers office in
     let mid = standings c.drop_overdue.new.self office in
     let last = standings c.take_clients.new.self office in

@@ -1,8 +1,8 @@
 use Rattle.std.proofs.Common.{None}
 use Rattle.cad_event_loop.specs.Hosting.{IsClosing}
-use Rattle.cad_event_loop.specs.inner.Offices.{office_at}
+use Rattle.cad_event_loop.specs.inner.Offices.{offices_at}
 use Rattle.cad_event_loop.proofs.GoesLemmas.{hosts-then}
 use Rattle.cad_event_loop.proofs.rounds.Rounds.send_all.Goals as goal
 
 pub returns : goal.returns
-returns g c = hosts-then g.R.Responder IsClosing None _ _ _ c.args.desk.now c.send_ready.new.desk c.send_office.new.desk _ _ _ (c.send_ready.ensures (office_at g.N.Network.name c.args.self.now.office)) c.send_office.ensures
+returns g c = hosts-then g.R.Responder IsClosing None _ _ _ c.args.desk.now c.send_ready.new.desk c.send_offices.new.desk _ _ _ (c.send_ready.ensures (offices_at g.N.Network.name c.args.self.now.offices)) c.send_offices.ensures

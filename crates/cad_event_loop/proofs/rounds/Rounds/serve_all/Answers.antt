@@ -1,7 +1,7 @@
 use Rattle.std.specs.declared.io.Error.{Error}
 use Rattle.std.proofs.Common.{None, Some, Ok, Err, arith}
 use Rattle.cad_event_loop.specs.inner.Rounds.{standing}
-use Rattle.cad_event_loop.specs.inner.Standing.{IsAsked, ServesAll, ServesEach, ServesOffice, MakesRound}
+use Rattle.cad_event_loop.specs.inner.Standing.{IsAsked, ServesAll, ServesEach, ServesOffices, MakesRound}
 use Rattle.cad_event_loop.proofs.StandingLemmas.{asked_only, asked_served, office_cut, office_then}
 use Rattle.cad_event_loop.proofs.GoesLemmas.{serves-so, serves-then}
 use Rattle.std.proofs.lemmas.Result.{err_from_is_err_and}
@@ -12,15 +12,15 @@ returns-in_err-wait-clause-hosts g c =
     let p = err_from_is_err_and c.from_residual.result c.from_residual.ensures.1 in
     let first = standing g.N.Network.name c.args.self.now in
     let last = standing g.N.Network.name c.wait.new.self in
-    rw p.1 (serves-so g.R.Responder (IsAsked first last) (MakesRound 841 (Err p.0) first last) None _ _ c.args.desk.now c.wait.new.desk _ _ (λ works. asked_only 841 p.0 first last works (omega arith)) c.in_err-wait.ensures.hosts)
+    rw p.1 (serves-so g.R.Responder (IsAsked first last) (MakesRound 2401 (Err p.0) first last) None _ _ c.args.desk.now c.wait.new.desk _ _ (λ works. asked_only 2401 p.0 first last works (omega arith)) c.in_err-wait.ensures.hosts)
 
 pub returns-in_err-wait-clause-begun : goal.returns-in_err-wait-clause-begun
 returns-in_err-wait-clause-begun g c =
     let p = err_from_is_err_and c.from_residual.result c.from_residual.ensures.1 in
-    rw (p.1, c.in_err-wait.ensures.office) c.requires
+    rw (p.1, c.in_err-wait.ensures.offices) c.requires
 
 pub serve_clients-requires : goal.serve_clients-requires
-serve_clients-requires g c = rw c.in_ok-wait.ensures.office c.requires
+serve_clients-requires g c = rw c.in_ok-wait.ensures.offices c.requires
 
 pub returns-in_err-stopped-clause-hosts : goal.returns-in_err-stopped-clause-hosts
 returns-in_err-stopped-clause-hosts g c =
@@ -28,7 +28,7 @@ returns-in_err-stopped-clause-hosts g c =
     let first = standing g.N.Network.name c.args.self.now in
     let mid = standing g.N.Network.name c.wait.new.self in
     let last = standing g.N.Network.name c.serve_clients.new.self in
-    rw p.1 (serves-then g.R.Responder (IsAsked first mid) (ServesAll (Err c.in_err-stopped.field-0.0) mid last) (MakesRound 841 (Err p.0) first last) None _ _ _ c.args.desk.now c.wait.new.desk c.serve_clients.new.desk _ _ _
+    rw p.1 (serves-then g.R.Responder (IsAsked first mid) (ServesAll (Err c.in_err-stopped.field-0.0) mid last) (MakesRound 2401 (Err p.0) first last) None _ _ _ c.args.desk.now c.wait.new.desk c.serve_clients.new.desk _ _ _
     (λ xs ys asked served. record { paced = (asked_served (Err c.in_err-stopped.field-0.0) first mid last xs ys asked (office_cut (Err c.in_err-stopped.field-0.0) mid last ys tt served)).paced; gives = tt })
     c.in_ok-wait.ensures.hosts c.in_err-stopped.ensures.hosts)
 
@@ -43,12 +43,12 @@ returns-in-Some-clause-hosts g c =
     let first = standing g.N.Network.name c.args.self.now in
     let mid = standing g.N.Network.name c.wait.new.self in
     let last = standing g.N.Network.name c.serve_clients.new.self in
-    serves-then g.R.Responder (IsAsked first mid) (ServesAll {E = Error} (Ok (Some c.in-Some.stopped)) mid last) (MakesRound {E = Error} 841 (Ok (Some c.in-Some.stopped)) first last) (Some c.in-Some.stopped) _ _ _ c.args.desk.now c.wait.new.desk c.serve_clients.new.desk _ _ _
+    serves-then g.R.Responder (IsAsked first mid) (ServesAll {E = Error} (Ok (Some c.in-Some.stopped)) mid last) (MakesRound {E = Error} 2401 (Ok (Some c.in-Some.stopped)) first last) (Some c.in-Some.stopped) _ _ _ c.args.desk.now c.wait.new.desk c.serve_clients.new.desk _ _ _
     (λ xs ys asked served. asked_served {E = Error} (Ok (Some c.in-Some.stopped)) first mid last xs ys asked (office_cut {E = Error} (Ok (Some c.in-Some.stopped)) mid last ys tt served))
     c.in_ok-wait.ensures.hosts one
 
-pub serve_office-requires : goal.serve_office-requires
-serve_office-requires g c = rw c.in_default.is at c.in_ok-stopped.ensures.begun
+pub serve_offices-requires : goal.serve_offices-requires
+serve_offices-requires g c = rw c.in_default.is at c.in_ok-stopped.ensures.begun
 
 pub returns-clause-hosts : goal.returns-clause-hosts
 returns-clause-hosts g c =
@@ -56,9 +56,9 @@ returns-clause-hosts g c =
     let first = standing g.N.Network.name c.args.self.now in
     let mid = standing g.N.Network.name c.wait.new.self in
     let served = standing g.N.Network.name c.serve_clients.new.self in
-    let last = standing g.N.Network.name c.serve_office.new.self in
+    let last = standing g.N.Network.name c.serve_offices.new.self in
     let both =
-    serves-then g.R.Responder (ServesAll {E = Error} (Ok None) mid served) (ServesOffice 8 served last) (ServesEach {E = Error} 840 (Ok c.serve_office.result) mid last) c.serve_office.result _ _ _ c.wait.new.desk c.serve_clients.new.desk c.serve_office.new.desk _ _ _
-    (λ xs ys. office_then {E = Error} {F = Error} (Ok c.serve_office.result) mid served last xs ys) one c.serve_office.ensures.hosts in
-    serves-then g.R.Responder (IsAsked first mid) (ServesEach {E = Error} 840 (Ok c.serve_office.result) mid last) (MakesRound {E = Error} 841 (Ok c.serve_office.result) first last) c.serve_office.result _ _ _ c.args.desk.now c.wait.new.desk c.serve_office.new.desk _ _ _
-    (λ xs ys. asked_served {E = Error} (Ok c.serve_office.result) first mid last xs ys) c.in_ok-wait.ensures.hosts both
+    serves-then g.R.Responder (ServesAll {E = Error} (Ok None) mid served) (ServesOffices 32 c.serve_offices.result served last) (ServesEach {E = Error} 2400 (Ok c.serve_offices.result) mid last) c.serve_offices.result _ _ _ c.wait.new.desk c.serve_clients.new.desk c.serve_offices.new.desk _ _ _
+    (λ xs ys. office_then {E = Error} {F = Error} c.serve_offices.result mid served last xs ys) one c.serve_offices.ensures.hosts in
+    serves-then g.R.Responder (IsAsked first mid) (ServesEach {E = Error} 2400 (Ok c.serve_offices.result) mid last) (MakesRound {E = Error} 2401 (Ok c.serve_offices.result) first last) c.serve_offices.result _ _ _ c.args.desk.now c.wait.new.desk c.serve_offices.new.desk _ _ _
+    (λ xs ys. asked_served {E = Error} (Ok c.serve_offices.result) first mid last xs ys) c.in_ok-wait.ensures.hosts both

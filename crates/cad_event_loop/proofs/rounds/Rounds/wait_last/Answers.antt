@@ -1,9 +1,9 @@
 use Rattle.std.proofs.Common.{refl}
 use Rattle.cad_event_loop.specs.Works.{place_of}
-use Rattle.cad_event_loop.specs.inner.Offices.{office_at}
+use Rattle.cad_event_loop.specs.inner.Offices.{offices_at}
 use Rattle.cad_event_loop.specs.inner.Rounds.{here}
 use Rattle.cad_event_loop.proofs.GoesLemmas.{hosts_woken}
 use Rattle.cad_event_loop.proofs.rounds.Rounds.wait_last.Goals as goal
 
 pub returns : goal.returns
-returns g c = hosts_woken g.R.Responder c.args.self.now.peers c.wait.new.self _ _ c.args.desk.now (here g.N.Network.name c.args.self.now) (place_of g.N.Network.name c.wait.new.self.clients (office_at g.N.Network.name c.args.self.now.office)) c.wait.ensures.told c.wait.ensures.held refl
+returns g c = hosts_woken g.R.Responder c.args.self.now.peers c.wait.new.self _ _ c.args.desk.now (here g.N.Network.name c.args.self.now) (place_of g.N.Network.name c.wait.new.self.clients (offices_at g.N.Network.name c.args.self.now.offices)) c.wait.ensures.told c.wait.ensures.held (λ k. refl)
