@@ -163,11 +163,7 @@ impl<R: JournalResponder> Desk<R> {
 
     /// Reads the next rows of a journal, at most `most`, and returns whether all were read. Events may have been answered since the last rows
     /// were read.
-    pub fn read_on(
-        &mut self,
-        reading: &mut R::Reading,
-        most: u32,
-    ) -> Result<bool, RegisterFault>
+    pub fn read_on(&mut self, reading: &mut R::Reading, most: u32) -> Result<bool, RegisterFault>
         ensures { ReadsAtDesk R.Responder R.JournalResponder.own self.old reading.old most result self.new reading.new }
     {
         self.responder.read_on(reading, most)

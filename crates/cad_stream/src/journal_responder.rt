@@ -7,10 +7,11 @@ use std::alloc::Global;
 /// A responder that gives back the commands that it accepted. They are read in pieces, between which it may answer requests and enter
 /// others.
 pub trait JournalResponder: Responder {
-    ghost use Rattle.std.specs.Prelude.{◌≡◌, ℕ, ℤ, List};
+    ghost use Rattle.std.specs.Prelude.{◌≡◌, ℕ, ℤ, List, []};
     ghost use Rattle.cad_versions.specs.declared.command.Command.{Command as CommandOf};
     ghost use Rattle.cad_versions.specs.declared.fault.RegisterFault.{RegisterFault as Fault};
     ghost use Rattle.cad_versions.specs.Keeping.{IsOfKeeping};
+    ghost use Rattle.cad_versions.specs.Refusals.{AreAccepted};
     ghost use Rattle.cad_versions.specs.Journals.{BeginsJournal, ReadsJournal, GivesJournal, ReadingsStay, ReadingsAreWithin};
 
     /// The commands after a revision, up to the newest when the reading began, as far as they were read.
@@ -52,11 +53,16 @@ pub trait JournalResponder: Responder {
         requires { rows_left reading ≡ 0 }
         ensures { GivesJournal has_read behind_of newest_of reading result };
 
+    /// Further commands change nothing of what a reading holds. The contract is a law; the function does nothing.
+    fn readings_stay()
+        ensures { ReadingsStay has_read };
+
     // A fault for which rows are not read is one of the ledger.
     ghost read_keeps: { (commands : List CommandOf) (fault : Fault) → fails_to_read commands fault → IsOfKeeping fault };
 
-    // Further commands change nothing of what a reading holds.
-    ghost readings_stay: { ReadingsStay has_read };
+    // The commands that it holds were accepted one after the other.
+    ghost were_accepted: { (responder : Self) (commands : List CommandOf) →
+        Self.Responder.stands_for responder commands → AreAccepted [] commands };
 
     // It is of commands that the responder holds.
     ghost readings_are_within: { ReadingsAreWithin has_read behind_of newest_of };

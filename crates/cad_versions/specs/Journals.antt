@@ -32,8 +32,8 @@ module _ {L R : Type 0} (StandsFor : L → List Command → Type 0) where
     pub after : IfOk result (λ reading. behind_of reading ≡ behind)
     pub cause : IfErr result (λ fault. (commands : List Command) → StandsFor ledger commands → ((length commands < behind) × (fault ≡ UnknownRevision)) ⊎ ((behind ≤ length commands) × (fault ≡ Memory)))
 
--- the next rows were read, at most so many, of the commands of the same revisions
 module _ {R : Type 0} (behind_of newest_of rows_left : R → ℕ) where
+  -- it is of the same revisions, and the next rows were read, at most so many
   pub record IsReadOn (most : ℕ) (before after : R) : Type 0 where
     pub behind_is : behind_of after ≡ behind_of before
     pub newest_is : newest_of after ≡ newest_of before

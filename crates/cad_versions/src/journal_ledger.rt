@@ -53,11 +53,12 @@ pub trait JournalLedger: Ledger {
         requires { rows_left reading ≡ 0 }
         ensures { GivesJournal has_read behind_of newest_of reading result };
 
+    /// Further commands change nothing of what a reading holds. The contract is a law; the function does nothing.
+    fn readings_stay()
+        ensures { ReadingsStay has_read };
+
     // A fault for which rows are not read is one of the ledger's store.
     ghost read_keeps: { (commands : List CommandOf) (fault : Fault) → fails_to_read commands fault → IsOfKeeping fault };
-
-    // Further commands change nothing of what a reading holds.
-    ghost readings_stay: { ReadingsStay has_read };
 
     // It is of commands that the ledger holds.
     ghost readings_are_within: { ReadingsAreWithin has_read behind_of newest_of };
