@@ -2,7 +2,7 @@
 
 use crate::event::{Event, Outgoing, Reply};
 use crate::fault::DeskFault;
-use cad_stream::{Connection, Fed, Responder};
+use cad_stream::{Connection, Fed, JournalResponder, Responder};
 use cad_versions::{Command, RegisterFault};
 use std::alloc::Global;
 use std::collections::HashMap;
@@ -146,5 +146,34 @@ impl<R: Responder> Desk<R> {
                 Err(fault) => Err(DeskFault::from(fault)),
             },
         }
+    }
+}
+
+impl<R: JournalResponder> Desk<R> {
+    ghost use Rattle.std.specs.Prelude.{◌≡◌};
+    ghost use Rattle.cad_versions.specs.Journals.{GivesJournal};
+    ghost use Rattle.cad_desk.specs.Journals.{BeginsAtDesk, ReadsAtDesk};
+
+    /// Begins to read the commands after a revision, up to the newest. A revision above the newest is `UnknownRevision`.
+    pub fn begin_journal(&self, behind: u64) -> Result<R::Reading, RegisterFault>
+        ensures { BeginsAtDesk R.Responder R.JournalResponder.own self.now behind result }
+    {
+        self.responder.begin_journal(behind)
+    }
+
+    /// Reads the next rows of a journal, at most `most`, and returns whether all were read. Events may have been answered since the last rows
+    /// were read.
+    pub fn read_on(&mut self, reading: &mut R::Reading, most: u32) -> Result<bool, RegisterFault>
+        ensures { ReadsAtDesk R.Responder R.JournalResponder.own self.old reading.old most result self.new reading.new }
+    {
+        self.responder.read_on(reading, most)
+    }
+
+    /// The commands of a journal, once all its rows were read.
+    pub fn journal(&self, reading: R::Reading) -> Result<Vec<Command>, RegisterFault>
+        requires { R.rows_left reading ≡ 0 }
+        ensures { GivesJournal R.has_read R.behind_of R.newest_of reading result }
+    {
+        R::commands(reading, self.alloc)
     }
 }

@@ -3,6 +3,7 @@
 //! - `Desk`: the open connections, over anything that answers requests; `open`, `feed`, `close` and `enter` are its calls, and
 //!   `Outgoing` is what goes out for a piece of bytes
 //! - `Event`, `Reply`: the same calls as values, with their answers; `Desk::step` takes one
+//! - `Desk::begin_journal`, `Desk::read_on`, `Desk::journal`: the accepted commands, read in pieces between events
 //! - `DeskFault`: why it refuses
 //! - `laws`: what holds of every list of events
 //!

@@ -30,12 +30,13 @@ decided ledger cs c o stands e = ap (λ vs. refusal vs c) (sym (versions_kept le
 
 -- ---- one command more
 
-pub applied : (old new : MemoryLedger) (cs : List Command) (c : Command) → IsLedgerOf old cs → refusal (map version_in old.versions) c ≡ None → new.revision ≡ old.revision + 1 → new.versions ≡ entries_after new.revision old.versions c → IsLedgerOf new (cs ++ c ∷ [])
-applied old new cs c stands may counts kept =
+pub applied : (old new : MemoryLedger) (cs : List Command) (c : Command) → IsLedgerOf old cs → refusal (map version_in old.versions) c ≡ None → new.revision ≡ old.revision + 1 → new.versions ≡ entries_after new.revision old.versions c → new.commands.items ≡ old.commands.items ++ c ∷ [] → IsLedgerOf new (cs ++ c ∷ [])
+applied old new cs c stands may counts kept held =
     let next : new.revision ≡ length cs + 1 = counts ∙ ap (λ n. n + 1) stands.counted in
     record {
       accepted = accepted_then [] cs c stands.accepted (decided old cs c None stands may);
       kept = kept ∙ ap (λ n. entries_after n old.versions c) next ∙ ap (λ es. entries_after (length cs + 1) es c) stands.kept ∙ sym (entries_then cs c);
+      held = held ∙ ap (λ ds. ds ++ c ∷ []) stands.held;
       counted = next ∙ sym (length-append cs (c ∷ []));
     }
 

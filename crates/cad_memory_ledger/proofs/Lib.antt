@@ -1,3 +1,4 @@
 pub mod PlainLemmas
 pub mod ShowLemmas
 pub mod LedgerLemmas
+pub mod ReadingLemmas

@@ -8,10 +8,11 @@ use Rattle.cad_versions.specs.Refusals.{AreAccepted}
 use Rattle.cad_versions.specs.Entries.{entries_of}
 use Rattle.cad_memory_ledger.specs.declared.ledger.MemoryLedger.{MemoryLedger}
 
--- the commands were accepted one after the other; their entries are kept, and they are counted
+-- the commands were accepted one after the other; their entries are kept, and so are they; they are counted
 pub record IsLedgerOf (ledger : MemoryLedger) (commands : List Command) : Type 0 where
   pub accepted : AreAccepted [] commands
   pub kept : ledger.versions ≡ entries_of commands
+  pub held : ledger.commands.items ≡ commands
   pub counted : ledger.revision ≡ length commands
 
 abbrev pub IsMemory : RegisterFault → Type 0

@@ -1,13 +1,16 @@
 //! The ledger.
 
+use crate::entering::enact;
+use crate::reading::MemoryReading;
 use crate::versions::StoredVersions;
-use cad_versions::{Command, Ledger, RegisterFault, Version};
+use cad_versions::{Command, JournalLedger, Ledger, RegisterFault, Version};
 use std::alloc::Global;
 
 /// A ledger in memory. The only fault of its own is `Memory`.
 #[derive(Drop)]
 pub struct MemoryLedger {
     versions: StoredVersions,
+    commands: Vec<Command>,
     revision: u64,
     alloc: Global,
 }
@@ -22,6 +25,7 @@ impl MemoryLedger {
     {
         MemoryLedger {
             versions: StoredVersions::new(alloc),
+            commands: Vec::new(alloc),
             revision: 0,
             alloc,
         }
@@ -80,7 +84,7 @@ impl Ledger for MemoryLedger {
         let Some(revision) = self.revision.checked_add(1) else {
             return Err(RegisterFault::Memory);
         };
-        self.versions.enact(command, revision)?;
+        enact(&mut self.versions, &mut self.commands, command, revision)?;
         self.revision = revision;
         Ok(revision)
     }
@@ -103,4 +107,44 @@ impl Ledger for MemoryLedger {
         let found = self.versions.as_of(self.alloc, revision)?;
         Ok(found)
     }
+}
+
+impl JournalLedger for MemoryLedger {
+    ghost use Rattle.cad_memory_ledger.specs.Ledgers.{IsMemory, memory_keeps};
+    ghost use Rattle.cad_memory_ledger.specs.Readings.{HasRead, behind_of as reading_behind, newest_of as reading_newest};
+
+    type Reading = MemoryReading;
+
+    ghost has_read = { HasRead };
+
+    ghost behind_of = { reading_behind };
+
+    ghost newest_of = { reading_newest };
+
+    ghost rows_left = { λ _. 0 };
+
+    ghost fails_to_read = { λ _. IsMemory };
+
+    ghost refuses_reading = { λ _ _ _ _. ⊥ };
+
+    ghost damaged_for_reading = { λ _ _ _ _ _ _. ⊥ };
+
+    ghost read_keeps = { λ _. memory_keeps };
+
+    ghost readings_are_within = { λ _ _ has. (has.behind, has.newest) };
+
+    fn begin_journal(&self, behind: u64) -> Result<MemoryReading, RegisterFault> {
+        MemoryReading::begin(self.alloc, &self.commands, behind)
+    }
+
+    // All commands were copied when the reading began.
+    fn read_on(&mut self, _reading: &mut MemoryReading, _most: u32) -> Result<bool, RegisterFault> {
+        Ok(true)
+    }
+
+    fn commands(reading: MemoryReading, _alloc: Global) -> Result<Vec<Command>, RegisterFault> {
+        Ok(reading.into_commands())
+    }
+
+    fn readings_stay() {}
 }

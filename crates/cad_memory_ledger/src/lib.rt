@@ -1,6 +1,7 @@
 //! A ledger in memory: the definition of a ledger, run as it is written.
 //!
-//! Versions are kept in the order of their entry, each with the revision that entered it and the one that closed it.
+//! Versions are kept in the order of their entry, each with the revision that entered it and the one that closed it. The commands are kept,
+//! too, so that their journal can be read.
 //!
 //! ```text
 //! let mut ledger = MemoryLedger::new(alloc);
@@ -10,7 +11,9 @@
 //! ```
 #![tactic(auto)]
 
+mod entering;
 mod ledger;
+mod reading;
 mod showing;
 mod standing;
 mod stored_version;
@@ -18,3 +21,4 @@ mod versions;
 mod writing;
 
 pub use ledger::MemoryLedger;
+pub use reading::MemoryReading;

@@ -31,6 +31,10 @@ newest_of reading = reading.newest
 abbrev pub rows_read : JournalReading → ℕ
 rows_read reading = reading.read
 
+-- so many rows were not read yet that may show one of the commands
+abbrev pub rows_left : JournalReading → ℕ
+rows_left reading = newest_of reading - rows_read reading
+
 -- for each of its revisions the command, as far as the rows that were read show it
 abbrev pub commands_held : JournalReading → List (Option Command)
 commands_held reading = reading.gathering.slots.items

@@ -1,10 +1,11 @@
 -- A land register as a ledger.
 use Rattle.std.specs.Prelude.{◌≡◌, ◌≤◌, ℕ, ℤ, pos, List, [], ◌∷◌, length, IsTrue, None, Err}
 use Rattle.sqlite_value.specs.declared.value.Value.TheVariants.{Int}
+use Rattle.sqlite_value.specs.Order.{Row}
 use Rattle.sqlite_trees.specs.declared.store.Store.{Ghosts}
 use Rattle.sqlite.specs.declared.error.Error.{Error}
 use Rattle.sqlite.specs.State.{FailsToQuery, HasCleanDisk}
-use Rattle.cad_tables.specs.Texts.{listing_text}
+use Rattle.cad_tables.specs.Texts.{listing_text, range_text}
 use Rattle.cad_versions.specs.declared.ledger.Ledger as ledger
 use Rattle.cad_versions.specs.Keeping.{IsOfKeeping}
 use Rattle.cad_versions.specs.declared.command.Command.{Command}
@@ -13,7 +14,9 @@ use Rattle.cad_versions.specs.declared.fault.RegisterFault.TheVariants as fault
 use Rattle.cad_versions.specs.Versions.{versions}
 use Rattle.cad_versions.specs.Refusals.{refusal}
 use Rattle.cad_register.specs.declared.register.Register.{Register}
+use Rattle.cad_register.specs.declared.journal_reading.JournalReading.{JournalReading}
 use Rattle.cad_register.specs.Damage.{ReadsRows}
+use Rattle.cad_register.specs.JournalReading.{rows_read, next_place, AreShownBetween, IsFirstUnsound}
 use Rattle.cad_register.specs.Naming.{FirstBreaks}
 use Rattle.cad_register.specs.Refusing.{IsNotForMemory, RefusesToApply, command_questions}
 use Rattle.cad_register.specs.Registers.{connection_of, state_of, revision_of, IsRegisterOf, Remains, HasFailed}
@@ -46,6 +49,16 @@ DamagedForCommand g old new command object number =
 abbrev pub DamagedForListing : {S : Type 0} → Ghosts S → Register S → Register S → ℕ → ℤ → ℤ → Type 0
 DamagedForListing g old new revision object number =
     ReadsRows (state_of g old) (state_of g new) revision (revision_of old) (Err (fault.Damaged object number))
+
+-- what it refuses of the next rows of a journal
+abbrev pub RefusesReading : {S : Type 0} → Ghosts S → Register S → Register S → JournalReading → ℕ → Type 0
+RefusesReading g old new reading most =
+    (e : Error) × IsNotForMemory e × FailsToQuery range_text (Int (pos (rows_read reading)) ∷ Int (pos (next_place most reading)) ∷ []) (state_of g old) (state_of g new) e
+
+-- when asked for these rows, it shows such a row, the first of them that represents no entry of the register
+abbrev pub DamagedForReading : {S : Type 0} → Ghosts S → Register S → Register S → JournalReading → ℕ → ℤ → ℤ → Type 0
+DamagedForReading g old new reading most object number =
+    (rows : List Row) × AreShownBetween (state_of g old) (state_of g new) (rows_read reading) (next_place most reading) rows × IsFirstUnsound (revision_of old) (object, number) rows
 
 -- the register as a ledger of its commands
 abbrev pub register_as_ledger : {S : Type 0} → Ghosts S → ledger.Ghosts (Register S)

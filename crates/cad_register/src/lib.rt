@@ -23,6 +23,7 @@ mod file;
 mod found;
 mod gathering;
 mod journal;
+mod journal_ledger;
 mod journal_reading;
 pub mod laws;
 mod ledger;

@@ -1,6 +1,7 @@
 //! The replies to the requests of a connection's bytes, for any pieces in which they come.
 //!
 //! - `Responder`: what answers requests, and enters the land office's commands between them
+//! - `JournalResponder`: a responder that also gives the commands back, in pieces
 //! - `Answer`: the reply to one request
 //! - `Connection`: the bytes of a connection that no request took yet, and the result of the next piece
 //! - `Fed`: the replies to a piece, and the connection after it
@@ -22,10 +23,12 @@
 mod answer;
 mod connection;
 mod joining;
+mod journal_responder;
 pub mod laws;
 mod replies;
 mod responder;
 
 pub use answer::Answer;
 pub use connection::{Connection, Fed};
+pub use journal_responder::JournalResponder;
 pub use responder::Responder;

@@ -17,6 +17,7 @@ pub mod Listing
 pub mod Keeping
 pub mod Ledgers
 pub mod LedgerCalls
+pub mod Journals
 pub mod Laws
 pub mod ShapeBytes
 pub mod BodyParts

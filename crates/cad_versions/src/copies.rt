@@ -6,6 +6,7 @@ ghost use Rattle.cad_versions.specs.BodyParts.{lent};
 
 use crate::body::Body;
 use crate::body_parts::{BodyParts, LentParts};
+use crate::command::Command;
 use crate::words::Words;
 use cad_shape::Region;
 use std::alloc::AllocError;
@@ -64,6 +65,38 @@ impl Body {
         match Body::from_parts(self.class(), parts) {
             Some(copy) => Ok(copy),
             None => unreachable!(),
+        }
+    }
+}
+
+impl Command {
+    /// A copy of the command.
+    pub fn copy(&self) -> Result<Command, AllocError>
+        ensures { IfOk result (λ copy. copy ≡ self.now) }
+    {
+        match self {
+            Command::Enter {
+                object,
+                first,
+                body,
+            } => Ok(Command::Enter {
+                object: *object,
+                first: *first,
+                body: body.copy()?,
+            }),
+            Command::Amend {
+                object,
+                first,
+                body,
+            } => Ok(Command::Amend {
+                object: *object,
+                first: *first,
+                body: body.copy()?,
+            }),
+            Command::Retire { object, last } => Ok(Command::Retire {
+                object: *object,
+                last: *last,
+            }),
         }
     }
 }

@@ -6,7 +6,7 @@
 //! - `BodyParts`, `LentParts`: what a body says, part by part, for any class.
 //! - `Command`, `RegisterFault`: what the land office asks for, and why it is refused.
 //! - `MOST_NUMBER`, `MOST_VERSIONS`: how large numbers may be, and how many versions there may be.
-//! - `Ledger`: accepts commands, and gives the versions at a revision.
+//! - `Ledger`: accepts commands, and gives the versions at a revision. A `JournalLedger` also gives its commands back, in pieces.
 //! - `laws`: what holds of every register, no matter which commands made it.
 //!
 //! ```text
@@ -27,6 +27,7 @@ mod decision;
 mod fault;
 mod identifier;
 mod identifier_order;
+mod journal_ledger;
 pub mod laws;
 mod ledger;
 mod limits;
@@ -43,6 +44,7 @@ pub use command::Command;
 pub use fault::RegisterFault;
 pub use identifier::Identifier;
 pub use identifier_order::compare_identifiers;
+pub use journal_ledger::JournalLedger;
 pub use ledger::Ledger;
 pub use limits::{MOST_NUMBER, MOST_VERSIONS};
 pub use object_id::ObjectId;

@@ -21,11 +21,11 @@ returns-in-Some c =
 pub returns : goal.returns
 returns c =
     let old = c.args.self.now in
-    let new : MemoryLedger = record { versions = c.enact.new.self; revision = c.in-Some-checked_add.revision; alloc = old.alloc } in
+    let new : MemoryLedger = record { versions = c.enact.new.versions; commands = c.enact.new.commands; revision = c.in-Some-checked_add.revision; alloc = old.alloc } in
     let may : refusal (map version_in old.versions) c.args.command ≡ None = search rules in
     let next : c.in-Some-checked_add.revision ≡ old.revision + 1 = search rules in
     record {
-      accepted = λ _ commands stands. (decided old commands c.args.command None stands may, next ∙ ap (λ n. n + 1) stands.counted, applied old new commands c.args.command stands may next c.in_ok-enact.ensures);
+      accepted = λ _ commands stands. (decided old commands c.args.command None stands may, next ∙ ap (λ n. n + 1) stands.counted, applied old new commands c.args.command stands may next c.in_ok-enact.ensures.versions c.in_ok-enact.ensures.commands);
       refused = λ _. tt;
       store = λ _ e. absurd cc;
       damaged = tt;
