@@ -20,6 +20,7 @@ The database refuses commands for object 6. The end must report that even if the
 """
 import random
 import sys
+from dataclasses import dataclass
 
 REQUESTS = ["GET /a HTTP/1.1||", "GET /b HTTP/1.1|Host: x||", "GET /c HTTP/1.0||", "POST /d HTTP/1.1|Connection: close||", "GET /lost HTTP/1.1||", "GET /full HTTP/1.1||", "no request|", "GET /e HTTP/1.1|"]
 LINES = ['{"do":"enter","object":%d,"first":"2000-01-01","unit":{}}_', "hello_", "_", '{"do":"enter","object":%d,']
@@ -109,6 +110,7 @@ class Case:
 
     def __init__(self, chance, doors=(64, 65, 66)):
         self.chance, self.steps, self.peers, self.unsent, self.offices, self.doors = chance, [], 0, {}, set(), list(doors)
+        self.second = 0
 
     def come(self):
         self.steps.append("come")
@@ -135,6 +137,29 @@ class Case:
         elif what < 0.97:
             self.steps.append(f"break {peer}")
 
+    def step(self, odds):
+        """A step of a kind that is drawn by these odds."""
+        what = self.chance.random()
+        if what < odds.come and self.peers < odds.peers:
+            self.come()
+        elif what < odds.office and self.peers < 14:
+            self.come_office()
+        elif what < odds.refuse:
+            self.steps.append(f"refuse {self.chance.randint(1, 70)}")
+        elif what < odds.unwatched:
+            count = self.chance.randint(*odds.counts) if len(odds.counts) > 1 else odds.counts[0]
+            self.steps.append(f"unwatched {count}")
+        elif what < odds.second:
+            self.second += self.chance.choice(odds.seconds)
+            self.steps.append(f"second {self.second}")
+        else:
+            self.act()
+
+    def draw(self, odds):
+        """Up to four steps before a wait."""
+        for _ in range(self.chance.randint(0, 4)):
+            self.step(odds)
+
     def wait(self, doors=False):
         """The peers that the network reports, in some order, and the end of a wait."""
         places = self.doors + list(range(min(self.peers, 64)))
@@ -151,6 +176,32 @@ class Case:
         for _ in range(self.chance.randint(4, 10)):
             self.wait(True)
 
+    def end(self):
+        """The whole case, which an office mostly stops."""
+        if self.chance.random() < 0.7:
+            self.stop()
+        return "host " + ";".join(self.steps)
+
+
+@dataclass(frozen=True)
+class Odds:
+    """How often a step is of each kind, as rising bounds of a drawn number. A client comes only while there are fewer peers than this. Then
+    the counts of sockets that the network does not watch, from the least to the greatest, and the seconds that may pass."""
+
+    come: float
+    office: float
+    refuse: float
+    unwatched: float
+    second: float
+    peers: int
+    counts: tuple
+    seconds: tuple
+
+
+CLIENTS = Odds(0.12, 0.18, 0.2, 0.22, 0.26, 12, (1, 2), (1, 3, 30, 60, 150))
+# With several connections of the office no step refuses a command.
+OFFICE = Odds(0.05, 0.15, 0.0, 0.17, 0.25, 10, (1,), (1, 30, 100, 299, 300))
+
 
 def case(chance):
     drawn = Case(chance)
@@ -159,27 +210,10 @@ def case(chance):
     if crowd:
         for _ in range(chance.choice([62, 63, 64, 66])):
             drawn.come()
-    second = 0
     for _ in range(chance.randint(4, 16)):
-        for _ in range(chance.randint(0, 4)):
-            what = chance.random()
-            if what < 0.12 and drawn.peers < 12:
-                drawn.come()
-            elif what < 0.18 and drawn.peers < 14:
-                drawn.come_office()
-            elif what < 0.2:
-                drawn.steps.append(f"refuse {chance.randint(1, 70)}")
-            elif what < 0.22:
-                drawn.steps.append(f"unwatched {chance.randint(1, 2)}")
-            elif what < 0.26:
-                second += chance.choice([1, 3, 30, 60, 150])
-                drawn.steps.append(f"second {second}")
-            else:
-                drawn.act()
+        drawn.draw(CLIENTS)
         drawn.wait()
-    if chance.random() < 0.7:
-        drawn.stop()
-    return "host " + ";".join(drawn.steps)
+    return drawn.end()
 
 
 def case_of_offices(chance):
@@ -187,25 +221,10 @@ def case_of_offices(chance):
     drawn = Case(chance, range(64, 70))
     for _ in range(chance.randint(2, 4)):
         drawn.come_office()
-    second = 0
     for _ in range(chance.randint(8, 20)):
-        for _ in range(chance.randint(0, 4)):
-            what = chance.random()
-            if what < 0.05 and drawn.peers < 10:
-                drawn.come()
-            elif what < 0.15 and drawn.peers < 14:
-                drawn.come_office()
-            elif what < 0.17:
-                drawn.steps.append("unwatched 1")
-            elif what < 0.25:
-                second += chance.choice([1, 30, 100, 299, 300])
-                drawn.steps.append(f"second {second}")
-            else:
-                drawn.act()
+        drawn.draw(OFFICE)
         drawn.wait(chance.random() < 0.5)
-    if chance.random() < 0.7:
-        drawn.stop()
-    return "host " + ";".join(drawn.steps)
+    return drawn.end()
 
 
 def main():
