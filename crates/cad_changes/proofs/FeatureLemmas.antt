@@ -16,7 +16,7 @@ use Rattle.cad_versions.specs.BodyParts.{name_in, unit_named, party_named}
 use Rattle.cad_versions.specs.Command.{object_named}
 use Rattle.cad_day.specs.DayBefore.{day_before, number_of-day_before}
 use Rattle.cad_versions.specs.Identifiers.{identifier_cmp, by_identifier as by_version, identifier_of as identifier_of_version}
-use Rattle.cad_versions.specs.lemmas.ListLemmas.{map-map, map_same, filter-map, filter_same}
+use Rattle.cad_versions.specs.lemmas.ListLemmas.{map-map, map_same, filter-map, filter_same, find_filter}
 use Rattle.cad_versions.specs.Objects.{object_number}
 use Rattle.cad_versions.specs.VersionedObject.{VersionedObject}
 use Rattle.cad_versions.specs.Versions.{is_of, is_open_of, closed_on, closed_if_open, begun, next_number}
@@ -33,7 +33,7 @@ use Rattle.cad_versions.specs.lemmas.OrderLemmas.{identifiers_total, versions_to
 use Rattle.cad_layer.specs.lemmas.ItemLemmas.{items_total}
 use Rattle.cad_layer.specs.Merging.{put, put_if, merged}
 use Rattle.cad_layer.specs.lemmas.MergeLemmas.{IsNew, find_put, filter_put, filter_put_out, map_put, merged_put, replaced}
-use Rattle.cad_changes.proofs.TestLemmas.{each_fails, other_fails, no_last, find_filter, find_map}
+use Rattle.cad_changes.proofs.TestLemmas.{each_fails, other_fails, no_last, find_map}
 use Rattle.cad_changes.proofs.VersionLemmas.{left_keeps, left_identifier, left_order, AddsNew}
 
 -- ---- names
@@ -141,7 +141,7 @@ module _ (vs : List VersionedObject) (c : Command) (new : AddsNew vs c) where
   left_whole (Amend o first body) v e = ap (λ t. cond t (closed_on (day_before first) v) v) e
   left_whole (Retire o last) v e = ap (λ t. cond t (closed_on last v) v) e
 
-  feature_stays : (collection : Collection) (v : VersionedObject) → is_touched_by c v ≡ false → feature_in vs collection v ≡ feature_in (next vs c) collection (left_by c v)
+  pub feature_stays : (collection : Collection) (v : VersionedObject) → is_touched_by c v ≡ false → feature_in vs collection v ≡ feature_in (next vs c) collection (left_by c v)
   feature_stays collection v e =
       let both = or_parts (is_closed_by c v) _ e in
       let as_item : List Datum → Item = λ ds. record { object = v.object; number = v.number; values = ds } in

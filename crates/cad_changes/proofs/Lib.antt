@@ -2,9 +2,12 @@ mod AddedLemmas
 mod AloneLemmas
 mod ClassLemmas
 mod DependentLemmas
+mod EntryLemmas
 mod FeatureLemmas
 mod FitLemmas
 mod FollowLemmas
+mod FormLemmas
+mod HistoryLemmas
 mod ItemLemmas
 mod PartLemmas
 mod RevisionLemmas

@@ -14,7 +14,7 @@ use Rattle.cad_day.specs.DayBefore.{day_before, number_of-day_before}
 use Rattle.cad_versions.specs.Histories.{IsForward, EndsBefore, IsHistory}
 use Rattle.cad_versions.specs.lemmas.HistoryLemmas.{HasHistories, closed_is_not_open, find-filter, amends, retires, enters, le_fails, lt_fails}
 use Rattle.cad_versions.specs.Identifiers.{by_identifier}
-use Rattle.cad_versions.specs.lemmas.ListLemmas.{all_weaker, all_kept, all_mapped}
+use Rattle.cad_versions.specs.lemmas.ListLemmas.{all_weaker, all_kept, all_mapped, find_filter}
 use Rattle.cad_versions.specs.Objects.{object_number}
 use Rattle.cad_versions.specs.Refusals.{refusal}
 use Rattle.cad_versions.specs.VersionedObject.{VersionedObject}
@@ -25,7 +25,7 @@ use Rattle.cad_feature.specs.Values.{Datum}
 use Rattle.cad_changes.specs.Changes.{left_by, next, renames_on, is_object}
 use Rattle.cad_changes.specs.Touching.{name_after}
 use Rattle.cad_changes.proofs.FeatureLemmas.{holds, turned}
-use Rattle.cad_changes.proofs.TestLemmas.{find_filter, none_found, found_put, none_kept}
+use Rattle.cad_changes.proofs.TestLemmas.{none_found, found_put, none_kept}
 use Rattle.cad_changes.proofs.VersionLemmas.{left_keeps}
 
 -- ---- days

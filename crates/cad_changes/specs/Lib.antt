@@ -1,4 +1,5 @@
 pub mod Changes
+pub mod Histories
 pub mod Laws
 pub mod Touching
 pub mod inner

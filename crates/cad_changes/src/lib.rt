@@ -1,6 +1,7 @@
 //! What a command changes of the features of a revision.
 //!
 //! - [`touched`]: the features of a collection that a command adds or changes, determined by the features before it
+//! - [`histories_touched`]: the histories of the features that a command changes, as it leaves them
 //! - [`snapshot_after`]: the features of all collections after a command
 //! - `laws`: that the features after a command are those before it with these merged, and more
 //!
@@ -12,11 +13,13 @@ mod adding;
 mod dependents;
 mod edits;
 mod following;
+mod histories;
 pub mod laws;
 mod leaving;
 mod reading;
 mod revisions;
 mod touching;
 
+pub use histories::histories_touched;
 pub use revisions::snapshot_after;
 pub use touching::touched;

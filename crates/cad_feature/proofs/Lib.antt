@@ -1,4 +1,7 @@
+mod EntryLemmas
 mod FeatureLemmas
+mod FormLemmas
+mod HistoryLemmas
 mod LawLemmas
 mod ListLemmas
 mod RunLemmas

@@ -78,3 +78,13 @@ module _ {A B : Type 0} (f : A → B) where
 
   pub ascends_kept : (cmp : B → B → Ordering) (p : A → Bool) (us : List A) → IsStrictlySortedBy (λ a b. cmp (f a) (f b)) us → IsStrictlySortedBy cmp (map f (filter p us))
   ascends_kept cmp p us up = ascends_mapped cmp (filter p us) (IsStrictlySortedBy-filter (λ a b. cmp (f a) (f b)) p us up)
+
+  -- and the other way round
+  all_unmapped : (cmp : B → B → Ordering) (a : A) (us : List A) → AllByRecursion (λ y. cmp (f a) y ≡ Less) (map f us) → AllByRecursion (λ b. cmp (f a) (f b) ≡ Less) us
+  all_unmapped cmp a [] all = tt
+  all_unmapped cmp a (b ∷ bs) all = (all.0, all_unmapped cmp a bs all.1)
+
+  pub ascends_unmapped : (cmp : B → B → Ordering) (us : List A) → IsStrictlySortedBy cmp (map f us) → IsStrictlySortedBy (λ a b. cmp (f a) (f b)) us
+  unfolding IsStrictlySortedBy
+  ascends_unmapped cmp [] up = tt
+  ascends_unmapped cmp (a ∷ us) up = (all_unmapped cmp a us up.0, ascends_unmapped cmp us up.1)

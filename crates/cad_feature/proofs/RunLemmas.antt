@@ -16,26 +16,30 @@ use Rattle.cad_feature.specs.inner.Stretches.{number_in}
 use lib.Dec.{ltb}
 
 -- what stands from a place on, as a slice has it
-pub rest_is : (vs : List VersionedObject) (first : ℕ) → take (length vs - first) (drop first vs) ≡ drop first vs
-rest_is vs first = take_all (length vs - first) (drop first vs) (omega (arith, length-drop first vs))
+pub rest_is : {X : Type 0} (xs : List X) (first : ℕ) → take (length xs - first) (drop first xs) ≡ drop first xs
+rest_is xs first = take_all (length xs - first) (drop first xs) (omega (arith, length-drop first xs))
 
 -- ---- the numbers of objects do not fall
 
 less_then : (m n : ℕ) (o : Ordering) → ordering_then (int_cmp (pos m) (pos n)) o ≡ Less → m ≤ n
 less_then m n o e = grind (arith, ints)
 
-pub at_most : (v : VersionedObject) (vs : List VersionedObject) → AllByRecursion (λ w. by_identifier v w ≡ Less) vs → (j : ℕ) (d : VersionedObject) → j < length vs → number_in v ≤ number_in (get_or vs j d)
-at_most v [] all j d h = absurd (omega (arith, h))
-at_most v (w ∷ vs) all zero d h = less_then (number_in v) (number_in w) _ all.0
-at_most v (w ∷ vs) all (suc j) d h = at_most v vs all.1 j d (omega (arith, h))
+module _ {X : Type 0} (version : X → VersionedObject) where
+  at_most : (x : X) (xs : List X) → AllByRecursion (λ y. by_identifier (version x) (version y) ≡ Less) xs → (j : ℕ) (d : X) → j < length xs → number_in (version x) ≤ number_in (version (get_or xs j d))
+  at_most x [] all j d h = absurd (omega (arith, h))
+  at_most x (y ∷ xs) all zero d h = less_then (number_in (version x)) (number_in (version y)) _ all.0
+  at_most x (y ∷ xs) all (suc j) d h = at_most x xs all.1 j d (omega (arith, h))
+
+  pub rise : (xs : List X) → IsStrictlySortedBy (λ x y. by_identifier (version x) (version y)) xs → IsNonDecreasingBy (λ x. number_in (version x)) xs
+  unfolding IsStrictlySortedBy
+  rise [] up i j d le h = absurd (omega (arith, h))
+  rise (x ∷ xs) up zero zero d le h = omega arith
+  rise (x ∷ xs) up zero (suc j) d le h = at_most x xs up.0 j d (omega (arith, h))
+  rise (x ∷ xs) up (suc i) zero d le h = absurd (omega (arith, le))
+  rise (x ∷ xs) up (suc i) (suc j) d le h = rise xs up.1 i j d (omega (arith, le)) (omega (arith, h))
 
 pub numbers_rise : (vs : List VersionedObject) → IsStrictlySortedBy by_identifier vs → IsNonDecreasingBy number_in vs
-unfolding IsStrictlySortedBy
-numbers_rise [] up i j d le h = absurd (omega (arith, h))
-numbers_rise (v ∷ vs) up zero zero d le h = omega arith
-numbers_rise (v ∷ vs) up zero (suc j) d le h = at_most v vs up.0 j d (omega (arith, h))
-numbers_rise (v ∷ vs) up (suc i) zero d le h = absurd (omega (arith, le))
-numbers_rise (v ∷ vs) up (suc i) (suc j) d le h = numbers_rise vs up.1 i j d (omega (arith, le)) (omega (arith, h))
+numbers_rise vs up = rise (λ v. v) vs up
 
 -- ---- the run
 

@@ -1,3 +1,4 @@
+pub mod FeatureHistories
 pub mod Features
 pub mod Flatten
 pub mod Laws
@@ -5,3 +6,4 @@ pub mod Lifespans
 pub mod Limits
 pub mod Values
 pub mod inner
+pub mod lemmas

@@ -2,16 +2,20 @@
 
 ghost use Rattle.std.specs.Prelude.{◌≡◌, IfOk, drop};
 ghost use Rattle.std.specs.List.{All, position_or_len};
+ghost use Rattle.std.specs.Option.{option_copied};
 ghost use Rattle.cad_versions.specs.Listing.{IsListing};
 ghost use Rattle.cad_feature.specs.Features.{IsNumbered, IsFeatureOf, AreFeaturesOf};
 ghost use Rattle.cad_feature.specs.inner.Joined.{is_joined as is_joined_of, joins_names as joins_names_of};
+ghost use Rattle.cad_feature.specs.inner.WithNames.{feature_with};
 ghost use Rattle.cad_feature.specs.Flatten.{class_for, is_in as is_of_class, feature_in, features_in};
 
 use crate::Feature;
+use crate::joining::joined_name;
 use crate::objects::Objects;
 use crate::values::value;
+use cad_day::Day;
 use cad_schema::{Attribute, Collection, schema};
-use cad_versions::{Class, Version};
+use cad_versions::{Class, Version, Words};
 use std::alloc::{AllocError, Global};
 
 /// The class of the collection's objects.
@@ -28,14 +32,41 @@ fn class(collection: Collection) -> Class
     }
 }
 
-fn is_in(version: &Version, collection: Collection) -> bool
+pub(crate) fn is_in(version: &Version, collection: Collection) -> bool
     ensures { result ≡ is_of_class collection version.now }
 {
     version.body.class() == class(collection)
 }
 
-/// The version as a feature of the collection.
-fn feature(
+/// The version as a feature of the collection, if this is its last day, and its unit and its party have these names.
+pub(crate) fn feature(
+    alloc: Global,
+    version: &Version,
+    last: Option<Day>,
+    unit_name: Option<&Words>,
+    party_name: Option<&Words>,
+    collection: Collection,
+) -> Result<Feature, AllocError>
+    ensures feature { IfOk result (λ x. x ≡ feature_with version.now last (option_copied unit_name.entry) (option_copied party_name.entry) collection) }
+    ensures numbered { IfOk result IsNumbered }
+    ensures fits { IfOk result (IsFeatureOf collection) }
+{
+    let properties = schema(collection);
+    let mut values = Vec::with_capacity(alloc, properties.len())?;
+    for property in properties {
+        let attribute = property.attribute;
+        let value = value(alloc, version, last, unit_name, party_name, attribute)?;
+        values.push(value)?;
+    }
+    Ok(Feature {
+        object: version.object,
+        number: version.number,
+        values,
+    })
+}
+
+/// The version as a feature of the collection, among these versions.
+fn feature_among(
     alloc: Global,
     objects: &Objects<'_>,
     version: &Version,
@@ -45,17 +76,11 @@ fn feature(
     ensures numbered { IfOk result IsNumbered }
     ensures fits { IfOk result (IsFeatureOf collection) }
 {
-    let properties = schema(collection);
-    let mut values = Vec::with_capacity(alloc, properties.len())?;
-    for property in properties {
-        let value = value(alloc, objects, version, property.attribute)?;
-        values.push(value)?;
-    }
-    Ok(Feature {
-        object: version.object,
-        number: version.number,
-        values,
-    })
+    let unit_name = joined_name(objects, version.first, version.body.unit());
+    let party_name = joined_name(objects, version.first, version.body.party());
+    let last = version.last;
+    let feature = feature(alloc, version, last, unit_name, party_name, collection)?;
+    Ok(feature)
 }
 
 /// The versions from the first of the collection's class on.
@@ -131,7 +156,7 @@ pub fn flatten(
     let mut features = Vec::with_capacity(alloc, count(rest, collection))?;
     for version in rest {
         if is_in(version, collection) {
-            let feature = feature(alloc, &objects, version, collection)?;
+            let feature = feature_among(alloc, &objects, version, collection)?;
             features.push(feature)?;
         }
     }

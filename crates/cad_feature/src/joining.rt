@@ -3,7 +3,7 @@
 ghost use Rattle.std.specs.Prelude.{◌≡◌, take_while};
 ghost use Rattle.std.specs.Option.{option_copied};
 ghost use Rattle.cad_versions.specs.Versions.{is_of, history};
-ghost use Rattle.cad_feature.specs.Lifespans.{holds_on};
+ghost use Rattle.cad_feature.specs.Lifespans.{holds_on, is_up_to as up_to};
 ghost use Rattle.cad_feature.specs.Flatten.{version_on as version_holding, joined_name as name_joined};
 
 use crate::objects::Objects;
@@ -20,16 +20,20 @@ fn from_object<'a>(objects: &Objects<'a>, object: ObjectId) -> &'a [Version]
     &near[first..]
 }
 
-fn holds(version: &Version, day: Day) -> bool
-    ensures { result ≡ holds_on day version.now }
+/// Whether the day is not after the last one.
+pub(crate) fn is_up_to(last: Option<Day>, day: Day) -> bool
+    ensures { result ≡ up_to last day }
 {
-    if day.number() < version.first.number() {
-        return false;
-    }
-    match version.last {
+    match last {
         None => true,
         Some(last) => day.number() <= last.number(),
     }
+}
+
+fn holds(version: &Version, day: Day) -> bool
+    ensures { result ≡ holds_on day version.now }
+{
+    version.first.number() <= day.number() && is_up_to(version.last, day)
 }
 
 /// The first version of the object that holds the day.

@@ -1,7 +1,9 @@
 //! The features of a register.
 //!
 //! - [`Feature`], [`Value`]: one version of an object, with its values in the order of the schema.
+//! - [`FeatureHistory`], [`EarlierForm`]: a feature with the forms that it had at earlier revisions.
 //! - [`flatten`]: the features of a collection, from the versions of a register.
+//! - [`flatten_histories`]: the same with their earlier forms, from the stored versions of a register.
 //! - [`Collection`], [`schema`], [`find_property`]: the collections and their properties, of `cad_schema`.
 //! - [`Range`], [`Edge`], [`Scalar`]: the values of one property from one end to another.
 //! - `laws`: what holds of features, beyond what each call says.
@@ -9,8 +11,12 @@
 //! Version 1 of unit 10, named Mill from 2000-01-01 on, is the feature with the values `Whole(10)`, `Whole(1)`, `Day(2000-01-01)`, `Null`, `Span(2000-01-01, open)`, `Text("Mill")`.
 #![tactic(auto)]
 
+mod entries;
+mod entry_names;
 mod feature;
+mod feature_history;
 mod flattening;
+mod histories;
 mod joining;
 pub mod laws;
 mod objects;
@@ -20,6 +26,8 @@ mod values;
 
 pub use cad_schema::{Collection, Property, PropertyKind, find_property, schema};
 pub use feature::Feature;
+pub use feature_history::{EarlierForm, FeatureHistory};
 pub use flattening::flatten;
+pub use histories::flatten_histories;
 pub use range::{Edge, Range, Scalar};
 pub use value::Value;

@@ -4,13 +4,12 @@ ghost use Rattle.std.specs.Prelude.{IfOk, Some};
 ghost use Rattle.std.specs.Option.{option_copied};
 ghost use Rattle.cad_schema.specs.declared.property.PropertyKind.TheVariants as kind;
 ghost use Rattle.cad_schema.specs.Attributes.{named};
-ghost use Rattle.cad_feature.specs.Flatten.{or_null, as_text, as_whole, value_in};
+ghost use Rattle.cad_feature.specs.Flatten.{or_null, as_text, as_whole};
+ghost use Rattle.cad_feature.specs.inner.WithNames.{value_with};
 ghost use Rattle.cad_day.specs.Intervals.{interval_of};
 ghost use Rattle.cad_feature.specs.Values.{Shows, a_day, a_span, a_flag, a_spot, an_area};
 
 use crate::Value;
-use crate::joining::joined_name;
-use crate::objects::Objects;
 use cad_day::{Day, Interval};
 use cad_schema::Attribute;
 use cad_shape::{Point, Region};
@@ -92,22 +91,24 @@ fn region(region: Option<&Region>) -> Result<Value, AllocError>
     }
 }
 
-/// What the version says for this attribute. Names are joined on its first day.
+/// What the version says for this attribute, if this is its last day, and its unit and its party have these names.
 pub(crate) fn value(
     alloc: Global,
-    objects: &Objects<'_>,
     version: &Version,
+    last: Option<Day>,
+    unit_name: Option<&Words>,
+    party_name: Option<&Words>,
     attribute: Attribute,
 ) -> Result<Value, AllocError>
-    ensures { IfOk result (Shows ((named attribute).1) (value_in objects.now.versions.now version.now attribute)) }
+    ensures { IfOk result (Shows ((named attribute).1) (value_with version.now last (option_copied unit_name.entry) (option_copied party_name.entry) attribute)) }
 {
     let body = &version.body;
     match attribute {
         Attribute::Object => Ok(whole(Some(version.object.number()))),
         Attribute::Number => Ok(whole(Some(version.number))),
         Attribute::Begin => Ok(day(Some(version.first))),
-        Attribute::End => Ok(day(version.last)),
-        Attribute::Lifespan => Ok(lifespan(alloc, version.first, version.last)?),
+        Attribute::End => Ok(day(last)),
+        Attribute::Lifespan => Ok(lifespan(alloc, version.first, last)?),
         Attribute::Name => Ok(text(body.name())?),
         Attribute::Type => Ok(text(body.code())?),
         Attribute::Label => Ok(text(body.label())?),
@@ -115,15 +116,9 @@ pub(crate) fn value(
         Attribute::Geometry => Ok(region(body.shape())?),
         Attribute::ReferencePoint => Ok(spot(alloc, body.spot())?),
         Attribute::Unit => Ok(whole(body.unit().map(|unit| unit.number()))),
-        Attribute::UnitName => {
-            let name = joined_name(objects, version.first, body.unit());
-            Ok(text(name)?)
-        }
+        Attribute::UnitName => Ok(text(unit_name)?),
         Attribute::Party => Ok(whole(body.party().map(|party| party.number()))),
-        Attribute::PartyName => {
-            let name = joined_name(objects, version.first, body.party());
-            Ok(text(name)?)
-        }
+        Attribute::PartyName => Ok(text(party_name)?),
         Attribute::ShareNum => Ok(whole(body.share().map(|share| share.num()))),
         Attribute::ShareDen => Ok(whole(body.share().map(|share| share.den()))),
         Attribute::PartyRequired => Ok(flag(body.required())),

@@ -10,3 +10,4 @@ pub mod RingLemmas
 pub mod SameLemmas
 pub mod BodyLemmas
 pub mod AcceptedLemmas
+pub mod SeenLemmas

@@ -3,6 +3,7 @@
 //! - `ObjectId`, `Words`, `Share`: values that cannot hold what the register must not.
 //! - `Identifier`: the object and the number of a version, as the text `3.1`; `compare_identifiers` is their order.
 //! - `Body`, `Class`, `Version`: one version of an object, what it says, and the class of the object.
+//! - `StoredVersion`: a version with the revisions that entered and closed it.
 //! - `BodyParts`, `LentParts`: what a body says, part by part, for any class.
 //! - `Command`, `RegisterFault`: what the land office asks for, and why it is refused.
 //! - `MOST_NUMBER`, `MOST_VERSIONS`: how large numbers may be, and how many versions there may be.
@@ -35,6 +36,7 @@ mod object_id;
 mod ring_bytes;
 mod shape_bytes;
 mod share;
+mod stored_version;
 mod version;
 mod words;
 
@@ -50,5 +52,6 @@ pub use limits::{MOST_NUMBER, MOST_VERSIONS};
 pub use object_id::ObjectId;
 pub use shape_bytes::{read_shape, write_shape};
 pub use share::Share;
+pub use stored_version::StoredVersion;
 pub use version::Version;
 pub use words::Words;

@@ -15,7 +15,7 @@ use Rattle.cad_day.specs.DayBefore.{day_before}
 use Rattle.cad_versions.specs.Versions.{is_open_of, closed_on, closed_if_open, begun, next_number, versions_after, versions}
 use Rattle.cad_versions.specs.Sorting.{sort_by}
 use Rattle.cad_versions.specs.lemmas.ListLemmas.{sort_by-map}
-use Rattle.cad_versions.specs.AsOf.{as_of, entries_listed}
+use Rattle.cad_versions.specs.AsOf.{as_of, entries_listed, versions_at}
 use Rattle.cad_versions.specs.Identifiers.{by_identifier}
 use Rattle.cad_versions.specs.Entries.{Entry, version_in, entered_at, close_entry, entries_after, entries_from, entries_of, entries_at, is_closed_by, seen_at}
 
@@ -41,9 +41,6 @@ versions_of_entries cs = from_same 0 [] cs
 
 -- ---- what a revision sees of them
 
-abbrev pub seen : ℕ → List Entry → List VersionedObject
-seen r ls = map (seen_at r) (entries_at r ls)
-
 late_le : (n r : ℕ) → r < n → int_le (pos n) (pos r) ≡ false
 late_le n r h = grind (arith, ints)
 
@@ -63,7 +60,7 @@ abbrev with_last : VersionedObject → Option Day → VersionedObject
 with_last v o = record { object = v.object; number = v.number; first = v.first; last = o; body = v.body }
 
 -- a closing of a later revision is not seen
-closing_unseen : (object : ObjectId) (day : Day) (n r : ℕ) → r < n → (l : Entry) → seen_at r (close_entry object day n l) ≡ seen_at r l
+pub closing_unseen : (object : ObjectId) (day : Day) (n r : ℕ) → r < n → (l : Entry) → seen_at r (close_entry object day n l) ≡ seen_at r l
 closing_unseen object day n r h l = go (is_open_of object l.version) refl
   where
     go : (t : Bool) → is_open_of object l.version ≡ t → seen_at r (cond t (record { version = closed_on day l.version; entered = l.entered; closed = Some n }) l) ≡ seen_at r l
@@ -73,18 +70,18 @@ closing_unseen object day n r h l = go (is_open_of object l.version) refl
 closing_stays : (object : ObjectId) (day : Day) (n r : ℕ) (ls : List Entry) → entries_at r (map (close_entry object day n) ls) ≡ map (close_entry object day n) (entries_at r ls)
 closing_stays object day n r ls = filter-map _ _ ls ∙ ap (map (close_entry object day n)) (filter_same _ _ (λ l. elim (is_open_of object l.version) as (λ t. int_le (pos (cond t (record { version = closed_on day l.version; entered = l.entered; closed = Some n }) l).entered) (pos r) ≡ int_le (pos l.entered) (pos r)) [ true ↦ refl | false ↦ refl ]) ls)
 
-close_unseen : (object : ObjectId) (day : Day) (n r : ℕ) → r < n → (ls : List Entry) → seen r (map (close_entry object day n) ls) ≡ seen r ls
+close_unseen : (object : ObjectId) (day : Day) (n r : ℕ) → r < n → (ls : List Entry) → versions_at r (map (close_entry object day n) ls) ≡ versions_at r ls
 close_unseen object day n r h ls = ap (map (seen_at r)) (closing_stays object day n r ls) ∙ map-map (seen_at r) _ (entries_at r ls) ∙ map_same _ _ (closing_unseen object day n r h) (entries_at r ls)
 
-new_unseen : (n r : ℕ) (v : VersionedObject) → r < n → (ls : List Entry) → seen r (ls ++ entered_at n v ∷ []) ≡ seen r ls
+new_unseen : (n r : ℕ) (v : VersionedObject) → r < n → (ls : List Entry) → versions_at r (ls ++ entered_at n v ∷ []) ≡ versions_at r ls
 new_unseen n r v h ls = ap (map (seen_at r)) (filter-append _ ls _ ∙ rw (late_le n r h) (append-nil _))
 
-later_unseen : (n r : ℕ) → r < n → (ls : List Entry) (c : Command) → seen r (entries_after n ls c) ≡ seen r ls
+later_unseen : (n r : ℕ) → r < n → (ls : List Entry) (c : Command) → versions_at r (entries_after n ls c) ≡ versions_at r ls
 later_unseen n r h ls (Enter object first body) = new_unseen n r _ h ls
 later_unseen n r h ls (Amend object first body) = new_unseen n r _ h _ ∙ close_unseen object (day_before first) n r h ls
 later_unseen n r h ls (Retire object last) = close_unseen object last n r h ls
 
-all_later_unseen : (n r : ℕ) → r ≤ n → (ls : List Entry) (cs : List Command) → seen r (entries_from n ls cs) ≡ seen r ls
+all_later_unseen : (n r : ℕ) → r ≤ n → (ls : List Entry) (cs : List Command) → versions_at r (entries_from n ls cs) ≡ versions_at r ls
 all_later_unseen n r h ls [] = refl
 all_later_unseen n r h ls (c ∷ cs) = all_later_unseen (n + 1) r (omega arith) _ cs ∙ later_unseen (n + 1) r (omega arith) ls c
 
@@ -100,10 +97,10 @@ if_some_le : (o : Option ℕ) (m n : ℕ) → m ≤ n → IfSome o (λ k. k ≤ 
 if_some_le None m n h p = tt
 if_some_le (Some k) m n h p = omega arith
 
-dated_later : (m n : ℕ) → m ≤ n → (l : Entry) → IsDated m l → IsDated n l
+pub dated_later : (m n : ℕ) → m ≤ n → (l : Entry) → IsDated m l → IsDated n l
 dated_later m n h l d = let e : l.entered ≤ m = d.entered in record { entered = omega arith; closed = d.closed; before = if_some_le l.closed m n h d.before }
 
-dated_closed : (object : ObjectId) (day : Day) (m n : ℕ) → m ≤ n → (l : Entry) → IsDated m l → IsDated n (close_entry object day n l)
+pub dated_closed : (object : ObjectId) (day : Day) (m n : ℕ) → m ≤ n → (l : Entry) → IsDated m l → IsDated n (close_entry object day n l)
 dated_closed object day m n h l d = go (is_open_of object l.version)
   where
     go : (t : Bool) → IsDated n (cond t (record { version = closed_on day l.version; entered = l.entered; closed = Some n }) l)
@@ -134,33 +131,44 @@ dated_from : (n : ℕ) (ls : List Entry) (cs : List Command) → AllByRecursion 
 dated_from n ls [] all = subst (λ m. AllByRecursion (IsDated m) ls) (omega arith) all
 dated_from n ls (c ∷ cs) all = subst (λ m. AllByRecursion (IsDated m) (entries_from (n + 1) (entries_after (n + 1) ls c) cs)) (omega arith) (dated_from (n + 1) _ cs (dated_after n ls c all))
 
-seen_whole : (n : ℕ) (l : Entry) → IsDated n l → seen_at n l ≡ version_in l
+pub seen_whole : (n : ℕ) (l : Entry) → IsDated n l → seen_at n l ≡ version_in l
 seen_whole n l d = go l.closed refl d.closed d.before
   where
     go : (o : Option ℕ) → l.closed ≡ o → IfNone o (l.version.last ≡ None) → IfSome o (λ k. k ≤ n) → (with_last l.version) (cond (is_closed_by n o) l.version.last None) ≡ (with_last l.version) l.version.last
     go None e none before = ap (with_last l.version) (sym none)
     go (Some k) e none before = let low : nat_le k n ≡ true = grind (arith, nat_tests) in ap (λ b. (with_last l.version) (cond b l.version.last None)) low
 
-all_seen : (n : ℕ) (ls : List Entry) → AllByRecursion (IsDated n) ls → seen n ls ≡ map version_in ls
+all_seen : (n : ℕ) (ls : List Entry) → AllByRecursion (IsDated n) ls → versions_at n ls ≡ map version_in ls
 all_seen n [] all = refl
 all_seen n (l ∷ ls) all =
     let e : l.entered ≤ n = all.0.entered in
     let low : int_le (pos l.entered) (pos n) ≡ true = grind (arith, ints) in
     rw low (ap₂ ◌∷◌ (seen_whole n l all.0) (all_seen n ls all.1))
 
+pub entries_dated : (cs : List Command) → AllByRecursion (IsDated (length cs)) (entries_of cs)
+entries_dated cs = subst (λ m. AllByRecursion (IsDated m) (entries_of cs)) (zero-add (length cs)) (dated_from 0 [] cs tt)
+
+-- so all are seen by then
+pub all_by : (n : ℕ) (ls : List Entry) → AllByRecursion (IsDated n) ls → entries_at n ls ≡ ls
+all_by n [] all = refl
+all_by n (l ∷ ls) all =
+    let e : l.entered ≤ n = all.0.entered in
+    let low : int_le (pos l.entered) (pos n) ≡ true = grind (arith, ints) in
+    rw low (ap (λ m. l ∷ m) (all_by n ls all.1))
+
 pub entries_append : (n : ℕ) (ls : List Entry) (cs ds : List Command) → entries_from n ls (cs ++ ds) ≡ entries_from (n + length cs) (entries_from n ls cs) ds
 entries_append n ls [] ds = ap (λ m. entries_from m ls ds) (omega arith)
 entries_append n ls (c ∷ cs) ds = entries_append (n + 1) _ cs ds ∙ ap (λ m. entries_from m (entries_from (n + 1) (entries_after (n + 1) ls c) cs) ds) (omega arith)
 
 -- A revision sees the fold of its commands, no matter which commands came later.
-pub revision_is_fold : (cs ds : List Command) → seen (length cs) (entries_of (cs ++ ds)) ≡ versions cs
+pub revision_is_fold : (cs ds : List Command) → versions_at (length cs) (entries_of (cs ++ ds)) ≡ versions cs
 revision_is_fold cs ds =
     let n = length cs in
-    ap (seen n) (entries_append 0 [] cs ds ∙ ap (λ m. entries_from m (entries_of cs) ds) (zero-add n)) ∙ all_later_unseen n n (omega arith) (entries_of cs) ds
-    ∙ all_seen n (entries_of cs) (subst (λ m. AllByRecursion (IsDated m) (entries_of cs)) (zero-add n) (dated_from 0 [] cs tt)) ∙ versions_of_entries cs
+    ap (versions_at n) (entries_append 0 [] cs ds ∙ ap (λ m. entries_from m (entries_of cs) ds) (zero-add n)) ∙ all_later_unseen n n (omega arith) (entries_of cs) ds
+    ∙ all_seen n (entries_of cs) (entries_dated cs) ∙ versions_of_entries cs
 
 -- what a revision sees, in the order of identifiers
-pub seen_in_order : (r : ℕ) (cs : List Command) → r ≤ length cs → sort_by by_identifier (seen r (entries_of cs)) ≡ as_of r cs
+pub seen_in_order : (r : ℕ) (cs : List Command) → r ≤ length cs → sort_by by_identifier (versions_at r (entries_of cs)) ≡ as_of r cs
 seen_in_order r cs h =
     let n : length (take r cs) ≡ r = length-take-le r cs h in
     ap (sort_by by_identifier)

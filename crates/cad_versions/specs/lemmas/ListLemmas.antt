@@ -1,5 +1,5 @@
 -- Lemmas on lists that std lacks: `map`, `filter` and `sort_by` together.
-use Rattle.std.proofs.Common.{◌≡◌, ◌≤◌, Bool, true, false, true≢false, cond, List, [], ◌∷◌, length, map, filter, refl, sym, ap, ◌∙◌, is_gt, Ordering, arith, ◌++◌, Less}
+use Rattle.std.proofs.Common.{◌≡◌, ◌≤◌, Bool, true, false, true≢false, cond, List, [], ◌∷◌, length, map, filter, find, ◌&&◌, Some, option_map, refl, sym, ap, ap₂, ◌∙◌, is_gt, Ordering, arith, ◌++◌, Less}
 use Rattle.std.proofs.lemmas.List.Sums.{count_by-le-length, length-filter}
 use Rattle.std.specs.List.{AllByRecursion}
 use Rattle.cad_versions.specs.Sorting.{insert_sorted, sort_by}
@@ -20,6 +20,34 @@ filter-map p f (x ∷ xs) =
 
 pub filter_same : {X : Type 0} (p q : X → Bool) → ((x : X) → p x ≡ q x) → (xs : List X) → filter p xs ≡ filter q xs
 filter_same p q same xs = λ i. filter (λ x. same x i) xs
+
+pub filters_turn : {X : Type 0} (p q : X → Bool) (xs : List X) → filter p (filter q xs) ≡ filter q (filter p xs)
+filters_turn p q [] = refl
+filters_turn p q (x ∷ xs) = go (p x) refl (q x) refl (filters_turn p q xs)
+  where
+    go : (a : Bool) → p x ≡ a → (b : Bool) → q x ≡ b → filter p (filter q xs) ≡ filter q (filter p xs) → filter p (cond b (x ∷ filter q xs) (filter q xs)) ≡ filter q (cond a (x ∷ filter p xs) (filter p xs))
+    go true e true f more = ap (λ t. cond t (x ∷ filter p (filter q xs)) (filter p (filter q xs))) e ∙ ap (λ l. x ∷ l) more ∙ sym (ap (λ t. cond t (x ∷ filter q (filter p xs)) (filter q (filter p xs))) f)
+    go true e false f more = more ∙ sym (ap (λ t. cond t (x ∷ filter q (filter p xs)) (filter q (filter p xs))) f)
+    go false e true f more = ap (λ t. cond t (x ∷ filter p (filter q xs)) (filter p (filter q xs))) e ∙ more
+    go false e false f more = more
+
+-- ---- searches
+
+pub find_filter : {X : Type 0} (p q : X → Bool) (xs : List X) → find p (filter q xs) ≡ find (λ x. q x && p x) xs
+find_filter p q [] = refl
+find_filter p q (x ∷ xs) =
+    elim (q x) as (λ b. find p (cond b (x ∷ filter q xs) (filter q xs)) ≡ cond (b && p x) (Some x) (find (λ y. q y && p y) xs))
+    [ true ↦ ap (λ l. cond (p x) (Some x) l) (find_filter p q xs) | false ↦ find_filter p q xs ]
+
+pub find_in_map : {X Y : Type 0} (p : Y → Bool) (f : X → Y) (xs : List X) → find p (map f xs) ≡ option_map f (find (λ x. p (f x)) xs)
+find_in_map p f [] = refl
+find_in_map p f (x ∷ xs) =
+    elim (p (f x)) as (λ b. cond b (Some (f x)) (find p (map f xs)) ≡ option_map f (cond b (Some x) (find (λ y. p (f y)) xs))) [ true ↦ refl | false ↦ find_in_map p f xs ]
+
+-- two tests that agree on all elements find the same
+pub find_same : {X : Type 0} (p q : X → Bool) (xs : List X) → AllByRecursion (λ x. p x ≡ q x) xs → find p xs ≡ find q xs
+find_same p q [] same = refl
+find_same p q (x ∷ xs) same = ap₂ (λ b o. cond b (Some x) o) same.0 (find_same p q xs same.1)
 
 pub filter_fewer : {X : Type 0} (p : X → Bool) (xs : List X) → length (filter p xs) ≤ length xs
 filter_fewer p xs = omega (arith, length-filter p xs, count_by-le-length p xs)

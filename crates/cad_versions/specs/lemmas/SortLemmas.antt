@@ -1,5 +1,5 @@
 -- `sort_by` keeps what it sorts; a list without ties has one sorted order, and `sort_by` gives it.
-use Rattle.std.proofs.Common.{◌≡◌, ◌+◌, suc, Bool, true, false, cond, List, [], ◌∷◌, length, ◌⊎◌, inl, inr, refl, sym, ap, ap₂, ◌∙◌, subst, arith, Ordering, Less, Equal, Greater, is_lt, is_gt, is_eq, true≢false, IsPermutation, IsSorted, add-one}
+use Rattle.std.proofs.Common.{◌≡◌, ◌+◌, suc, Bool, true, false, cond, List, [], ◌∷◌, length, filter, ◌⊎◌, inl, inr, refl, sym, ap, ap₂, ◌∙◌, subst, arith, Ordering, Less, Equal, Greater, is_lt, is_gt, is_eq, true≢false, IsPermutation, IsSorted, add-one}
 use Rattle.std.specs.List.{AllByRecursion, IsDistinct}
 use Rattle.std.specs.List.Sorted.{IsStrictlySortedBy}
 use Rattle.std.specs.Cmp.{IsTotalOrder}
@@ -9,7 +9,7 @@ use Rattle.std.proofs.lemmas.List.Elements.{recursion_from_All, All-from_recursi
 use Rattle.std.proofs.lemmas.List.Sorted.{All-permutation, IsPermutation-sym}
 use Rattle.std.proofs.lemmas.Map.Keys.{IsDistinct-IsPermutation}
 use Rattle.cad_versions.specs.Sorting.{insert_sorted, sort_by}
-use Rattle.cad_versions.specs.lemmas.ListLemmas.{all_weaker}
+use Rattle.cad_versions.specs.lemmas.ListLemmas.{all_weaker, all_filtered}
 
 module _ {X : Type 0} (cmp : X → X → Ordering) where
   -- ---- as many, and all that held
@@ -154,3 +154,52 @@ module _ {X : Type 0} (cmp : X → X → Ordering) (total : IsTotalOrder cmp) wh
   sorted_is xs ys apart same sorted =
       one_order ys (sort_by cmp xs) (rises ys sorted (IsDistinct-IsPermutation (eq_by_cmp cmp) flips xs ys same apart)) (sort_rises xs apart)
       (λ P all. sort_covers xs P (permuted ys xs (IsPermutation-sym xs ys same) P all)) (λ P all. permuted xs ys same P (covers_sort xs P all))
+
+-- ---- what is left of a sorted list is the sorted list of what is left
+
+module _ {X : Type 0} (cmp : X → X → Ordering) (p : X → Bool) where
+  before_all : (x : X) (ys : List X) → AllByRecursion (λ y. cmp x y ≡ Less) ys → insert_sorted cmp x ys ≡ x ∷ ys
+  before_all x [] all = refl
+  before_all x (y ∷ ys) all = ap (λ o. cond (is_gt o) (y ∷ insert_sorted cmp x ys) (x ∷ y ∷ ys)) all.0
+
+  inserted_out : (x : X) (ys : List X) → p x ≡ false → filter p (insert_sorted cmp x ys) ≡ filter p ys
+  inserted_out x [] e = ap (λ b. cond b (x ∷ []) []) e
+  inserted_out x (y ∷ ys) e = go (is_gt (cmp x y)) (inserted_out x ys e)
+    where
+      go : (b : Bool) → filter p (insert_sorted cmp x ys) ≡ filter p ys → filter p (cond b (y ∷ insert_sorted cmp x ys) (x ∷ y ∷ ys)) ≡ filter p (y ∷ ys)
+      go true more = ap (λ l. cond (p y) (y ∷ l) l) more
+      go false more = ap (λ b. cond b (x ∷ filter p (y ∷ ys)) (filter p (y ∷ ys))) e
+
+  module _ (total : IsTotalOrder cmp) where
+    inserted_in : (x : X) (ys : List X) → p x ≡ true → IsStrictlySortedBy cmp ys → AllByRecursion (λ y. is_eq (cmp x y) ≡ false) ys → filter p (insert_sorted cmp x ys) ≡ insert_sorted cmp x (filter p ys)
+    unfolding IsStrictlySortedBy
+    inserted_in x [] e up apart = ap (λ b. cond b (x ∷ []) []) e
+    inserted_in x (y ∷ ys) e up apart = go (cmp x y) refl (inserted_in x ys e up.1 apart.1)
+      where
+        below : cmp x y ≡ Less → AllByRecursion (λ z. cmp x z ≡ Less) (y ∷ ys)
+        below k = (k, all_weaker (λ z. cmp y z ≡ Less) (λ z. cmp x z ≡ Less) (λ z. total.trans x y z k) ys up.0)
+
+        there : cmp x y ≡ Greater → y ∷ insert_sorted cmp x (filter p ys) ≡ insert_sorted cmp x (y ∷ filter p ys)
+        there k = sym (ap (λ o. cond (is_gt o) (y ∷ insert_sorted cmp x (filter p ys)) (x ∷ y ∷ filter p ys)) k)
+
+        behind : cmp x y ≡ Greater → (b : Bool) → filter p (insert_sorted cmp x ys) ≡ insert_sorted cmp x (filter p ys)
+            → cond b (y ∷ filter p (insert_sorted cmp x ys)) (filter p (insert_sorted cmp x ys)) ≡ insert_sorted cmp x (cond b (y ∷ filter p ys) (filter p ys))
+        behind k true more = ap (λ l. y ∷ l) more ∙ there k
+        behind k false more = more
+
+        go : (o : Ordering) → cmp x y ≡ o → filter p (insert_sorted cmp x ys) ≡ insert_sorted cmp x (filter p ys) → filter p (cond (is_gt o) (y ∷ insert_sorted cmp x ys) (x ∷ y ∷ ys)) ≡ insert_sorted cmp x (filter p (y ∷ ys))
+        go Less k more =
+            ap (λ b. cond b (x ∷ filter p (y ∷ ys)) (filter p (y ∷ ys))) e
+            ∙ sym (before_all x (filter p (y ∷ ys)) (all_filtered (λ z. cmp x z ≡ Less) p (y ∷ ys) (below k)))
+        go Equal k more = absurd (true≢false (sym (ap is_eq k) ∙ apart.0))
+        go Greater k more = behind k (p y) more
+
+    pub sort_filter : (xs : List X) → IsDistinct (eq_by_cmp cmp) xs → filter p (sort_by cmp xs) ≡ sort_by cmp (filter p xs)
+    unfolding IsDistinct
+    sort_filter [] apart = refl
+    sort_filter (x ∷ xs) apart = go (p x) refl (sort_filter xs apart.1)
+      where
+        go : (b : Bool) → p x ≡ b → filter p (sort_by cmp xs) ≡ sort_by cmp (filter p xs) → filter p (insert_sorted cmp x (sort_by cmp xs)) ≡ sort_by cmp (cond b (x ∷ filter p xs) (filter p xs))
+        go true e more =
+            inserted_in x (sort_by cmp xs) e (sort_rises cmp total xs apart.1) (all_sorted cmp (λ y. is_eq (cmp x y) ≡ false) xs apart.0) ∙ ap (insert_sorted cmp x) more
+        go false e more = inserted_out x (sort_by cmp xs) e ∙ more

@@ -1,4 +1,6 @@
+use Rattle.std.specs.Option.{option_copied}
 use Rattle.cad_feature.specs.Values.{datum_of}
+use Rattle.cad_feature.specs.inner.WithNames.{value_with}
 use Rattle.cad_feature.proofs.FeatureLemmas.{says, fit_more, all_fit}
 use Rattle.cad_feature.proofs.ListLemmas.{map_more}
 use Rattle.cad_feature.proofs.flattening.feature.Goals as goal
@@ -7,11 +9,10 @@ pub loop-property-preserved : goal.loop-property-preserved
 loop-property-preserved c =
     let properties = c.schema-properties.result.now in
     let i = c.loop-property.property-index in
-    let vs = c.args.objects.now.versions.now in
-    let v = c.args.version.now in
+    let value = value_with c.args.version.now c.args.last (option_copied c.args.unit_name) (option_copied c.args.party_name) in
     record {
-      said = map_more (says vs v) datum_of properties i _ c.loop-property.values.items c.push.new.self.items c.in_ok-value.value c.loop-property-test.true c.loop-property.invariant.said c.in_ok-push.ensures.items c.in_ok-value.ensures.0;
-      fit = fit_more vs v properties i _ c.loop-property-test.true c.loop-property.invariant.fit c.in_ok-value.ensures.1;
+      said = map_more (says value) datum_of properties i _ c.loop-property.values.items c.push.new.self.items c.in_ok-value.value c.loop-property-test.true c.loop-property.invariant.said c.in_ok-push.ensures.items c.in_ok-value.ensures.0;
+      fit = fit_more value properties i _ c.loop-property-test.true c.loop-property.invariant.fit c.in_ok-value.ensures.1;
     }
 
 pub returns-clause-numbered : goal.returns-clause-numbered
@@ -20,5 +21,5 @@ returns-clause-numbered c = (c.version.invariant.positive, c.version.invariant.s
 pub returns-clause-fits : goal.returns-clause-fits
 returns-clause-fits c =
     record {
-      fits = all_fit c.args.collection c.args.objects.now.versions.now c.args.version.now c.schema-properties.result.now c.loop-property.property-index _ c.schema-properties.ensures.attributes c.loop-property-test.false c.loop-property.invariant.fit c.loop-property.invariant.said;
+      fits = all_fit c.args.collection (value_with c.args.version.now c.args.last (option_copied c.args.unit_name) (option_copied c.args.party_name)) c.schema-properties.result.now c.loop-property.property-index _ c.schema-properties.ensures.attributes c.loop-property-test.false c.loop-property.invariant.fit c.loop-property.invariant.said;
     }
