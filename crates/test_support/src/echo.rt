@@ -4,9 +4,9 @@ ghost use Rattle.std.specs.Prelude.{◌≡◌, IfOk};
 ghost use Rattle.test_support.specs.Echoes.{echo as echo_of};
 
 use cad_head::closes_connection;
-use cad_memory_ledger::MemoryLedger;
-use cad_stream::{Answer, Responder};
-use cad_versions::{Command, Ledger, RegisterFault};
+use cad_memory_ledger::{MemoryLedger, MemoryReading};
+use cad_stream::{Answer, JournalResponder, Responder};
+use cad_versions::{Command, JournalLedger, Ledger, RegisterFault};
 use httparse::spans::{HeaderSpan, RequestSpans};
 use std::alloc::{AllocError, Global};
 
@@ -18,7 +18,8 @@ pub struct Echo {
 }
 
 impl Echo {
-    ghost use Rattle.std.specs.Prelude.{[]};
+    ghost use Rattle.std.specs.Prelude.{List, [], length};
+    ghost use Rattle.cad_versions.specs.declared.command.Command.{Command as CommandOf};
     ghost use Rattle.test_support.specs.Echoes.{StandsFor};
 
     /// It holds no commands.
@@ -29,6 +30,13 @@ impl Echo {
             ledger: MemoryLedger::new(alloc),
             alloc,
         }
+    }
+
+    /// How many commands it holds.
+    pub fn revision(&self) -> u64
+        ensures { (commands : List CommandOf) → StandsFor self.now commands → result ≡ length commands }
+    {
+        self.ledger.revision()
     }
 }
 
@@ -132,4 +140,47 @@ impl Responder for Echo {
 
     #[tactic(auto, using(crate::specs::Echoes::one_echo))]
     fn one_reply() {}
+}
+
+impl JournalResponder for Echo {
+    ghost use Rattle.cad_memory_ledger.specs.Ledgers.{IsMemory, memory_keeps};
+    ghost use Rattle.cad_memory_ledger.specs.Readings.{HasRead, behind_of as reading_behind, newest_of as reading_newest};
+
+    type Reading = MemoryReading;
+
+    ghost has_read = { HasRead };
+
+    ghost behind_of = { reading_behind };
+
+    ghost newest_of = { reading_newest };
+
+    ghost rows_left = { λ _. 0 };
+
+    ghost fails_to_read = { λ _. IsMemory };
+
+    ghost refuses_reading = { λ _ _ _ _. ⊥ };
+
+    ghost damaged_for_reading = { λ _ _ _ _ _ _. ⊥ };
+
+    ghost read_keeps = { λ _. memory_keeps };
+
+    ghost were_accepted = { λ _ _ stands. stands.accepted };
+
+    ghost readings_are_within = { λ _ _ has. (has.behind, has.newest) };
+
+    fn begin_journal(&self, behind: u64) -> Result<MemoryReading, RegisterFault> {
+        self.ledger.begin_journal(behind)
+    }
+
+    fn read_on(&mut self, reading: &mut MemoryReading, most: u32) -> Result<bool, RegisterFault> {
+        self.ledger.read_on(reading, most)
+    }
+
+    fn commands(reading: MemoryReading, alloc: Global) -> Result<Vec<Command>, RegisterFault> {
+        MemoryLedger::commands(reading, alloc)
+    }
+
+    fn readings_stay() {
+        MemoryLedger::readings_stay();
+    }
 }

@@ -1,14 +1,7 @@
-//! A line of the land office for a ledger, and what a ledger lists, as text.
+//! What a ledger lists, as text.
 
-use cad_commands::read_command;
 use cad_versions::{Ledger, RegisterFault, Version};
 use std::alloc::{AllocError, Global};
-
-/// The revision that the command of a line makes, if the line is a command and the ledger accepts it.
-pub fn apply_line<L: Ledger>(alloc: Global, ledger: &mut L, line: &str) -> Option<u64> {
-    let command = read_command(alloc, line.as_bytes()).ok()?;
-    ledger.apply(command).ok()
-}
 
 /// Adds a version to the text.
 fn put_version(text: &mut String, version: &Version) -> Result<(), AllocError> {

@@ -7,7 +7,7 @@
 //! - [`Endless`]: a reader that gives a text again and again. `Endless::new(b"ab")` gives `a`, then `b`, then `a`.
 //! - [`Taker`]: a writer that keeps what it took. `Taker::new(2, 3, Stop::Ends)` takes two bytes, then one, and then none.
 //! - [`Copies`]: a writer that counts copies of a text. `Copies::new(b"ab")` has counted 2 after it was given `abab`.
-//! - `apply_line`, `listed`: a line of the land office for a ledger, and what a ledger lists, as text
+//! - `listed`: what a ledger lists, as text
 //! - `line_of`: what a line asks for
 //! - `answer`: what is printed for it; `answer_event` and `answer_served` are its parts, for a desk within something else
 //!
@@ -44,7 +44,7 @@ pub use answers::{Memory, answer, answer_event};
 pub use copies::Copies;
 pub use echo::Echo;
 pub use endless::Endless;
-pub use ledgers::{apply_line, listed};
+pub use ledgers::listed;
 pub use lines::{Failure, Line, Served, line_of};
 pub use peer::Peer;
 pub use served::answer_served;
