@@ -67,6 +67,7 @@ test: cases
 	scripts/check_office
 	scripts/check_old_register
 	scripts/check_journal 3
+	scripts/check_backup 3
 	scripts/check_damage
 	scripts/check_serve
 	scripts/check_stops
@@ -123,6 +124,7 @@ register-file: sample
 # Prints the journal of a village's register, enters it into a new file, and compares the pages of both files.
 journal: sample cadastred
 	scripts/check_journal
+	scripts/check_backup
 
 # Runs `cadastre office` and `cadastre ask` on new, existing and foreign files, and on one that an older program wrote.
 office-file: sample

@@ -3,6 +3,7 @@
 
     scripts/host_cases.py [SEED] [COUNT]     prints the cases; the stored ones have seed 1 and count 400
     scripts/host_cases.py offices [SEED]     prints those of several connections of the office; the stored ones have seed 1
+    scripts/host_cases.py journals [SEED]    prints those in which offices ask for journals; the stored ones have seed 1
 
 Each case is a line `host STEPS`. In it, clients and land offices connect, send, take and fail in some order, and the network reports them in
 some order. The cases have:
@@ -14,7 +15,8 @@ some order. The cases have:
 - clients that do nothing for too long;
 - stops while replies are being written.
 
-Several connections of the office send lines alternately, wait at the door, do nothing, or take nothing for 300 seconds.
+Several connections of the office send lines alternately, wait at the door, do nothing, or take nothing for 300 seconds. Journals are asked
+for while others enter commands; they are long or short, are taken slowly or not at all, and two of them are not read.
 
 The database refuses commands for object 6. The end must report that even if the office has left, and the first cases test this.
 """
@@ -96,6 +98,64 @@ OFFICES = [
 ]
 
 
+def journal(peer, after):
+    """A connection of the office asks for the journal after a revision."""
+    return f"give {peer} journal {after}_"
+
+
+def filled(peer, count, first=11):
+    """So many units are entered over a connection, with a round for each."""
+    return [enters(peer, first + it) for it in range(count)] + [f"wake {66 + peer}"] + ["end"] * (count + 1)
+
+
+def rounds(count):
+    return ["end"] * count
+
+
+ONE, TWO, THREE = (taken(it, [10**6] * it) for it in (1, 2, 3))
+SLOW = taken(2, [0, 10**6])
+BYE = ["give 0 stop_", "wake 66", "end"]
+JOURNALS = [
+    # the journal of no commands, of some, from the middle, of none at the end, and of a revision that is not there
+    ONE + [journal(0, 0), "wake 66"] + rounds(4) + BYE,
+    *(ONE + filled(0, 3) + [journal(0, after), "wake 66"] + rounds(6) + BYE for after in (0, 1, 2, 3, 4, 10**18 - 1, 10**18, 10**30)),
+    # no number, and numbers in other forms
+    *(ONE + filled(0, 2) + [f"give 0 journal{text}_", "wake 66"] + rounds(6) + BYE for text in ("", " ", " x", " 1x", " -1", " +1", " 1 ", "  1", " 007", " 0", "0")),
+    ONE + filled(0, 2) + ["give 0 jour", "wake 66", "end", "give 0 nal 1", "wake 66", "end", "give 0 _", "wake 66"] + rounds(6) + BYE,
+    # pieces of sixteen
+    *(ONE + filled(0, count) + [journal(0, 0), "wake 66"] + rounds(12) + BYE for count in (15, 16, 17, 32, 33)),
+    ONE + filled(0, 33) + [journal(0, 20), "wake 66"] + rounds(8) + [journal(0, 1), journal(0, 33), "wake 66"] + rounds(14) + BYE,
+    # rows are read in more than one turn
+    *(ONE + filled(0, count) + [journal(0, count - 2), "wake 66"] + rounds(8) + BYE for count in (255, 256, 257)),
+    # lines behind it are answered after it
+    ONE + filled(0, 2) + [journal(0, 0) + LINES[0] % 7 + "journal 2_check " + LINES[0] % 8 + "hello_", "wake 66"] + rounds(16) + BYE,
+    # another office enters commands meanwhile: they are not in it
+    TWO + filled(0, 20) + [journal(0, 0), "wake 66", "end", enters(1, 7), "wake 67", "end", enters(1, 8), "wake 67"] + rounds(10) + [journal(0, 19), "wake 66"] + rounds(6) + BYE,
+    SLOW + filled(1, 18) + [journal(0, 16), "wake 66"] + rounds(3) + [enters(1, 7), "wake 67", "end", "room 0 10", "wake 66", "end", enters(1, 8), "wake 67", "end", f"room 0 {10**6}", "wake 66"] + rounds(6) + [journal(0, 18), "wake 66"]
+    + rounds(6) + BYE,
+    THREE + filled(2, 17) + [journal(0, 0), journal(1, 15), "wake 66 67"] + rounds(8) + [enters(2, 7), journal(1, 17), journal(0, 16), "wake 68 67 66"] + rounds(10) + BYE,
+    # a client is answered between two pieces
+    ["come"] + ["office"] * 2 + [f"room {peer} {10**6}" for peer in range(3)] + ["wake 64 65", "end", "end"] + [enters(1, it + 11) for it in range(20)] + ["wake 66"] + rounds(21) + [journal(1, 0), "give 0 GET /a HTTP/1.1||", "wake 66 0", "end",
+        "give 0 GET /b HTTP/1.1|Host: x||", "wake 0"] + rounds(10) + ["give 1 stop_", "wake 66", "end"],
+    # the office sends no more, but gets all
+    TWO + filled(0, 18) + [journal(0, 0), "hang 0", "wake 66"] + rounds(10) + ["give 1 stop_", "wake 67", "end"],
+    TWO + filled(0, 3) + ["give 0 journal 1", "hang 0", "wake 66"] + rounds(8) + ["give 1 stop_", "wake 67", "end"],
+    # it leaves, or another one asks to stop, before it got all
+    TWO + filled(0, 40) + [journal(0, 0), "wake 66", "end", "end", "break 0", "wake 66"] + rounds(4) + ["give 1 stop_", "wake 67", "end"],
+    TWO + filled(0, 40) + [journal(0, 0), "wake 66", "end", "give 1 stop_", "wake 67"] + rounds(3),
+    SLOW + filled(1, 20) + [journal(0, 0), "wake 66", "end", "end", "give 1 stop_", "wake 67", "end", f"room 0 {10**6}", "wake 66", "end"],
+    SLOW + filled(1, 20) + [journal(0, 0), "wake 66", "end", "end", "give 1 stop_", "wake 67", "end", "second 5", "end"],
+    # it takes nothing of a piece for 300 seconds, or a byte within them
+    SLOW + filled(1, 20) + [journal(0, 0), "wake 66", "end", "end", "second 299", "end", "room 0 1", "wake 66", "end", "second 598", "end", "end", "second 599", "end", "end", "give 1 stop_", "wake 67", "end"],
+    SLOW + filled(1, 20) + [journal(0, 0), "wake 66", "end", "end", "second 300", "end", "end", enters(1, 7), "wake 67", "end", "give 1 stop_", "wake 67", "end"],
+    # rows that the database does not read: serving ends only if it refused
+    TWO + filled(0, 8) + [journal(0, 5), "wake 66"] + rounds(3) + [journal(0, 7), "wake 66"] + rounds(5) + BYE,
+    TWO + filled(0, 8) + [enters(1, 7), journal(0, 6), "wake 66 67"] + rounds(4),
+    SLOW + filled(1, 8) + [journal(0, 6), "wake 66", "end", f"room 0 {10**6}", "wake 66", "end"],
+    TWO + filled(0, 4) + [journal(0, 5), journal(0, 6), "wake 66"] + rounds(6) + BYE,
+]
+
+
 def texts(chance):
     """The pieces that a client sends: requests, one after the other."""
     whole = "".join(chance.choice(REQUESTS) for _ in range(chance.randint(1, 4)))
@@ -110,7 +170,7 @@ class Case:
 
     def __init__(self, chance, doors=(64, 65, 66)):
         self.chance, self.steps, self.peers, self.unsent, self.offices, self.doors = chance, [], 0, {}, set(), list(doors)
-        self.second = 0
+        self.second, self.lines, self.most, self.greatest = 0, LINES, 4, 6
 
     def come(self):
         self.steps.append("come")
@@ -119,8 +179,8 @@ class Case:
 
     def come_office(self):
         self.steps.append("office")
-        lines = [self.chance.choice(LINES) for _ in range(self.chance.randint(0, 4))]
-        self.unsent[self.peers] = [it % self.chance.randint(1, 6) if "%" in it else it for it in lines]
+        lines = [self.chance.choice(self.lines) for _ in range(self.chance.randint(0, self.most))]
+        self.unsent[self.peers] = [it % self.chance.randint(1, self.greatest) if "%" in it else it for it in lines]
         self.offices.add(self.peers)
         self.peers += 1
 
@@ -227,13 +287,29 @@ def case_of_offices(chance):
     return drawn.end()
 
 
+def case_of_journals(chance):
+    """Several connections of the office, which enter units and ask for journals, and some clients."""
+    drawn = Case(chance, range(64, 70))
+    drawn.lines, drawn.most, drawn.greatest = [LINES[0]] * 5 + ["journal %d_", "journal 0_", "check " + LINES[0], "hello_"], 30, 40
+    for _ in range(chance.randint(2, 4)):
+        drawn.come_office()
+    for _ in range(chance.randint(20, 60)):
+        drawn.draw(OFFICE)
+        drawn.wait(chance.random() < 0.7)
+    return drawn.end()
+
+
+KINDS = {"offices": (OFFICES, case_of_offices), "journals": (JOURNALS, case_of_journals)}
+
+
 def main():
-    if sys.argv[1:2] == ["offices"]:
+    if sys.argv[1:2] and sys.argv[1] in KINDS:
         chance = random.Random(int(sys.argv[2]) if len(sys.argv) > 2 else 1)
-        for steps in OFFICES:
+        listed, draw = KINDS[sys.argv[1]]
+        for steps in listed:
             print("host " + ";".join(steps))
         for _ in range(60):
-            print(case_of_offices(chance))
+            print(draw(chance))
         return
     seed = int(sys.argv[1]) if len(sys.argv) > 1 else 1
     count = int(sys.argv[2]) if len(sys.argv) > 2 else 400

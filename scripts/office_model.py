@@ -3,10 +3,11 @@
 
     scripts/land_parts.py office | scripts/office_model.py office      prints the answers
 
-It prints the office's answers to lines, over a ledger in memory that is empty at first. For two parts of crates/land_cases it prints more:
+It prints the office's answers to lines, over a ledger in memory that is empty at first. For three parts of crates/land_cases it prints more:
 
 - `features`: also the features of the last revision as JSON, by scripts/server_model.py.
 - `journals`: also the journals that lines `journal N` request, and for `check LINE` what would be answered to LINE.
+- `memory journals`: the same of a ledger in memory, whose journals are read at once.
 
 scripts/check_land_cases compares the stored answers of crates/land_cases with it.
 """
@@ -237,16 +238,37 @@ def answers(text):
         yield f"revision {revision}"
 
 
-def features(text):
-    """The answers to the lines, and the features of their last revision, each after the name of its collection."""
-    yield from answers(text)
+def register_of(text):
+    """The register after the lines."""
     register = server_model.Register()
     for line in text.split(b"\n"):
         if line:
             register.apply(json.loads(line))
+    return register
+
+
+def listed(register, revision, name):
+    """The features of a collection at a revision, each after the name of the collection."""
+    for identifier, told, _ in server_model.features(register.as_of(revision), name):
+        yield f"{name} {server_model.compact(server_model.feature_tree(identifier, told)).decode()}"
+
+
+def features(text):
+    """The answers to the lines, and the features of their last revision."""
+    yield from answers(text)
+    register = register_of(text)
     for name in server_model.CLASSES:
-        for identifier, told, _ in server_model.features(register.as_of(register.revision), name):
-            yield f"{name} {server_model.compact(server_model.feature_tree(identifier, told)).decode()}"
+        yield from listed(register, register.revision, name)
+
+
+def histories(text):
+    """The answers to the lines, and the features of each collection at each revision, each after the revision."""
+    yield from answers(text)
+    register = register_of(text)
+    for name in server_model.CLASSES:
+        for revision in range(register.revision + 1):
+            for line in listed(register, revision, name):
+                yield f"{revision} {line}"
 
 
 # ---- the journal: the accepted commands, each with all members that its class may have
@@ -274,11 +296,12 @@ def line_of(do, number, at, name, said):
     return json.dumps(tree, ensure_ascii=False, separators=(",", ":"))
 
 
-def journals(text):
+def journals(text, is_read_at_once=False):
     """The answers to the lines. `journal N` requests the commands after a revision. `begin N` and `read K` request them in pieces.
     `check LINE` is answered as LINE would be, with `would be N` in place of `revision N`.
 
-    A journal that is read in pieces is that of the moment when it began. It is whole after as many rows as there were commands then.
+    A journal that is read in pieces is that of the moment when it began. It is whole after as many rows as there were commands then, or after
+    the first line `read K` if it is read at once.
     """
     entered, accepted, behind, newest, left = b"", [], 0, 0, None
     for line in text.split(b"\n"):
@@ -292,7 +315,7 @@ def journals(text):
             yield from accepted[int(number) :]
             yield f"end {len(accepted)}"
         elif word == b"begin":
-            behind, newest, left = int(number), len(accepted), len(accepted)
+            behind, newest, left = int(number), len(accepted), 0 if is_read_at_once else len(accepted)
             yield f"begun {newest}"
         elif word == b"read":
             if left is None:
@@ -313,7 +336,12 @@ def journals(text):
                 accepted.append(line_of(*command(line)))
 
 
-PARTS = {"office": answers, "features": features, "journals": journals}
+def memory_journals(text):
+    """The same over a ledger in memory."""
+    return journals(text, is_read_at_once=True)
+
+
+PARTS = {"office": answers, "features": features, "journals": journals, "memory journals": memory_journals}
 
 
 def main():

@@ -67,10 +67,32 @@ def serving(file):
 
 
 @contextlib.contextmanager
-def hosting(file):
-    """Runs `cadastred` on the file, with its office's socket in a folder of its own, and gives its address."""
+def hosting_at(file):
+    """Runs `cadastred` on the file, with its office's socket in a folder of its own, and gives its address and the socket's path."""
     with tempfile.TemporaryDirectory() as folder, listening(SERVICE, str(file), "127.0.0.1:0", f"{folder}/office") as address:
+        yield address, f"{folder}/office"
+
+
+@contextlib.contextmanager
+def hosting(file):
+    """The same, and gives its address."""
+    with hosting_at(file) as (address, _):
         yield address
+
+
+def page_bytes(address, target):
+    """The bytes of a page."""
+    with urlopen(urljoin(address, target), timeout=120) as reply:
+        return reply.read()
+
+
+def pages(address, collection, revision):
+    """The bytes of all pages of a walk."""
+    target = f"/collections/{collection}/items?limit=1000&revision={revision}"
+    while target:
+        body = page_bytes(address, target)
+        yield body
+        target = next((it["href"] for it in json.loads(body)["links"] if it["rel"] == "next"), None)
 
 
 def get(address, target):

@@ -24,8 +24,8 @@ module _ {L : Type 0} (g : Ghosts L) (mid new : L) (c : Command) where
   holds_more commands revision applies counts stands = (applies.accepted counts commands stands).2
 
   -- commands that a journal has may be entered, so the ledger's store refused
-  pub of_store : (commands later : List Command) (fault : RegisterFault) → AreAccepted [] (commands ++ c ∷ later) → Applies g mid c (Err fault) new → g.counts new → g.stands_for mid commands → IsOfStore g fault
-  of_store commands later fault accepted applies counts stands = (commands, c, go (applies.refused counts commands stands))
+  pub of_store : (commands later : List Command) (fault : RegisterFault) → AreAccepted [] (commands ++ c ∷ later) → Applies g mid c (Err fault) new → g.counts new → g.stands_for mid commands → IsOfStore g (commands ++ c ∷ later) fault
+  of_store commands later fault accepted applies counts stands = (commands, c, later, refl, go (applies.refused counts commands stands))
     where
       go : (refusal (versions commands) c ≡ Some fault) ⊎ g.fails_to_apply commands c fault → g.fails_to_apply commands c fault
       go (inl refused) = let fine : None ≡ Some fault = sym (accepted_next [] commands (c ∷ later) accepted).0 ∙ refused in absurd cc

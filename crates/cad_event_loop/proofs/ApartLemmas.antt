@@ -2,6 +2,7 @@
 use Rattle.std.proofs.Common.{◌≡◌, ℕ, nat_eq, Bool, true, false, List, [], ◌∷◌, ◌++◌, Option, None, Some, refl, sym, ap, subst, ◌∙◌, append-nil, inl, inr, if◌then◌else◌, map}
 use Rattle.std.proofs.lemmas.Bool.{eqb-true}
 use Rattle.cad_stream.specs.declared.responder.Responder.{Ghosts}
+use Rattle.cad_stream.specs.declared.journal_responder.JournalResponder.{Ghosts as JournalGhosts}
 use Rattle.cad_desk.specs.declared.desk.Desk.{Desk}
 use Rattle.cad_network.specs.Deeds.{Deed, woke, gave, left, given_by, taken_by, comes, IsQuiet}
 use Rattle.cad_network.specs.lemmas.DeedLemmas.{given_by-append, taken_by-append, quiet-append, comes-append, or_none, gave_apart, took_apart}
@@ -13,7 +14,7 @@ use Rattle.cad_event_loop.specs.Works.{Held, AtOffice, AtOffices, Place, Puts, S
 use Rattle.cad_event_loop.specs.Lives.{own_deeds}
 use Rattle.cad_office_socket.specs.declared.entry.Entry.{Entry}
 use Rattle.cad_office_socket.specs.declared.turned.EntryTurned.{EntryTurned}
-use Rattle.cad_office_socket.specs.declared.turned.EntryTurned.TheVariants.{Wrote, Took, Added, Answered, Lost, Checked, CheckLost, Stops, Waits, Over}
+use Rattle.cad_office_socket.specs.declared.turned.EntryTurned.TheVariants.{Wrote, Took, Added, Answered, Lost, Checked, CheckLost, JournalBegun, RowsRead, RowsRefused, RowsLost, Piece, PieceLost, Stops, Waits, Over}
 use Rattle.cad_office_socket.specs.Turns.{IsTaken, IsEntryTurn}
 use Rattle.cad_event_loop.proofs.GoesLemmas.{told_quiet, aside_passes, woken_quiet}
 use Rattle.cad_event_loop.proofs.LifeLemmas.{apart, none_some, one_some}
@@ -30,13 +31,13 @@ NotIn s slots = (d : ℕ) (channel : Channel) → slots d ≡ Some (s, channel) 
 abbrev pub OnceIn : ℕ → ℕ → Held → Type 0
 OnceIn s c slots = (d : ℕ) (channel : Channel) → slots d ≡ Some (s, channel) → d ≡ c
 
-abbrev pub NotOffice : ℕ → AtOffices → Type 0
-NotOffice s offices = (k : ℕ) (entry : Entry) → offices k ≡ Some (s, entry) → ⊥
+abbrev pub NotOffice : {J : Type 0} → ℕ → AtOffices J → Type 0
+NotOffice {J} s offices = (k : ℕ) (entry : Entry J) → offices k ≡ Some (s, entry) → ⊥
 
-abbrev pub NotHeld : ℕ → Place → Type 0
+abbrev pub NotHeld : {J : Type 0} → ℕ → Place J → Type 0
 NotHeld s place = NotIn s place.slots × NotOffice s place.offices
 
-abbrev pub HeldOnce : ℕ → ℕ → Place → Type 0
+abbrev pub HeldOnce : {J : Type 0} → ℕ → ℕ → Place J → Type 0
 HeldOnce s c place = OnceIn s c place.slots × NotOffice s place.offices
 
 same_name : (t s : ℕ) (channel other : Channel) → ◌≡◌ {A = Option (ℕ × Channel)} (Some (t, channel)) (Some (s, other)) → t ≡ s
@@ -65,7 +66,7 @@ puts_none s d slots next puts not f other at = go (nat_eq d f) refl
     go true h = none_some {X = ℕ × Channel} (s, other) (sym (puts f ∙ rw h refl) ∙ at)
     go false h = not f other (sym (puts f ∙ rw h refl) ∙ at)
 
-module _ {R : Type 0} (g : Ghosts R) where
+module _ {R J : Type 0} (g : Ghosts R) (jg : JournalGhosts R J) where
   -- the end of a connection whose socket is t
   end_quiet : (s c t : ℕ) (old new : Desk R) (channel : Channel) (ending : Ending) (deeds : List Deed) → nat_eq t s ≡ false → EndsSo g c t old channel ending new deeds → IsQuiet s deeds
   end_quiet s c t old new channel PeerEnded deeds e x = rw x.0 (gave_apart s t [] e)
@@ -86,18 +87,18 @@ module _ {R : Type 0} (g : Ghosts R) where
     | inr none ↦ rw none (took_apart s t [] e)
   ]
 
-  pub leaves_quiet : (s c t : ℕ) (old new : Desk R) (channel : Channel) (cause : Option Ending) (deeds : List Deed) → nat_eq t s ≡ false → Leaves g c t old channel cause deeds new → IsQuiet s deeds
+  pub leaves_quiet : (s c t : ℕ) (old new : Desk R) (channel : Channel) (cause : Option Ending) (deeds : List Deed) → nat_eq t s ≡ false → Leaves g jg c t old channel cause deeds new → IsQuiet s deeds
   leaves_quiet s c t old new channel (Some ending) deeds e x = rw x.1 (quiet-append s x.0 (left t ∷ []) (end_quiet s c t old new channel ending x.0 e x.2) (refl, refl))
   leaves_quiet s c t old new channel None deeds e x = rw x.0 (refl, refl)
 
   -- a turn of the land office, whose socket is o
-  taken_quiet : (s o : ℕ) (old new : Desk R) (entry next : Entry) (turned : EntryTurned) (deeds : List Deed) → nat_eq o s ≡ false → IsTaken g o old entry turned new next deeds → IsQuiet s deeds
+  taken_quiet : (s o : ℕ) (old new : Desk R) (entry next : Entry J) (turned : EntryTurned) (deeds : List Deed) → nat_eq o s ≡ false → IsTaken g jg o old entry turned new next deeds → IsQuiet s deeds
   taken_quiet s o old new entry next turned deeds e x = elim x.1 [
     | inl some ↦ rw some.0 (refl, refl)
     | inr last ↦ rw last.0 (gave_apart s o [] e)
   ]
 
-  entry_quiet : (s o : ℕ) (old new : Desk R) (entry next : Entry) (turned : EntryTurned) (deeds : List Deed) → nat_eq o s ≡ false → IsEntryTurn g o old entry turned new next deeds → IsQuiet s deeds
+  entry_quiet : (s o : ℕ) (old new : Desk R) (entry next : Entry J) (turned : EntryTurned) (deeds : List Deed) → nat_eq o s ≡ false → IsEntryTurn g jg o old entry turned new next deeds → IsQuiet s deeds
   entry_quiet s o old new entry next Wrote deeds e x = rw x.1 (took_apart s o x.0 e)
   entry_quiet s o old new entry next Took deeds e x = rw x.1 (gave_apart s o x.0 e)
   entry_quiet s o old new entry next Added deeds e x = taken_quiet s o old new entry next Added deeds e x
@@ -105,6 +106,12 @@ module _ {R : Type 0} (g : Ghosts R) where
   entry_quiet s o old new entry next (Lost answer) deeds e x = taken_quiet s o old new entry next (Lost answer) deeds e x
   entry_quiet s o old new entry next (Checked report) deeds e x = taken_quiet s o old new entry next (Checked report) deeds e x
   entry_quiet s o old new entry next (CheckLost report) deeds e x = taken_quiet s o old new entry next (CheckLost report) deeds e x
+  entry_quiet s o old new entry next (JournalBegun behind) deeds e x = taken_quiet s o old new entry next (JournalBegun behind) deeds e x
+  entry_quiet s o old new entry next RowsRead deeds e x = rw x.0 (refl, refl)
+  entry_quiet s o old new entry next (RowsRefused fault) deeds e x = rw x.0 (refl, refl)
+  entry_quiet s o old new entry next (RowsLost fault) deeds e x = rw x.0 (refl, refl)
+  entry_quiet s o old new entry next Piece deeds e x = rw x.0 (refl, refl)
+  entry_quiet s o old new entry next PieceLost deeds e x = rw x.0 (refl, refl)
   entry_quiet s o old new entry next Stops deeds e x = taken_quiet s o old new entry next Stops deeds e x
   entry_quiet s o old new entry next Waits deeds e x = rw x.0 (refl, refl)
   entry_quiet s o old new entry next Over deeds e x = elim x.0 [
@@ -125,7 +132,7 @@ module _ {R : Type 0} (g : Ghosts R) where
   ]
 
   -- with the end of its connection, if it is over
-  pub enters_apart : (s o : ℕ) (old new : Desk R) (entry next : Entry) (turned : EntryTurned) (deeds own : List Deed) → nat_eq o s ≡ false → deeds ≡ own ++ (if is_last turned then left o ∷ [] else []) → IsEntryTurn g o old entry turned new next own → IsQuiet s deeds
+  pub enters_apart : (s o : ℕ) (old new : Desk R) (entry next : Entry J) (turned : EntryTurned) (deeds own : List Deed) → nat_eq o s ≡ false → deeds ≡ own ++ (if is_last turned then left o ∷ [] else []) → IsEntryTurn g jg o old entry turned new next own → IsQuiet s deeds
   enters_apart s o old new entry next turned deeds own e are turn =
       rw are (quiet-append s own (if is_last turned then left o ∷ [] else []) (entry_quiet s o old new entry next turned own e turn) (last_quiet (is_last turned)))
     where
@@ -134,17 +141,17 @@ module _ {R : Type 0} (g : Ghosts R) where
       last_quiet false = (refl, refl)
 
   -- all of it
-  enters_quiet : (s o k : ℕ) (old new : Desk R) (here next : Place) (text : List ℕ) (turned : EntryTurned) (deeds : List Deed) (said : Said) → NotOffice s here.offices → Works g old here (enters o k text turned deeds said) new next → IsQuiet s deeds
+  enters_quiet : (s o k : ℕ) (old new : Desk R) (here next : Place J) (text : List ℕ) (turned : EntryTurned) (deeds : List Deed) (said : Said) → NotOffice s here.offices → Works g jg old here (enters o k text turned deeds said) new next → IsQuiet s deeds
   enters_quiet s o k old new here next text turned deeds said not w =
       enters_apart s o old new w.0 w.1 turned deeds w.2 (differs o s (λ same. not k w.0 (w.3 ∙ ap (λ (n : ℕ). Some (n, w.0)) same))) w.5 w.4
 
-  office_stays : (s o k : ℕ) (old new : Desk R) (here next : Place) (text : List ℕ) (turned : EntryTurned) (deeds : List Deed) (said : Said) → NotOffice s here.offices → Works g old here (enters o k text turned deeds said) new next → NotOffice s next.offices
+  office_stays : (s o k : ℕ) (old new : Desk R) (here next : Place J) (text : List ℕ) (turned : EntryTurned) (deeds : List Deed) (said : Said) → NotOffice s here.offices → Works g jg old here (enters o k text turned deeds said) new next → NotOffice s next.offices
   office_stays s o k old new here next text turned deeds said not w j entry at = own (nat_eq k j) refl
     where
-      go : (last : Bool) → ◌≡◌ {A = AtOffice} (if◌then◌else◌ {A = AtOffice} last None (Some (o, w.1))) (Some (s, entry)) → ⊥
-      go true h = none_some {X = ℕ × Entry} (s, entry) h
+      go : (last : Bool) → ◌≡◌ {A = AtOffice J} (if◌then◌else◌ {A = AtOffice J} last None (Some (o, w.1))) (Some (s, entry)) → ⊥
+      go true h = none_some {X = ℕ × Entry J} (s, entry) h
       go false h =
-          let name = ap (λ (p : ℕ × Entry). p.0) (one_some {X = ℕ × Entry} (o, w.1) (s, entry) h) in
+          let name = ap (λ (p : ℕ × Entry J). p.0) (one_some {X = ℕ × Entry J} (o, w.1) (s, entry) h) in
           not k w.0 (w.3 ∙ ap (λ (n : ℕ). Some (n, w.0)) name)
 
       own : (same : Bool) → nat_eq k j ≡ same → ⊥
@@ -152,30 +159,30 @@ module _ {R : Type 0} (g : Ghosts R) where
       own false e = not j entry (sym (w.8 j ∙ rw e refl) ∙ at)
 
   -- one comes at another socket
-  other_office : (s o k : ℕ) (entry : Entry) (offices next : AtOffices) → nat_eq o s ≡ false → Puts offices next k (Some (o, entry)) → NotOffice s offices → NotOffice s next
+  other_office : (s o k : ℕ) (entry : Entry J) (offices next : AtOffices J) → nat_eq o s ≡ false → Puts offices next k (Some (o, entry)) → NotOffice s offices → NotOffice s next
   other_office s o k entry offices next e puts not j there at = own (nat_eq k j) refl
     where
       own : (same : Bool) → nat_eq k j ≡ same → ⊥
-      own true h = apart o s e (ap (λ (p : ℕ × Entry). p.0) (one_some {X = ℕ × Entry} (o, entry) (s, there) (sym (puts j ∙ rw h refl) ∙ at)))
+      own true h = apart o s e (ap (λ (p : ℕ × Entry J). p.0) (one_some {X = ℕ × Entry J} (o, entry) (s, there) (sym (puts j ∙ rw h refl) ∙ at)))
       own false h = not j there (sym (puts j ∙ rw h refl) ∙ at)
 
-  pub left_office : (s k : ℕ) (offices next : AtOffices) → Puts offices next k None → NotOffice s offices → NotOffice s next
+  pub left_office : (s k : ℕ) (offices next : AtOffices J) → Puts offices next k None → NotOffice s offices → NotOffice s next
   left_office s k offices next puts not j there at = own (nat_eq k j) refl
     where
       own : (same : Bool) → nat_eq k j ≡ same → ⊥
-      own true h = none_some {X = ℕ × Entry} (s, there) (sym (puts j ∙ rw h refl) ∙ at)
+      own true h = none_some {X = ℕ × Entry J} (s, there) (sym (puts j ∙ rw h refl) ∙ at)
       own false h = not j there (sym (puts j ∙ rw h refl) ∙ at)
 
-  pub kept_office : (s : ℕ) (old new : AtOffices) → Same old new → NotOffice s old → NotOffice s new
+  pub kept_office : (s : ℕ) (old new : AtOffices J) → Same old new → NotOffice s old → NotOffice s new
   kept_office s old new same not k entry at = not k entry (sym (same k) ∙ at)
 
   pub kept_slots : (s : ℕ) (old new : Held) → Same old new → NotIn s old → NotIn s new
   kept_slots s old new same not d channel at = not d channel (sym (same d) ∙ at)
 
   -- bytes pass at no socket that nobody has and that does not come
-  pub unheld : (s : ℕ) (works : List Work) (old new : Desk R) (here next : Place) → Goes g old here works new next → NotHeld s here → comes s (all_deeds works) ≡ false
+  pub unheld : (s : ℕ) (works : List Work) (old new : Desk R) (here next : Place J) → Goes g jg old here works new next → NotHeld s here → comes s (all_deeds works) ≡ false
       → IsQuiet s (all_deeds works) × NotHeld s next
-  unheld s [] old new here next goes not none = ((refl, refl), subst (λ (h : Place). NotHeld s h) (sym goes.1) not)
+  unheld s [] old new here next goes not none = ((refl, refl), subst (λ (h : Place J). NotHeld s h) (sym goes.1) not)
   unheld s (wakes places ∷ later) old new here next goes not none =
       let later_none = or_none (comes s (map woke places)) (comes s (all_deeds later)) (sym (comes-append s (map woke places) (all_deeds later)) ∙ none) in
       let rest = unheld s later goes.0 new goes.1 next goes.3 (kept_slots s here.slots goes.1.slots goes.2.1 not.0, kept_office s here.offices goes.1.offices goes.2.2 not.1) later_none.1 in
@@ -236,7 +243,7 @@ module _ {R : Type 0} (g : Ghosts R) where
   )
 
   -- of a socket that connection c alone has, and that does not come again, bytes pass in the deeds of connection c alone
-  pub held : (s c : ℕ) (works : List Work) (old new : Desk R) (place next : Place) (channel : Channel) → Goes g old place works new next → place.slots c ≡ Some (s, channel) → HeldOnce s c place
+  pub held : (s c : ℕ) (works : List Work) (old new : Desk R) (place next : Place J) (channel : Channel) → Goes g jg old place works new next → place.slots c ≡ Some (s, channel) → HeldOnce s c place
       → comes s (all_deeds works) ≡ false → IsOwn s c works
   held s c [] old new place next channel goes here once none = (refl, refl)
   held s c (wakes places ∷ later) old new place next channel goes here once none =

@@ -1,20 +1,23 @@
 -- What keeps the commands stands for those that were entered.
-use Rattle.std.proofs.Common.{◌≡◌, ℕ, ◌+◌, List, [], ◌∷◌, ◌++◌, length, None, refl, sym, ap, subst, ◌∙◌, append_assoc, append-nil, length-append, inl, inr}
+use Rattle.std.proofs.Common.{◌≡◌, ℕ, ◌+◌, Bool, List, [], ◌∷◌, ◌++◌, length, None, Some, Result, Ok, Err, refl, sym, ap, subst, ◌∙◌, append_assoc, append-nil, length-append, inl, inr}
 use Rattle.cad_versions.specs.declared.command.Command.{Command}
 use Rattle.cad_stream.specs.declared.responder.Responder.{Ghosts}
+use Rattle.cad_stream.specs.declared.journal_responder.JournalResponder.{Ghosts as JournalGhosts}
 use Rattle.cad_desk.specs.declared.desk.Desk.{Desk}
 use Rattle.cad_desk.specs.Desks.{responder_of}
 use Rattle.cad_office.specs.declared.print.Answer.{Answer}
+use Rattle.cad_versions.specs.declared.fault.RegisterFault.{RegisterFault}
 use Rattle.cad_office.specs.declared.print.Answer.TheVariants.{Entered, Refused, NotACommand}
 use Rattle.cad_dry_run.specs.declared.report.Report.{Report}
 use Rattle.cad_dry_run.specs.declared.report.Report.TheVariants as report
 use Rattle.cad_office_socket.specs.declared.turned.EntryTurned.{EntryTurned}
-use Rattle.cad_office_socket.specs.declared.turned.EntryTurned.TheVariants.{Wrote, Took, Added, Answered, Lost, Checked, CheckLost, Stops, Waits, Over}
-use Rattle.cad_event_loop.specs.Works.{Place, Said, Work, wakes, opens, acts, waits, ends, office_comes, enters, office_leaves, aside, SaysSo, ChecksSo, IsCheckSaid, IsLineSaid, Tells, Goes, MayGoOn}
+use Rattle.cad_office_socket.specs.declared.turned.EntryTurned.TheVariants.{Wrote, Took, Added, Answered, Lost, Checked, CheckLost, JournalBegun, RowsRead, RowsRefused, RowsLost, Piece, PieceLost, Stops, Waits, Over}
+use Rattle.cad_event_loop.specs.Works.{Place, rows, Said, Work, wakes, opens, acts, waits, ends, office_comes, enters, office_leaves, aside, SaysSo, ChecksSo, IsCheckSaid, IsLineSaid, Tells, Goes, MayGoOn}
 use Rattle.cad_event_loop.specs.Laws.{commands_by, commands_in, AreEntered, AreFirst, AreFirstBy, LedgerStands}
-use Rattle.cad_event_loop.proofs.StandLemmas.{goes_clean, goes_stands}
+use Rattle.cad_event_loop.specs.lemmas.CleanLemmas.{goes_clean}
+use Rattle.cad_event_loop.proofs.StandLemmas.{goes_stands}
 
-module _ {R : Type 0} (g : Ghosts R) where
+module _ {R J : Type 0} (g : Ghosts R) (jg : JournalGhosts R J) where
   -- commands that were entered after these
   abbrev EnteredIn : List Command → List Work → Type 0
   EnteredIn commands works = (entered : List Command) × AreEntered works (length commands) entered × (commands_in commands works ≡ commands ++ entered)
@@ -23,7 +26,7 @@ module _ {R : Type 0} (g : Ghosts R) where
   abbrev EnteredBy : List Command → List ℕ → Answer → Said → List Work → Type 0
   EnteredBy commands text answer said later = (entered : List Command) × AreFirst (AreEntered later) (length commands) text answer entered × (commands_in (commands_by commands said) later ≡ commands ++ entered)
 
-  module _ (commands : List Command) (text : List ℕ) (said : Said) (later : List Work) (old mid : Desk R) (tells : Tells g old said mid) (counts : g.counts (responder_of mid)) (stands : g.stands_for (responder_of old) commands)
+  module _ (commands : List Command) (text : List ℕ) (said : Said) (later : List Work) (old mid : Desk R) (tells : Tells g jg old said mid) (counts : g.counts (responder_of mid)) (stands : g.stands_for (responder_of old) commands)
       (rest : EnteredIn (commands_by commands said) later) where
     none_more : commands_by commands said ≡ commands → EnteredIn commands later
     none_more same = subst (λ (cs : List Command). EnteredIn cs later) same rest
@@ -32,7 +35,7 @@ module _ {R : Type 0} (g : Ghosts R) where
     answered (Entered revision) says =
         let told : commands_by commands said ≡ commands ++ says.0 ∷ [] = rw says.2 refl in
         let count : length (commands_by commands said) ≡ length commands + 1 = rw told (length-append commands (says.0 ∷ [])) in
-        let step = subst (λ (it : Said). Tells g old it mid) says.2 tells in
+        let step = subst (λ (it : Said). Tells g jg old it mid) says.2 tells in
         let revision_is = step.stepped.1 counts commands stands in (
           says.0 ∷ rest.0,
           (says.1, revision_is.1, subst (λ (n : ℕ). AreEntered later n rest.0) count rest.1),
@@ -66,6 +69,13 @@ module _ {R : Type 0} (g : Ghosts R) where
         let r = none_more same in
         (r.0, r.1, subst (λ (cs : List Command). commands_in cs later ≡ commands ++ r.0) (sym same) r.2)
 
+    -- nor do rows of a journal that are read
+    rows_read : (answer : Result Bool RegisterFault) → said ≡ Some (rows answer) → (entered : List Command) × AreEntered later (length commands) entered × (commands_in (commands_by commands said) later ≡ commands ++ entered)
+    rows_read answer says =
+        let same : commands_by commands said ≡ commands = rw says refl in
+        let r = none_more same in
+        (r.0, r.1, subst (λ (cs : List Command). commands_in cs later ≡ commands ++ r.0) (sym same) r.2)
+
     untold : said ≡ None → EnteredIn commands later × (commands_in (commands_by commands said) later ≡ commands_in commands later)
     untold none = (none_more (rw none refl), rw none refl)
 
@@ -75,6 +85,12 @@ module _ {R : Type 0} (g : Ghosts R) where
     entered_by (Lost answer) line = answered answer line.1
     entered_by (Checked it) line = checked it line
     entered_by (CheckLost it) line = checked it line
+    entered_by (JournalBegun behind) line = let r = untold line.1 in (r.0.0, r.0.1, r.1 ∙ r.0.2)
+    entered_by RowsRead line = rows_read (Ok line.0) line.1
+    entered_by (RowsRefused fault) line = rows_read (Err fault) line
+    entered_by (RowsLost fault) line = rows_read (Err fault) line
+    entered_by Piece line = let r = untold line in (r.0.0, r.0.1, r.1 ∙ r.0.2)
+    entered_by PieceLost line = let r = untold line in (r.0.0, r.0.1, r.1 ∙ r.0.2)
     entered_by Stops line = let r = untold line.1 in (r.0.0, r.0.1, r.1 ∙ r.0.2)
     entered_by Wrote line = let r = untold line in (r.0.0, r.0.1, r.1 ∙ r.0.2)
     entered_by Took line = let r = untold line in (r.0.0, r.0.1, r.1 ∙ r.0.2)
@@ -82,47 +98,47 @@ module _ {R : Type 0} (g : Ghosts R) where
     entered_by Waits line = let r = untold line in (r.0.0, r.0.1, r.1 ∙ r.0.2)
     entered_by Over line = let r = untold line in (r.0.0, r.0.1, r.1 ∙ r.0.2)
 
-  entered_in : (commands : List Command) (works : List Work) (old new : Desk R) (here next : Place) → (goes : Goes g old here works new next) → MayGoOn g works old new here next goes
+  entered_in : (commands : List Command) (works : List Work) (old new : Desk R) (here next : Place J) → (goes : Goes g jg old here works new next) → MayGoOn g jg works old new here next goes
       → g.counts (responder_of new) → g.stands_for (responder_of old) commands → EnteredIn commands works
   entered_in commands [] old new here next goes may counts stands = ([], refl, sym (append-nil commands))
   entered_in commands (wakes places ∷ later) old new here next goes may counts stands =
-      let after = goes_clean g later goes.0 new goes.1 next goes.3 counts in
-      let one = goes_stands g commands (wakes places ∷ []) old goes.0 here goes.1 (goes.0, goes.1, goes.2, (refl, refl)) (may.0, tt) after stands in
+      let after = goes_clean g jg later goes.0 new goes.1 next goes.3 counts in
+      let one = goes_stands g jg commands (wakes places ∷ []) old goes.0 here goes.1 (goes.0, goes.1, goes.2, (refl, refl)) (may.0, tt) after stands in
       entered_in commands later goes.0 new goes.1 next goes.3 may.1 counts one
   entered_in commands (opens s c ∷ later) old new here next goes may counts stands =
-      let after = goes_clean g later goes.0 new goes.1 next goes.3 counts in
-      let one = goes_stands g commands (opens s c ∷ []) old goes.0 here goes.1 (goes.0, goes.1, goes.2, (refl, refl)) (may.0, tt) after stands in
+      let after = goes_clean g jg later goes.0 new goes.1 next goes.3 counts in
+      let one = goes_stands g jg commands (opens s c ∷ []) old goes.0 here goes.1 (goes.0, goes.1, goes.2, (refl, refl)) (may.0, tt) after stands in
       entered_in commands later goes.0 new goes.1 next goes.3 may.1 counts one
   entered_in commands (acts s c act ∷ later) old new here next goes may counts stands =
-      let after = goes_clean g later goes.0 new goes.1 next goes.3 counts in
-      let one = goes_stands g commands (acts s c act ∷ []) old goes.0 here goes.1 (goes.0, goes.1, goes.2, (refl, refl)) (may.0, tt) after stands in
+      let after = goes_clean g jg later goes.0 new goes.1 next goes.3 counts in
+      let one = goes_stands g jg commands (acts s c act ∷ []) old goes.0 here goes.1 (goes.0, goes.1, goes.2, (refl, refl)) (may.0, tt) after stands in
       entered_in commands later goes.0 new goes.1 next goes.3 may.1 counts one
   entered_in commands (waits s c ∷ later) old new here next goes may counts stands =
-      let after = goes_clean g later goes.0 new goes.1 next goes.3 counts in
-      let one = goes_stands g commands (waits s c ∷ []) old goes.0 here goes.1 (goes.0, goes.1, goes.2, (refl, refl)) (may.0, tt) after stands in
+      let after = goes_clean g jg later goes.0 new goes.1 next goes.3 counts in
+      let one = goes_stands g jg commands (waits s c ∷ []) old goes.0 here goes.1 (goes.0, goes.1, goes.2, (refl, refl)) (may.0, tt) after stands in
       entered_in commands later goes.0 new goes.1 next goes.3 may.1 counts one
   entered_in commands (ends s c cause deeds said ∷ later) old new here next goes may counts stands =
-      let after = goes_clean g later goes.0 new goes.1 next goes.3 counts in
-      let one = goes_stands g commands (ends s c cause deeds said ∷ []) old goes.0 here goes.1 (goes.0, goes.1, goes.2, (refl, refl)) (may.0, tt) after stands in
+      let after = goes_clean g jg later goes.0 new goes.1 next goes.3 counts in
+      let one = goes_stands g jg commands (ends s c cause deeds said ∷ []) old goes.0 here goes.1 (goes.0, goes.1, goes.2, (refl, refl)) (may.0, tt) after stands in
       entered_in commands later goes.0 new goes.1 next goes.3 may.1 counts one
   entered_in commands (office_comes o k ∷ later) old new here next goes may counts stands =
-      let after = goes_clean g later goes.0 new goes.1 next goes.3 counts in
-      let one = goes_stands g commands (office_comes o k ∷ []) old goes.0 here goes.1 (goes.0, goes.1, goes.2, (refl, refl)) (may.0, tt) after stands in
+      let after = goes_clean g jg later goes.0 new goes.1 next goes.3 counts in
+      let one = goes_stands g jg commands (office_comes o k ∷ []) old goes.0 here goes.1 (goes.0, goes.1, goes.2, (refl, refl)) (may.0, tt) after stands in
       entered_in commands later goes.0 new goes.1 next goes.3 may.1 counts one
   entered_in commands (office_leaves o k overdue ∷ later) old new here next goes may counts stands =
-      let after = goes_clean g later goes.0 new goes.1 next goes.3 counts in
-      let one = goes_stands g commands (office_leaves o k overdue ∷ []) old goes.0 here goes.1 (goes.0, goes.1, goes.2, (refl, refl)) (may.0, tt) after stands in
+      let after = goes_clean g jg later goes.0 new goes.1 next goes.3 counts in
+      let one = goes_stands g jg commands (office_leaves o k overdue ∷ []) old goes.0 here goes.1 (goes.0, goes.1, goes.2, (refl, refl)) (may.0, tt) after stands in
       entered_in commands later goes.0 new goes.1 next goes.3 may.1 counts one
   entered_in commands (aside deeds said ∷ later) old new here next goes may counts stands =
-      let after = goes_clean g later goes.0 new goes.1 next goes.3 counts in
-      let one = goes_stands g commands (aside deeds said ∷ []) old goes.0 here goes.1 (goes.0, goes.1, goes.2, (refl, refl)) (may.0, tt) after stands in
+      let after = goes_clean g jg later goes.0 new goes.1 next goes.3 counts in
+      let one = goes_stands g jg commands (aside deeds said ∷ []) old goes.0 here goes.1 (goes.0, goes.1, goes.2, (refl, refl)) (may.0, tt) after stands in
       entered_in commands later goes.0 new goes.1 next goes.3 may.1 counts one
   entered_in commands (enters o k text turned deeds said ∷ later) old new here next goes may counts stands =
-      let after = goes_clean g later goes.0 new goes.1 next goes.3 counts in
-      let one = goes_stands g commands (enters o k text turned deeds said ∷ []) old goes.0 here goes.1 (goes.0, goes.1, goes.2, (refl, refl)) (may.0, tt) after stands in
+      let after = goes_clean g jg later goes.0 new goes.1 next goes.3 counts in
+      let one = goes_stands g jg commands (enters o k text turned deeds said ∷ []) old goes.0 here goes.1 (goes.0, goes.1, goes.2, (refl, refl)) (may.0, tt) after stands in
       entered_by commands text said later old goes.0 goes.2.7 after stands (entered_in (commands_by commands said) later goes.0 new goes.1 next goes.3 may.1 counts one) turned goes.2.6
 
-  pub ledger_stands : LedgerStands g
+  pub ledger_stands : LedgerStands g jg
   ledger_stands commands works old new here next goes may counts stands =
       let in_all = entered_in commands works old new here next goes may counts stands in
-      (in_all.0, in_all.1, in_all.2, subst (λ (cs : List Command). g.stands_for (responder_of new) cs) in_all.2 (goes_stands g commands works old new here next goes may counts stands))
+      (in_all.0, in_all.1, in_all.2, subst (λ (cs : List Command). g.stands_for (responder_of new) cs) in_all.2 (goes_stands g jg commands works old new here next goes may counts stands))

@@ -4,6 +4,7 @@ use Rattle.std.proofs.lemmas.Bool.{cases_lt, eqb-true, eq-eqb}
 use Rattle.std.proofs.lemmas.Option.{slice_get_past}
 use Rattle.std.specs.Option.{option_or}
 use Rattle.cad_stream.specs.declared.responder.Responder.{Ghosts}
+use Rattle.cad_stream.specs.declared.journal_responder.JournalResponder.{Ghosts as JournalGhosts}
 use Rattle.cad_desk.specs.declared.desk.Desk.{Desk}
 use Rattle.cad_desk.specs.declared.event.Event.TheVariants.{Open, Bytes, Close}
 use Rattle.cad_desk.specs.declared.fault.DeskFault.{DeskFault}
@@ -164,6 +165,12 @@ turn_goes (entry.Answered answer) may = absurd may
 turn_goes (entry.Lost answer) may = absurd may
 turn_goes (entry.Checked report) may = absurd may
 turn_goes (entry.CheckLost report) may = absurd may
+turn_goes (entry.JournalBegun behind) may = absurd may
+turn_goes entry.RowsRead may = absurd may
+turn_goes (entry.RowsRefused fault) may = absurd may
+turn_goes (entry.RowsLost fault) may = absurd may
+turn_goes entry.Piece may = absurd may
+turn_goes entry.PieceLost may = absurd may
 turn_goes entry.Stops may = absurd may
 
 pub closing_goes : (work : Work) → IsClosing work → end_by work ≡ None
@@ -178,7 +185,7 @@ closing_goes (office_leaves o k overdue) may = refl
 closing_goes (aside deeds said) may = refl
 
 -- the network told of the land office's socket, or not
-woken_office : (k : ℕ) (at : AtOffice) (places : List ℕ) (old new : Option Bool) → new ≡ told_flag (is_among (office_place k) places) old → standing_office at new ≡ office_after k (standing_office at old) (wakes places)
+woken_office : {J : Type 0} (k : ℕ) (at : AtOffice J) (places : List ℕ) (old new : Option Bool) → new ≡ told_flag (is_among (office_place k) places) old → standing_office at new ≡ office_after k (standing_office at old) (wakes places)
 woken_office k None places old new is = go (is_among (office_place k) places)
   where
     go : (told : Bool) → absent ≡ (if told then absent else absent)
@@ -196,16 +203,16 @@ woken_office k (Some office) places (Some old) new is = rw is (go (is_among (off
     go true false = refl
     go false was = refl
 
-module _ {R : Type 0} (g : Ghosts R) where
-  pub goes-append : (xs ys : List Work) (a b d : Desk R) (p q r : Place) → Goes g a p xs b q → Goes g b q ys d r → Goes g a p (xs ++ ys) d r
-  goes-append [] ys a b d p q r x y = subst (λ (h : Place). Goes g a h ys d r) x.1 (subst (λ (it : Desk R). Goes g it q ys d r) x.0 y)
+module _ {R J : Type 0} (g : Ghosts R) (jg : JournalGhosts R J) where
+  pub goes-append : (xs ys : List Work) (a b d : Desk R) (p q r : Place J) → Goes g jg a p xs b q → Goes g jg b q ys d r → Goes g jg a p (xs ++ ys) d r
+  goes-append [] ys a b d p q r x y = subst (λ (h : Place J). Goes g jg a h ys d r) x.1 (subst (λ (it : Desk R). Goes g jg it q ys d r) x.0 y)
   goes-append (work ∷ xs) ys a b d p q r x y = (x.0, x.1, x.2, goes-append xs ys x.0 b d x.1 q r x.3 y)
 
-  pub hosts-nil : (May : Work → Type 0) (h : Option (List Deed)) (a : Desk R) (p : Place) → Hosts g May None h a p h a p
+  pub hosts-nil : (May : Work → Type 0) (h : Option (List Deed)) (a : Desk R) (p : Place J) → Hosts g jg May None h a p h a p
   hosts-nil May h a p = ([], Adds-nil h, refl, (refl, refl), tt)
 
-  pub hosts-trans : (May : Work → Type 0) (first later : Option Stopped) (from mid to : Option (List Deed)) (a b d : Desk R) (p q r : Place)
-      → Hosts g May first from a p mid b q → Hosts g May later mid b q to d r → Hosts g May (option_or first later) from a p to d r
+  pub hosts-trans : (May : Work → Type 0) (first later : Option Stopped) (from mid to : Option (List Deed)) (a b d : Desk R) (p q r : Place J)
+      → Hosts g jg May first from a p mid b q → Hosts g jg May later mid b q to d r → Hosts g jg May (option_or first later) from a p to d r
   hosts-trans May first later from mid to a b d p q r x y = (
     x.0 ++ y.0,
     subst (λ (l : List Deed). Adds from to l) (sym (all_deeds-append x.0 y.0)) (Adds-trans from mid to (all_deeds x.0) (all_deeds y.0) x.1 y.1),
@@ -215,23 +222,23 @@ module _ {R : Type 0} (g : Ghosts R) where
   )
 
   -- where nothing ended hosting first
-  pub hosts-then : (May : Work → Type 0) (later : Option Stopped) (from mid to : Option (List Deed)) (a b d : Desk R) (p q r : Place)
-      → Hosts g May None from a p mid b q → Hosts g May later mid b q to d r → Hosts g May later from a p to d r
+  pub hosts-then : (May : Work → Type 0) (later : Option Stopped) (from mid to : Option (List Deed)) (a b d : Desk R) (p q r : Place J)
+      → Hosts g jg May None from a p mid b q → Hosts g jg May later mid b q to d r → Hosts g jg May later from a p to d r
   hosts-then May later from mid to a b d p q r x y = hosts-trans May None later from mid to a b d p q r x y
 
-  pub hosts-one : (May : Work → Type 0) (end : Option Stopped) (from to : Option (List Deed)) (a b : Desk R) (p q : Place) (work : Work)
-      → Adds from to (deeds_of work) → end_by work ≡ end → Works g a p work b q → May work → Hosts g May end from a p to b q
+  pub hosts-one : (May : Work → Type 0) (end : Option Stopped) (from to : Option (List Deed)) (a b : Desk R) (p q : Place J) (work : Work)
+      → Adds from to (deeds_of work) → end_by work ≡ end → Works g jg a p work b q → May work → Hosts g jg May end from a p to b q
   hosts-one May end from to a b p q work adds is works may =
       (work ∷ [], subst (λ (l : List Deed). Adds from to l) (sym (all_deeds-one work)) adds, or_nothing (end_by work) ∙ is, (b, q, works, (refl, refl)), (may, tt))
 
   -- the network told of some sockets
-  pub hosts_woken : {S : Type 0} (peers next : Peers S) (from to : Option (List Deed)) (a : Desk R) (p q : Place) → AddsSome from to (IsWoken peers next) → Same p.slots q.slots → Same p.offices q.offices
-      → Hosts g IsClosing None from a p to a q
+  pub hosts_woken : {S : Type 0} (peers next : Peers S) (from to : Option (List Deed)) (a : Desk R) (p q : Place J) → AddsSome from to (IsWoken peers next) → Same p.slots q.slots → Same p.offices q.offices
+      → Hosts g jg IsClosing None from a p to a q
   hosts_woken peers next from to a p q told same office =
       hosts-one IsClosing None from to a a p q (wakes told.2.0) (subst (λ (l : List Deed). Adds from to l) told.2.1 told.1) refl (refl, same, office) tt
 
-  pub serves_woken : {S : Type 0} (peers next : Peers S) (at : AtOffices) (from to : Option (List Deed)) (a : Desk R) (p q : Place) → AddsSome from to (IsWoken peers next) → Same p.slots q.slots → Same p.offices q.offices
-      → Serves g (IsAsked (standings peers at) (standings next at)) None from a p to a q
+  pub serves_woken : {S : Type 0} (peers next : Peers S) (at : AtOffices J) (from to : Option (List Deed)) (a : Desk R) (p q : Place J) → AddsSome from to (IsWoken peers next) → Same p.slots q.slots → Same p.offices q.offices
+      → Serves g jg (IsAsked (standings peers at) (standings next at)) None from a p to a q
   serves_woken peers next at from to a p q told same office = (
     wakes told.2.0 ∷ [],
     subst (λ (l : List Deed). Adds from to l) (told.2.1 ∙ sym (append-nil (map woke told.2.0))) told.1,
@@ -242,18 +249,18 @@ module _ {R : Type 0} (g : Ghosts R) where
   )
 
   -- nothing is done, but for what is not held
-  pub hosts-same : (May : Work → Type 0) (from to : Option (List Deed)) (a : Desk R) (p q : Place) → May (aside [] None) → Adds from to [] → Same p.slots q.slots → Same p.offices q.offices → Hosts g May None from a p to a q
+  pub hosts-same : (May : Work → Type 0) (from to : Option (List Deed)) (a : Desk R) (p q : Place J) → May (aside [] None) → Adds from to [] → Same p.slots q.slots → Same p.offices q.offices → Hosts g jg May None from a p to a q
   hosts-same May from to a p q may adds same office = hosts-one May None from to a a p q (aside [] None) adds refl (tt, refl, same, inl refl, office) may
 
   -- the same where something holds of what is done
-  pub serves-so : (P Q : List Work → Type 0) (end : Option Stopped) (from to : Option (List Deed)) (a b : Desk R) (p q : Place) → ((works : List Work) → P works → Q works) → Serves g P end from a p to b q → Serves g Q end from a p to b q
+  pub serves-so : (P Q : List Work → Type 0) (end : Option Stopped) (from to : Option (List Deed)) (a b : Desk R) (p q : Place J) → ((works : List Work) → P works → Q works) → Serves g jg P end from a p to b q → Serves g jg Q end from a p to b q
   serves-so P Q end from to a b p q so x = (x.0, x.1, x.2, x.3, x.4, so x.0 x.5)
 
-  pub serves-nil : (P : List Work → Type 0) (h : Option (List Deed)) (a : Desk R) (p : Place) → P [] → Serves g P None h a p h a p
+  pub serves-nil : (P : List Work → Type 0) (h : Option (List Deed)) (a : Desk R) (p : Place J) → P [] → Serves g jg P None h a p h a p
   serves-nil P h a p so = ([], Adds-nil h, refl, (refl, refl), tt, so)
 
-  pub serves-then : (P Q T : List Work → Type 0) (later : Option Stopped) (from mid to : Option (List Deed)) (a b d : Desk R) (p q r : Place) → ((xs ys : List Work) → P xs → Q ys → T (xs ++ ys))
-      → Serves g P None from a p mid b q → Serves g Q later mid b q to d r → Serves g T later from a p to d r
+  pub serves-then : (P Q T : List Work → Type 0) (later : Option Stopped) (from mid to : Option (List Deed)) (a b d : Desk R) (p q r : Place J) → ((xs ys : List Work) → P xs → Q ys → T (xs ++ ys))
+      → Serves g jg P None from a p mid b q → Serves g jg Q later mid b q to d r → Serves g jg T later from a p to d r
   serves-then P Q T later from mid to a b d p q r so x y = (
     x.0 ++ y.0,
     subst (λ (l : List Deed). Adds from to l) (sym (all_deeds-append x.0 y.0)) (Adds-trans from mid to (all_deeds x.0) (all_deeds y.0) x.1 y.1),
@@ -263,17 +270,17 @@ module _ {R : Type 0} (g : Ghosts R) where
     so x.0 y.0 x.5 y.5,
   )
 
-  pub serves-one : (P : List Work → Type 0) (end : Option Stopped) (from to : Option (List Deed)) (a b : Desk R) (p q : Place) (work : Work)
-      → Adds from to (deeds_of work) → end_by work ≡ end → Works g a p work b q → IsServing work → P (work ∷ []) → Serves g P end from a p to b q
+  pub serves-one : (P : List Work → Type 0) (end : Option Stopped) (from to : Option (List Deed)) (a b : Desk R) (p q : Place J) (work : Work)
+      → Adds from to (deeds_of work) → end_by work ≡ end → Works g jg a p work b q → IsServing work → P (work ∷ []) → Serves g jg P end from a p to b q
   serves-one P end from to a b p q work adds is works may so =
       (work ∷ [], subst (λ (l : List Deed). Adds from to l) (sym (all_deeds-one work)) adds, ends-one end work is, (b, q, works, (refl, refl)), (may, tt), so)
 
-  pub serves-same : (P : List Work → Type 0) (from to : Option (List Deed)) (a : Desk R) (p q : Place) → Adds from to [] → Same p.slots q.slots → Same p.offices q.offices → P (aside [] None ∷ []) → Serves g P None from a p to a q
+  pub serves-same : (P : List Work → Type 0) (from to : Option (List Deed)) (a : Desk R) (p q : Place J) → Adds from to [] → Same p.slots q.slots → Same p.offices q.offices → P (aside [] None ∷ []) → Serves g jg P None from a p to a q
   serves-same P from to a p q adds same office so = serves-one P None from to a a p q (aside [] None) adds refl (tt, refl, same, inl refl, office) tt so
 
   -- what the desk is told at the end of connection c
   said_at_end : (c s : ℕ) (old new : Desk R) (channel : Channel) (ending : Ending) (deeds : List Deed) → EndsSo g c s old channel ending new deeds
-      → (said : Said) × IsOf c said × Tells g old said new × (IsSending channel → IsLastEnding (Some ending))
+      → (said : Said) × IsOf c said × Tells g jg old said new × (IsSending channel → IsLastEnding (Some ending))
   said_at_end c s old new channel PeerEnded deeds e = (Some (event (Close c) e.2.0), refl, e.2.1, λ sending. unsent_clash channel sending e.1.ready.all_sent)
   said_at_end c s old new channel WeEnded deeds e = (None, tt, e.3, λ sending. unsent_clash channel sending e.1)
   said_at_end c s old new channel (Refused fault) deeds e =
@@ -284,7 +291,7 @@ module _ {R : Type 0} (g : Ghosts R) where
   said_at_end c s old new channel ReadFailed deeds e = (Some (event (Close c) e.2.0), refl, e.2.1, λ sending. unsent_clash channel sending e.1.ready.all_sent)
   said_at_end c s old new channel WriteFailed deeds e = (Some (event (Close c) e.2.0), refl, e.2.1, λ sending. tt)
 
-  module _ {S : Type 0} (name : S → ℕ) (c : ℕ) (office : AtOffices) where
+  module _ {S : Type 0} (name : S → ℕ) (c : ℕ) (office : AtOffices J) where
     -- what is written to it in the turn, and what is left to write
     abbrev WritesOn : Channel → Channel → Work → Type 0
     WritesOn channel after work = unsent channel ≡ written_by c work ++ unsent after
@@ -299,7 +306,7 @@ module _ {R : Type 0} (g : Ghosts R) where
     -- a turn of this channel is one thing
     abbrev IsOneWork : Turned → Desk R → Clients S → Channel → Option Stopped → Desk R → Clients S → Channel → List Deed → Type 0
     IsOneWork turned old clients channel end new next after deeds =
-        (work : Work) × (deeds ≡ deeds_of work) × Works g old (place_of name clients office) work new (place_of name next office) × (end_by work ≡ end) × IsServing work × (IsSending channel → IsClosing work)
+        (work : Work) × (deeds ≡ deeds_of work) × Works g jg old (place_of name clients office) work new (place_of name next office) × (end_by work ≡ end) × IsServing work × (IsSending channel → IsClosing work)
         × ((d : ℕ) → is_turn_of d work ≡ nat_eq c d) × ((d : ℕ) → standing_at next d ≡ stands_after d (standing_at clients d) work) × ((k : ℕ) (it : Standing) → office_after k it work ≡ it) × IsKind turned channel after work
 
     -- how the connections stand after a change of this one
@@ -520,7 +527,7 @@ module _ {R : Type 0} (g : Ghosts R) where
     })
 
     turns_go : (now : ℕ) (turns : List Turned) (old new : Desk R) (clients next : Clients S) (deeds : List Deed) → steps.HasTurns g name c now old clients turns new next deeds
-        → (works : List Work) × (deeds ≡ all_deeds works) × EndAs turns works × Goes g old (place_of name clients office) works new (place_of name next office) × Each IsServing works × AreTurns clients next turns works
+        → (works : List Work) × (deeds ≡ all_deeds works) × EndAs turns works × Goes g jg old (place_of name clients office) works new (place_of name next office) × Each IsServing works × AreTurns clients next turns works
     turns_go now [] old new clients next deeds t = ([], t.0, refl, (t.1, ap (λ (it : Clients S). place_of name it office) t.2), tt, turns_none clients next t.2)
     turns_go now (turned ∷ before) old new clients next deeds t =
         let first = turns_go now before old t.0 clients t.1 t.2 t.4 in
@@ -637,7 +644,7 @@ module _ {R : Type 0} (g : Ghosts R) where
 
     -- a connection was served
     pub served_hosts : (flag : ℕ → Option Bool) (now : ℕ) (served : Served) (from to : Option (List Deed)) (old new : Desk R) (clients next : Clients S)
-        → AddsSome from to (steps.IsServed g name c now old clients served new next) → Serves g (GivesTurnAlone c 4 (all_at flag clients) (all_at flag next)) (end_of_client served) from old (place_of name clients office) to new (place_of name next office)
+        → AddsSome from to (steps.IsServed g name c now old clients served new next) → Serves g jg (GivesTurnAlone c 4 (all_at flag clients) (all_at flag next)) (end_of_client served) from old (place_of name clients office) to new (place_of name next office)
     served_hosts flag now Stays from to old new clients next s =
         let go = turns_go now s.2.0 old new clients next s.0 s.2.1 in (
           go.0,
@@ -660,14 +667,14 @@ module _ {R : Type 0} (g : Ghosts R) where
               (record { turn = had_turn clients next (Over ending ∷ s.2.0) go.0 some go.5; enough = inl (go.5.ended ending s.2.0 refl) }),
         )
     served_hosts flag now Unknown from to old new clients next s =
-        subst (λ (d : Desk R). Serves g (GivesTurnAlone c 4 (all_at flag clients) (all_at flag next)) None from old (place_of name clients office) to d (place_of name next office)) (sym s.2.2)
+        subst (λ (d : Desk R). Serves g jg (GivesTurnAlone c 4 (all_at flag clients) (all_at flag next)) None from old (place_of name clients office) to d (place_of name next office)) (sym s.2.2)
         (serves-same (GivesTurnAlone c 4 (all_at flag clients) (all_at flag next)) from to old (place_of name clients office) (place_of name next office) (subst (λ (l : List Deed). Adds from to l) s.2.1 s.1) (held_same name clients next s.2.3) (λ k. refl) (kept_nobody flag clients next s.2.0 s.2.3))
 
     -- a turn of a connection of which a reply has not gone out
     pub sent_hosts : (now : ℕ) (turned : Option Turned) (from to : Option (List Deed)) (old new : Desk R) (clients next : Clients S) → ((client : Client S) → client_at clients c ≡ Some client → IsSending client.channel)
-        → AddsSome from to (steps.HasTurn g name c now old clients turned new next) → Hosts g IsClosing None from old (place_of name clients office) to new (place_of name next office)
+        → AddsSome from to (steps.HasTurn g name c now old clients turned new next) → Hosts g jg IsClosing None from old (place_of name clients office) to new (place_of name next office)
     sent_hosts now None from to old new clients next sending s =
-        subst (λ (d : Desk R). Hosts g IsClosing None from old (place_of name clients office) to d (place_of name next office)) (sym s.2.2)
+        subst (λ (d : Desk R). Hosts g jg IsClosing None from old (place_of name clients office) to d (place_of name next office)) (sym s.2.2)
         (hosts-same IsClosing from to old (place_of name clients office) (place_of name next office) refl (subst (λ (l : List Deed). Adds from to l) s.2.1 s.1) (held_same name clients next s.2.3) (λ k. refl))
     sent_hosts now (Some turned) from to old new clients next sending s =
         let t = s.2 in
@@ -677,9 +684,9 @@ module _ {R : Type 0} (g : Ghosts R) where
         hosts-one IsClosing None from to old new (place_of name clients office) (place_of name next office) one.0 (subst (λ (l : List Deed). Adds from to l) one.1 s.1) (closing_goes one.0 may) one.2 may
 
     closed_at : (May : Work → Type 0) (one : Option (Client S)) (from to : Option (List Deed)) (old new : Desk R) (clients next : Clients S) → May (aside [] None) → ((s : ℕ) (deeds : List Deed) (said : Said) → May (ends s c None deeds said))
-        → client_at clients c ≡ one → AddsSome from to (steps.ClosesAt g name c one old clients new next) → Hosts g May None from old (place_of name clients office) to new (place_of name next office)
+        → client_at clients c ≡ one → AddsSome from to (steps.ClosesAt g name c one old clients new next) → Hosts g jg May None from old (place_of name clients office) to new (place_of name next office)
     closed_at May None from to old new clients next none may at s =
-        subst (λ (d : Desk R). Hosts g May None from old (place_of name clients office) to d (place_of name next office)) (sym s.2.1)
+        subst (λ (d : Desk R). Hosts g jg May None from old (place_of name clients office) to d (place_of name next office)) (sym s.2.1)
         (hosts-same May from to old (place_of name clients office) (place_of name next office) none (subst (λ (l : List Deed). Adds from to l) s.2.0 s.1) (held_same name clients next s.2.2) (λ k. refl))
     closed_at May (Some client) from to old new clients next none may at s =
         let closes = s.2.1 in
@@ -689,13 +696,13 @@ module _ {R : Type 0} (g : Ghosts R) where
 
     -- a connection was closed
     pub closed_hosts : (May : Work → Type 0) (from to : Option (List Deed)) (old new : Desk R) (clients next : Clients S) → May (aside [] None) → ((s : ℕ) (deeds : List Deed) (said : Said) → May (ends s c None deeds said))
-        → AddsSome from to (steps.Closes g name c old clients new next) → Hosts g May None from old (place_of name clients office) to new (place_of name next office)
+        → AddsSome from to (steps.Closes g name c old clients new next) → Hosts g jg May None from old (place_of name clients office) to new (place_of name next office)
     closed_hosts May from to old new clients next none may s = closed_at May (client_at clients c) from to old new clients next none may refl s
 
     dropped_at : (flag : ℕ → Option Bool) (one : Option (Client S)) (from to : Option (List Deed)) (old new : Desk R) (clients next : Clients S)
-        → client_at clients c ≡ one → AddsSome from to (steps.ClosesAt g name c one old clients new next) → Serves g (IsAtDoors 1 (all_at flag clients) (all_at flag next)) None from old (place_of name clients office) to new (place_of name next office)
+        → client_at clients c ≡ one → AddsSome from to (steps.ClosesAt g name c one old clients new next) → Serves g jg (IsAtDoors 1 (all_at flag clients) (all_at flag next)) None from old (place_of name clients office) to new (place_of name next office)
     dropped_at flag None from to old new clients next at s =
-        subst (λ (d : Desk R). Serves g (IsAtDoors 1 (all_at flag clients) (all_at flag next)) None from old (place_of name clients office) to d (place_of name next office)) (sym s.2.1)
+        subst (λ (d : Desk R). Serves g jg (IsAtDoors 1 (all_at flag clients) (all_at flag next)) None from old (place_of name clients office) to d (place_of name next office)) (sym s.2.1)
         (serves-same (IsAtDoors 1 (all_at flag clients) (all_at flag next)) from to old (place_of name clients office) (place_of name next office) (subst (λ (l : List Deed). Adds from to l) s.2.0 s.1) (held_same name clients next s.2.2) (λ k. refl)
         (record { paced = record { few = omega arith; stand = λ d. ap (λ (o : Option (Client S)). standing_of o) (s.2.2 d); offices = λ k. refl }; quiet = λ e. refl }))
     dropped_at flag (Some client) from to old new clients next at s =
@@ -707,12 +714,12 @@ module _ {R : Type 0} (g : Ghosts R) where
 
     -- a connection that is overdue was closed
     pub dropped_hosts : (flag : ℕ → Option Bool) (from to : Option (List Deed)) (old new : Desk R) (clients next : Clients S)
-        → AddsSome from to (steps.Closes g name c old clients new next) → Serves g (IsAtDoors 1 (all_at flag clients) (all_at flag next)) None from old (place_of name clients office) to new (place_of name next office)
+        → AddsSome from to (steps.Closes g name c old clients new next) → Serves g jg (IsAtDoors 1 (all_at flag clients) (all_at flag next)) None from old (place_of name clients office) to new (place_of name next office)
     dropped_hosts flag from to old new clients next s = dropped_at flag (client_at clients c) from to old new clients next refl s
 
     -- a socket came, and was taken as connection c, or turned away by the desk
     pub opened_hosts : (flag : ℕ → Option Bool) (now : ℕ) (result : Result (Unit {0}) DeskFault) (socket : S) (from mid to : Option (List Deed)) (old new : Desk R) (clients next : Clients S) → client_at clients c ≡ None
-        → Adds from mid (came (name socket) ∷ []) → AddsSome mid to (steps.Opens g name c now socket old clients result new next) → Serves g (IsAtDoors 1 (all_at flag clients) (all_at flag next)) None from old (place_of name clients office) to new (place_of name next office)
+        → Adds from mid (came (name socket) ∷ []) → AddsSome mid to (steps.Opens g name c now socket old clients result new next) → Serves g jg (IsAtDoors 1 (all_at flag clients) (all_at flag next)) None from old (place_of name clients office) to new (place_of name next office)
     opened_hosts flag now (Ok done) socket from mid to old new clients next free comes s =
         let o = s.2.2 in
         let same = subst (λ (l : List Deed). Adds mid to l) s.2.1 s.1 in
@@ -748,10 +755,10 @@ marked_same name old new c changes =
     put_same (held_at name old) (held_at name new) c (held_of name (option_map notes.marked (client_at old c))) (sym (marked_held name (client_at old c))) (held_puts name old new c (option_map notes.marked (client_at old c)) changes)
 
 -- a socket came for which there is no number, and was turned away
-pub away_hosts : {R : Type 0} (g : Ghosts R) (t : ℕ) (from mid to : Option (List Deed)) (old : Desk R) (here : Place) (stand : Standings)
-    → Adds from mid (came t ∷ []) → AddsSome mid to (IsTurnedAway t) → Serves g (IsAtDoors 1 stand stand) None from old here to old here
-away_hosts g t from mid to old here stand comes away =
-    serves-one g (IsAtDoors 1 stand stand) None from to old old here here (aside (came t ∷ away.0) None)
+pub away_hosts : {R J : Type 0} (g : Ghosts R) (jg : JournalGhosts R J) (t : ℕ) (from mid to : Option (List Deed)) (old : Desk R) (here : Place J) (stand : Standings)
+    → Adds from mid (came t ∷ []) → AddsSome mid to (IsTurnedAway t) → Serves g jg (IsAtDoors 1 stand stand) None from old here to old here
+away_hosts g jg t from mid to old here stand comes away =
+    serves-one g jg (IsAtDoors 1 stand stand) None from to old old here here (aside (came t ∷ away.0) None)
     (Adds-trans from mid to (came t ∷ []) away.0 comes away.1) refl
     (tt, refl, (λ c. refl), inr (inl (t, Memory, away.2.0, away.2.1, ap (λ (l : List Deed). came t ∷ l) away.2.2)), λ k. refl) tt
     (record { paced = record { few = omega arith; stand = λ d. refl; offices = λ k. refl }; quiet = λ e. refl })
@@ -843,7 +850,7 @@ unmarked_stands {S} clients place past c = go (nat_eq place c) refl
     go false e = refl
 
 -- connection c is not open since it was closed, and others are not that were not
-module _ {R S : Type 0} (g : Ghosts R) (name : S → ℕ) (c : ℕ) (clients next : Clients S) (old new : Desk R) where
+module _ {R S J : Type 0} (g : Ghosts R) (jg : JournalGhosts R J) (name : S → ℕ) (c : ℕ) (clients next : Clients S) (old new : Desk R) where
   closed_none : (one : Option (Client S)) (deeds : List Deed) → client_at clients c ≡ one → steps.ClosesAt g name c one old clients new next deeds → (d : ℕ) → (nat_eq c d ≡ false → held_at name clients d ≡ None) → held_at name next d ≡ None
   closed_none None deeds at s d before = ap (held_of name) (s.2 d) ∙ go (nat_eq c d) refl
     where

@@ -1,6 +1,7 @@
 -- All that hosting does, by how it ended.
 use Rattle.std.proofs.Common.{◌≡◌, ℕ, Bool, true, false, List, [], Option, None, Some, Result, Ok, Err, IsErr, refl, sym, ap, subst, inl, inr, arith}
 use Rattle.cad_stream.specs.declared.responder.Responder.{Ghosts}
+use Rattle.cad_stream.specs.declared.journal_responder.JournalResponder.{Ghosts as JournalGhosts}
 use Rattle.cad_desk.specs.declared.desk.Desk.{Desk}
 use Rattle.cad_network.specs.Deeds.{Deed, Adds}
 use Rattle.cad_network.specs.lemmas.DeedLemmas.{Adds-nil, Adds-trans}
@@ -9,6 +10,7 @@ use Rattle.cad_clients.specs.declared.turned.Ending.TheVariants.{PeerEnded, WeEn
 use Rattle.cad_dry_run.specs.Reports.{answer_of}
 use Rattle.cad_office_socket.specs.declared.turned.EntryTurned.{EntryTurned}
 use Rattle.cad_office_socket.specs.declared.turned.EntryTurned.TheVariants as turn
+use Rattle.cad_office.specs.declared.print.Answer.TheVariants as answer
 use Rattle.cad_office_socket.specs.Serving as serving
 use Rattle.cad_event_loop.specs.declared.rounds.Rounds.{Rounds}
 use Rattle.cad_event_loop.specs.declared.stopped.Stopped.{Stopped}
@@ -43,6 +45,12 @@ turn_spends (turn.Answered answer) e = store_or_none (serving.is_store answer) e
 turn_spends (turn.Lost answer) e = store_or_none (serving.is_store answer) e
 turn_spends (turn.Checked report) e = store_or_none (serving.is_store (answer_of report)) e
 turn_spends (turn.CheckLost report) e = store_or_none (serving.is_store (answer_of report)) e
+turn_spends (turn.JournalBegun behind) e = nothing_spends e
+turn_spends turn.RowsRead e = nothing_spends e
+turn_spends (turn.RowsRefused fault) e = store_or_none (serving.is_store (answer.Refused fault)) e
+turn_spends (turn.RowsLost fault) e = store_or_none (serving.is_store (answer.Refused fault)) e
+turn_spends turn.Piece e = nothing_spends e
+turn_spends turn.PieceLost e = nothing_spends e
 turn_spends turn.Stops e = let clash : Some Asked ≡ Some RoundsSpent = e in cc
 turn_spends turn.Waits e = nothing_spends e
 turn_spends turn.Over e = nothing_spends e
@@ -61,22 +69,22 @@ none_spends (aside deeds said) e = nothing_spends e
 never_spent : (works : List Work) → EndsBy (Some RoundsSpent) works → ⊥
 never_spent works e = none_spends e.1 e.4
 
-abbrev empty : Place
+abbrev empty : {J : Type 0} → Place J
 empty = record { slots = λ c. None; offices = λ k. None }
 
-pub nobody_is : {S : Type 0} (name : S → ℕ) (rounds : Rounds S) → IsNobody rounds → IsEmpty (here name rounds)
+pub nobody_is : {S J : Type 0} (name : S → ℕ) (rounds : Rounds S J) → IsNobody rounds → IsEmpty (here name rounds)
 nobody_is name rounds nobody = ((λ c. ap (held_of name) (nobody.0 c)), λ k. ap (office_at name) (nobody.1 k))
 
-module _ {R : Type 0} (g : Ghosts R) where
+module _ {R J : Type 0} (g : Ghosts R) (jg : JournalGhosts R J) where
   -- a round ended hosting
-  pub ended_so : (E : Type 0) (Holds : List Work → Type 0) (stopped : Stopped) (from to : Option (List Deed)) (old new : Desk R) (first last : Place) → Serves g Holds (Some stopped) from old first to new last
-      → Serves g Holds (end_of_rounds {E = E} (Ok stopped)) from old first to new last
+  pub ended_so : (E : Type 0) (Holds : List Work → Type 0) (stopped : Stopped) (from to : Option (List Deed)) (old new : Desk R) (first last : Place J) → Serves g jg Holds (Some stopped) from old first to new last
+      → Serves g jg Holds (end_of_rounds {E = E} (Ok stopped)) from old first to new last
   ended_so E Holds Asked from to old new first last h = h
   ended_so E Holds StoreRefused from to old new first last h = h
   ended_so E Holds RoundsSpent from to old new first last h = absurd (never_spent h.0 h.2)
 
   -- nothing was hosted
-  pub unhosted : (from : Option (List Deed)) (desk : Desk R) → HostsBy g None from desk from desk
+  pub unhosted : (from : Option (List Deed)) (desk : Desk R) → HostsBy g jg None from desk from desk
   unhosted from desk = record {
     works = [];
     closing = [];
@@ -93,8 +101,8 @@ module _ {R : Type 0} (g : Ghosts R) where
   }
 
   -- rounds, and then the end
-  pub hosted_by : (end : Option Stopped) (from mid to : Option (List Deed)) (old between new : Desk R) (first then last : Place) → IsEmpty first → IsEmpty last
-      → Serves g (AreServed nobody) end from old first mid between then → Hosts g IsClosing None mid between then to new last → HostsBy g end from old to new
+  pub hosted_by : (end : Option Stopped) (from mid to : Option (List Deed)) (old between new : Desk R) (first then last : Place J) → IsEmpty first → IsEmpty last
+      → Serves g jg (AreServed nobody) end from old first mid between then → Hosts g jg IsClosing None mid between then to new last → HostsBy g jg end from old to new
   hosted_by end from mid to old between new first then last nobody_first nobody_last x y = record {
     works = x.0;
     closing = y.0;
@@ -107,22 +115,22 @@ module _ {R : Type 0} (g : Ghosts R) where
     closed = y.4;
     nobody_first = nobody_first;
     nobody_last = nobody_last;
-    goes = goes-append g x.0 y.0 old between new first then last x.3 y.3;
+    goes = goes-append g jg x.0 y.0 old between new first then last x.3 y.3;
   }
 
-  by_rounds : (E : Type 0) (hosted : Result Stopped E) (from to : Option (List Deed)) (old new : Desk R) → HostsBy g (end_of_rounds hosted) from old to new → Hosted g from old hosted to new
+  by_rounds : (E : Type 0) (hosted : Result Stopped E) (from to : Option (List Deed)) (old new : Desk R) → HostsBy g jg (end_of_rounds hosted) from old to new → Hosted g jg from old hosted to new
   by_rounds E (Ok Asked) from to old new h = h
   by_rounds E (Ok StoreRefused) from to old new h = h
   by_rounds E (Ok RoundsSpent) from to old new h = h
   by_rounds E (Err error) from to old new h = inl h
 
-  failed_then : (E : Type 0) (result : Result Stopped E) (from to : Option (List Deed)) (old new : Desk R) → IsErr result → HostsBy g (Some Asked) from old to new → Hosted g from old result to new
+  failed_then : (E : Type 0) (result : Result Stopped E) (from to : Option (List Deed)) (old new : Desk R) → IsErr result → HostsBy g jg (Some Asked) from old to new → Hosted g jg from old result to new
   failed_then E (Ok stopped) from to old new failed h = absurd (let clash : false ≡ true = failed in cc)
   failed_then E (Err error) from to old new failed h = inr h
 
   -- how it ended
-  pub hosted_so : (E : Type 0) (hosted result : Result Stopped E) (from to : Option (List Deed)) (old new : Desk R) → IsLastOf hosted result → HostsBy g (end_of_rounds hosted) from old to new → Hosted g from old result to new
+  pub hosted_so : (E : Type 0) (hosted result : Result Stopped E) (from to : Option (List Deed)) (old new : Desk R) → IsLastOf hosted result → HostsBy g jg (end_of_rounds hosted) from old to new → Hosted g jg from old result to new
   hosted_so E hosted result from to old new last h = elim last [
-    | inl same ↦ subst (λ (r : Result Stopped E). Hosted g from old r to new) (sym same) (by_rounds E hosted from to old new h)
-    | inr asked ↦ failed_then E result from to old new asked.1 (subst (λ (r : Result Stopped E). HostsBy g (end_of_rounds r) from old to new) asked.0 h)
+    | inl same ↦ subst (λ (r : Result Stopped E). Hosted g jg from old r to new) (sym same) (by_rounds E hosted from to old new h)
+    | inr asked ↦ failed_then E result from to old new asked.1 (subst (λ (r : Result Stopped E). HostsBy g jg (end_of_rounds r) from old to new) asked.0 h)
   ]

@@ -10,3 +10,4 @@ pub mod StreamLemmas
 pub mod OfficeLemmas
 pub mod HostLemmas
 pub mod ReplyLemmas
+pub mod JournalLemmas

@@ -3,6 +3,7 @@ use Rattle.std.specs.Prelude.{⊤}
 use Rattle.std.proofs.Common.{◌≡◌, ◌≢◌, ℕ, nat_eq, Bool, true, false, List, [], ◌∷◌, ◌++◌, Option, None, Some, Result, Ok, Err, refl, sym, ap, subst, ◌∙◌, append_assoc, inl, inr}
 use Rattle.std.proofs.lemmas.Bool.{eqb-true, eq-eqb}
 use Rattle.cad_stream.specs.declared.responder.Responder.{Ghosts}
+use Rattle.cad_stream.specs.declared.journal_responder.JournalResponder.{Ghosts as JournalGhosts}
 use Rattle.cad_desk.specs.declared.desk.Desk.{Desk}
 use Rattle.cad_desk.specs.declared.event.Event.{Event}
 use Rattle.cad_desk.specs.declared.event.Event.TheVariants.{Open, Bytes, Close, Office}
@@ -10,7 +11,8 @@ use Rattle.cad_desk.specs.declared.event.Reply.{Reply}
 use Rattle.cad_desk.specs.declared.fault.DeskFault.{DeskFault}
 use Rattle.cad_desk.specs.Desks.{responder_of}
 use Rattle.cad_network.specs.Deeds.{Deed, given_by, taken_by}
-use Rattle.cad_event_loop.proofs.StandLemmas.{goes_clean, only_checked}
+use Rattle.cad_event_loop.specs.lemmas.CleanLemmas.{goes_clean}
+use Rattle.cad_event_loop.proofs.StandLemmas.{only_checked, only_read}
 use Rattle.cad_network.specs.lemmas.DeedLemmas.{given_by-append, taken_by-append, given_by-one, taken_by-one}
 use Rattle.cad_clients.specs.declared.channel.Channel.{Channel}
 use Rattle.cad_clients.specs.declared.turned.Ending.{Ending}
@@ -25,8 +27,8 @@ use Rattle.cad_office.specs.declared.print.Answer.TheVariants.{Entered, Refused,
 use Rattle.cad_dry_run.specs.declared.report.Report.{Report}
 use Rattle.cad_dry_run.specs.declared.report.Report.TheVariants as report
 use Rattle.cad_office_socket.specs.declared.turned.EntryTurned.{EntryTurned}
-use Rattle.cad_office_socket.specs.declared.turned.EntryTurned.TheVariants.{Wrote, Took, Added, Answered, Lost, Checked, CheckLost, Stops, Waits, Over}
-use Rattle.cad_event_loop.specs.Works.{Held, Place, event, question, Said, Work, wakes, opens, acts, waits, ends, office_comes, enters, office_leaves, aside, deeds_in, SaysSo, ChecksSo, IsLineSaid, IsEventOf, IsOf, IsOfNone, Tells, Leaves, Works, Goes, MayAsk, MayGoOn}
+use Rattle.cad_office_socket.specs.declared.turned.EntryTurned.TheVariants.{Wrote, Took, Added, Answered, Lost, Checked, CheckLost, JournalBegun, RowsRead, RowsRefused, RowsLost, Piece, PieceLost, Stops, Waits, Over}
+use Rattle.cad_event_loop.specs.Works.{Held, Place, event, question, rows, Said, Work, wakes, opens, acts, waits, ends, office_comes, enters, office_leaves, aside, deeds_in, SaysSo, ChecksSo, IsLineSaid, IsEventOf, IsOf, IsOfNone, Tells, Leaves, Works, Goes, MayAsk, MayGoOn}
 use Rattle.cad_event_loop.specs.Lives.{by_another, by_desk, life_of, own_deeds, end_of, last_deeds, IsLifeBy, IsLife, EachHasItsLife}
 
 -- connections of two numbers
@@ -63,9 +65,9 @@ of_another c d (Bytes e piece) of differ = λ same. differ (sym of ∙ same)
 of_another c d (Close e) of differ = λ same. differ (sym of ∙ same)
 of_another c d (Office command) of differ = absurd of
 
-module _ {R : Type 0} (g : Ghosts R) (c s : ℕ) where
+module _ {R J : Type 0} (g : Ghosts R) (jg : JournalGhosts R J) (c s : ℕ) where
   after_own : (old mid : Desk R) (channel next : Channel) (act : Act) (happenings : List Happening) (deeds : List Deed) (ended : Option (Option Ending × List Deed)) (new : Desk R) (slots : Held)
-      → Does g c old channel act mid next → IsLifeBy g c s mid next happenings deeds ended new slots → IsLifeBy g c s old channel (own act ∷ happenings) (deeds_in s act ++ deeds) ended new slots
+      → Does g c old channel act mid next → IsLifeBy g jg c s mid next happenings deeds ended new slots → IsLifeBy g jg c s old channel (own act ∷ happenings) (deeds_in s act ++ deeds) ended new slots
   after_own old mid channel next act happenings deeds ended new slots does l = (
     l.0,
     l.1,
@@ -79,11 +81,11 @@ module _ {R : Type 0} (g : Ghosts R) (c s : ℕ) where
   )
 
   after_nothing : (old mid : Desk R) (channel : Channel) (happenings : List Happening) (deeds : List Deed) (ended : Option (Option Ending × List Deed)) (new : Desk R) (slots : Held)
-      → mid ≡ old → IsLifeBy g c s mid channel happenings deeds ended new slots → IsLifeBy g c s old channel happenings deeds ended new slots
-  after_nothing old mid channel happenings deeds ended new slots e l = subst (λ (d : Desk R). IsLifeBy g c s d channel happenings deeds ended new slots) e l
+      → mid ≡ old → IsLifeBy g jg c s mid channel happenings deeds ended new slots → IsLifeBy g jg c s old channel happenings deeds ended new slots
+  after_nothing old mid channel happenings deeds ended new slots e l = subst (λ (d : Desk R). IsLifeBy g jg c s d channel happenings deeds ended new slots) e l
 
   after_another : (d : ℕ) (old mid : Desk R) (there after channel : Channel) (act : Act) (happenings : List Happening) (deeds : List Deed) (ended : Option (Option Ending × List Deed)) (new : Desk R) (slots : Held)
-      → d ≢ c → Does g d old there act mid after → IsLifeBy g c s mid channel happenings deeds ended new slots → IsLifeBy g c s old channel (by_another d act happenings) deeds ended new slots
+      → d ≢ c → Does g d old there act mid after → IsLifeBy g jg c s mid channel happenings deeds ended new slots → IsLifeBy g jg c s old channel (by_another d act happenings) deeds ended new slots
   after_another d old mid there after channel (wrote bytes) happenings deeds ended new slots differ does l = after_nothing old mid channel happenings deeds ended new slots does.3 l
   after_another d old mid there after channel (took bytes) happenings deeds ended new slots differ does l = after_nothing old mid channel happenings deeds ended new slots does.4 l
   after_another d old mid there after channel (fed piece out over) happenings deeds ended new slots differ does l =
@@ -94,20 +96,24 @@ module _ {R : Type 0} (g : Ghosts R) (c s : ℕ) where
   IsApart None = ⊤
   IsApart (Some (event e answer)) = IsOther c e
   IsApart (Some (question command answer)) = ⊤
+  IsApart (Some (rows answer)) = ⊤
 
   after_told : (old mid : Desk R) (channel : Channel) (said : Said) (happenings : List Happening) (deeds : List Deed) (ended : Option (Option Ending × List Deed)) (new : Desk R) (slots : Held)
-      → IsApart said → Tells g old said mid → MayAsk g old said mid
-      → IsLifeBy g c s mid channel happenings deeds ended new slots → IsLifeBy g c s old channel (by_desk said happenings) deeds ended new slots
+      → IsApart said → Tells g jg old said mid → MayAsk g jg old said mid
+      → IsLifeBy g jg c s mid channel happenings deeds ended new slots → IsLifeBy g jg c s old channel (by_desk said happenings) deeds ended new slots
   after_told old mid channel None happenings deeds ended new slots differ tells may l = after_nothing old mid channel happenings deeds ended new slots tells l
   after_told old mid channel (Some (event e answer)) happenings deeds ended new slots differ tells may l =
       (l.0, l.1, (mid, differ, tells, may, l.2), l.3, l.4, l.5, l.6)
   after_told old mid channel (Some (question command answer)) happenings deeds ended new slots differ tells may l =
-      (l.0, l.1, (mid, only_checked g old mid command answer tells may, l.2), l.3, l.4, l.5, l.6)
+      (l.0, l.1, (mid, only_checked g jg old mid command answer tells may, l.2), l.3, l.4, l.5, l.6)
+  after_told old mid channel (Some (rows answer)) happenings deeds ended new slots differ tells may l =
+      (l.0, l.1, (mid, only_read g jg old mid answer tells may, l.2), l.3, l.4, l.5, l.6)
 
   ends_apart : (d : ℕ) (said : Said) → d ≢ c → IsOf d said → IsApart said
   ends_apart d None differ of = tt
   ends_apart d (Some (event e answer)) differ of = of_another c d e of differ
   ends_apart d (Some (question command answer)) differ of = tt
+  ends_apart d (Some (rows answer)) differ of = tt
 
   aside_apart : (slots : Held) (channel : Channel) (said : Said) → slots c ≡ Some (s, channel) → IsOfNone slots said → IsApart said
   aside_apart slots channel None here of = tt
@@ -115,6 +121,7 @@ module _ {R : Type 0} (g : Ghosts R) (c s : ℕ) where
       let another : IsOther c (Open of.0) = λ same. none_some {X = ℕ × Channel} (s, channel) (sym of.1 ∙ (ap slots same ∙ here)) in
       subst (λ (it : Event). IsOther c it) (sym of.2) another
   aside_apart slots channel (Some (question command answer)) here of = tt
+  aside_apart slots channel (Some (rows answer)) here of = tt
 
   -- what the land office tells the desk is of no connection
   told_apart : (command : Command) (answer : Result Reply DeskFault) (said : Said) → said ≡ Some (event (Office command) answer) → IsApart said
@@ -122,6 +129,9 @@ module _ {R : Type 0} (g : Ghosts R) (c s : ℕ) where
 
   question_apart : (command : Command) (answer : Result ℕ RegisterFault) (said : Said) → said ≡ Some (question command answer) → IsApart said
   question_apart command answer said is = subst (λ (it : Said). IsApart it) (sym is) tt
+
+  rows_apart : (answer : Result Bool RegisterFault) (said : Said) → said ≡ Some (rows answer) → IsApart said
+  rows_apart answer said is = subst (λ (it : Said). IsApart it) (sym is) tt
 
   untold_apart : (said : Said) → said ≡ None → IsApart said
   untold_apart said is = subst (λ (it : Said). IsApart it) (sym is) tt
@@ -148,6 +158,12 @@ module _ {R : Type 0} (g : Ghosts R) (c s : ℕ) where
   office_apart text (Lost answer) said line = answer_apart text answer said line.1
   office_apart text (Checked it) said line = check_apart line.0 it said line.2
   office_apart text (CheckLost it) said line = check_apart line.0 it said line.2
+  office_apart text (JournalBegun behind) said line = untold_apart said line.1
+  office_apart text RowsRead said line = rows_apart (Ok line.0) said line.1
+  office_apart text (RowsRefused fault) said line = rows_apart (Err fault) said line
+  office_apart text (RowsLost fault) said line = rows_apart (Err fault) said line
+  office_apart text Piece said line = untold_apart said line
+  office_apart text PieceLost said line = untold_apart said line
   office_apart text Stops said line = untold_apart said line.1
   office_apart text Wrote said line = untold_apart said line
   office_apart text Took said line = untold_apart said line
@@ -160,9 +176,9 @@ module _ {R : Type 0} (g : Ghosts R) (c s : ℕ) where
   held_once slots d t there channel same at here =
       one_some {X = ℕ × Channel} (t, there) (s, channel) (sym at ∙ (ap slots same ∙ here))
 
-  life : (works : List Work) (old new : Desk R) (here_at next : Place) (channel : Channel) → (goes : Goes g old here_at works new next) → MayGoOn g works old new here_at next goes
-      → here_at.slots c ≡ Some (s, channel) → IsLife g c s old channel works new next
-  life [] old new here_at next channel goes may here = (old, channel, (refl, refl), ap (λ (h : Place). h.slots c) goes.1 ∙ here, refl, refl, λ counts. subst (λ (d : Desk R). g.counts (responder_of d)) goes.0 counts)
+  life : (works : List Work) (old new : Desk R) (here_at next : Place J) (channel : Channel) → (goes : Goes g jg old here_at works new next) → MayGoOn g jg works old new here_at next goes
+      → here_at.slots c ≡ Some (s, channel) → IsLife g jg c s old channel works new next
+  life [] old new here_at next channel goes may here = (old, channel, (refl, refl), ap (λ (h : Place J). h.slots c) goes.1 ∙ here, refl, refl, λ counts. subst (λ (d : Desk R). g.counts (responder_of d)) goes.0 counts)
   life (wakes places ∷ later) old new here_at next channel goes may here =
       let work = goes.2 in
       let there : goes.1.slots c ≡ Some (s, channel) = work.1 c ∙ here in
@@ -177,10 +193,10 @@ module _ {R : Type 0} (g : Ghosts R) (c s : ℕ) where
   life (acts t d act ∷ later) old new here_at next channel goes may here =
       go (λ it there. life later goes.0 new goes.1 next it goes.3 may.1 there) (nat_eq d c) refl
     where
-      work : Works g old here_at (acts t d act) goes.0 goes.1
+      work : Works g jg old here_at (acts t d act) goes.0 goes.1
       work = goes.2
 
-      go : ((it : Channel) → goes.1.slots c ≡ Some (s, it) → IsLife g c s goes.0 it later new next) → (same : Bool) → nat_eq d c ≡ same → IsLife g c s old channel (acts t d act ∷ later) new next
+      go : ((it : Channel) → goes.1.slots c ≡ Some (s, it) → IsLife g jg c s goes.0 it later new next) → (same : Bool) → nat_eq d c ≡ same → IsLife g jg c s old channel (acts t d act ∷ later) new next
       go again true e =
           let same = eqb-true d c e in
           let pair = held_once here_at.slots d t work.0 channel same work.2 here in
@@ -189,7 +205,7 @@ module _ {R : Type 0} (g : Ghosts R) (c s : ℕ) where
           let does = subst (λ (k : ℕ). Does g k old channel act goes.0 work.1) same (subst (λ (it : Channel). Does g d old it act goes.0 work.1) at work.3) in
           let there : goes.1.slots c ≡ Some (s, work.1) = work.4 c ∙ rw e (ap (λ (n : ℕ). Some (n, work.1)) name) in
           let l = again work.1 there in
-          rw e (subst (λ (n : ℕ). IsLifeBy g c s old channel (own act ∷ life_of c later) (deeds_in n act ++ own_deeds c later) (end_of c later) new next.slots) (sym name)
+          rw e (subst (λ (n : ℕ). IsLifeBy g jg c s old channel (own act ∷ life_of c later) (deeds_in n act ++ own_deeds c later) (end_of c later) new next.slots) (sym name)
           (after_own old goes.0 channel work.1 act (life_of c later) (own_deeds c later) (end_of c later) new next.slots does l))
       go again false e =
           let there : goes.1.slots c ≡ Some (s, channel) = work.4 c ∙ rw e here in
@@ -203,18 +219,18 @@ module _ {R : Type 0} (g : Ghosts R) (c s : ℕ) where
   life (ends t d cause deeds said ∷ later) old new here_at next channel goes may here =
       go (λ it there. life later goes.0 new goes.1 next it goes.3 may.1 there) (nat_eq d c) refl
     where
-      work : Works g old here_at (ends t d cause deeds said) goes.0 goes.1
+      work : Works g jg old here_at (ends t d cause deeds said) goes.0 goes.1
       work = goes.2
 
-      go : ((it : Channel) → goes.1.slots c ≡ Some (s, it) → IsLife g c s goes.0 it later new next) → (same : Bool) → nat_eq d c ≡ same → IsLife g c s old channel (ends t d cause deeds said ∷ later) new next
+      go : ((it : Channel) → goes.1.slots c ≡ Some (s, it) → IsLife g jg c s goes.0 it later new next) → (same : Bool) → nat_eq d c ≡ same → IsLife g jg c s old channel (ends t d cause deeds said ∷ later) new next
       go again true e =
           let same = eqb-true d c e in
           let pair = held_once here_at.slots d t work.0 channel same work.1 here in
           let name : t ≡ s = ap (λ (p : ℕ × Channel). p.0) pair in
           let at : work.0 ≡ channel = ap (λ (p : ℕ × Channel). p.1) pair in
-          let leaves = subst (λ (k : ℕ). Leaves g k s old channel cause deeds goes.0) same (subst (λ (k : ℕ). Leaves g d k old channel cause deeds goes.0) name
-          (subst (λ (it : Channel). Leaves g d t old it cause deeds goes.0) at work.2)) in
-          rw e (old, channel, (refl, refl), (goes.0, leaves), refl, refl, goes_clean g (ends t d cause deeds said ∷ later) old new here_at next goes)
+          let leaves = subst (λ (k : ℕ). Leaves g jg k s old channel cause deeds goes.0) same (subst (λ (k : ℕ). Leaves g jg d k old channel cause deeds goes.0) name
+          (subst (λ (it : Channel). Leaves g jg d t old it cause deeds goes.0) at work.2)) in
+          rw e (old, channel, (refl, refl), (goes.0, leaves), refl, refl, goes_clean g jg (ends t d cause deeds said ∷ later) old new here_at next goes)
       go again false e =
           let there : goes.1.slots c ≡ Some (s, channel) = work.5 c ∙ rw e here in
           let l = again channel there in
@@ -240,5 +256,5 @@ module _ {R : Type 0} (g : Ghosts R) (c s : ℕ) where
       let l = life later goes.0 new goes.1 next channel goes.3 may.1 there in
       after_told old goes.0 channel said (life_of c later) (own_deeds c later) (end_of c later) new next.slots (aside_apart here_at.slots channel said here work.0) work.1 may.0 l
 
-pub each_has_its_life : {R : Type 0} (g : Ghosts R) → EachHasItsLife g
-each_has_its_life g c s works old new here next channel goes may at = life g c s works old new here next channel goes may at
+pub each_has_its_life : {R J : Type 0} (g : Ghosts R) (jg : JournalGhosts R J) → EachHasItsLife g jg
+each_has_its_life g jg c s works old new here next channel goes may at = life g jg c s works old new here next channel goes may at

@@ -4,6 +4,7 @@ use Rattle.std.proofs.Common.{◌≡◌, ℕ, nat_eq, ◌+◌, ◌<◌, ◌≤�
 use Rattle.std.proofs.lemmas.Bool.{cases_lt, eqb-true, eq-eqb}
 use Rattle.std.proofs.lemmas.Option.{slice_get_past}
 use Rattle.cad_stream.specs.declared.responder.Responder.{Ghosts}
+use Rattle.cad_stream.specs.declared.journal_responder.JournalResponder.{Ghosts as JournalGhosts}
 use Rattle.cad_desk.specs.declared.desk.Desk.{Desk}
 use Rattle.cad_desk.specs.declared.event.Event.TheVariants.{Office as Entering}
 use Rattle.cad_desk.specs.declared.event.Reply.TheVariants as reply
@@ -17,14 +18,18 @@ use Rattle.cad_office_socket.specs.declared.entry.Entry.{Entry}
 use Rattle.cad_office_socket.specs.declared.turned.EntryServed.{EntryServed}
 use Rattle.cad_office_socket.specs.declared.turned.EntryServed.TheVariants as served
 use Rattle.cad_office_socket.specs.declared.turned.EntryTurned.{EntryTurned}
-use Rattle.cad_office_socket.specs.declared.turned.EntryTurned.TheVariants.{Wrote, Took, Added, Answered, Lost, Checked, CheckLost, Stops, Waits, Over}
+use Rattle.cad_office_socket.specs.declared.turned.EntryTurned.TheVariants.{Wrote, Took, Added, Answered, Lost, Checked, CheckLost, JournalBegun, RowsRead, RowsRefused, RowsLost, Piece, PieceLost, Stops, Waits, Over}
 use Rattle.cad_desk.specs.Desks.{ChecksAtDesk}
 use Rattle.cad_dry_run.specs.declared.report.Report.{Report}
 use Rattle.cad_dry_run.specs.declared.report.Report.TheVariants as report
 use Rattle.cad_dry_run.specs.Reports.{answer_of}
 use Rattle.cad_dry_run.specs.Checking.{ReportsLine}
 use Rattle.cad_office_socket.specs.Entries.{EntersAtDesk}
-use Rattle.cad_office_socket.specs.Turns.{HasBegun, IsBegun, EndsLine, IsTaken, IsEntryTurn, IsNewEntry, IsSending, SendsSome}
+use Rattle.cad_office_socket.specs.Turns.{unwritten, HasBegun, IsBegun, EndsLine, IsTaken, IsEntryTurn, IsNewEntry, IsSending, SendsSome}
+use Rattle.cad_office_socket.specs.declared.journal_state.JournalRequest.{JournalRequest}
+use Rattle.cad_office_socket.specs.declared.journal_state.JournalState.{JournalState}
+use Rattle.cad_office_socket.specs.declared.journal_state.JournalState.TheVariants.{Idle, Rejected, Reading, Writing}
+use Rattle.cad_office_socket.specs.Journals.{IsRead}
 use Rattle.cad_office_socket.specs.Serving.{is_store, end_at, all_go_on, most_turns, IsEnough, HasTurns, IsEntryServed}
 use Rattle.cad_office_socket.specs.lemmas.BegunLemmas.{Later, begun_later}
 use Rattle.cad_clients.specs.declared.clients.Clients.{Clients}
@@ -33,7 +38,7 @@ use Rattle.cad_event_loop.specs.declared.offices.Offices.{Offices}
 use Rattle.cad_event_loop.specs.declared.stopped.Stopped.{Stopped}
 use Rattle.cad_event_loop.specs.Hosting.{Each, IsServing, IsClosing, Hosts, Serves}
 use Rattle.cad_event_loop.specs.inner.Offices.{office_at, offices_at, seat_in, seat_at, Seats, HasBegun as OfficeHasBegun, HaveBegun, HaveBegunUnless, IsOfficeSending, end_of_office, is_over, may_go_on, left_deeds, left_at, HasOfficeTurns, HasSent}
-use Rattle.cad_event_loop.specs.Works.{event, question, Said, AtOffice, AtOffices, Place, Puts, Same, place_of, Held, Work, enters, office_comes, office_leaves, aside, all_deeds, store_end, end_of_turned, end_in, EndsBy, is_last, SaysSo, ChecksSo, IsLineSaid, Tells, Works, Goes}
+use Rattle.cad_event_loop.specs.Works.{event, question, rows, Said, AtOffice, AtOffices, Place, Puts, Same, place_of, Held, Work, enters, office_comes, office_leaves, aside, all_deeds, store_end, end_of_turned, end_in, EndsBy, is_last, SaysSo, ChecksSo, IsLineSaid, IsPieceWritten, Tells, Works, Goes}
 use Rattle.cad_event_loop.proofs.LifeLemmas.{none_some, one_some}
 use Rattle.cad_event_loop.specs.inner.Standing.{standing_at, standing_office, standings_of, IsPaced, IsAtDoors, ServesOffice}
 use Rattle.cad_event_loop.specs.Turns.{Standing, absent, waiting, ready, Standings, stands_in, office_in, office_turned, is_turn_of, is_office_turn, any_of, has_turn}
@@ -41,7 +46,7 @@ use Rattle.cad_event_loop.proofs.StandingLemmas.{stands_in-append, office_in-app
 use Rattle.cad_event_loop.proofs.GoesLemmas.{all_deeds-append, or_nothing, goes-append, end_in-append, ends-then, ends-one, each-append, hosts-one, serves-one, put_same}
 
 -- a line of it has begun, if hosting continues
-abbrev pub BegunUnless : {S : Type 0} → Option Stopped → Option (Office S) → Type 0
+abbrev pub BegunUnless : {S J : Type 0} → Option Stopped → Option (Office S J) → Type 0
 BegunUnless None office = OfficeHasBegun office
 BegunUnless (Some stopped) office = ⊤
 
@@ -78,6 +83,20 @@ same_end (CheckLost it) = go (is_store (answer_of it))
     go : (refused : Bool) → store_end refused ≡ end_of_some (if refused then Some served.StoreRefused else Some served.Over)
     go true = refl
     go false = refl
+same_end (JournalBegun behind) = refl
+same_end RowsRead = refl
+same_end (RowsRefused fault) = go (is_store (Refused fault))
+  where
+    go : (refused : Bool) → store_end refused ≡ end_of_some (if refused then Some served.StoreRefused else None)
+    go true = refl
+    go false = refl
+same_end (RowsLost fault) = go (is_store (Refused fault))
+  where
+    go : (refused : Bool) → store_end refused ≡ end_of_some (if refused then Some served.StoreRefused else Some served.Over)
+    go true = refl
+    go false = refl
+same_end Piece = refl
+same_end PieceLost = refl
 same_end Stops = refl
 same_end Waits = refl
 same_end Over = refl
@@ -106,6 +125,20 @@ same_last (CheckLost it) = go (is_store (answer_of it))
     go : (refused : Bool) → not refused ≡ over_of_some (if refused then Some served.StoreRefused else Some served.Over)
     go true = refl
     go false = refl
+same_last (JournalBegun behind) = refl
+same_last RowsRead = refl
+same_last (RowsRefused fault) = go (is_store (Refused fault))
+  where
+    go : (refused : Bool) → false ≡ over_of_some (if refused then Some served.StoreRefused else None)
+    go true = refl
+    go false = refl
+same_last (RowsLost fault) = go (is_store (Refused fault))
+  where
+    go : (refused : Bool) → not refused ≡ over_of_some (if refused then Some served.StoreRefused else Some served.Over)
+    go true = refl
+    go false = refl
+same_last Piece = refl
+same_last PieceLost = refl
 same_last Stops = refl
 same_last Waits = refl
 same_last Over = refl
@@ -142,6 +175,20 @@ same_stand (CheckLost it) = go (is_store (answer_of it))
     go : (refused : Bool) → office_turned (not refused) (CheckLost it) ≡ stand_of_some (if refused then Some served.StoreRefused else Some served.Over)
     go true = refl
     go false = refl
+same_stand (JournalBegun behind) = refl
+same_stand RowsRead = refl
+same_stand (RowsRefused fault) = go (is_store (Refused fault))
+  where
+    go : (refused : Bool) → ready ≡ stand_of_some (if refused then Some served.StoreRefused else None)
+    go true = refl
+    go false = refl
+same_stand (RowsLost fault) = go (is_store (Refused fault))
+  where
+    go : (refused : Bool) → office_turned (not refused) (RowsLost fault) ≡ stand_of_some (if refused then Some served.StoreRefused else Some served.Over)
+    go true = refl
+    go false = refl
+same_stand Piece = refl
+same_stand PieceLost = refl
 same_stand Stops = refl
 same_stand Waits = refl
 same_stand Over = refl
@@ -151,7 +198,7 @@ both_go None rest both = (refl, both)
 both_go (Some it) rest both = absurd (let clash : false ≡ true = both in cc)
 
 -- of what goes on a line has begun
-abbrev BegunIf : Option EntryServed → Entry → Type 0
+abbrev BegunIf : {J : Type 0} → Option EntryServed → Entry J → Type 0
 BegunIf None next = IsBegun next
 BegunIf (Some served.Goes) next = IsBegun next
 BegunIf (Some served.Waits) next = IsBegun next
@@ -159,7 +206,7 @@ BegunIf (Some served.Over) next = ⊤
 BegunIf (Some served.Stops) next = ⊤
 BegunIf (Some served.StoreRefused) next = ⊤
 
-begun_then : (turned : EntryTurned) (next : Entry) → Later turned next → BegunIf (end_at turned) next
+begun_then : {J : Type 0} (turned : EntryTurned) (next : Entry J) → Later turned next → BegunIf (end_at turned) next
 begun_then Wrote next l = l
 begun_then Took next l = l
 begun_then Added next l = l
@@ -183,16 +230,30 @@ begun_then (CheckLost it) next l = go (is_store (answer_of it))
     go : (refused : Bool) → BegunIf (if refused then Some served.StoreRefused else Some served.Over) next
     go true = tt
     go false = tt
+begun_then (JournalBegun behind) next l = l
+begun_then RowsRead next l = l
+begun_then (RowsRefused fault) next l = go (is_store (Refused fault)) l
+  where
+    go : (refused : Bool) → IsBegun next → BegunIf (if refused then Some served.StoreRefused else None) next
+    go true l = tt
+    go false l = l
+begun_then (RowsLost fault) next l = go (is_store (Refused fault))
+  where
+    go : (refused : Bool) → BegunIf (if refused then Some served.StoreRefused else Some served.Over) next
+    go true = tt
+    go false = tt
+begun_then Piece next l = l
+begun_then PieceLost next l = tt
 begun_then Stops next l = tt
 begun_then Waits next l = l
 begun_then Over next l = tt
 
-module _ {R : Type 0} (g : Ghosts R) where
+module _ {R J : Type 0} (g : Ghosts R) (jg : JournalGhosts R J) where
   -- what the desk is told by the line that ended, if one did
-  abbrev IsSaid : Desk R → EntryTurned → Desk R → Type 0
-  IsSaid old turned new = (text : List ℕ) × (said : Said) × IsLineSaid text turned said × Tells g old said new
+  abbrev IsSaid : Desk R → EntryTurned → Desk R → Entry J → Type 0
+  IsSaid old turned new next = (text : List ℕ) × (said : Said) × IsLineSaid text turned said × Tells g jg old said new × IsPieceWritten text turned next
 
-  answer_said : (text : List ℕ) (answer : Answer) (old new : Desk R) → AnswersLine (EntersAtDesk g) text old answer new → (said : Said) × SaysSo text answer said × Tells g old said new
+  answer_said : (text : List ℕ) (answer : Answer) (old new : Desk R) → AnswersLine (EntersAtDesk g) text old answer new → (said : Said) × SaysSo text answer said × Tells g jg old said new
   answer_said text (Entered revision) old new a = (Some (event (Entering a.0) (Ok (reply.Entered revision))), (a.0, a.1, refl), a.2)
   answer_said text (Refused fault) old new a = elim a [
     | inl refused ↦ (Some (event (Entering refused.0) (Err (fault_of fault))), inl (refused.0, refused.1, refl), refused.2)
@@ -200,7 +261,7 @@ module _ {R : Type 0} (g : Ghosts R) where
   ]
   answer_said text NotACommand old new a = (None, (a.0, refl), a.1)
 
-  check_said : (line : List ℕ) (it : Report) (old new : Desk R) → ReportsLine (ChecksAtDesk g) line old it new → (said : Said) × ChecksSo line it said × Tells g old said new
+  check_said : (line : List ℕ) (it : Report) (old new : Desk R) → ReportsLine (ChecksAtDesk g) line old it new → (said : Said) × ChecksSo line it said × Tells g jg old said new
   check_said line (report.WouldBe revision) old new a = (Some (question a.0.0 (Ok revision)), (a.0.0, a.0.1, refl), a.0.2)
   check_said line (report.Refused fault) old new a = elim a.0 [
     | inl refused ↦ (Some (question refused.0 (Err fault)), inl (refused.0, refused.1, refl), refused.2)
@@ -209,55 +270,74 @@ module _ {R : Type 0} (g : Ghosts R) where
   check_said line (report.NoCommand reason) old new a = (None, (a.0.0, refl), a.0.1)
   check_said line report.LongLine old new a = (None, (a.0.0, refl), a.0.1)
 
-  ended : (text : List ℕ) (turned : EntryTurned) (old new : Desk R) (next : Entry) → EndsLine g text old turned new next → IsSaid old turned new
-  ended text Added old new next e = (text, None, refl, e.1)
-  ended text (Answered answer) old new next e = let s = answer_said text answer old new e.1 in (text, s.0, (e.0, s.1), s.2)
-  ended text (Lost answer) old new next e = let s = answer_said text answer old new e.1 in (text, s.0, (e.0, s.1), s.2)
-  ended text (Checked it) old new next e = let s = check_said e.0.0 it old new e.0.2 in (text, s.0, (e.0.0, e.0.1, s.1), s.2)
-  ended text (CheckLost it) old new next e = let s = check_said e.0.0 it old new e.0.2 in (text, s.0, (e.0.0, e.0.1, s.1), s.2)
-  ended text Stops old new next e = (text, None, (e.0, refl), e.1)
+  ended : (text : List ℕ) (turned : EntryTurned) (old new : Desk R) (next : Entry J) → EndsLine g jg text old turned new next → IsSaid old turned new next
+  ended text Added old new next e = (text, None, refl, e.1, tt)
+  ended text (Answered answer) old new next e = let s = answer_said text answer old new e.1 in (text, s.0, (e.0, s.1), s.2, tt)
+  ended text (Lost answer) old new next e = let s = answer_said text answer old new e.1 in (text, s.0, (e.0, s.1), s.2, tt)
+  ended text (Checked it) old new next e = let s = check_said e.0.0 it old new e.0.2 in (text, s.0, (e.0.0, e.0.1, s.1), s.2, tt)
+  ended text (CheckLost it) old new next e = let s = check_said e.0.0 it old new e.0.2 in (text, s.0, (e.0.0, e.0.1, s.1), s.2, tt)
+  ended text (JournalBegun behind) old new next e = (text, None, (e.0, refl), e.2, tt)
+  ended text RowsRead old new next e = absurd e
+  ended text (RowsRefused fault) old new next e = absurd e
+  ended text (RowsLost fault) old new next e = absurd e
+  ended text Piece old new next e = absurd e
+  ended text PieceLost old new next e = absurd e
+  ended text Stops old new next e = (text, None, (e.0, refl), e.1, tt)
   ended text Over old new next e = absurd e
   ended text Wrote old new next e = absurd e
   ended text Took old new next e = absurd e
   ended text Waits old new next e = absurd e
 
-  taken_said : (o : ℕ) (begun : List ℕ) (turned : EntryTurned) (old new : Desk R) (entry next : Entry) (deeds : List Deed) → HasBegun begun entry → IsTaken g o old entry turned new next deeds → IsSaid old turned new
+  -- rows of a journal were read
+  read_said : (old : Desk R) (asked : JournalRequest J) (new : Desk R) (told : JournalState J) → IsRead g jg old asked new told → (whole : Bool) × Tells g jg old (Some (rows (Ok whole))) new
+  read_said old asked new (Reading after) r = (false, (asked.reading, after.reading, r.1))
+  read_said old asked new Idle r = (true, (asked.reading, r.0, r.1))
+  read_said old asked new (Rejected fault) r = (true, (asked.reading, r.0, r.1))
+  read_said old asked new (Writing lines) r = (true, (asked.reading, r.0, r.1))
+
+  taken_said : (o : ℕ) (begun : List ℕ) (turned : EntryTurned) (old new : Desk R) (entry next : Entry J) (deeds : List Deed) → HasBegun begun entry → IsTaken g jg o old entry turned new next deeds → IsSaid old turned new next
   taken_said o begun turned old new entry next deeds has t = elim t.1 [
     | inl some ↦
         let f = some.2 begun has in
         elim f.2 [
-          | inl goes ↦ subst (λ (it : EntryTurned). IsSaid old it new) (sym goes.0) ([], None, refl, goes.1)
+          | inl goes ↦ subst (λ (it : EntryTurned). IsSaid old it new next) (sym goes.0) ([], None, refl, goes.1, tt)
           | inr ends ↦ ended (begun ++ f.0) turned old new next ends.1
         ]
     | inr last ↦ ended begun turned old new next (last.2 begun has).0
   ]
 
-  turn_said : (o : ℕ) (turned : EntryTurned) (old new : Desk R) (entry next : Entry) (deeds : List Deed) → IsBegun entry → IsEntryTurn g o old entry turned new next deeds → IsSaid old turned new
-  turn_said o Wrote old new entry next deeds begun t = ([], None, refl, t.6)
-  turn_said o Took old new entry next deeds begun t = ([], None, refl, t.7)
+  turn_said : (o : ℕ) (turned : EntryTurned) (old new : Desk R) (entry next : Entry J) (deeds : List Deed) → IsBegun entry → IsEntryTurn g jg o old entry turned new next deeds → IsSaid old turned new next
+  turn_said o Wrote old new entry next deeds begun t = ([], None, refl, t.6, tt)
+  turn_said o Took old new entry next deeds begun t = ([], None, refl, t.7, tt)
   turn_said o Added old new entry next deeds begun t = taken_said o begun.0 Added old new entry next deeds begun.1 t
   turn_said o (Answered answer) old new entry next deeds begun t = taken_said o begun.0 (Answered answer) old new entry next deeds begun.1 t
   turn_said o (Lost answer) old new entry next deeds begun t = taken_said o begun.0 (Lost answer) old new entry next deeds begun.1 t
   turn_said o (Checked it) old new entry next deeds begun t = taken_said o begun.0 (Checked it) old new entry next deeds begun.1 t
   turn_said o (CheckLost it) old new entry next deeds begun t = taken_said o begun.0 (CheckLost it) old new entry next deeds begun.1 t
+  turn_said o (JournalBegun behind) old new entry next deeds begun t = taken_said o begun.0 (JournalBegun behind) old new entry next deeds begun.1 t
+  turn_said o RowsRead old new entry next deeds begun t = let r = read_said old t.2.0 new next.journal t.2.2 in ([], Some (rows (Ok r.0)), (r.0, refl), r.1, tt)
+  turn_said o (RowsRefused fault) old new entry next deeds begun t = ([], Some (rows (Err fault)), refl, (t.2.0.reading, t.2.2.0, t.2.2.1), tt)
+  turn_said o (RowsLost fault) old new entry next deeds begun t = ([], Some (rows (Err fault)), refl, (t.2.0.reading, t.2.2.0, t.2.2.1), tt)
+  turn_said o Piece old new entry next deeds begun t = (unwritten next, None, refl, t.2.2, refl)
+  turn_said o PieceLost old new entry next deeds begun t = ([], None, refl, t.2.3, tt)
   turn_said o Stops old new entry next deeds begun t = taken_said o begun.0 Stops old new entry next deeds begun.1 t
-  turn_said o Waits old new entry next deeds begun t = ([], None, refl, t.2)
-  turn_said o Over old new entry next deeds begun t = ([], None, refl, t.1)
+  turn_said o Waits old new entry next deeds begun t = ([], None, refl, t.2, tt)
+  turn_said o Over old new entry next deeds begun t = ([], None, refl, t.1, tt)
 
   module _ (slots : Held) (o k : ℕ) where
-    abbrev at_offices : AtOffices → Place
+    abbrev at_offices : AtOffices J → Place J
     at_offices offices = record { slots = slots; offices = offices }
 
     -- a turn is one thing
-    abbrev IsOneWork : Desk R → AtOffices → EntryTurned → Desk R → AtOffices → List Deed → Type 0
+    abbrev IsOneWork : Desk R → AtOffices J → EntryTurned → Desk R → AtOffices J → List Deed → Type 0
     IsOneWork old here turned new there own =
-        (text : List ℕ) × (said : Said) × Works g old (at_offices here) (enters o k text turned (own ++ left_deeds (is_last turned) o) said) new (at_offices there)
+        (text : List ℕ) × (said : Said) × Works g jg old (at_offices here) (enters o k text turned (own ++ left_deeds (is_last turned) o) said) new (at_offices there)
 
-    turn_works : (turned : EntryTurned) (old new : Desk R) (here there : AtOffices) (entry next : Entry) (own : List Deed) → here k ≡ Some (o, entry) → Puts here there k (left_at (is_last turned) o next) → IsBegun entry
-        → IsEntryTurn g o old entry turned new next own → IsOneWork old here turned new there own
+    turn_works : (turned : EntryTurned) (old new : Desk R) (here there : AtOffices J) (entry next : Entry J) (own : List Deed) → here k ≡ Some (o, entry) → Puts here there k (left_at (is_last turned) o next) → IsBegun entry
+        → IsEntryTurn g jg o old entry turned new next own → IsOneWork old here turned new there own
     turn_works turned old new here there entry next own at puts begun t =
         let said = turn_said o turned old new entry next own begun t in
-        (said.0, said.1, (entry, next, own, at, t, refl, said.2, said.3, puts, λ c. refl))
+        (said.0, said.1, (entry, next, own, at, t, refl, said.2, said.3, puts, (λ c. refl), said.4))
 
     -- the works of these turns change no other connection
     record AreTurns (turns : List EntryTurned) (works : List Work) : Type 0 where
@@ -295,7 +375,7 @@ module _ {R : Type 0} (g : Ghosts R) where
     }
 
     -- what has this number afterwards, after it had it otherwise
-    put_twice : (first mid last : AtOffices) (one more : AtOffice) → Puts first mid k one → Puts first last k more → Puts mid last k more
+    put_twice : (first mid last : AtOffices J) (one more : AtOffice J) → Puts first mid k one → Puts first last k more → Puts mid last k more
     put_twice first mid last one more x y j = y j ∙ go (nat_eq k j) refl
       where
         go : (same : Bool) → nat_eq k j ≡ same → (if same then more else first j) ≡ (if same then more else mid j)
@@ -303,59 +383,59 @@ module _ {R : Type 0} (g : Ghosts R) where
         go false e = sym (x j ∙ rw e refl)
 
     -- or the other way round
-    put_more : (first mid last : AtOffices) (one more : AtOffice) → Puts first mid k one → Puts mid last k more → Puts first last k more
+    put_more : (first mid last : AtOffices J) (one more : AtOffice J) → Puts first mid k one → Puts mid last k more → Puts first last k more
     put_more first mid last one more x y j = y j ∙ go (nat_eq k j) refl
       where
         go : (same : Bool) → nat_eq k j ≡ same → (if same then more else mid j) ≡ (if same then more else first j)
         go true e = refl
         go false e = x j ∙ rw e refl
 
-    put_first : (offices : AtOffices) (one : AtOffice) → offices k ≡ one → Puts offices offices k one
+    put_first : (offices : AtOffices J) (one : AtOffice J) → offices k ≡ one → Puts offices offices k one
     put_first offices one at j = go (nat_eq k j) refl
       where
         go : (same : Bool) → nat_eq k j ≡ same → offices j ≡ (if same then one else offices j)
         go true e = ap offices (sym (eqb-true k j e)) ∙ at
         go false e = refl
 
-    put_there : (here there : AtOffices) (one : AtOffice) → Puts here there k one → there k ≡ one
+    put_there : (here there : AtOffices J) (one : AtOffice J) → Puts here there k one → there k ≡ one
     put_there here there one puts = puts k ∙ rw (eq-eqb k k refl) refl
 
     -- turns that go on
-    turns_go : (turns : List EntryTurned) (old new : Desk R) (here : AtOffices) (entry next : Entry) (deeds : List Deed) → here k ≡ Some (o, entry) → IsBegun entry → all_go_on turns ≡ true → HasTurns g o old entry turns new next deeds
-        → (there : AtOffices) × Puts here there k (Some (o, next)) × (works : List Work) × (deeds ≡ all_deeds works) × (end_in works ≡ None) × Goes g old (at_offices here) works new (at_offices there) × Each IsServing works × IsBegun next × AreTurns turns works
+    turns_go : (turns : List EntryTurned) (old new : Desk R) (here : AtOffices J) (entry next : Entry J) (deeds : List Deed) → here k ≡ Some (o, entry) → IsBegun entry → all_go_on turns ≡ true → HasTurns g jg o old entry turns new next deeds
+        → (there : AtOffices J) × Puts here there k (Some (o, next)) × (works : List Work) × (deeds ≡ all_deeds works) × (end_in works ≡ None) × Goes g jg old (at_offices here) works new (at_offices there) × Each IsServing works × IsBegun next × AreTurns turns works
     turns_go [] old new here entry next deeds at begun go t =
-        (here, put_first here (Some (o, next)) (at ∙ ap (λ (it : Entry). Some (o, it)) (sym t.2)), [], t.0, refl, (t.1, refl), tt, subst IsBegun (sym t.2) begun, turns_none)
+        (here, put_first here (Some (o, next)) (at ∙ ap (λ (it : Entry J). Some (o, it)) (sym t.2)), [], t.0, refl, (t.1, refl), tt, subst IsBegun (sym t.2) begun, turns_none)
     turns_go (turned ∷ before) old new here entry next deeds at begun go t =
         let both = both_go (end_at turned) (all_go_on before) go in
         let first = turns_go before old t.0 here entry t.1 t.2 at begun both.1 t.4 in
         let goes : is_last turned ≡ false = same_last turned ∙ ap over_of_some both.0 in
-        let mid : AtOffices = first.0 in
-        let there : AtOffices = (λ j. if nat_eq k j then Some (o, next) else mid j) in
+        let mid : AtOffices J = first.0 in
+        let there : AtOffices J = (λ j. if nat_eq k j then Some (o, next) else mid j) in
         let puts : Puts mid there k (Some (o, next)) = (λ j. refl) in
         let one = turn_works turned t.0 new mid there t.1 next t.3 (put_there here mid (Some (o, t.1)) first.1) (subst (λ (last : Bool). Puts mid there k (left_at last o next)) (sym goes) puts) first.7 t.5 in
         let none : end_of_turned turned ≡ None = same_end turned ∙ ap end_of_some both.0 in
         let work = enters o k one.0 turned (t.3 ++ left_deeds (is_last turned) o) one.1 in
         let same : t.3 ++ left_deeds (is_last turned) o ≡ t.3 = rw goes (append-nil t.3) in
-        let later = begun_then turned next (begun_later g o turned t.0 new t.1 next t.3 first.7 t.5) in (
+        let later = begun_then turned next (begun_later g jg o turned t.0 new t.1 next t.3 first.7 t.5) in (
           there,
           put_more here mid there (Some (o, t.1)) (Some (o, next)) first.1 puts,
           first.2 ++ work ∷ [],
           t.6 ∙ (ap (λ (l : List Deed). l ++ t.3) first.3 ∙ (ap (λ (l : List Deed). all_deeds first.2 ++ l) (sym same ∙ sym (append-nil (t.3 ++ left_deeds (is_last turned) o))) ∙ sym (all_deeds-append first.2 (work ∷ [])))),
           end_in-append first.2 (work ∷ []) ∙ rw (or_nothing (end_of_turned turned), first.4, none) refl,
-          goes-append g first.2 (work ∷ []) old t.0 new (at_offices here) (at_offices mid) (at_offices there) first.5 (new, at_offices there, one.2, (refl, refl)),
+          goes-append g jg first.2 (work ∷ []) old t.0 new (at_offices here) (at_offices mid) (at_offices there) first.5 (new, at_offices there, one.2, (refl, refl)),
           each-append IsServing first.2 (work ∷ []) first.6 (tt, tt),
           subst (λ (end : Option EntryServed). BegunIf end next) both.0 later,
           turns_more turned before first.2 one.0 (t.3 ++ left_deeds (is_last turned) o) one.1 first.8,
         )
 
     -- and the last one
-    turns_end : (end : EntryServed) (turned : EntryTurned) (before : List EntryTurned) (old new : Desk R) (here there : AtOffices) (entry next : Entry) (deeds : List Deed) → here k ≡ Some (o, entry) → Puts here there k (left_at (is_over end) o next)
+    turns_end : (end : EntryServed) (turned : EntryTurned) (before : List EntryTurned) (old new : Desk R) (here there : AtOffices J) (entry next : Entry J) (deeds : List Deed) → here k ≡ Some (o, entry) → Puts here there k (left_at (is_over end) o next)
         → IsBegun entry → all_go_on before ≡ true
-        → HasTurns g o old entry (turned ∷ before) new next deeds → end_of_turned turned ≡ end_of_office end → is_last turned ≡ is_over end
-        → (works : List Work) × (deeds ++ left_deeds (is_over end) o ≡ all_deeds works) × EndsBy (end_of_office end) works × Goes g old (at_offices here) works new (at_offices there) × Each IsServing works × AreTurns (turned ∷ before) works
+        → HasTurns g jg o old entry (turned ∷ before) new next deeds → end_of_turned turned ≡ end_of_office end → is_last turned ≡ is_over end
+        → (works : List Work) × (deeds ++ left_deeds (is_over end) o ≡ all_deeds works) × EndsBy (end_of_office end) works × Goes g jg old (at_offices here) works new (at_offices there) × Each IsServing works × AreTurns (turned ∷ before) works
     turns_end end turned before old new here there entry next deeds at puts begun go t ends over =
         let first = turns_go before old t.0 here entry t.1 t.2 at begun go t.4 in
-        let mid : AtOffices = first.0 in
+        let mid : AtOffices J = first.0 in
         let again = put_twice here mid there (Some (o, t.1)) (left_at (is_over end) o next) first.1 puts in
         let one = turn_works turned t.0 new mid there t.1 next t.3 (put_there here mid (Some (o, t.1)) first.1) (subst (λ (last : Bool). Puts mid there k (left_at last o next)) (sym over) again) first.7 t.5 in
         let work = enters o k one.0 turned (t.3 ++ left_deeds (is_last turned) o) one.1 in
@@ -365,7 +445,7 @@ module _ {R : Type 0} (g : Ghosts R) where
               ∙ (append_assoc (all_deeds first.2) t.3 (left_deeds (is_over end) o)
               ∙ (ap (λ (l : List Deed). all_deeds first.2 ++ l) (same ∙ sym (append-nil (t.3 ++ left_deeds (is_last turned) o))) ∙ sym (all_deeds-append first.2 (work ∷ [])))),
           ends-then (end_of_office end) first.2 (work ∷ []) first.4 (ends-one (end_of_office end) work ends),
-          goes-append g first.2 (work ∷ []) old t.0 new (at_offices here) (at_offices mid) (at_offices there) first.5 (new, at_offices there, one.2, (refl, refl)),
+          goes-append g jg first.2 (work ∷ []) old t.0 new (at_offices here) (at_offices mid) (at_offices there) first.5 (new, at_offices there, one.2, (refl, refl)),
           each-append IsServing first.2 (work ∷ []) first.6 (tt, tt),
           turns_more turned before first.2 one.0 (t.3 ++ left_deeds (is_last turned) o) one.1 first.8,
         )
@@ -392,13 +472,13 @@ module _ {R : Type 0} (g : Ghosts R) where
         }
 
     -- the office was served
-    served_go : (end : EntryServed) (old new : Desk R) (here there : AtOffices) (entry next : Entry) (deeds : List Deed) → here k ≡ Some (o, entry) → Puts here there k (left_at (is_over end) o next) → IsBegun entry
-        → IsEntryServed g o old entry end new next deeds
-        → (works : List Work) × (deeds ++ left_deeds (is_over end) o ≡ all_deeds works) × EndsBy (end_of_office end) works × Goes g old (at_offices here) works new (at_offices there) × Each IsServing works × AreFew end works
+    served_go : (end : EntryServed) (old new : Desk R) (here there : AtOffices J) (entry next : Entry J) (deeds : List Deed) → here k ≡ Some (o, entry) → Puts here there k (left_at (is_over end) o next) → IsBegun entry
+        → IsEntryServed g jg o old entry end new next deeds
+        → (works : List Work) × (deeds ++ left_deeds (is_over end) o ≡ all_deeds works) × EndsBy (end_of_office end) works × Goes g jg old (at_offices here) works new (at_offices there) × Each IsServing works × AreFew end works
     served_go end old new here there entry next deeds at puts begun s = go s.0 s.1 s.2
       where
-        go : (turns : List EntryTurned) → HasTurns g o old entry turns new next deeds → IsEnough turns end next
-            → (works : List Work) × (deeds ++ left_deeds (is_over end) o ≡ all_deeds works) × EndsBy (end_of_office end) works × Goes g old (at_offices here) works new (at_offices there) × Each IsServing works × AreFew end works
+        go : (turns : List EntryTurned) → HasTurns g jg o old entry turns new next deeds → IsEnough turns end next
+            → (works : List Work) × (deeds ++ left_deeds (is_over end) o ≡ all_deeds works) × EndsBy (end_of_office end) works × Goes g jg old (at_offices here) works new (at_offices there) × Each IsServing works × AreFew end works
         go [] t enough = absurd enough
         go (turned ∷ before) t enough = elim enough.1 [
           | inl ends ↦
@@ -411,14 +491,14 @@ module _ {R : Type 0} (g : Ghosts R) where
         ]
 
   -- where it goes on a line has begun
-  served_begun : (o : ℕ) (end : EntryServed) (old new : Desk R) (entry next : Entry) (deeds : List Deed) → IsBegun entry → IsEntryServed g o old entry end new next deeds → BegunIf (Some end) next
+  served_begun : (o : ℕ) (end : EntryServed) (old new : Desk R) (entry next : Entry J) (deeds : List Deed) → IsBegun entry → IsEntryServed g jg o old entry end new next deeds → BegunIf (Some end) next
   served_begun o end old new entry next deeds begun s = go s.0 s.1 s.2
     where
-      go : (turns : List EntryTurned) → HasTurns g o old entry turns new next deeds → IsEnough turns end next → BegunIf (Some end) next
+      go : (turns : List EntryTurned) → HasTurns g jg o old entry turns new next deeds → IsEnough turns end next → BegunIf (Some end) next
       go [] t enough = absurd enough
       go (turned ∷ before) t enough =
           let first = turns_go (λ c. None) o 0 before old t.0 (λ j. Some (o, entry)) entry t.1 t.2 refl begun enough.0 t.4 in
-          let later = begun_then turned next (begun_later g o turned t.0 new t.1 next t.3 first.7 t.5) in
+          let later = begun_then turned next (begun_later g jg o turned t.0 new t.1 next t.3 first.7 t.5) in
           elim enough.1 [
             | inl ends ↦ subst (λ (it : Option EntryServed). BegunIf it next) ends later
             | inr goes ↦ subst (λ (it : EntryServed). BegunIf (Some it) next) (sym goes.1) (subst (λ (it : Option EntryServed). BegunIf it next) goes.0 later)
@@ -426,29 +506,29 @@ module _ {R : Type 0} (g : Ghosts R) where
 
   module _ {S : Type 0} (name : S → ℕ) where
     -- how it stands, by what is left of it
-    left_stands : (end : EntryServed) (o : ℕ) (after : Entry) → standing_office (left_at (is_over end) o after) (Some (may_go_on end)) ≡ stand_of_served end
+    left_stands : (end : EntryServed) (o : ℕ) (after : Entry J) → standing_office (left_at (is_over end) o after) (Some (may_go_on end)) ≡ stand_of_served end
     left_stands end o after = go (is_over end)
       where
         go : (over : Bool) → standing_office (left_at over o after) (Some (may_go_on end)) ≡ (if over then absent else (if may_go_on end then ready else waiting))
         go true = refl
         go false = refl
 
-    module _ (k : ℕ) (clients : Clients S) (flags set : ℕ → Option Bool) (offices next : AtOffices) where
+    module _ (k : ℕ) (clients : Clients S) (flags set : ℕ → Option Bool) (offices next : AtOffices J) where
       -- connection k of the land office was served
-      pub office_hosts : (office : Office S) (result : EntryServed × Option (Office S)) (from to : Option (List Deed)) (old new : Desk R) → offices k ≡ office_at name (Some office) → Puts offices next k (office_at name result.1) → Puts flags set k (Some (may_go_on result.0))
-          → IsBegun office.entry → AddsSome from to (HasOfficeTurns g name old office result new)
-          → Serves g (ServesOffice k 8 (standings_of clients offices flags) (standings_of clients next set)) (end_of_office result.0) from old (place_of name clients offices) to new (place_of name clients next)
+      pub office_hosts : (office : Office S J) (result : EntryServed × Option (Office S J)) (from to : Option (List Deed)) (old new : Desk R) → offices k ≡ office_at name (Some office) → Puts offices next k (office_at name result.1) → Puts flags set k (Some (may_go_on result.0))
+          → IsBegun office.entry → AddsSome from to (HasOfficeTurns g jg name old office result new)
+          → Serves g jg (ServesOffice k 8 (standings_of clients offices flags) (standings_of clients next set)) (end_of_office result.0) from old (place_of name clients offices) to new (place_of name clients next)
       office_hosts office result from to old new at puts sets begun s =
           let t = s.2 in
           let slots : Held = (place_of name clients offices).slots in
-          let left = subst (λ (it : AtOffice). Puts offices next k it) t.4 puts in
+          let left = subst (λ (it : AtOffice J). Puts offices next k it) t.4 puts in
           let go = served_go slots (name office.socket) k result.0 old new offices next office.entry t.0 t.1 at left begun t.2 in
           let first = standings_of clients offices flags in
           let last = standings_of clients next set in
           let own : (next k ≡ left_at (is_over result.0) (name office.socket) t.0) = left k ∙ rw (eq-eqb k k refl) refl in
           let flag : (set k ≡ Some (may_go_on result.0)) = sets k ∙ rw (eq-eqb k k refl) refl in
-          let stands : (last.offices k ≡ stand_of_served result.0) = (ap (λ (it : AtOffice). standing_office it (set k)) own ∙ ap (λ (it : Option Bool). standing_office (left_at (is_over result.0) (name office.socket) t.0) it) flag) ∙ left_stands result.0 (name office.socket) t.0 in
-          let others : ((j : ℕ) → nat_eq k j ≡ false → last.offices j ≡ first.offices j) = (λ j other. ap (λ (it : AtOffice). standing_office it (set j)) (left j ∙ rw other refl) ∙ ap (λ (it : Option Bool). standing_office (offices j) it) (sets j ∙ rw other refl)) in
+          let stands : (last.offices k ≡ stand_of_served result.0) = (ap (λ (it : AtOffice J). standing_office it (set k)) own ∙ ap (λ (it : Option Bool). standing_office (left_at (is_over result.0) (name office.socket) t.0) it) flag) ∙ left_stands result.0 (name office.socket) t.0 in
+          let others : ((j : ℕ) → nat_eq k j ≡ false → last.offices j ≡ first.offices j) = (λ j other. ap (λ (it : AtOffice J). standing_office it (set j)) (left j ∙ rw other refl) ∙ ap (λ (it : Option Bool). standing_office (offices j) it) (sets j ∙ rw other refl)) in
           let paced : IsPaced 8 first last go.0 = record { few = go.5.few; stand = λ c. sym (go.5.stays c (standing_at clients c)); offices = λ j. all_stand go.0 go.5 first last stands others j (nat_eq k j) refl } in
           (go.0, subst (λ (l : List Deed). Adds from to l) (t.3 ∙ go.1) s.1, go.2, go.3, go.4, office_passes k 8 first last go.0 paced (λ c. refl) others go.5.turn go.5.quiet)
         where
@@ -459,20 +539,20 @@ module _ {R : Type 0} (g : Ghosts R) where
           all_stand works few first last stands others j false e = others j e ∙ sym (few.others j e (first.offices j))
 
       -- an answer was written on
-      pub sent_hosts : (office : Office S) (result : EntryTurned × Option (Office S)) (from to : Option (List Deed)) (old : Desk R) → offices k ≡ office_at name (Some office) → Puts offices next k (office_at name result.1)
-          → AddsSome from to (HasSent name office result) → Hosts g IsClosing None from old (place_of name clients offices) to old (place_of name clients next)
+      pub sent_hosts : (office : Office S J) (result : EntryTurned × Option (Office S J)) (from to : Option (List Deed)) (old : Desk R) → offices k ≡ office_at name (Some office) → Puts offices next k (office_at name result.1)
+          → AddsSome from to (HasSent name office result) → Hosts g jg IsClosing None from old (place_of name clients offices) to old (place_of name clients next)
       sent_hosts office result from to old at puts s =
           let t = s.2 in
           let turn = by_send result.0 t.0 t.1 t.3 in
-          hosts-one g IsClosing None from to old old (place_of name clients offices) (place_of name clients next)
+          hosts-one g jg IsClosing None from to old old (place_of name clients offices) (place_of name clients next)
           (enters (name office.socket) k [] result.0 s.0 None) s.1 turn.0
-          (office.entry, t.0, t.1, at, turn.1 t.2, t.4, turn.2, refl, subst (λ (it : AtOffice). Puts offices next k it) t.5 puts, λ c. refl) turn.3
+          (office.entry, t.0, t.1, at, turn.1 t.2, t.4, turn.2, refl, subst (λ (it : AtOffice J). Puts offices next k it) t.5 puts, (λ c. refl), turn.4) turn.3
         where
-          by_send : (turned : EntryTurned) (after : Entry) (own : List Deed) → SendsSome (name office.socket) office.entry turned after own
-              → (end_of_turned turned ≡ None) × (IsSending office.entry → IsEntryTurn g (name office.socket) old office.entry turned old after own) × IsLineSaid [] turned None × IsClosing (enters (name office.socket) k [] turned own None)
-          by_send Wrote after own w = (refl, (λ sending. (w.0, w.1, w.2, w.3, w.4, w.5, refl, w.6)), refl, tt)
-          by_send Waits after own w = (refl, (λ sending. (w.0, inl sending, refl, w.1)), refl, tt)
-          by_send Over after own w = (refl, (λ sending. (inr (inl (w, sending)), refl)), refl, tt)
+          by_send : (turned : EntryTurned) (after : Entry J) (own : List Deed) → SendsSome (name office.socket) office.entry turned after own
+              → (end_of_turned turned ≡ None) × (IsSending office.entry → IsEntryTurn g jg (name office.socket) old office.entry turned old after own) × IsLineSaid [] turned None × IsClosing (enters (name office.socket) k [] turned own None) × IsPieceWritten [] turned after
+          by_send Wrote after own w = (refl, (λ sending. (w.0, w.1, w.2, w.3, w.4, w.5, refl, w.6, w.7)), refl, tt, tt)
+          by_send Waits after own w = (refl, (λ sending. (w.0, inl sending, refl, w.1)), refl, tt, tt)
+          by_send Over after own w = (refl, (λ sending. (inr (inl (w, sending)), refl)), refl, tt, tt)
           by_send Took after own w = absurd w
           by_send Added after own w = absurd w
           by_send (Answered answer) after own w = absurd w
@@ -480,13 +560,19 @@ module _ {R : Type 0} (g : Ghosts R) where
           by_send (Checked it) after own w = absurd w
           by_send (CheckLost it) after own w = absurd w
           by_send Stops after own w = absurd w
+          by_send (JournalBegun behind) after own w = absurd w
+          by_send RowsRead after own w = absurd w
+          by_send (RowsRefused fault) after own w = absurd w
+          by_send (RowsLost fault) after own w = absurd w
+          by_send Piece after own w = absurd w
+          by_send PieceLost after own w = absurd w
 
       -- the land office comes
-      pub came_hosts : (office : Office S) (socket : S) (from to : Option (List Deed)) (old : Desk R) → k < 4 → offices k ≡ None → office.socket ≡ socket → IsNewEntry office.entry → Puts offices next k (office_at name (Some office)) → Puts flags set k (Some true)
+      pub came_hosts : (office : Office S J) (socket : S) (from to : Option (List Deed)) (old : Desk R) → k < 4 → offices k ≡ None → office.socket ≡ socket → IsNewEntry office.entry → Puts offices next k (office_at name (Some office)) → Puts flags set k (Some true)
           → Adds from to (office_came (name socket) ∷ [])
-          → Serves g (IsAtDoors 1 (standings_of clients offices flags) (standings_of clients next set)) None from old (place_of name clients offices) to old (place_of name clients next)
+          → Serves g jg (IsAtDoors 1 (standings_of clients offices flags) (standings_of clients next set)) None from old (place_of name clients offices) to old (place_of name clients next)
       came_hosts office socket from to old within free same is_new puts sets adds =
-          serves-one g (IsAtDoors 1 (standings_of clients offices flags) (standings_of clients next set)) None from to old old (place_of name clients offices) (place_of name clients next) (office_comes (name socket) k) adds refl
+          serves-one g jg (IsAtDoors 1 (standings_of clients offices flags) (standings_of clients next set)) None from to old old (place_of name clients offices) (place_of name clients next) (office_comes (name socket) k) adds refl
           (office.entry, free, is_new, subst (λ (it : S). Puts offices next k (Some (name it, office.entry))) same puts, (λ c. refl), refl, within) tt
           (record { paced = record { few = omega arith; stand = λ c. refl; offices = λ j. go j (nat_eq k j) refl }; quiet = λ c. refl })
         where
@@ -495,17 +581,17 @@ module _ {R : Type 0} (g : Ghosts R) where
           go j false e = rw (puts j, sets j, e) refl
 
       -- it is let go
-      pub left_hosts : (office : Office S) (from to : Option (List Deed)) (old : Desk R) → offices k ≡ office_at name (Some office) → Puts offices next k None → Adds from to (left (name office.socket) ∷ [])
-          → Hosts g IsClosing None from old (place_of name clients offices) to old (place_of name clients next)
+      pub left_hosts : (office : Office S J) (from to : Option (List Deed)) (old : Desk R) → offices k ≡ office_at name (Some office) → Puts offices next k None → Adds from to (left (name office.socket) ∷ [])
+          → Hosts g jg IsClosing None from old (place_of name clients offices) to old (place_of name clients next)
       left_hosts office from to old at puts adds =
-          hosts-one g IsClosing None from to old old (place_of name clients offices) (place_of name clients next) (office_leaves (name office.socket) k false) adds refl
+          hosts-one g jg IsClosing None from to old old (place_of name clients offices) (place_of name clients next) (office_leaves (name office.socket) k false) adds refl
           (office.entry, at, puts, (λ c. refl), refl, (λ clash. absurd (let same : false ≡ true = clash in cc))) refl
 
       -- it is dropped, since its answer is overdue
-      pub dropped_office : (office : Office S) (from to : Option (List Deed)) (old : Desk R) → offices k ≡ office_at name (Some office) → Puts offices next k None → IsSending office.entry → Adds from to (left (name office.socket) ∷ [])
-          → Serves g (IsAtDoors 1 (standings_of clients offices flags) (standings_of clients next flags)) None from old (place_of name clients offices) to old (place_of name clients next)
+      pub dropped_office : (office : Office S J) (from to : Option (List Deed)) (old : Desk R) → offices k ≡ office_at name (Some office) → Puts offices next k None → IsSending office.entry → Adds from to (left (name office.socket) ∷ [])
+          → Serves g jg (IsAtDoors 1 (standings_of clients offices flags) (standings_of clients next flags)) None from old (place_of name clients offices) to old (place_of name clients next)
       dropped_office office from to old at puts sending adds =
-          serves-one g (IsAtDoors 1 (standings_of clients offices flags) (standings_of clients next flags)) None from to old old (place_of name clients offices) (place_of name clients next) (office_leaves (name office.socket) k true) adds refl
+          serves-one g jg (IsAtDoors 1 (standings_of clients offices flags) (standings_of clients next flags)) None from to old old (place_of name clients offices) (place_of name clients next) (office_leaves (name office.socket) k true) adds refl
           (office.entry, at, puts, (λ c. refl), refl, (λ same. sending)) refl
           (record { paced = record { few = omega arith; stand = λ c. refl; offices = λ j. go j (nat_eq k j) refl }; quiet = λ c. refl })
         where
@@ -513,66 +599,66 @@ module _ {R : Type 0} (g : Ghosts R) where
           go j true e = rw (puts j, e) refl
           go j false e = rw (puts j, e) refl
 
-    entry_begun : (o : ℕ) (after : Entry) (office : Office S) → IsBegun after → ◌≡◌ {A = AtOffice} (Some (name office.socket, office.entry)) (Some (o, after)) → IsBegun office.entry
-    entry_begun o after office begun at = subst IsBegun (sym (ap (λ (p : ℕ × Entry). p.1) (one_some {X = ℕ × Entry} (name office.socket, office.entry) (o, after) at))) begun
+    entry_begun : (o : ℕ) (after : Entry J) (office : Office S J) → IsBegun after → ◌≡◌ {A = AtOffice J} (Some (name office.socket, office.entry)) (Some (o, after)) → IsBegun office.entry
+    entry_begun o after office begun at = subst IsBegun (sym (ap (λ (p : ℕ × Entry J). p.1) (one_some {X = ℕ × Entry J} (name office.socket, office.entry) (o, after) at))) begun
 
-    begun_at : (end : EntryServed) (o : ℕ) (after : Entry) (it : Option (Office S)) → BegunIf (Some end) after → office_at name it ≡ left_at (is_over end) o after → BegunUnless (end_of_office end) it
+    begun_at : (end : EntryServed) (o : ℕ) (after : Entry J) (it : Option (Office S J)) → BegunIf (Some end) after → office_at name it ≡ left_at (is_over end) o after → BegunUnless (end_of_office end) it
     begun_at served.Goes o after None begun at = tt
     begun_at served.Goes o after (Some office) begun at = entry_begun o after office begun at
     begun_at served.Waits o after None begun at = tt
     begun_at served.Waits o after (Some office) begun at = entry_begun o after office begun at
     begun_at served.Over o after None begun at = tt
-    begun_at served.Over o after (Some office) begun at = absurd (none_some {X = ℕ × Entry} (name office.socket, office.entry) (sym at))
+    begun_at served.Over o after (Some office) begun at = absurd (none_some {X = ℕ × Entry J} (name office.socket, office.entry) (sym at))
     begun_at served.Stops o after it begun at = tt
     begun_at served.StoreRefused o after it begun at = tt
 
     -- and of what is left of it a line has begun
-    pub office_begun : (office : Office S) (result : EntryServed × Option (Office S)) (old new : Desk R) (deeds : List Deed) → IsBegun office.entry → HasOfficeTurns g name old office result new deeds
+    pub office_begun : (office : Office S J) (result : EntryServed × Option (Office S J)) (old new : Desk R) (deeds : List Deed) → IsBegun office.entry → HasOfficeTurns g jg name old office result new deeds
         → BegunUnless (end_of_office result.0) result.1
     office_begun office result old new deeds begun t =
         begun_at result.0 (name office.socket) t.0 result.1 (served_begun (name office.socket) result.0 old new office.entry t.0 t.1 begun t.2) t.4
 
     -- the office comes, and the network can't tell of it
-    pub unwatched_hosts : (t : ℕ) (from mid to : Option (List Deed)) (old : Desk R) (here : Place) (stand : Standings) → Adds from mid (office_came t ∷ []) → Adds mid to (left t ∷ []) → Serves g (IsAtDoors 1 stand stand) None from old here to old here
+    pub unwatched_hosts : (t : ℕ) (from mid to : Option (List Deed)) (old : Desk R) (here : Place J) (stand : Standings) → Adds from mid (office_came t ∷ []) → Adds mid to (left t ∷ []) → Serves g jg (IsAtDoors 1 stand stand) None from old here to old here
     unwatched_hosts t from mid to old here stand comes goes =
-        serves-one g (IsAtDoors 1 stand stand) None from to old old here here (aside (office_came t ∷ left t ∷ []) None) (Adds-trans from mid to (office_came t ∷ []) (left t ∷ []) comes goes) refl
+        serves-one g jg (IsAtDoors 1 stand stand) None from to old old here here (aside (office_came t ∷ left t ∷ []) None) (Adds-trans from mid to (office_came t ∷ []) (left t ∷ []) comes goes) refl
         (tt, refl, (λ c. refl), inr (inr (t, refl)), λ k. refl) tt (record { paced = record { few = omega arith; stand = λ c. refl; offices = λ k. refl }; quiet = λ c. refl })
 
 -- the connection that was taken out is the one that was here
-pub was_begun : {S : Type 0} (office : Office S) (k : ℕ) (offices : Offices S) → Some office ≡ seat_at offices k → HaveBegun offices → IsBegun office.entry
-was_begun {S} office k offices same begun = subst (λ (o : Option (Office S)). OfficeHasBegun o) (sym {a = Some office} same) (begun.each k)
+pub was_begun : {S J : Type 0} (office : Office S J) (k : ℕ) (offices : Offices S J) → Some office ≡ seat_at offices k → HaveBegun offices → IsBegun office.entry
+was_begun {S} {J} office k offices same begun = subst (λ (o : Option (Office S J)). OfficeHasBegun o) (sym {a = Some office} same) (begun.each k)
 
-pub was_sending : {S : Type 0} (office : Office S) (one : Option (Office S)) → Some office ≡ one → IsOfficeSending one → IsSending office.entry
-was_sending {S} office one same sending = subst (λ (o : Option (Office S)). IsOfficeSending o) (sym {a = Some office} same) sending
+pub was_sending : {S J : Type 0} (office : Office S J) (one : Option (Office S J)) → Some office ≡ one → IsOfficeSending one → IsSending office.entry
+was_sending {S} {J} office one same sending = subst (λ (o : Option (Office S J)). IsOfficeSending o) (sym {a = Some office} same) sending
 
-pub none_sending : {S : Type 0} (one : Option (Office S)) → None ≡ one → IsOfficeSending one → ⊥
-none_sending {S} one same sending = subst (λ (o : Option (Office S)). IsOfficeSending o) (sym {a = None} same) sending
+pub none_sending : {S J : Type 0} (one : Option (Office S J)) → None ≡ one → IsOfficeSending one → ⊥
+none_sending {S} {J} one same sending = subst (λ (o : Option (Office S J)). IsOfficeSending o) (sym {a = None} same) sending
 
 -- another one was put in its place
-pub put_seat : {S : Type 0} (k : ℕ) (was one : Option (Office S)) (old mid new : Offices S) → Seats old mid k was → Seats mid new k one → Seats old new k one
+pub put_seat : {S J : Type 0} (k : ℕ) (was one : Option (Office S J)) (old mid new : Offices S J) → Seats old mid k was → Seats mid new k one → Seats old new k one
 put_seat k was one old mid new out back j = back j ∙ go (nat_eq k j) refl
   where
     go : (same : Bool) → nat_eq k j ≡ same → (if same then one else seat_at mid j) ≡ (if same then one else seat_at old j)
     go true e = refl
     go false e = out j ∙ rw e refl
 
-pub seats_put : {S : Type 0} (name : S → ℕ) (k : ℕ) (one : Option (Office S)) (old new : Offices S) → Seats old new k one → Puts (offices_at name old) (offices_at name new) k (office_at name one)
+pub seats_put : {S J : Type 0} (name : S → ℕ) (k : ℕ) (one : Option (Office S J)) (old new : Offices S J) → Seats old new k one → Puts (offices_at name old) (offices_at name new) k (office_at name one)
 seats_put name k one old new seats j = ap (office_at name) (seats j) ∙ go (nat_eq k j)
   where
     go : (same : Bool) → office_at name (if same then one else seat_at old j) ≡ (if same then office_at name one else office_at name (seat_at old j))
     go true = refl
     go false = refl
 
-pub seat_here : {S : Type 0} (name : S → ℕ) (k : ℕ) (office : Office S) (offices : Offices S) → Some office ≡ seat_at offices k → offices_at name offices k ≡ office_at name (Some office)
+pub seat_here : {S J : Type 0} (name : S → ℕ) (k : ℕ) (office : Office S J) (offices : Offices S J) → Some office ≡ seat_at offices k → offices_at name offices k ≡ office_at name (Some office)
 seat_here name k office offices same = ap (office_at name) (sym {a = Some office} same)
 
 -- a place that was free is free
-pub seat_free : {S : Type 0} (name : S → ℕ) (k : ℕ) (offices next : Offices S) → None ≡ seat_at offices k → Seats offices next k None → Same (offices_at name offices) (offices_at name next)
+pub seat_free : {S J : Type 0} (name : S → ℕ) (k : ℕ) (offices next : Offices S J) → None ≡ seat_at offices k → Seats offices next k None → Same (offices_at name offices) (offices_at name next)
 seat_free name k offices next free seats = put_same (offices_at name offices) (offices_at name next) k None (ap (office_at name) (sym {a = None} free)) (seats_put name k None offices next seats)
 
 -- and so has one of each, where this one is served
-pub all_begun : {S : Type 0} (end : Option Stopped) (k : ℕ) (one : Option (Office S)) (offices next : Offices S) → HaveBegun offices → Seats offices next k one → BegunUnless end one → HaveBegunUnless end next
-all_begun {S} None k one offices next begun seats has = record { each = λ j. subst (λ (o : Option (Office S)). OfficeHasBegun o) (sym (seats j)) (go j (nat_eq k j)) }
+pub all_begun : {S J : Type 0} (end : Option Stopped) (k : ℕ) (one : Option (Office S J)) (offices next : Offices S J) → HaveBegun offices → Seats offices next k one → BegunUnless end one → HaveBegunUnless end next
+all_begun {S} {J} None k one offices next begun seats has = record { each = λ j. subst (λ (o : Option (Office S J)). OfficeHasBegun o) (sym (seats j)) (go j (nat_eq k j)) }
   where
     go : (j : ℕ) (same : Bool) → OfficeHasBegun (if same then one else seat_at offices j)
     go j true = has
@@ -580,28 +666,28 @@ all_begun {S} None k one offices next begun seats has = record { each = λ j. su
 all_begun (Some stopped) k one offices next begun seats has = tt
 
 -- it is not open, and so has no turn
-pub none_served : {S : Type 0} (k : ℕ) (clients : Clients S) (flags set : ℕ → Option Bool) (offices next : AtOffices) (is_ready : Bool) → offices k ≡ None → Same offices next → Puts flags set k (Some is_ready)
+pub none_served : {S J : Type 0} (k : ℕ) (clients : Clients S) (flags set : ℕ → Option Bool) (offices next : AtOffices J) (is_ready : Bool) → offices k ≡ None → Same offices next → Puts flags set k (Some is_ready)
     → ServesOffice k 8 (standings_of clients offices flags) (standings_of clients next set) (aside [] None ∷ [])
-none_served k clients flags set offices next is_ready free same sets = record {
+none_served {S} {J} k clients flags set offices next is_ready free same sets = record {
   passes = record { paced = record { few = omega arith; stand = λ c. refl; offices = stands }; kept = λ c is. inr is; kept_office = λ j is. inr (stands j ∙ is) };
   quiet = λ c. refl;
-  turn = λ is. (let clash : absent ≡ ready = sym (ap (λ (it : AtOffice). standing_office it (flags k)) free) ∙ is in cc);
+  turn = λ is. (let clash : absent ≡ ready = sym (ap (λ (it : AtOffice J). standing_office it (flags k)) free) ∙ is in cc);
 }
   where
     go : (j : ℕ) (own : Bool) → nat_eq k j ≡ own → standing_office (next j) (set j) ≡ standing_office (offices j) (flags j)
     go j true e =
         let none : offices j ≡ None = ap offices (sym (eqb-true k j e)) ∙ free in
-        ap (λ (it : AtOffice). standing_office it (set j)) (same j ∙ none) ∙ sym (ap (λ (it : AtOffice). standing_office it (flags j)) none)
-    go j false e = ap (λ (it : AtOffice). standing_office it (set j)) (same j) ∙ ap (λ (it : Option Bool). standing_office (offices j) it) (sets j ∙ rw e refl)
+        ap (λ (it : AtOffice J). standing_office it (set j)) (same j ∙ none) ∙ sym (ap (λ (it : AtOffice J). standing_office it (flags j)) none)
+    go j false e = ap (λ (it : AtOffice J). standing_office it (set j)) (same j) ∙ ap (λ (it : Option Bool). standing_office (offices j) it) (sets j ∙ rw e refl)
 
     stands : (j : ℕ) → standing_office (next j) (set j) ≡ standing_office (offices j) (flags j)
     stands j = go j (nat_eq k j) refl
 
-pub same_none : {S : Type 0} (name : S → ℕ) (k : ℕ) (offices : Offices S) → None ≡ seat_at offices k → offices_at name offices k ≡ None
+pub same_none : {S J : Type 0} (name : S → ℕ) (k : ℕ) (offices : Offices S J) → None ≡ seat_at offices k → offices_at name offices k ≡ None
 same_none name k offices free = ap (office_at name) (sym {a = None} free)
 
 -- one more was let go
-pub parted_more : {S : Type 0} (k : ℕ) (offices next : Offices S) → Seats offices next k None → ((j : ℕ) → j < k → seat_at offices j ≡ None) → (j : ℕ) → j < k + 1 → seat_at next j ≡ None
+pub parted_more : {S J : Type 0} (k : ℕ) (offices next : Offices S J) → Seats offices next k None → ((j : ℕ) → j < k → seat_at offices j ≡ None) → (j : ℕ) → j < k + 1 → seat_at next j ≡ None
 parted_more {S} k offices next seats before j within = seats j ∙ go (nat_eq k j) refl
   where
     below : (k ≡ j → ⊥) → j < k
@@ -612,8 +698,8 @@ parted_more {S} k offices next seats before j within = seats j ∙ go (nat_eq k 
     go false e = before j (below (λ same. let yes = eq-eqb k j same in let clash : true ≡ false = sym yes ∙ e in cc))
 
 -- there is no place above the last
-pub all_parted : {S : Type 0} (offices : Offices S) → ((j : ℕ) → j < 4 → seat_at offices j ≡ None) → (j : ℕ) → seat_at offices j ≡ None
-all_parted {S} offices below j = elim (cases_lt j 4) [
+pub all_parted : {S J : Type 0} (offices : Offices S J) → ((j : ℕ) → j < 4 → seat_at offices j ≡ None) → (j : ℕ) → seat_at offices j ≡ None
+all_parted {S} {J} offices below j = elim (cases_lt j 4) [
   | inl within ↦ below j within
-  | inr past ↦ let room = offices.room in ap (λ (o : Option (Option (Office S))). seat_in o) (slice_get_past offices.seats.items j (omega (arith, past, room)))
+  | inr past ↦ let room = offices.room in ap (λ (o : Option (Option (Office S J))). seat_in o) (slice_get_past offices.seats.items j (omega (arith, past, room)))
 ]

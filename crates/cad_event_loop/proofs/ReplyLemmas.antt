@@ -3,6 +3,7 @@ use Rattle.std.specs.Prelude.{⊤}
 use Rattle.std.proofs.Common.{◌≡◌, ◌⊎◌, inl, inr, ℕ, ◌≤◌, nat_eq, Bool, true, false, ◌||◌, List, [], ◌∷◌, ◌++◌, Option, None, Some, refl, sym, ap, subst, ◌∙◌, if◌then◌else◌}
 use Rattle.std.proofs.lemmas.Bool.{eqb-true}
 use Rattle.cad_stream.specs.declared.responder.Responder.{Ghosts}
+use Rattle.cad_stream.specs.declared.journal_responder.JournalResponder.{Ghosts as JournalGhosts}
 use Rattle.cad_desk.specs.declared.desk.Desk.{Desk}
 use Rattle.cad_network.specs.lemmas.DeedLemmas.{or_none}
 use Rattle.cad_clients.specs.declared.channel.Channel.{Channel}
@@ -44,8 +45,8 @@ fits_wait s d c stand slots channel here rests fits = go (nat_eq d c) refl
     go true e = (s, channel, ap slots (sym (eqb-true d c e)) ∙ here, rests)
     go false e = fits
 
-module _ {R : Type 0} (g : Ghosts R) where
-  fits_after : (c : ℕ) (stand : Standing) (work : Work) (old new : Desk R) (here next : Place) → Works g old here work new next → Fits stand (here.slots c) → Fits (stands_after c stand work) (next.slots c)
+module _ {R J : Type 0} (g : Ghosts R) (jg : JournalGhosts R J) where
+  fits_after : (c : ℕ) (stand : Standing) (work : Work) (old new : Desk R) (here next : Place J) → Works g jg old here work new next → Fits stand (here.slots c) → Fits (stands_after c stand work) (next.slots c)
   fits_after c stand (wakes places) old new here next w fits = fits_woken (is_among c places) stand (next.slots c) (fits_same c stand here.slots next.slots w.1 fits)
   fits_after c stand (opens s d) old new here next w fits = fits_put d c stand ready here.slots next.slots (Some (s, w.0)) w.4 tt fits
   fits_after c stand (acts s d act) old new here next w fits = fits_put d c stand ready here.slots next.slots (Some (s, w.1)) w.4 tt fits
@@ -57,20 +58,20 @@ module _ {R : Type 0} (g : Ghosts R) where
   fits_after c stand (office_leaves o k overdue) old new here next w fits = fits_same c stand here.slots next.slots w.3 fits
   fits_after c stand (aside deeds said) old new here next w fits = fits_same c stand here.slots next.slots w.2 fits
 
-  fits_in : (c : ℕ) (works : List Work) (stand : Standing) (old new : Desk R) (here next : Place) → Goes g old here works new next → Fits stand (here.slots c) → Fits (stands_in c stand works) (next.slots c)
-  fits_in c [] stand old new here next goes fits = subst (λ (it : Place). Fits stand (it.slots c)) (sym goes.1) fits
+  fits_in : (c : ℕ) (works : List Work) (stand : Standing) (old new : Desk R) (here next : Place J) → Goes g jg old here works new next → Fits stand (here.slots c) → Fits (stands_in c stand works) (next.slots c)
+  fits_in c [] stand old new here next goes fits = subst (λ (it : Place J). Fits stand (it.slots c)) (sym goes.1) fits
   fits_in c (work ∷ later) stand old new here next goes fits =
       fits_in c later (stands_after c stand work) goes.0 new goes.1 next goes.3 (fits_after c stand work old goes.0 here goes.1 goes.2 fits)
 
   -- connection c has this socket
-  abbrev HasSocket : ℕ → ℕ → Place → Type 0
+  abbrev HasSocket : ℕ → ℕ → Place J → Type 0
   HasSocket c s here = (channel : Channel) × (here.slots c ≡ Some (s, channel))
 
-  socket_same : (c s : ℕ) (here next : Place) → Same here.slots next.slots → HasSocket c s here → HasSocket c s next
+  socket_same : (c s : ℕ) (here next : Place J) → Same here.slots next.slots → HasSocket c s here → HasSocket c s next
   socket_same c s here next same has = (has.0, same c ∙ has.1)
 
   -- it keeps that while it is not let go
-  socket_put : (d c t s : ℕ) (here next : Place) (one channel : Channel) → here.slots d ≡ Some (t, one) → Puts here.slots next.slots d (Some (t, channel)) → HasSocket c s here → HasSocket c s next
+  socket_put : (d c t s : ℕ) (here next : Place J) (one channel : Channel) → here.slots d ≡ Some (t, one) → Puts here.slots next.slots d (Some (t, channel)) → HasSocket c s here → HasSocket c s next
   socket_put d c t s here next one channel at puts has = go (nat_eq d c) refl
     where
       go : (same : Bool) → nat_eq d c ≡ same → HasSocket c s next
@@ -79,17 +80,17 @@ module _ {R : Type 0} (g : Ghosts R) where
           (channel, puts c ∙ rw e (ap (λ (n : ℕ). Some (n, channel)) (ap (λ (p : ℕ × Channel). p.0) both)))
       go false e = (has.0, puts c ∙ rw e has.1)
 
-  socket_other : (d c s : ℕ) (here next : Place) (one : Option (ℕ × Channel)) → nat_eq d c ≡ false → Puts here.slots next.slots d one → HasSocket c s here → HasSocket c s next
+  socket_other : (d c s : ℕ) (here next : Place J) (one : Option (ℕ × Channel)) → nat_eq d c ≡ false → Puts here.slots next.slots d one → HasSocket c s here → HasSocket c s next
   socket_other d c s here next one e puts has = (has.0, puts c ∙ rw e has.1)
 
-  socket_open : (d c s : ℕ) (here next : Place) (one : Option (ℕ × Channel)) → here.slots d ≡ None → Puts here.slots next.slots d one → HasSocket c s here → HasSocket c s next
+  socket_open : (d c s : ℕ) (here next : Place J) (one : Option (ℕ × Channel)) → here.slots d ≡ None → Puts here.slots next.slots d one → HasSocket c s here → HasSocket c s next
   socket_open d c s here next one none puts has = go (nat_eq d c) refl
     where
       go : (same : Bool) → nat_eq d c ≡ same → HasSocket c s next
       go true e = absurd (none_some {X = ℕ × Channel} (s, has.0) (sym none ∙ (ap here.slots (eqb-true d c e) ∙ has.1)))
       go false e = socket_other d c s here next one e puts has
 
-  socket_after : (c s : ℕ) (work : Work) (old new : Desk R) (here next : Place) → Works g old here work new next → is_leaving c work ≡ false → HasSocket c s here → HasSocket c s next
+  socket_after : (c s : ℕ) (work : Work) (old new : Desk R) (here next : Place J) → Works g jg old here work new next → is_leaving c work ≡ false → HasSocket c s here → HasSocket c s next
   socket_after c s (wakes places) old new here next w stays has = socket_same c s here next w.1 has
   socket_after c s (opens t d) old new here next w stays has = socket_open d c s here next (Some (t, w.0)) w.1 w.4 has
   socket_after c s (acts t d act) old new here next w stays has = socket_put d c t s here next w.0 w.1 w.2 w.4 has
@@ -100,7 +101,7 @@ module _ {R : Type 0} (g : Ghosts R) where
   socket_after c s (office_leaves o k overdue) old new here next w stays has = socket_same c s here next w.3 has
   socket_after c s (aside deeds said) old new here next w stays has = socket_same c s here next w.2 has
 
-  rests_later : (c s : ℕ) (work : Work) (later : List Work) (old mid : Desk R) (here between : Place) → Works g old here work mid between → RestsIn g c s later mid between → RestsIn g c s (work ∷ later) old here
+  rests_later : (c s : ℕ) (work : Work) (later : List Work) (old mid : Desk R) (here between : Place J) → Works g jg old here work mid between → RestsIn g jg c s later mid between → RestsIn g jg c s (work ∷ later) old here
   rests_later c s work later old mid here between w r = record {
     before = work ∷ r.before;
     later = r.later;
@@ -113,7 +114,7 @@ module _ {R : Type 0} (g : Ghosts R) where
     rests = r.rests;
   }
 
-  rests_now : (c s t d : ℕ) (later : List Work) (old new : Desk R) (here next : Place) → Works g old here (waits t d) new next → HasSocket c s here → nat_eq d c ≡ true → RestsIn g c s (waits t d ∷ later) old here
+  rests_now : (c s t d : ℕ) (later : List Work) (old new : Desk R) (here next : Place J) → Works g jg old here (waits t d) new next → HasSocket c s here → nat_eq d c ≡ true → RestsIn g jg c s (waits t d ∷ later) old here
   rests_now c s t d later old new here next w has e =
       let same = eqb-true d c e in
       let at : here.slots c ≡ Some (t, w.0) = ap here.slots (sym same) ∙ w.1 in
@@ -131,14 +132,14 @@ module _ {R : Type 0} (g : Ghosts R) where
       }
 
   -- the turn at which it waits
-  rests_in : (c s : ℕ) (works : List Work) (old new : Desk R) (here next : Place) → Goes g old here works new next → any_of (is_leaving c) works ≡ false → HasSocket c s here → any_of (is_wait_of c) works ≡ true → RestsIn g c s works old here
+  rests_in : (c s : ℕ) (works : List Work) (old new : Desk R) (here next : Place J) → Goes g jg old here works new next → any_of (is_leaving c) works ≡ false → HasSocket c s here → any_of (is_wait_of c) works ≡ true → RestsIn g jg c s works old here
   rests_in c s [] old new here next goes stays has some = absurd (let clash : false ≡ true = some in cc)
   rests_in c s (work ∷ later) old new here next goes stays has some =
       let none = or_none (is_leaving c work) (any_of (is_leaving c) later) stays in
       let kept = socket_after c s work old goes.0 here goes.1 goes.2 none.0 has in
       go work goes.2 (is_wait_of c work) refl some (λ more. rests_later c s work later old goes.0 here goes.1 goes.2 (rests_in c s later goes.0 new goes.1 next goes.3 none.1 kept more))
     where
-      go : (work : Work) → Works g old here work goes.0 goes.1 → (is : Bool) → is_wait_of c work ≡ is → (is_wait_of c work || any_of (is_wait_of c) later) ≡ true → (any_of (is_wait_of c) later ≡ true → RestsIn g c s (work ∷ later) old here) → RestsIn g c s (work ∷ later) old here
+      go : (work : Work) → Works g jg old here work goes.0 goes.1 → (is : Bool) → is_wait_of c work ≡ is → (is_wait_of c work || any_of (is_wait_of c) later) ≡ true → (any_of (is_wait_of c) later ≡ true → RestsIn g jg c s (work ∷ later) old here) → RestsIn g jg c s (work ∷ later) old here
       go work w false e some more = more (rw e at some)
       go (waits t d) w true e some more = rests_now c s t d later old goes.0 here goes.1 w has e
       go (wakes places) w true e some more = absurd (let clash : false ≡ true = e in cc)
@@ -183,12 +184,12 @@ over_leaves c (work ∷ later) e = go work (over_leaves c later) e
     go (office_leaves o k overdue) so e = so e
     go (aside deeds said) so e = so e
 
-module _ {R : Type 0} (g : Ghosts R) where
+module _ {R J : Type 0} (g : Ghosts R) (jg : JournalGhosts R J) where
   -- what comes of a connection in works in which it has enough
-  abbrev Comes : ℕ → ℕ → List Work → Desk R → Place → Type 0
-  Comes c s round mid here = RestsIn g c s round mid here ⊎ ((any_of (is_leaving c) round ≡ true) ⊎ (Replies c round ⊎ (4 ≤ turns_of c round)))
+  abbrev Comes : ℕ → ℕ → List Work → Desk R → Place J → Type 0
+  Comes c s round mid here = RestsIn g jg c s round mid here ⊎ ((any_of (is_leaving c) round ≡ true) ⊎ (Replies c round ⊎ (4 ≤ turns_of c round)))
 
-  comes_so : (c s : ℕ) (round : List Work) (mid new : Desk R) (here next : Place) → Goes g mid here round new next → HasSocket g c s here → HasEnough c round → Comes c s round mid here
+  comes_so : (c s : ℕ) (round : List Work) (mid new : Desk R) (here next : Place J) → Goes g jg mid here round new next → HasSocket g jg c s here → HasEnough c round → Comes c s round mid here
   comes_so c s round mid new here next goes has enough = go (any_of (is_leaving c) round) refl
     where
       go : (leaves : Bool) → any_of (is_leaving c) round ≡ leaves → Comes c s round mid here
@@ -197,7 +198,7 @@ module _ {R : Type 0} (g : Ghosts R) where
         | inl over ↦ inr (inl (over_leaves c round over))
         | inr more ↦
             elim more [
-              | inl waited ↦ inl (rests_in g c s round mid new here next goes e has waited)
+              | inl waited ↦ inl (rests_in g jg c s round mid new here next goes e has waited)
               | inr most ↦
                   elim most [
                     | inl replied ↦ inr (inr (inl replied))
@@ -207,7 +208,7 @@ module _ {R : Type 0} (g : Ghosts R) where
       ]
 
   -- it may go on since before the round, or since the network told of it as the round began
-  served_round : (c s : ℕ) (channel : Channel) (stands : Standings) (round : List Work) (mid new : Desk R) (here next : Place) → GivesTurns stands round → Fits (stands.clients c) (here.slots c) → Goes g mid here round new next
+  served_round : (c s : ℕ) (channel : Channel) (stands : Standings) (round : List Work) (mid new : Desk R) (here next : Place J) → GivesTurns stands round → Fits (stands.clients c) (here.slots c) → Goes g jg mid here round new next
       → here.slots c ≡ Some (s, channel) → ((stands.clients c ≡ waiting) × MayWait channel) ⊎ Comes c s round mid here
   served_round c s channel stands [] mid new here next gives fits goes at = absurd gives
   served_round c s channel stands (wakes places ∷ later) mid new here next gives fits goes at = go (stands.clients c) refl fits
@@ -238,7 +239,7 @@ module _ {R : Type 0} (g : Ghosts R) where
   served_round c s channel stands (office_leaves o k overdue ∷ later) mid new here next gives fits goes at = absurd gives
   served_round c s channel stands (aside deeds said ∷ later) mid new here next gives fits goes at = absurd gives
 
-  pub each_is_served : EachIsServed g
+  pub each_is_served : EachIsServed g jg
   each_is_served c s channel rounds round old mid new first here next nobody_first are before goes at =
       let is = last_round nobody rounds round are in
-      served_round c s channel (all_after nobody (all_works rounds)) round mid new here next is.gives (fits_in g c (all_works rounds) absent old mid first here before (nobody_first.0 c)) goes at
+      served_round c s channel (all_after nobody (all_works rounds)) round mid new here next is.gives (fits_in g jg c (all_works rounds) absent old mid first here before (nobody_first.0 c)) goes at

@@ -29,11 +29,11 @@ item_set xs c d y within = go (nat_eq c d) refl
     go true e = subst (λ (at : ℕ). slice_get (set xs c y) at ≡ Some y) (eqb-true c d e) (set_here xs c y within)
     go false e = set_apart xs c d y (other_number c d e)
 
-seat_one : {S : Type 0} (y : Option (Office S)) → seat_in (Some y) ≡ y
+seat_one : {S J : Type 0} (y : Option (Office S J)) → seat_in (Some y) ≡ y
 seat_one None = refl
 seat_one (Some office) = refl
 
-pub seat_set : {S : Type 0} (xs : List (Option (Office S))) (c d : ℕ) (y : Option (Office S)) → c < length xs → seat_in (slice_get (set xs c y) d) ≡ (if nat_eq c d then y else seat_in (slice_get xs d))
+pub seat_set : {S J : Type 0} (xs : List (Option (Office S J))) (c d : ℕ) (y : Option (Office S J)) → c < length xs → seat_in (slice_get (set xs c y) d) ≡ (if nat_eq c d then y else seat_in (slice_get xs d))
 seat_set xs c d y within = ap seat_in (item_set xs c d y within) ∙ go (nat_eq c d)
   where
     go : (same : Bool) → seat_in (if same then Some y else slice_get xs d) ≡ (if same then y else seat_in (slice_get xs d))
@@ -41,10 +41,10 @@ seat_set xs c d y within = ap seat_in (item_set xs c d y within) ∙ go (nat_eq 
     go false = refl
 
 -- no place is filled
-abbrev pub AllFree : {S : Type 0} → List (Option (Office S)) → Type 0
+abbrev pub AllFree : {S J : Type 0} → List (Option (Office S J)) → Type 0
 AllFree xs = (c : ℕ) → seat_in (slice_get xs c) ≡ None
 
-pub free_more : {S : Type 0} (xs : List (Option (Office S))) → AllFree xs → AllFree (xs ++ None ∷ [])
+pub free_more : {S J : Type 0} (xs : List (Option (Office S J))) → AllFree xs → AllFree (xs ++ None ∷ [])
 free_more [] free zero = refl
 free_more [] free (suc c) = refl
 free_more (x ∷ xs) free zero = free 0

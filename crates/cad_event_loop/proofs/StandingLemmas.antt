@@ -308,11 +308,11 @@ pub office_none : (k most : ℕ) (a : Standings) → (a.offices k ≡ ready → 
 office_none k most a not = record { passes = passes-nil most a; quiet = λ c. refl; turn = λ is. absurd (not is) }
 
 -- it waits, or is not open
-pub office_rests : (office : AtOffice) → standing_office office (Some false) ≡ ready → ⊥
+pub office_rests : {J : Type 0} (office : AtOffice J) → standing_office office (Some false) ≡ ready → ⊥
 office_rests None e = none_ready e
 office_rests (Some office) e = waiting_ready e
 
-pub office_unready : {S : Type 0} (k : ℕ) (peers : Peers S) (offices : AtOffices) → Some false ≡ flag_at peers.ready k → ServesOffice k 8 (standings peers offices) (standings peers offices) []
+pub office_unready : {S J : Type 0} (k : ℕ) (peers : Peers S) (offices : AtOffices J) → Some false ≡ flag_at peers.ready k → ServesOffice k 8 (standings peers offices) (standings peers offices) []
 office_unready k peers offices unready = office_none k 8 (standings peers offices) (λ is. office_rests (offices k) (ap (λ (flag : Option Bool). standing_office (offices k) flag) unready ∙ is))
 
 -- the connections of the land office have their turns, one after the other
@@ -354,12 +354,12 @@ offices_cut stopped k a b d xs ys within x y = record {
 }
 
 -- no connection has a number above the last
-pub offices_beyond : {S : Type 0} (peers : Peers S) (offices : AtOffices) (k : ℕ) → 4 ≤ k → (standings peers offices).offices k ≡ absent
-offices_beyond peers offices k past =
+pub offices_beyond : {S J : Type 0} (peers : Peers S) (offices : AtOffices J) (k : ℕ) → 4 ≤ k → (standings peers offices).offices k ≡ absent
+offices_beyond {S} {J} peers offices k past =
     let room = peers.ready.room in
     ap (λ (flag : Option Bool). standing_office (offices k) flag) (slice_get_past peers.ready.offices k (omega (arith, past, room))) ∙ go (offices k)
   where
-    go : (office : AtOffice) → standing_office office None ≡ absent
+    go : (office : AtOffice J) → standing_office office None ≡ absent
     go None = refl
     go (Some office) = refl
 
@@ -402,7 +402,7 @@ is_ready_of (Some client) e = go client.is_ready e
     go false e = absurd (waiting_ready e)
 
 -- it has none, since it may not go on
-pub turn_none : {S : Type 0} (c most : ℕ) (peers : Peers S) (offices : AtOffices) → (IsSomeAnd (client_at peers.clients c) MayGoOn → ⊥) → GivesTurn c most (standings peers offices) (standings peers offices) []
+pub turn_none : {S J : Type 0} (c most : ℕ) (peers : Peers S) (offices : AtOffices J) → (IsSomeAnd (client_at peers.clients c) MayGoOn → ⊥) → GivesTurn c most (standings peers offices) (standings peers offices) []
 turn_none c most peers offices not = record { passes = passes-nil most (standings peers offices); turn = λ is. absurd (not (is_ready_of (client_at peers.clients c) is)) }
 
 -- the network tells, and then the land office has its turns
@@ -443,7 +443,7 @@ pub visit_cut : {E : Type 0} (stopped : Stopped) (c : ℕ) (a b : Standings) (xs
 visit_cut stopped c a b xs x = record { gives = turn_more c 4 37 a b xs (omega arith) x.gives; visits = tt }
 
 -- there is no visit, since it may not go on
-pub visit_none : {S E : Type 0} (c : ℕ) (peers : Peers S) (offices : AtOffices) → (IsSomeAnd (client_at peers.clients c) MayGoOn → ⊥) → VisitsClient {E = E} c 37 (Ok None) (standings peers offices) (standings peers offices) []
+pub visit_none : {S E J : Type 0} (c : ℕ) (peers : Peers S) (offices : AtOffices J) → (IsSomeAnd (client_at peers.clients c) MayGoOn → ⊥) → VisitsClient {E = E} c 37 (Ok None) (standings peers offices) (standings peers offices) []
 visit_none c peers offices not = record { gives = turn_none c 37 peers offices not; visits = visits-nil (standings peers offices).offices }
 
 pub below-nil : (a : Standings) → GivesTurnsBelow 0 a a []

@@ -1,6 +1,7 @@
 -- What hosting does, by how it ended (own profile).
 use Rattle.std.specs.Prelude.{◌≡◌, ◌⊎◌, ⊤, ℕ, true, false, List, [], ◌++◌, ◌∷◌, Option, None, Some, Result, Ok, Err, IsErr}
 use Rattle.cad_stream.specs.declared.responder.Responder.{Ghosts}
+use Rattle.cad_stream.specs.declared.journal_responder.JournalResponder.{Ghosts as JournalGhosts}
 use Rattle.cad_desk.specs.declared.desk.Desk.{Desk}
 use Rattle.cad_desk.specs.declared.fault.DeskFault.TheVariants.{Memory}
 use Rattle.cad_network.specs.Deeds.{Deed, left, Adds}
@@ -79,24 +80,24 @@ IsClosing (enters o k text turned deeds said) = IsLastTurn turned
 IsClosing (office_leaves o k overdue) = overdue ≡ false
 IsClosing (aside deeds said) = deeds ≡ []
 
-module _ {R : Type 0} (g : Ghosts R) where
+module _ {R J : Type 0} (g : Ghosts R) (jg : JournalGhosts R J) where
   -- such works are done and nothing else; why hosting ends by them, if it does
-  abbrev pub Hosts : (Work → Type 0) → Option Stopped → Option (List Deed) → Desk R → Place → Option (List Deed) → Desk R → Place → Type 0
+  abbrev pub Hosts : (Work → Type 0) → Option Stopped → Option (List Deed) → Desk R → Place J → Option (List Deed) → Desk R → Place J → Type 0
   Hosts May end from old here to new next =
-      (works : List Work) × Adds from to (all_deeds works) × (end_in works ≡ end) × Goes g old here works new next × Each May works
+      (works : List Work) × Adds from to (all_deeds works) × (end_in works ≡ end) × Goes g jg old here works new next × Each May works
 
   -- the same while clients and the land office are served, if this holds of the works: the work by which hosting ends is the last
-  abbrev pub Serves : (List Work → Type 0) → Option Stopped → Option (List Deed) → Desk R → Place → Option (List Deed) → Desk R → Place → Type 0
+  abbrev pub Serves : (List Work → Type 0) → Option Stopped → Option (List Deed) → Desk R → Place J → Option (List Deed) → Desk R → Place J → Type 0
   Serves Holds end from old here to new next =
-      (works : List Work) × Adds from to (all_deeds works) × EndsBy end works × Goes g old here works new next × Each IsServing works × Holds works
+      (works : List Work) × Adds from to (all_deeds works) × EndsBy end works × Goes g jg old here works new next × Each IsServing works × Holds works
 
   -- Beginning with nobody, these works are done up to the one by which hosting ends, and everybody is served by them.
   -- Then others follow at once, until nobody is here. Their deeds are all that is done at the network.
   pub record HostsBy (end : Option Stopped) (from : Option (List Deed)) (old : Desk R) (to : Option (List Deed)) (new : Desk R) : Type 0 where
     pub works : List Work
     pub closing : List Work
-    pub first : Place
-    pub last : Place
+    pub first : Place J
+    pub last : Place J
     pub deeds : Adds from to (all_deeds (works ++ closing))
     pub ends : EndsBy end works
     pub serving : Each IsServing works
@@ -104,7 +105,7 @@ module _ {R : Type 0} (g : Ghosts R) where
     pub closed : Each IsClosing closing
     pub nobody_first : IsEmpty first
     pub nobody_last : IsEmpty last
-    pub goes : Goes g old first (works ++ closing) new last
+    pub goes : Goes g jg old first (works ++ closing) new last
 
   -- It ended as the office asked to stop, or as the register's database refused, by what came first.
   -- Or the rounds were spent, or the system refused, and the database did not refuse.

@@ -2,6 +2,7 @@
 use Rattle.std.specs.Prelude.{◌≡◌, ℕ, ◌+◌, length, false, List, [], ◌∷◌, ◌++◌, Option, None, Some}
 use Rattle.cad_versions.specs.declared.command.Command.{Command}
 use Rattle.cad_stream.specs.declared.responder.Responder.{Ghosts}
+use Rattle.cad_stream.specs.declared.journal_responder.JournalResponder.{Ghosts as JournalGhosts}
 use Rattle.cad_desk.specs.declared.desk.Desk.{Desk}
 use Rattle.cad_desk.specs.Desks.{responder_of}
 use Rattle.cad_desk.specs.Events.{commands_after}
@@ -15,7 +16,7 @@ use Rattle.cad_office.specs.declared.print.Answer.TheVariants.{Entered, Refused,
 use Rattle.cad_office.specs.Keeping.{Asks}
 use Rattle.cad_office_socket.specs.declared.turned.EntryTurned.{EntryTurned}
 use Rattle.cad_office_socket.specs.declared.turned.EntryTurned.TheVariants.{Answered, Lost}
-use Rattle.cad_event_loop.specs.Works.{Place, event, question, Said, Work, wakes, opens, acts, waits, ends, office_comes, enters, office_leaves, aside, IsEmpty, all_deeds, Goes, MayGoOn}
+use Rattle.cad_event_loop.specs.Works.{Place, event, question, rows, Said, Work, wakes, opens, acts, waits, ends, office_comes, enters, office_leaves, aside, IsEmpty, all_deeds, Goes, MayGoOn}
 use Rattle.cad_event_loop.specs.Lives.{last_deeds, IsLeft}
 
 -- the commands in force after an event at the desk, and after all that is done: only what the land office entered adds to them
@@ -23,6 +24,7 @@ abbrev pub commands_by : List Command → Said → List Command
 commands_by commands None = commands
 commands_by commands (Some (event e answer)) = commands_after commands e answer
 commands_by commands (Some (question command answer)) = commands
+commands_by commands (Some (rows answer)) = commands
 
 abbrev pub commands_in : List Command → List Work → List Command
 commands_in commands [] = commands
@@ -56,15 +58,15 @@ AreEntered [] count entered = entered ≡ []
 AreEntered (enters o k text turned deeds said ∷ later) count entered = AreFirstBy (AreEntered later) count text turned entered
 AreEntered (other ∷ later) count entered = AreEntered later count entered
 
-module _ {R : Type 0} (g : Ghosts R) where
+module _ {R J : Type 0} (g : Ghosts R) (jg : JournalGhosts R J) where
   -- at the end, the ledger holds the commands from before and those that the land office got revisions for as answers, and no others
   abbrev pub LedgerStands : Type 0
-  LedgerStands = (commands : List Command) (works : List Work) (old new : Desk R) (here next : Place) → (goes : Goes g old here works new next) → MayGoOn g works old new here next goes
+  LedgerStands = (commands : List Command) (works : List Work) (old new : Desk R) (here next : Place J) → (goes : Goes g jg old here works new next) → MayGoOn g jg works old new here next goes
       → g.counts (responder_of new) → g.stands_for (responder_of old) commands
       → (entered : List Command) × AreEntered works (length commands) entered × (commands_in commands works ≡ commands ++ entered) × g.stands_for (responder_of new) (commands ++ entered)
 
   -- for a socket that came once, and became connection c: what was read from it, and what was written to it
-  pub record IsServedSocket (s c : ℕ) (commands : List Command) (all : List Deed) (next : Place) : Type 0 where
+  pub record IsServedSocket (s c : ℕ) (commands : List Command) (all : List Deed) (next : Place J) : Type 0 where
     pub happenings : List Happening
     pub mid : Desk R
     pub last : Channel
@@ -73,15 +75,15 @@ module _ {R : Type 0} (g : Ghosts R) where
     pub read : given_by s all ≡ read_of happenings ++ given_by s (last_deeds ended)
     pub written : taken_by s all ≡ written_of happenings ++ taken_by s (last_deeds ended)
     -- it continues, or it ended with this cause
-    pub left : IsLeft g c s mid last ended next.slots
+    pub left : IsLeft g jg c s mid last ended next.slots
     -- what was read went to the desk under its own number, and what was written are the replies to that
     pub passed : IsPassedOn (exchanges_with c commands happenings) (read_of happenings) (written_of happenings) last
     pub answered : IsAnswered g (exchanges_with c commands happenings) (written_of happenings) last
 
   -- for all else that may be done
   abbrev pub SocketsAreTheirOwn : Type 0
-  SocketsAreTheirOwn = (s c : ℕ) (commands : List Command) (before later : List Work) (old new : Desk R) (first next : Place)
-      → IsEmpty first → (goes : Goes g old first (before ++ opens s c ∷ later) new next) → MayGoOn g (before ++ opens s c ∷ later) old new first next goes
+  SocketsAreTheirOwn = (s c : ℕ) (commands : List Command) (before later : List Work) (old new : Desk R) (first next : Place J)
+      → IsEmpty first → (goes : Goes g jg old first (before ++ opens s c ∷ later) new next) → MayGoOn g jg (before ++ opens s c ∷ later) old new first next goes
       → comes s (all_deeds before) ≡ false → comes s (all_deeds later) ≡ false
       → g.counts (responder_of new) → g.stands_for (responder_of old) commands
       → IsServedSocket s c (commands_in commands before) (all_deeds (before ++ opens s c ∷ later)) next

@@ -4,5 +4,7 @@ pub mod Hosting
 pub mod Lives
 pub mod Laws
 pub mod Streams
+pub mod Journals
 pub mod Replying
 pub mod inner
+pub mod lemmas

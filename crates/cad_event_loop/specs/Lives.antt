@@ -1,6 +1,7 @@
 -- What happens to one connection among all that is done (own profile).
 use Rattle.std.specs.Prelude.{◌≡◌, ℕ, nat_eq, List, [], ◌∷◌, ◌++◌, Option, None, Some, Ok, if◌then◌else◌}
 use Rattle.cad_stream.specs.declared.responder.Responder.{Ghosts}
+use Rattle.cad_stream.specs.declared.journal_responder.JournalResponder.{Ghosts as JournalGhosts}
 use Rattle.cad_desk.specs.declared.desk.Desk.{Desk}
 use Rattle.cad_desk.specs.declared.event.Event.TheVariants.{Open, Bytes}
 use Rattle.cad_desk.specs.declared.event.Reply.TheVariants.{Opened, Sent}
@@ -10,7 +11,7 @@ use Rattle.cad_clients.specs.declared.channel.Channel.{Channel}
 use Rattle.cad_clients.specs.declared.turned.Ending.{Ending}
 use Rattle.cad_clients.specs.Channels.{Act, wrote, took, fed}
 use Rattle.cad_clients.specs.Acts.{Happening, own, other, checked, read_of, written_of, Lives}
-use Rattle.cad_event_loop.specs.Works.{Held, Place, event, question, Said, Work, wakes, opens, acts, waits, ends, office_comes, enters, office_leaves, aside, deeds_in, Goes, Leaves, MayGoOn}
+use Rattle.cad_event_loop.specs.Works.{Held, Place, event, question, rows, Said, Work, wakes, opens, acts, waits, ends, office_comes, enters, office_leaves, aside, deeds_in, Goes, Leaves, MayGoOn}
 
 -- an act of another connection
 abbrev pub by_another : ℕ → Act → List Happening → List Happening
@@ -23,6 +24,7 @@ abbrev pub by_desk : Said → List Happening → List Happening
 by_desk None later = later
 by_desk (Some (event e answer)) later = other e answer ∷ later
 by_desk (Some (question command answer)) later = checked ∷ later
+by_desk (Some (rows answer)) later = checked ∷ later
 
 -- what happens to connection c up to its end
 abbrev pub life_of : ℕ → List Work → List Happening
@@ -67,11 +69,11 @@ abbrev pub last_deeds : Option (Option Ending × List Deed) → List Deed
 last_deeds None = []
 last_deeds (Some ended) = ended.1
 
-module _ {R : Type 0} (g : Ghosts R) (c s : ℕ) where
+module _ {R J : Type 0} (g : Ghosts R) (jg : JournalGhosts R J) (c s : ℕ) where
   -- it is open at the end, with this channel; or it left, for this cause and with these deeds
   abbrev pub IsLeft : Desk R → Channel → Option (Option Ending × List Deed) → Held → Type 0
   IsLeft mid last None next = next c ≡ Some (s, last)
-  IsLeft mid last (Some ended) next = (after : Desk R) × Leaves g c s mid last ended.0 ended.1 after
+  IsLeft mid last (Some ended) next = (after : Desk R) × Leaves g jg c s mid last ended.0 ended.1 after
 
   -- This happens to it. Its own deeds read and wrote what was read and written in what happens and by the deeds of its end.
   abbrev pub IsLifeBy : Desk R → Channel → List Happening → List Deed → Option (Option Ending × List Deed) → Desk R → Held → Type 0
@@ -82,11 +84,11 @@ module _ {R : Type 0} (g : Ghosts R) (c s : ℕ) where
       × (g.counts (responder_of new) → g.counts (responder_of mid))
 
   -- what is done is a life of connection c, whose socket is s
-  abbrev pub IsLife : Desk R → Channel → List Work → Desk R → Place → Type 0
+  abbrev pub IsLife : Desk R → Channel → List Work → Desk R → Place J → Type 0
   IsLife old channel works new next = IsLifeBy old channel (life_of c works) (own_deeds c works) (end_of c works) new next.slots
 
-module _ {R : Type 0} (g : Ghosts R) where
+module _ {R J : Type 0} (g : Ghosts R) (jg : JournalGhosts R J) where
   abbrev pub EachHasItsLife : Type 0
-  EachHasItsLife = (c s : ℕ) (works : List Work) (old new : Desk R) (here next : Place) (channel : Channel)
-      → (goes : Goes g old here works new next) → MayGoOn g works old new here next goes → here.slots c ≡ Some (s, channel)
-      → IsLife g c s old channel works new next
+  EachHasItsLife = (c s : ℕ) (works : List Work) (old new : Desk R) (here next : Place J) (channel : Channel)
+      → (goes : Goes g jg old here works new next) → MayGoOn g jg works old new here next goes → here.slots c ≡ Some (s, channel)
+      → IsLife g jg c s old channel works new next

@@ -1,6 +1,7 @@
 -- What happens to a connection in a whole round (own profile).
 use Rattle.std.specs.Prelude.{◌≡◌, ◌⊎◌, ℕ, ◌≤◌, nat_eq, Bool, true, false, List, [], ◌∷◌, ◌++◌, Some}
 use Rattle.cad_stream.specs.declared.responder.Responder.{Ghosts}
+use Rattle.cad_stream.specs.declared.journal_responder.JournalResponder.{Ghosts as JournalGhosts}
 use Rattle.cad_desk.specs.declared.desk.Desk.{Desk}
 use Rattle.cad_clients.specs.declared.channel.Channel.{Channel}
 use Rattle.cad_clients.specs.Channels.{MayWait}
@@ -12,17 +13,17 @@ abbrev pub is_leaving : ℕ → Work → Bool
 is_leaving c (ends s d cause deeds said) = nat_eq d c
 is_leaving c other = false
 
-module _ {R : Type 0} (g : Ghosts R) where
+module _ {R J : Type 0} (g : Ghosts R) (jg : JournalGhosts R J) where
   -- Among these works connection c has a turn at which its socket gives or takes nothing.
   -- Then all that was read was taken, and all that the desk sent was written; or something is to be written.
-  pub record RestsIn (c s : ℕ) (works : List Work) (old : Desk R) (here : Place) : Type 0 where
+  pub record RestsIn (c s : ℕ) (works : List Work) (old : Desk R) (here : Place J) : Type 0 where
     pub before : List Work
     pub later : List Work
     pub mid : Desk R
-    pub between : Place
+    pub between : Place J
     pub channel : Channel
     pub all : works ≡ before ++ waits s c ∷ later
-    pub goes : Goes g old here before mid between
+    pub goes : Goes g jg old here before mid between
     pub held : between.slots c ≡ Some (s, channel)
     pub rests : MayWait channel
 
@@ -30,7 +31,7 @@ module _ {R : Type 0} (g : Ghosts R) where
   -- in this round; or it is let go; or the desk takes a piece of what was read, and all that it sends for that is written; or it has
   -- four turns.
   abbrev pub EachIsServed : Type 0
-  EachIsServed = (c s : ℕ) (channel : Channel) (rounds : List (List Work)) (round : List Work) (old mid new : Desk R) (first here next : Place)
-      → IsEmpty first → AreRounds nobody (rounds ++ round ∷ []) → Goes g old first (all_works rounds) mid here → Goes g mid here round new next → here.slots c ≡ Some (s, channel)
+  EachIsServed = (c s : ℕ) (channel : Channel) (rounds : List (List Work)) (round : List Work) (old mid new : Desk R) (first here next : Place J)
+      → IsEmpty first → AreRounds nobody (rounds ++ round ∷ []) → Goes g jg old first (all_works rounds) mid here → Goes g jg mid here round new next → here.slots c ≡ Some (s, channel)
       → ((stands_in c absent (all_works rounds) ≡ waiting) × MayWait channel)
       ⊎ (RestsIn c s round mid here ⊎ ((any_of (is_leaving c) round ≡ true) ⊎ (Replies c round ⊎ (4 ≤ turns_of c round))))

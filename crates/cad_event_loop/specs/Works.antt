@@ -6,6 +6,7 @@ use Rattle.cad_versions.specs.declared.fault.RegisterFault.{RegisterFault}
 use Rattle.cad_versions.specs.declared.fault.RegisterFault.TheVariants.{Store, Memory}
 use Rattle.cad_versions.specs.Keeping.{IsShut}
 use Rattle.cad_stream.specs.declared.responder.Responder.{Ghosts}
+use Rattle.cad_stream.specs.declared.journal_responder.JournalResponder.{Ghosts as JournalGhosts}
 use Rattle.cad_desk.specs.declared.desk.Desk.{Desk}
 use Rattle.cad_desk.specs.declared.event.Event.{Event}
 use Rattle.cad_desk.specs.declared.event.Event.TheVariants.{Open, Bytes, Close, Office}
@@ -14,6 +15,7 @@ use Rattle.cad_desk.specs.declared.event.Reply.TheVariants as reply
 use Rattle.cad_desk.specs.declared.fault.DeskFault.{DeskFault}
 use Rattle.cad_desk.specs.declared.fault.DeskFault.TheVariants.{Register}
 use Rattle.cad_desk.specs.Desks.{responder_of, ChecksAtDesk, IsShutAtDesk, Steps}
+use Rattle.cad_desk.specs.Journals.{ReadsAtDesk}
 use Rattle.cad_desk.specs.Faults.{fault_of}
 use Rattle.cad_network.specs.Deeds.{Deed, came, office_came, woke, blocked, left}
 use Rattle.cad_network.specs.Deeds as deed
@@ -36,8 +38,9 @@ use Rattle.cad_dry_run.specs.declared.report.Report.{Report}
 use Rattle.cad_dry_run.specs.declared.report.Report.TheVariants as report
 use Rattle.cad_dry_run.specs.Reports.{answer_of}
 use Rattle.cad_office_socket.specs.Checks.{IsCheckOf}
+use Rattle.cad_office_socket.specs.Journals.{most_rows, IsJournalAfter}
 use Rattle.cad_office_socket.specs.Serving as serving
-use Rattle.cad_office_socket.specs.Turns.{IsNewEntry, IsAsking, IsEntryTurn, IsSending}
+use Rattle.cad_office_socket.specs.Turns.{unwritten, IsNewEntry, IsAsking, IsEntryTurn, IsSending}
 use Rattle.cad_event_loop.specs.declared.stopped.Stopped.{Stopped}
 use Rattle.cad_event_loop.specs.declared.stopped.Stopped.TheVariants.{Asked, StoreRefused}
 
@@ -60,33 +63,35 @@ abbrev pub Same : {X : Type 0} → (ℕ → Option X) → (ℕ → Option X) →
 Same old new = (d : ℕ) → new d ≡ old d
 
 -- a connection of the land office, if it is open: the name of its socket, and what it holds
-abbrev pub AtOffice : Type 0
-AtOffice = Option (ℕ × Entry)
+abbrev pub AtOffice : Type 0 → Type 0
+AtOffice J = Option (ℕ × Entry J)
 
 -- all of them by their numbers
-abbrev pub AtOffices : Type 0
-AtOffices = ℕ → AtOffice
+abbrev pub AtOffices : Type 0 → Type 0
+AtOffices J = ℕ → AtOffice J
 
 -- how many may be open
 abbrev pub most_offices : ℕ
 most_offices = 4
 
 -- who is here
-pub record Place : Type 0 where
+pub record Place (J : Type 0) : Type 0 where
   pub slots : Held
-  pub offices : AtOffices
+  pub offices : AtOffices J
 
-abbrev pub place_of : {S : Type 0} → (S → ℕ) → Clients S → AtOffices → Place
+abbrev pub place_of : {S J : Type 0} → (S → ℕ) → Clients S → AtOffices J → Place J
 place_of name clients offices = record { slots = held_at name clients; offices = offices }
 
 -- nobody is here
-abbrev pub IsEmpty : Place → Type 0
+abbrev pub IsEmpty : {J : Type 0} → Place J → Type 0
 IsEmpty place = ((c : ℕ) → place.slots c ≡ None) × ((k : ℕ) → place.offices k ≡ None)
 
--- what the desk gets, and its answer: an event, or the land office's question what would be answered to a command
+-- what the desk gets, and its answer: an event; or the land office's question what would be answered to a command; or the request to read
+-- the next rows of a journal
 pub data DeskCall : Type 0 where
   event : Event → Result Reply DeskFault → DeskCall
   question : Command → Result ℕ RegisterFault → DeskCall
+  rows : Result Bool RegisterFault → DeskCall
 
 -- the same, if it gets anything
 abbrev pub Said : Type 0
@@ -95,8 +100,8 @@ Said = Option DeskCall
 -- One of these is done:
 -- the network reports that the sockets at these places may continue; socket s comes and is connection c; connection c acts at socket s;
 -- its socket gives or takes nothing for now; it ends, by a turn of its own or because it is closed, with these deeds;
--- the land office comes at socket o and has connection k; it has a turn there, in which the line with this text ends, if one does; this
--- connection is let go, since its answer is overdue or since hosting ends; or something is done for none of them
+-- the land office comes at socket o and has connection k; it has a turn there, in which the line with this text ends, if one does, or this
+-- text of a journal is to be written; this connection is let go, since its answer is overdue or since hosting ends; or something is done for none of them
 pub data Work : Type 0 where
   wakes : List ℕ → Work
   opens : ℕ → ℕ → Work
@@ -170,6 +175,12 @@ end_of_turned (turn.Answered answer) = store_end (serving.is_store answer)
 end_of_turned (turn.Lost answer) = store_end (serving.is_store answer)
 end_of_turned (turn.Checked it) = store_end (serving.is_store (answer_of it))
 end_of_turned (turn.CheckLost it) = store_end (serving.is_store (answer_of it))
+end_of_turned (turn.JournalBegun behind) = None
+end_of_turned turn.RowsRead = None
+end_of_turned (turn.RowsRefused fault) = store_end (serving.is_store (answer.Refused fault))
+end_of_turned (turn.RowsLost fault) = store_end (serving.is_store (answer.Refused fault))
+end_of_turned turn.Piece = None
+end_of_turned turn.PieceLost = None
 end_of_turned turn.Stops = Some Asked
 end_of_turned turn.Waits = None
 end_of_turned turn.Over = None
@@ -207,12 +218,14 @@ abbrev pub IsOf : ℕ → Said → Type 0
 IsOf c None = ⊤
 IsOf c (Some (event e answer)) = IsEventOf c e
 IsOf c (Some (question command answer)) = ⊥
+IsOf c (Some (rows answer)) = ⊥
 
 -- the event is of no connection: the desk refused to open one
 abbrev pub IsOfNone : Held → Said → Type 0
 IsOfNone slots None = ⊤
 IsOfNone slots (Some (event e answer)) = (c : ℕ) × (slots c ≡ None) × (e ≡ Open c) × IsErr answer
 IsOfNone slots (Some (question command answer)) = ⊥
+IsOfNone slots (Some (rows answer)) = ⊥
 
 -- the desk gets the command that the line asks for, and gives this answer; or it gets none
 abbrev pub SaysSo : List ℕ → Answer → Said → Type 0
@@ -233,20 +246,31 @@ ChecksSo line report.LongLine said = ((command : Command) → ¬ Asks line comma
 abbrev pub IsCheckSaid : List ℕ → Report → Said → Type 0
 IsCheckSaid text it said = (line : List ℕ) × IsCheckOf text line × ChecksSo line it said
 
--- what the desk gets in a turn of the land office, for the line that ended in it
+-- what the desk gets in a turn of the land office, for the line that ended in it or the journal that goes on
 abbrev pub IsLineSaid : List ℕ → EntryTurned → Said → Type 0
 IsLineSaid text (turn.Answered answer) said = IsAsking text answer × SaysSo text answer said
 IsLineSaid text (turn.Lost answer) said = IsAsking text answer × SaysSo text answer said
 IsLineSaid text (turn.Checked it) said = IsCheckSaid text it said
 IsLineSaid text (turn.CheckLost it) said = IsCheckSaid text it said
+IsLineSaid text (turn.JournalBegun behind) said = IsJournalAfter text behind × (said ≡ None)
+IsLineSaid text turn.RowsRead said = (whole : Bool) × (said ≡ Some (rows (Ok whole)))
+IsLineSaid text (turn.RowsRefused fault) said = said ≡ Some (rows (Err fault))
+IsLineSaid text (turn.RowsLost fault) said = said ≡ Some (rows (Err fault))
 IsLineSaid text turn.Stops said = (text ≡ codes "stop") × (said ≡ None)
 IsLineSaid text other said = said ≡ None
+
+-- the piece of a journal, in a turn in which one is to be written
+abbrev pub IsPieceWritten : {J : Type 0} → List ℕ → EntryTurned → Entry J → Type 0
+IsPieceWritten text turn.Piece after = unwritten after ≡ text
+IsPieceWritten text other after = ⊤
 
 -- whether the land office's connection is over by the turn: nothing more can be written to it, and hosting continues without it
 abbrev pub is_last : EntryTurned → Bool
 is_last turn.Over = true
 is_last (turn.Lost answer) = not (serving.is_store answer)
 is_last (turn.CheckLost it) = not (serving.is_store (answer_of it))
+is_last (turn.RowsLost fault) = not (serving.is_store (answer.Refused fault))
+is_last turn.PieceLost = true
 is_last other = false
 
 -- nothing is done at a socket; or one comes and is let go, a client's after a head with the reason is sent to it
@@ -255,11 +279,12 @@ IsAside deeds =
     (deeds ≡ []) ⊎ (((s : ℕ) × (fault : DeskFault) × (told : List Deed) × SendsFault s fault told × (deeds ≡ came s ∷ (told ++ left s ∷ [])))
     ⊎ ((s : ℕ) × (deeds ≡ office_came s ∷ left s ∷ [])))
 
-module _ {R : Type 0} (g : Ghosts R) where
+module _ {R J : Type 0} (g : Ghosts R) (jg : JournalGhosts R J) where
   abbrev pub Tells : Desk R → Said → Desk R → Type 0
   Tells old None new = new ≡ old
   Tells old (Some (event e answer)) new = Steps g old e answer new
   Tells old (Some (question command answer)) new = ChecksAtDesk g old command answer new
+  Tells old (Some (rows answer)) new = (before : J) × (after : J) × ReadsAtDesk g jg old before most_rows answer new after
 
   -- connection c is over by a turn of its own, or it is closed; and its socket is let go
   abbrev pub Leaves : ℕ → ℕ → Desk R → Channel → Option Ending → List Deed → Desk R → Type 0
@@ -267,7 +292,7 @@ module _ {R : Type 0} (g : Ghosts R) where
   Leaves c s old channel None deeds new = (deeds ≡ left s ∷ []) × Closes g c old new
 
   -- one thing is done
-  abbrev pub Works : Desk R → Place → Work → Desk R → Place → Type 0
+  abbrev pub Works : Desk R → Place J → Work → Desk R → Place J → Type 0
   Works old here (wakes places) new next = (new ≡ old) × Same here.slots next.slots × Same here.offices next.offices
   Works old here (opens s c) new next =
       (channel : Channel) × (here.slots c ≡ None) × IsNew channel × Steps g old (Open c) (Ok reply.Opened) new × Puts here.slots next.slots c (Some (s, channel)) × Same here.offices next.offices
@@ -278,26 +303,28 @@ module _ {R : Type 0} (g : Ghosts R) where
   Works old here (ends s c cause deeds said) new next =
       (channel : Channel) × (here.slots c ≡ Some (s, channel)) × Leaves c s old channel cause deeds new × IsOf c said × Tells old said new × Puts here.slots next.slots c None × Same here.offices next.offices
   Works old here (office_comes o k) new next =
-      (entry : Entry) × (here.offices k ≡ None) × IsNewEntry entry × Puts here.offices next.offices k (Some (o, entry)) × Same here.slots next.slots × (new ≡ old) × (k < most_offices)
+      (entry : Entry J) × (here.offices k ≡ None) × IsNewEntry entry × Puts here.offices next.offices k (Some (o, entry)) × Same here.slots next.slots × (new ≡ old) × (k < most_offices)
   Works old here (enters o k text turned deeds said) new next =
-      (entry : Entry) × (after : Entry) × (own : List Deed) × (here.offices k ≡ Some (o, entry)) × IsEntryTurn g o old entry turned new after own × (deeds ≡ own ++ (if is_last turned then left o ∷ [] else []))
+      (entry : Entry J) × (after : Entry J) × (own : List Deed) × (here.offices k ≡ Some (o, entry)) × IsEntryTurn g jg o old entry turned new after own × (deeds ≡ own ++ (if is_last turned then left o ∷ [] else []))
       × IsLineSaid text turned said × Tells old said new × Puts here.offices next.offices k (if is_last turned then None else Some (o, after)) × Same here.slots next.slots
+      × IsPieceWritten text turned after
   Works old here (office_leaves o k overdue) new next =
-      (entry : Entry) × (here.offices k ≡ Some (o, entry)) × Puts here.offices next.offices k None × Same here.slots next.slots × (new ≡ old) × (overdue ≡ true → IsSending entry)
+      (entry : Entry J) × (here.offices k ≡ Some (o, entry)) × Puts here.offices next.offices k None × Same here.slots next.slots × (new ≡ old) × (overdue ≡ true → IsSending entry)
   Works old here (aside deeds said) new next = IsOfNone here.slots said × Tells old said new × Same here.slots next.slots × IsAside deeds × Same here.offices next.offices
 
   -- these things are done, one after the other
-  abbrev pub Goes : Desk R → Place → List Work → Desk R → Place → Type 0
+  abbrev pub Goes : Desk R → Place J → List Work → Desk R → Place J → Type 0
   Goes old here [] new next = (new ≡ old) × (next ≡ here)
   Goes old here (work ∷ later) new next =
-      (mid : Desk R) × (between : Place) × Works old here work mid between × Goes mid between later new next
+      (mid : Desk R) × (between : Place J) × Works old here work mid between × Goes mid between later new next
 
   -- the ledger was not closed by a refusal
   abbrev pub MayAsk : Desk R → Said → Desk R → Type 0
   MayAsk old None new = ⊤
   MayAsk old (Some (event e answer)) new = IfErr answer (λ fault. ¬ IsShutAtDesk g old fault new)
   MayAsk old (Some (question command answer)) new = IfErr answer (λ fault. ¬ IsShut g.lives g.fails (responder_of old) fault (responder_of new))
+  MayAsk old (Some (rows answer)) new = IfErr answer (λ fault. ¬ IsShut g.lives g.fails (responder_of old) fault (responder_of new))
 
-  abbrev pub MayGoOn : (works : List Work) (old new : Desk R) (here next : Place) → Goes old here works new next → Type 0
+  abbrev pub MayGoOn : (works : List Work) (old new : Desk R) (here next : Place J) → Goes old here works new next → Type 0
   MayGoOn [] old new here next goes = ⊤
   MayGoOn (work ∷ later) old new here next goes = MayAsk old (said_by work) goes.0 × MayGoOn later goes.0 new goes.1 next goes.3

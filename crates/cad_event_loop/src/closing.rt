@@ -5,7 +5,7 @@ use crate::rounds::Rounds;
 use cad_desk::Desk;
 use cad_network::Network;
 use cad_office_socket::EntryTurned;
-use cad_stream::Responder;
+use cad_stream::JournalResponder;
 use std::io::Result;
 
 /// For how many seconds replies and the office's answers are written once hosting ends.
@@ -14,7 +14,7 @@ const LAST_SECONDS: u64 = 5;
 /// The most milliseconds of one wait meanwhile.
 const LAST_PATIENCE: u64 = 100;
 
-impl<S: Drop> Rounds<S> {
+impl<S: Drop, J: Drop> Rounds<S, J> {
     ghost use Rattle.std.specs.Prelude.{◌≡◌, ◌<◌, ℕ, None};
     ghost use Rattle.cad_event_loop.specs.Hosting.{Hosts, IsClosing};
     ghost use Rattle.cad_event_loop.specs.inner.Offices.{seat_at, Seats};
@@ -22,25 +22,25 @@ impl<S: Drop> Rounds<S> {
     ghost use Rattle.cad_event_loop.specs.Works.{IsEmpty};
 
     /// Waits until a socket may take something, or for `LAST_PATIENCE`.
-    fn wait_last<N: Network<Socket = S>, R: Responder>(
+    fn wait_last<N: Network<Socket = S>, R: JournalResponder<Reading = J>>(
         &mut self,
         net: &mut N,
         desk: &mut Desk<R>,
     ) -> Result<()>
-        ensures { Hosts R.Responder IsClosing None (N.history net.old) desk.old (here N.name self.old) (N.history net.new) desk.new (here N.name self.new) }
+        ensures { Hosts R.Responder R.JournalResponder.own IsClosing None (N.history net.old) desk.old (here N.name self.old) (N.history net.new) desk.new (here N.name self.new) }
     {
         self.peers.wait(net, LAST_PATIENCE)
     }
 
     /// Writes once to a connection of the land office what is not written of its answer, if its socket may take something.
-    fn send_office<N: Network<Socket = S>, R: Responder>(
+    fn send_office<N: Network<Socket = S>, R: JournalResponder<Reading = J>>(
         &mut self,
         k: usize,
         net: &mut N,
         desk: &mut Desk<R>,
     )
         requires { k < 4 }
-        ensures { Hosts R.Responder IsClosing None (N.history net.old) desk.old (here N.name self.old) (N.history net.new) desk.new (here N.name self.new) }
+        ensures { Hosts R.Responder R.JournalResponder.own IsClosing None (N.history net.old) desk.old (here N.name self.old) (N.history net.new) desk.new (here N.name self.new) }
     {
         if !self.peers.ready.office(k) || !self.offices.is_sending(k) {
             return;
@@ -56,12 +56,12 @@ impl<S: Drop> Rounds<S> {
     }
 
     /// The same for each of them.
-    fn send_offices<N: Network<Socket = S>, R: Responder>(
+    fn send_offices<N: Network<Socket = S>, R: JournalResponder<Reading = J>>(
         &mut self,
         net: &mut N,
         desk: &mut Desk<R>,
     )
-        ensures { Hosts R.Responder IsClosing None (N.history net.old) desk.old (here N.name self.old) (N.history net.new) desk.new (here N.name self.new) }
+        ensures { Hosts R.Responder R.JournalResponder.own IsClosing None (N.history net.old) desk.old (here N.name self.old) (N.history net.new) desk.new (here N.name self.new) }
     {
         for k in 0..MOST_OFFICES {
             self.send_office(k, net, desk);
@@ -69,20 +69,24 @@ impl<S: Drop> Rounds<S> {
     }
 
     /// Writes once to the clients and the land office what is not written yet, if their sockets may take something.
-    fn send_all<N: Network<Socket = S>, R: Responder>(&mut self, net: &mut N, desk: &mut Desk<R>)
-        ensures { Hosts R.Responder IsClosing None (N.history net.old) desk.old (here N.name self.old) (N.history net.new) desk.new (here N.name self.new) }
+    fn send_all<N: Network<Socket = S>, R: JournalResponder<Reading = J>>(
+        &mut self,
+        net: &mut N,
+        desk: &mut Desk<R>,
+    )
+        ensures { Hosts R.Responder R.JournalResponder.own IsClosing None (N.history net.old) desk.old (here N.name self.old) (N.history net.new) desk.new (here N.name self.new) }
     {
         self.peers.send_ready(net, desk);
         self.send_offices(net, desk);
     }
 
     /// Writes the replies and the office's answers that are under way, for at most five seconds. Nothing is read or answered.
-    fn send_last<N: Network<Socket = S>, R: Responder>(
+    fn send_last<N: Network<Socket = S>, R: JournalResponder<Reading = J>>(
         &mut self,
         net: &mut N,
         desk: &mut Desk<R>,
     ) -> Result<()>
-        ensures { Hosts R.Responder IsClosing None (N.history net.old) desk.old (here N.name self.old) (N.history net.new) desk.new (here N.name self.new) }
+        ensures { Hosts R.Responder R.JournalResponder.own IsClosing None (N.history net.old) desk.old (here N.name self.old) (N.history net.new) desk.new (here N.name self.new) }
     {
         let began = self.peers.now;
         for _ in 0..u64::MAX {
@@ -97,13 +101,13 @@ impl<S: Drop> Rounds<S> {
     }
 
     /// The same, if the network did not fail before.
-    fn send_if<N: Network<Socket = S>, R: Responder>(
+    fn send_if<N: Network<Socket = S>, R: JournalResponder<Reading = J>>(
         &mut self,
         is_sound: bool,
         net: &mut N,
         desk: &mut Desk<R>,
     ) -> Result<()>
-        ensures { Hosts R.Responder IsClosing None (N.history net.old) desk.old (here N.name self.old) (N.history net.new) desk.new (here N.name self.new) }
+        ensures { Hosts R.Responder R.JournalResponder.own IsClosing None (N.history net.old) desk.old (here N.name self.old) (N.history net.new) desk.new (here N.name self.new) }
     {
         if is_sound {
             self.send_last(net, desk)
@@ -113,7 +117,7 @@ impl<S: Drop> Rounds<S> {
     }
 
     /// Lets a connection of the land office go, if it is open.
-    fn part_office<N: Network<Socket = S>, R: Responder>(
+    fn part_office<N: Network<Socket = S>, R: JournalResponder<Reading = J>>(
         &mut self,
         k: usize,
         net: &mut N,
@@ -122,7 +126,7 @@ impl<S: Drop> Rounds<S> {
         requires { k < 4 }
         ensures clients { self.new.peers ≡ self.old.peers }
         ensures gone { Seats self.old.offices self.new.offices k None }
-        ensures hosts { Hosts R.Responder IsClosing None (N.history net.old) desk.old (here N.name self.old) (N.history net.new) desk.new (here N.name self.new) }
+        ensures hosts { Hosts R.Responder R.JournalResponder.own IsClosing None (N.history net.old) desk.old (here N.name self.old) (N.history net.new) desk.new (here N.name self.new) }
     {
         if let Some(office) = self.offices.take(k) {
             net.let_go(office.into_socket());
@@ -130,14 +134,14 @@ impl<S: Drop> Rounds<S> {
     }
 
     /// Lets each connection of the land office go.
-    fn part_offices<N: Network<Socket = S>, R: Responder>(
+    fn part_offices<N: Network<Socket = S>, R: JournalResponder<Reading = J>>(
         &mut self,
         net: &mut N,
         desk: &mut Desk<R>,
     )
         ensures clients { self.new.peers ≡ self.old.peers }
         ensures nobody { (k : ℕ) → seat_at self.new.offices k ≡ None }
-        ensures hosts { Hosts R.Responder IsClosing None (N.history net.old) desk.old (here N.name self.old) (N.history net.new) desk.new (here N.name self.new) }
+        ensures hosts { Hosts R.Responder R.JournalResponder.own IsClosing None (N.history net.old) desk.old (here N.name self.old) (N.history net.new) desk.new (here N.name self.new) }
     {
         for k in 0..MOST_OFFICES {
             self.part_office(k, net, desk);
@@ -145,23 +149,27 @@ impl<S: Drop> Rounds<S> {
     }
 
     /// Lets all go.
-    fn part<N: Network<Socket = S>, R: Responder>(&mut self, net: &mut N, desk: &mut Desk<R>)
+    fn part<N: Network<Socket = S>, R: JournalResponder<Reading = J>>(
+        &mut self,
+        net: &mut N,
+        desk: &mut Desk<R>,
+    )
         ensures nobody { IsEmpty (here N.name self.new) }
-        ensures hosts { Hosts R.Responder IsClosing None (N.history net.old) desk.old (here N.name self.old) (N.history net.new) desk.new (here N.name self.new) }
+        ensures hosts { Hosts R.Responder R.JournalResponder.own IsClosing None (N.history net.old) desk.old (here N.name self.old) (N.history net.new) desk.new (here N.name self.new) }
     {
         self.peers.part(net, desk);
         self.part_offices(net, desk);
     }
 
     /// Writes what is under way, if the network did not fail before, and then lets all go.
-    pub(crate) fn end<N: Network<Socket = S>, R: Responder>(
+    pub(crate) fn end<N: Network<Socket = S>, R: JournalResponder<Reading = J>>(
         &mut self,
         is_sound: bool,
         net: &mut N,
         desk: &mut Desk<R>,
     ) -> Result<()>
         ensures nobody { IsEmpty (here N.name self.new) }
-        ensures hosts { Hosts R.Responder IsClosing None (N.history net.old) desk.old (here N.name self.old) (N.history net.new) desk.new (here N.name self.new) }
+        ensures hosts { Hosts R.Responder R.JournalResponder.own IsClosing None (N.history net.old) desk.old (here N.name self.old) (N.history net.new) desk.new (here N.name self.new) }
     {
         let sent = self.send_if(is_sound, net, desk);
         self.part(net, desk);

@@ -7,7 +7,7 @@ use crate::stopped::Stopped;
 use cad_clients::AccessLog;
 use cad_desk::Desk;
 use cad_network::Network;
-use cad_stream::Responder;
+use cad_stream::JournalResponder;
 use std::alloc::Global;
 use std::io::Result;
 
@@ -31,13 +31,13 @@ fn last_of(hosted: Result<Stopped>, ended: Result<()>) -> Result<Stopped>
 /// comes when 64 are connected gets a fixed head that says so. One that neither sends nor takes a byte for 60 seconds is dropped, and so is
 /// one whose request and its reply take 300 seconds. A connection of the office that takes no byte of an answer for 300 seconds is dropped.
 /// Replies and the office's answers that are under way at the end are written for at most five seconds; then all are let go.
-pub fn host<N: Network, R: Responder, L: AccessLog<N::Socket>>(
+pub fn host<N: Network, R: JournalResponder, L: AccessLog<N::Socket>>(
     alloc: Global,
     net: &mut N,
     desk: &mut Desk<R>,
     log: &mut L,
 ) -> Result<Stopped>
-    ensures { Hosted R.Responder (N.history net.old) desk.old result (N.history net.new) desk.new }
+    ensures { Hosted R.Responder R.JournalResponder.own (N.history net.old) desk.old result (N.history net.new) desk.new }
 {
     let mut rounds = Rounds::new(alloc)?;
     let hosted = rounds.run(net, desk, log);

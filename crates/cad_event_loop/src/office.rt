@@ -10,7 +10,7 @@ use cad_dry_run::Report;
 use cad_network::Network;
 use cad_office::Answer;
 use cad_office_socket::{Entry, EntryServed, EntryTurned};
-use cad_stream::Responder;
+use cad_stream::JournalResponder;
 use cad_versions::RegisterFault;
 use std::alloc::Global;
 
@@ -48,13 +48,22 @@ fn is_last(turned: &EntryTurned) -> bool
 {
     match turned {
         EntryTurned::Lost(Answer::Refused(RegisterFault::Store))
-        | EntryTurned::CheckLost(Report::Refused(RegisterFault::Store)) => false,
-        EntryTurned::Over | EntryTurned::Lost(_) | EntryTurned::CheckLost(_) => true,
+        | EntryTurned::CheckLost(Report::Refused(RegisterFault::Store))
+        | EntryTurned::RowsLost(RegisterFault::Store) => false,
+        EntryTurned::Over
+        | EntryTurned::Lost(_)
+        | EntryTurned::CheckLost(_)
+        | EntryTurned::RowsLost(_)
+        | EntryTurned::PieceLost => true,
         EntryTurned::Wrote
         | EntryTurned::Took
         | EntryTurned::Added
         | EntryTurned::Answered(_)
         | EntryTurned::Checked(_)
+        | EntryTurned::JournalBegun(_)
+        | EntryTurned::RowsRead
+        | EntryTurned::RowsRefused(_)
+        | EntryTurned::Piece
         | EntryTurned::Stops
         | EntryTurned::Waits => false,
     }
@@ -68,21 +77,21 @@ fn moved_after(before: usize, after: usize, moved: u64, now: u64) -> u64 {
 
 /// A connection of the land office and its socket.
 #[derive(Drop)]
-pub(crate) struct Office<S> {
+pub(crate) struct Office<S, J> {
     pub(crate) socket: S,
-    pub(crate) entry: Entry,
+    pub(crate) entry: Entry<J>,
     /// When the answer that is to be written began, or a byte of it was written last. This is in seconds, as the network reported them.
     moved: u64,
 }
 
-impl<S: Drop> Office<S> {
+impl<S: Drop, J: Drop> Office<S, J> {
     ghost use Rattle.std.specs.Prelude.{IsTrue};
     ghost use Rattle.cad_network.specs.Deeds.{AddsSome};
     ghost use Rattle.cad_office_socket.specs.Turns.{IsNewEntry, IsSending};
     ghost use Rattle.cad_event_loop.specs.inner.Offices.{HasOfficeTurns, HasSent};
 
     /// An office from which nothing was read.
-    pub(crate) fn new(alloc: Global, socket: S, now: u64) -> Office<S>
+    pub(crate) fn new(alloc: Global, socket: S, now: u64) -> Office<S, J>
         ensures socket { result.socket ≡ socket }
         ensures new { IsNewEntry result.entry }
     {
@@ -113,14 +122,14 @@ impl<S: Drop> Office<S> {
     }
 
     /// Serves the office with some turns, and returns it. If its connection is over, its socket is let go and no office is returned.
-    pub(crate) fn serve<N: Network<Socket = S>, R: Responder>(
+    pub(crate) fn serve<N: Network<Socket = S>, R: JournalResponder<Reading = J>>(
         self,
         alloc: Global,
         now: u64,
         net: &mut N,
         desk: &mut Desk<R>,
-    ) -> (EntryServed, Option<Office<S>>)
-        ensures { AddsSome (N.history net.old) (N.history net.new) (HasOfficeTurns R.Responder N.name desk.old self result desk.new) }
+    ) -> (EntryServed, Option<Office<S, J>>)
+        ensures { AddsSome (N.history net.old) (N.history net.new) (HasOfficeTurns R.Responder R.JournalResponder.own N.name desk.old self result desk.new) }
     {
         let Office {
             socket,
@@ -149,7 +158,7 @@ impl<S: Drop> Office<S> {
     pub(crate) fn send<N: Network<Socket = S>>(
         self,
         net: &mut N,
-    ) -> (EntryTurned, Option<Office<S>>)
+    ) -> (EntryTurned, Option<Office<S, J>>)
         requires { IsSending self.entry }
         ensures { AddsSome (N.history net.old) (N.history net.new) (HasSent N.name self result) }
     {

@@ -8,17 +8,17 @@ use std::alloc::{AllocError, Global};
 
 /// The land office's connections by their numbers, which are below `MOST_OFFICES`.
 #[derive(Drop)]
-pub(crate) struct Offices<S> {
-    seats: Vec<Option<Office<S>>>,
+pub(crate) struct Offices<S, J> {
+    seats: Vec<Option<Office<S, J>>>,
     pub ghost room: { length seats.items ≡ 4 },
 }
 
-impl<S: Drop> Offices<S> {
+impl<S: Drop, J: Drop> Offices<S, J> {
     ghost use Rattle.std.specs.Prelude.{ℕ, ◌<◌, None, IfOk, IfSome, IsTrue, option_copied};
     ghost use Rattle.cad_event_loop.specs.inner.Offices.{seat_at, IsOfficeSending, Seats};
 
     /// No connection, and room for four.
-    pub(crate) fn new(alloc: Global) -> Result<Offices<S>, AllocError>
+    pub(crate) fn new(alloc: Global) -> Result<Offices<S, J>, AllocError>
         ensures { IfOk result (λ offices. (k : ℕ) → seat_at offices k ≡ None) }
     {
         let mut seats = Vec::new(alloc);
@@ -29,7 +29,7 @@ impl<S: Drop> Offices<S> {
     }
 
     /// Takes a connection out of its place.
-    pub(crate) fn take(&mut self, k: usize) -> Option<Office<S>>
+    pub(crate) fn take(&mut self, k: usize) -> Option<Office<S, J>>
         requires { k < 4 }
         ensures was { result ≡ seat_at self.old k }
         ensures rest { Seats self.old self.new k None }
@@ -38,7 +38,7 @@ impl<S: Drop> Offices<S> {
     }
 
     /// Puts a connection into its place, or leaves this free.
-    pub(crate) fn put(&mut self, k: usize, office: Option<Office<S>>)
+    pub(crate) fn put(&mut self, k: usize, office: Option<Office<S, J>>)
         requires { k < 4 }
         ensures { Seats self.old self.new k office }
     {
@@ -69,7 +69,7 @@ impl<S: Drop> Offices<S> {
         true
     }
 
-    fn office(&self, k: usize) -> Option<&Office<S>>
+    fn office(&self, k: usize) -> Option<&Office<S, J>>
         ensures { option_copied result ≡ seat_at self.now k }
     {
         if k < MOST_OFFICES {

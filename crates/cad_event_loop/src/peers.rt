@@ -8,7 +8,7 @@ use crate::stopped::Stopped;
 use cad_clients::{AccessLog, Clients, Ending, Limits, ROOM, Served, tell_fault};
 use cad_desk::{Desk, DeskFault};
 use cad_network::{Network, is_blocked};
-use cad_stream::Responder;
+use cad_stream::JournalResponder;
 use cad_versions::RegisterFault;
 use std::alloc::{AllocError, Global};
 use std::io::Result;
@@ -120,27 +120,27 @@ impl<S: Drop> Peers<S> {
     }
 
     /// Serves a client, if it may continue. Returns why hosting ends by that, if it does.
-    pub(crate) fn serve_one<N: Network<Socket = S>, R: Responder, L: AccessLog<S>>(
+    pub(crate) fn serve_one<N: Network<Socket = S>, R: JournalResponder, L: AccessLog<S>>(
         &mut self,
         c: u32,
         net: &mut N,
         desk: &mut Desk<R>,
         log: &mut L,
     ) -> Option<Stopped>
-        ensures { (offices : AtOffices) → Serves R.Responder (GivesTurnAlone c 4 (standings self.old offices) (standings self.new offices)) result (N.history net.old) desk.old (place_of N.name self.old.clients offices)
+        ensures { (offices : AtOffices R.Reading) → Serves R.Responder R.JournalResponder.own (GivesTurnAlone c 4 (standings self.old offices) (standings self.new offices)) result (N.history net.old) desk.old (place_of N.name self.old.clients offices)
             (N.history net.new) desk.new (place_of N.name self.new.clients offices) }
     {
         end_of(self.clients.serve(self.alloc, c, self.now, net, desk, log))
     }
 
     /// Writes once to a client what is not written yet.
-    fn send_one<N: Network<Socket = S>, R: Responder>(
+    fn send_one<N: Network<Socket = S>, R: JournalResponder>(
         &mut self,
         c: u32,
         net: &mut N,
         desk: &mut Desk<R>,
     )
-        ensures { (offices : AtOffices) → Hosts R.Responder IsClosing None (N.history net.old) desk.old (place_of N.name self.old.clients offices)
+        ensures { (offices : AtOffices R.Reading) → Hosts R.Responder R.JournalResponder.own IsClosing None (N.history net.old) desk.old (place_of N.name self.old.clients offices)
             (N.history net.new) desk.new (place_of N.name self.new.clients offices) }
     {
         if self.clients.is_ready(c) && self.clients.is_sending(c) {
@@ -149,12 +149,12 @@ impl<S: Drop> Peers<S> {
     }
 
     /// Writes once to each client what is not written yet. Nothing is read or answered.
-    pub(crate) fn send_ready<N: Network<Socket = S>, R: Responder>(
+    pub(crate) fn send_ready<N: Network<Socket = S>, R: JournalResponder>(
         &mut self,
         net: &mut N,
         desk: &mut Desk<R>,
     )
-        ensures { (offices : AtOffices) → Hosts R.Responder IsClosing None (N.history net.old) desk.old (place_of N.name self.old.clients offices)
+        ensures { (offices : AtOffices R.Reading) → Hosts R.Responder R.JournalResponder.own IsClosing None (N.history net.old) desk.old (place_of N.name self.old.clients offices)
             (N.history net.new) desk.new (place_of N.name self.new.clients offices) }
     {
         for c in 0..ROOM {
@@ -163,13 +163,13 @@ impl<S: Drop> Peers<S> {
     }
 
     /// Drops a client that is overdue.
-    fn drop_one<N: Network<Socket = S>, R: Responder>(
+    fn drop_one<N: Network<Socket = S>, R: JournalResponder>(
         &mut self,
         c: u32,
         net: &mut N,
         desk: &mut Desk<R>,
     )
-        ensures { (offices : AtOffices) → Serves R.Responder (IsAtDoors 1 (standings self.old offices) (standings self.new offices)) None (N.history net.old) desk.old (place_of N.name self.old.clients offices)
+        ensures { (offices : AtOffices R.Reading) → Serves R.Responder R.JournalResponder.own (IsAtDoors 1 (standings self.old offices) (standings self.new offices)) None (N.history net.old) desk.old (place_of N.name self.old.clients offices)
             (N.history net.new) desk.new (place_of N.name self.new.clients offices) }
     {
         if self.clients.is_overdue(c, self.now, &LIMITS) {
@@ -178,12 +178,12 @@ impl<S: Drop> Peers<S> {
     }
 
     /// Drops the clients that are overdue.
-    pub(crate) fn drop_overdue<N: Network<Socket = S>, R: Responder>(
+    pub(crate) fn drop_overdue<N: Network<Socket = S>, R: JournalResponder>(
         &mut self,
         net: &mut N,
         desk: &mut Desk<R>,
     )
-        ensures { (offices : AtOffices) → Serves R.Responder (IsAtDoors 64 (standings self.old offices) (standings self.new offices)) None (N.history net.old) desk.old (place_of N.name self.old.clients offices)
+        ensures { (offices : AtOffices R.Reading) → Serves R.Responder R.JournalResponder.own (IsAtDoors 64 (standings self.old offices) (standings self.new offices)) None (N.history net.old) desk.old (place_of N.name self.old.clients offices)
             (N.history net.new) desk.new (place_of N.name self.new.clients offices) }
     {
         for c in 0..ROOM {
@@ -192,12 +192,12 @@ impl<S: Drop> Peers<S> {
     }
 
     /// Lets all clients go.
-    pub(crate) fn part<N: Network<Socket = S>, R: Responder>(
+    pub(crate) fn part<N: Network<Socket = S>, R: JournalResponder>(
         &mut self,
         net: &mut N,
         desk: &mut Desk<R>,
     )
-        ensures hosts { (offices : AtOffices) → Hosts R.Responder IsClosing None (N.history net.old) desk.old (place_of N.name self.old.clients offices)
+        ensures hosts { (offices : AtOffices R.Reading) → Hosts R.Responder R.JournalResponder.own IsClosing None (N.history net.old) desk.old (place_of N.name self.old.clients offices)
             (N.history net.new) desk.new (place_of N.name self.new.clients offices) }
         ensures nobody { (c : ℕ) → held_at N.name self.new.clients c ≡ None }
     {
@@ -216,15 +216,15 @@ impl<S: Drop> Peers<S> {
 
     /// Opens a connection for a socket, if there is a number for it and the network can watch it. A socket that is not opened gets a fixed
     /// head that says so.
-    fn admit<N: Network<Socket = S>, R: Responder, L: AccessLog<S>>(
+    fn admit<N: Network<Socket = S>, R: JournalResponder, L: AccessLog<S>>(
         &mut self,
         mut socket: S,
         net: &mut N,
         desk: &mut Desk<R>,
         log: &mut L,
     )
-        ensures { (offices : AtOffices) (before : Option (List Deed)) → Adds before (N.history net.old) (came (N.name socket) ∷ [])
-            → Serves R.Responder (IsAtDoors 1 (standings self.old offices) (standings self.new offices)) None before desk.old (place_of N.name self.old.clients offices)
+        ensures { (offices : AtOffices R.Reading) (before : Option (List Deed)) → Adds before (N.history net.old) (came (N.name socket) ∷ [])
+            → Serves R.Responder R.JournalResponder.own (IsAtDoors 1 (standings self.old offices) (standings self.new offices)) None before desk.old (place_of N.name self.old.clients offices)
             (N.history net.new) desk.new (place_of N.name self.new.clients offices) }
     {
         let Some(c) = self.clients.free_number() else {
@@ -243,13 +243,13 @@ impl<S: Drop> Peers<S> {
 
     /// Takes the client that waits. `false` means that none waits for now. A client that the system could not hand over is skipped: if
     /// there are not enough descriptors, it waits at the door until the next round.
-    fn take_client<N: Network<Socket = S>, R: Responder, L: AccessLog<S>>(
+    fn take_client<N: Network<Socket = S>, R: JournalResponder, L: AccessLog<S>>(
         &mut self,
         net: &mut N,
         desk: &mut Desk<R>,
         log: &mut L,
     ) -> bool
-        ensures { (offices : AtOffices) → Serves R.Responder (IsAtDoors 1 (standings self.old offices) (standings self.new offices)) None (N.history net.old) desk.old (place_of N.name self.old.clients offices)
+        ensures { (offices : AtOffices R.Reading) → Serves R.Responder R.JournalResponder.own (IsAtDoors 1 (standings self.old offices) (standings self.new offices)) None (N.history net.old) desk.old (place_of N.name self.old.clients offices)
             (N.history net.new) desk.new (place_of N.name self.new.clients offices) }
     {
         match net.accept() {
@@ -262,13 +262,13 @@ impl<S: Drop> Peers<S> {
     }
 
     /// Takes the clients that wait, if there are some.
-    pub(crate) fn take_clients<N: Network<Socket = S>, R: Responder, L: AccessLog<S>>(
+    pub(crate) fn take_clients<N: Network<Socket = S>, R: JournalResponder, L: AccessLog<S>>(
         &mut self,
         net: &mut N,
         desk: &mut Desk<R>,
         log: &mut L,
     )
-        ensures { (offices : AtOffices) → Serves R.Responder (IsAtDoors 64 (standings self.old offices) (standings self.new offices)) None (N.history net.old) desk.old (place_of N.name self.old.clients offices)
+        ensures { (offices : AtOffices R.Reading) → Serves R.Responder R.JournalResponder.own (IsAtDoors 64 (standings self.old offices) (standings self.new offices)) None (N.history net.old) desk.old (place_of N.name self.old.clients offices)
             (N.history net.new) desk.new (place_of N.name self.new.clients offices) }
     {
         if !self.ready.clients_door {

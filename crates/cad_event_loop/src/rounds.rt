@@ -8,7 +8,7 @@ use crate::stopped::Stopped;
 use cad_clients::{AccessLog, ROOM};
 use cad_desk::Desk;
 use cad_network::{Network, is_blocked};
-use cad_stream::Responder;
+use cad_stream::JournalResponder;
 use std::alloc::{AllocError, Global};
 use std::io::Result;
 
@@ -20,12 +20,12 @@ const IMPATIENCE: u64 = 50;
 
 /// The clients and the land office's connections.
 #[derive(Drop)]
-pub(crate) struct Rounds<S> {
+pub(crate) struct Rounds<S, J> {
     pub(crate) peers: Peers<S>,
-    pub(crate) offices: Offices<S>,
+    pub(crate) offices: Offices<S, J>,
 }
 
-impl<S: Drop> Rounds<S> {
+impl<S: Drop, J: Drop> Rounds<S, J> {
     ghost use Rattle.std.specs.Prelude.{◌≡◌, ◌<◌, List, [], ◌∷◌, Option, None, IfOk};
     ghost use Rattle.cad_network.specs.Deeds.{Deed, office_came, Adds};
     ghost use Rattle.cad_event_loop.specs.Hosting.{end_of_round, end_of_rounds, Serves};
@@ -35,7 +35,7 @@ impl<S: Drop> Rounds<S> {
     ghost use Rattle.cad_event_loop.specs.Turns.{most_in_round, AreServed};
 
     /// Without clients and land office.
-    pub(crate) fn new(alloc: Global) -> std::result::Result<Rounds<S>, AllocError>
+    pub(crate) fn new(alloc: Global) -> std::result::Result<Rounds<S, J>, AllocError>
         ensures { IfOk result IsNobody }
     {
         let peers = Peers::new(alloc)?;
@@ -44,20 +44,20 @@ impl<S: Drop> Rounds<S> {
     }
 
     /// Waits until a socket may give or take something, or until the time is over, while clients are served.
-    fn wait<N: Network<Socket = S>, R: Responder>(
+    fn wait<N: Network<Socket = S>, R: JournalResponder<Reading = J>>(
         &mut self,
         net: &mut N,
         desk: &mut Desk<R>,
         milliseconds: u64,
     ) -> Result<()>
         ensures offices { self.new.offices ≡ self.old.offices }
-        ensures hosts { Serves R.Responder (IsAsked (standing N.name self.old) (standing N.name self.new)) None (N.history net.old) desk.old (here N.name self.old) (N.history net.new) desk.new (here N.name self.new) }
+        ensures hosts { Serves R.Responder R.JournalResponder.own (IsAsked (standing N.name self.old) (standing N.name self.new)) None (N.history net.old) desk.old (here N.name self.old) (N.history net.new) desk.new (here N.name self.new) }
     {
         self.peers.wait(net, milliseconds)
     }
 
     /// Serves a connection of the land office with some turns, if it is open.
-    fn serve_office_once<N: Network<Socket = S>, R: Responder>(
+    fn serve_office_once<N: Network<Socket = S>, R: JournalResponder<Reading = J>>(
         &mut self,
         k: usize,
         net: &mut N,
@@ -66,7 +66,7 @@ impl<S: Drop> Rounds<S> {
         requires number { k < 4 }
         requires begun { HaveBegun self.old.offices }
         ensures begun { HaveBegunUnless result self.new.offices }
-        ensures hosts { Serves R.Responder (ServesOffice k 8 (standing N.name self.old) (standing N.name self.new)) result (N.history net.old) desk.old (here N.name self.old) (N.history net.new) desk.new (here N.name self.new) }
+        ensures hosts { Serves R.Responder R.JournalResponder.own (ServesOffice k 8 (standing N.name self.old) (standing N.name self.new)) result (N.history net.old) desk.old (here N.name self.old) (N.history net.new) desk.new (here N.name self.new) }
     {
         let Some(office) = self.offices.take(k) else {
             self.peers.ready.set_office(k, false);
@@ -79,7 +79,7 @@ impl<S: Drop> Rounds<S> {
     }
 
     /// Serves a connection of the land office, if it may continue.
-    fn serve_office<N: Network<Socket = S>, R: Responder>(
+    fn serve_office<N: Network<Socket = S>, R: JournalResponder<Reading = J>>(
         &mut self,
         k: usize,
         net: &mut N,
@@ -88,7 +88,7 @@ impl<S: Drop> Rounds<S> {
         requires number { k < 4 }
         requires begun { HaveBegun self.old.offices }
         ensures begun { HaveBegunUnless result self.new.offices }
-        ensures hosts { Serves R.Responder (ServesOffice k 8 (standing N.name self.old) (standing N.name self.new)) result (N.history net.old) desk.old (here N.name self.old) (N.history net.new) desk.new (here N.name self.new) }
+        ensures hosts { Serves R.Responder R.JournalResponder.own (ServesOffice k 8 (standing N.name self.old) (standing N.name self.new)) result (N.history net.old) desk.old (here N.name self.old) (N.history net.new) desk.new (here N.name self.new) }
     {
         if !self.peers.ready.office(k) {
             return None;
@@ -97,14 +97,14 @@ impl<S: Drop> Rounds<S> {
     }
 
     /// Serves each connection of the land office that may continue.
-    fn serve_offices<N: Network<Socket = S>, R: Responder>(
+    fn serve_offices<N: Network<Socket = S>, R: JournalResponder<Reading = J>>(
         &mut self,
         net: &mut N,
         desk: &mut Desk<R>,
     ) -> Option<Stopped>
         requires { HaveBegun self.old.offices }
         ensures begun { HaveBegunUnless result self.new.offices }
-        ensures hosts { Serves R.Responder (ServesOffices 32 result (standing N.name self.old) (standing N.name self.new)) result (N.history net.old) desk.old (here N.name self.old) (N.history net.new) desk.new (here N.name self.new) }
+        ensures hosts { Serves R.Responder R.JournalResponder.own (ServesOffices 32 result (standing N.name self.old) (standing N.name self.new)) result (N.history net.old) desk.old (here N.name self.old) (N.history net.new) desk.new (here N.name self.new) }
     {
         for k in 0..MOST_OFFICES {
             if let Some(stopped) = self.serve_office(k, net, desk) {
@@ -115,14 +115,14 @@ impl<S: Drop> Rounds<S> {
     }
 
     /// Serves the land office between two clients, with what it sent meanwhile.
-    fn serve_offices_between<N: Network<Socket = S>, R: Responder>(
+    fn serve_offices_between<N: Network<Socket = S>, R: JournalResponder<Reading = J>>(
         &mut self,
         net: &mut N,
         desk: &mut Desk<R>,
     ) -> Result<Option<Stopped>>
         requires { HaveBegun self.old.offices }
         ensures begun { HaveBegunUnless (end_of_round result) self.new.offices }
-        ensures hosts { Serves R.Responder (HearsBetween 33 result (standing N.name self.old) (standing N.name self.new)) (end_of_round result) (N.history net.old) desk.old (here N.name self.old) (N.history net.new) desk.new (here N.name self.new) }
+        ensures hosts { Serves R.Responder R.JournalResponder.own (HearsBetween 33 result (standing N.name self.old) (standing N.name self.new)) (end_of_round result) (N.history net.old) desk.old (here N.name self.old) (N.history net.new) desk.new (here N.name self.new) }
     {
         if self.offices.is_empty() {
             return Ok(None);
@@ -132,7 +132,7 @@ impl<S: Drop> Rounds<S> {
     }
 
     /// Serves a client, if it may continue. Returns why hosting ends by that, if it does.
-    fn serve_peer<N: Network<Socket = S>, R: Responder, L: AccessLog<S>>(
+    fn serve_peer<N: Network<Socket = S>, R: JournalResponder<Reading = J>, L: AccessLog<S>>(
         &mut self,
         c: u32,
         net: &mut N,
@@ -140,13 +140,13 @@ impl<S: Drop> Rounds<S> {
         log: &mut L,
     ) -> Option<Stopped>
         ensures offices { self.new.offices ≡ self.old.offices }
-        ensures hosts { Serves R.Responder (GivesTurnAlone c 4 (standing N.name self.old) (standing N.name self.new)) result (N.history net.old) desk.old (here N.name self.old) (N.history net.new) desk.new (here N.name self.new) }
+        ensures hosts { Serves R.Responder R.JournalResponder.own (GivesTurnAlone c 4 (standing N.name self.old) (standing N.name self.new)) result (N.history net.old) desk.old (here N.name self.old) (N.history net.new) desk.new (here N.name self.new) }
     {
         self.peers.serve_one(c, net, desk, log)
     }
 
     /// Serves a client once, if it may continue, and then the land office.
-    fn serve_client<N: Network<Socket = S>, R: Responder, L: AccessLog<S>>(
+    fn serve_client<N: Network<Socket = S>, R: JournalResponder<Reading = J>, L: AccessLog<S>>(
         &mut self,
         c: u32,
         net: &mut N,
@@ -155,7 +155,7 @@ impl<S: Drop> Rounds<S> {
     ) -> Result<Option<Stopped>>
         requires { HaveBegun self.old.offices }
         ensures begun { HaveBegunUnless (end_of_round result) self.new.offices }
-        ensures hosts { Serves R.Responder (VisitsClient c 37 result (standing N.name self.old) (standing N.name self.new)) (end_of_round result) (N.history net.old) desk.old (here N.name self.old) (N.history net.new) desk.new (here N.name self.new) }
+        ensures hosts { Serves R.Responder R.JournalResponder.own (VisitsClient c 37 result (standing N.name self.old) (standing N.name self.new)) (end_of_round result) (N.history net.old) desk.old (here N.name self.old) (N.history net.new) desk.new (here N.name self.new) }
     {
         if !self.peers.clients.is_ready(c) {
             return Ok(None);
@@ -167,7 +167,7 @@ impl<S: Drop> Rounds<S> {
     }
 
     /// Serves each client that may continue once, and the land office after each of them.
-    fn serve_clients<N: Network<Socket = S>, R: Responder, L: AccessLog<S>>(
+    fn serve_clients<N: Network<Socket = S>, R: JournalResponder<Reading = J>, L: AccessLog<S>>(
         &mut self,
         net: &mut N,
         desk: &mut Desk<R>,
@@ -175,7 +175,7 @@ impl<S: Drop> Rounds<S> {
     ) -> Result<Option<Stopped>>
         requires { HaveBegun self.old.offices }
         ensures begun { HaveBegunUnless (end_of_round result) self.new.offices }
-        ensures hosts { Serves R.Responder (ServesAll result (standing N.name self.old) (standing N.name self.new)) (end_of_round result) (N.history net.old) desk.old (here N.name self.old) (N.history net.new) desk.new (here N.name self.new) }
+        ensures hosts { Serves R.Responder R.JournalResponder.own (ServesAll result (standing N.name self.old) (standing N.name self.new)) (end_of_round result) (N.history net.old) desk.old (here N.name self.old) (N.history net.new) desk.new (here N.name self.new) }
     {
         for c in 0..ROOM {
             if let Some(stopped) = self.serve_client(c, net, desk, log)? {
@@ -186,7 +186,7 @@ impl<S: Drop> Rounds<S> {
     }
 
     /// Keeps a socket of the land office under this number, if the network can watch it.
-    fn admit_office<N: Network<Socket = S>, R: Responder>(
+    fn admit_office<N: Network<Socket = S>, R: JournalResponder<Reading = J>>(
         &mut self,
         k: usize,
         mut socket: S,
@@ -198,7 +198,7 @@ impl<S: Drop> Rounds<S> {
         requires begun { HaveBegun self.old.offices }
         ensures begun { HaveBegun self.new.offices }
         ensures hosts { (before : Option (List Deed)) → Adds before (N.history net.old) (office_came (N.name socket) ∷ [])
-            → Serves R.Responder (IsAtDoors 1 (standing N.name self.old) (standing N.name self.new)) None before desk.old (here N.name self.old) (N.history net.new) desk.new (here N.name self.new) }
+            → Serves R.Responder R.JournalResponder.own (IsAtDoors 1 (standing N.name self.old) (standing N.name self.new)) None before desk.old (here N.name self.old) (N.history net.new) desk.new (here N.name self.new) }
     {
         if net.watch(&mut socket, OFFICE + k).is_err() {
             net.let_go(socket);
@@ -210,10 +210,14 @@ impl<S: Drop> Rounds<S> {
     }
 
     /// Takes the land office that waits at its door, if one waits and fewer than four connections are open.
-    fn take_office<N: Network<Socket = S>, R: Responder>(&mut self, net: &mut N, desk: &mut Desk<R>)
+    fn take_office<N: Network<Socket = S>, R: JournalResponder<Reading = J>>(
+        &mut self,
+        net: &mut N,
+        desk: &mut Desk<R>,
+    )
         requires { HaveBegun self.old.offices }
         ensures begun { HaveBegun self.new.offices }
-        ensures hosts { Serves R.Responder (IsAtDoors 1 (standing N.name self.old) (standing N.name self.new)) None (N.history net.old) desk.old (here N.name self.old) (N.history net.new) desk.new (here N.name self.new) }
+        ensures hosts { Serves R.Responder R.JournalResponder.own (IsAtDoors 1 (standing N.name self.old) (standing N.name self.new)) None (N.history net.old) desk.old (here N.name self.old) (N.history net.new) desk.new (here N.name self.new) }
     {
         if !self.peers.ready.office_door {
             return;
@@ -228,7 +232,7 @@ impl<S: Drop> Rounds<S> {
     }
 
     /// Drops a connection of the land office, if its answer is overdue.
-    fn drop_office<N: Network<Socket = S>, R: Responder>(
+    fn drop_office<N: Network<Socket = S>, R: JournalResponder<Reading = J>>(
         &mut self,
         k: usize,
         net: &mut N,
@@ -237,7 +241,7 @@ impl<S: Drop> Rounds<S> {
         requires number { k < 4 }
         requires begun { HaveBegun self.old.offices }
         ensures begun { HaveBegun self.new.offices }
-        ensures hosts { Serves R.Responder (IsAtDoors 1 (standing N.name self.old) (standing N.name self.new)) None (N.history net.old) desk.old (here N.name self.old) (N.history net.new) desk.new (here N.name self.new) }
+        ensures hosts { Serves R.Responder R.JournalResponder.own (IsAtDoors 1 (standing N.name self.old) (standing N.name self.new)) None (N.history net.old) desk.old (here N.name self.old) (N.history net.new) desk.new (here N.name self.new) }
     {
         if !self.offices.is_overdue(k, self.peers.now) {
             return;
@@ -248,14 +252,14 @@ impl<S: Drop> Rounds<S> {
     }
 
     /// Drops the connections of the land office whose answers are overdue.
-    fn drop_offices<N: Network<Socket = S>, R: Responder>(
+    fn drop_offices<N: Network<Socket = S>, R: JournalResponder<Reading = J>>(
         &mut self,
         net: &mut N,
         desk: &mut Desk<R>,
     )
         requires { HaveBegun self.old.offices }
         ensures begun { HaveBegun self.new.offices }
-        ensures hosts { Serves R.Responder (IsAtDoors 4 (standing N.name self.old) (standing N.name self.new)) None (N.history net.old) desk.old (here N.name self.old) (N.history net.new) desk.new (here N.name self.new) }
+        ensures hosts { Serves R.Responder R.JournalResponder.own (IsAtDoors 4 (standing N.name self.old) (standing N.name self.new)) None (N.history net.old) desk.old (here N.name self.old) (N.history net.new) desk.new (here N.name self.new) }
     {
         for k in 0..MOST_OFFICES {
             self.drop_office(k, net, desk);
@@ -263,28 +267,28 @@ impl<S: Drop> Rounds<S> {
     }
 
     /// Drops the connections of the land office whose answers are overdue, and takes one that waits at its door, if there is room.
-    fn change_offices<N: Network<Socket = S>, R: Responder>(
+    fn change_offices<N: Network<Socket = S>, R: JournalResponder<Reading = J>>(
         &mut self,
         net: &mut N,
         desk: &mut Desk<R>,
     )
         requires { HaveBegun self.old.offices }
         ensures begun { HaveBegun self.new.offices }
-        ensures hosts { Serves R.Responder (IsAtDoors 5 (standing N.name self.old) (standing N.name self.new)) None (N.history net.old) desk.old (here N.name self.old) (N.history net.new) desk.new (here N.name self.new) }
+        ensures hosts { Serves R.Responder R.JournalResponder.own (IsAtDoors 5 (standing N.name self.old) (standing N.name self.new)) None (N.history net.old) desk.old (here N.name self.old) (N.history net.new) desk.new (here N.name self.new) }
     {
         self.drop_offices(net, desk);
         self.take_office(net, desk);
     }
 
     /// Drops the clients that are overdue, and takes those that wait at their door.
-    fn change_clients<N: Network<Socket = S>, R: Responder, L: AccessLog<S>>(
+    fn change_clients<N: Network<Socket = S>, R: JournalResponder<Reading = J>, L: AccessLog<S>>(
         &mut self,
         net: &mut N,
         desk: &mut Desk<R>,
         log: &mut L,
     )
         ensures offices { self.new.offices ≡ self.old.offices }
-        ensures hosts { Serves R.Responder (IsAtDoors 128 (standing N.name self.old) (standing N.name self.new)) None (N.history net.old) desk.old (here N.name self.old) (N.history net.new) desk.new (here N.name self.new) }
+        ensures hosts { Serves R.Responder R.JournalResponder.own (IsAtDoors 128 (standing N.name self.old) (standing N.name self.new)) None (N.history net.old) desk.old (here N.name self.old) (N.history net.new) desk.new (here N.name self.new) }
     {
         self.peers.drop_overdue(net, desk);
         self.peers.take_clients(net, desk, log);
@@ -304,7 +308,7 @@ impl<S: Drop> Rounds<S> {
     }
 
     /// Serves each client that may continue once, and the land office after each of them and once more.
-    fn serve_all<N: Network<Socket = S>, R: Responder, L: AccessLog<S>>(
+    fn serve_all<N: Network<Socket = S>, R: JournalResponder<Reading = J>, L: AccessLog<S>>(
         &mut self,
         net: &mut N,
         desk: &mut Desk<R>,
@@ -312,7 +316,7 @@ impl<S: Drop> Rounds<S> {
     ) -> Result<Option<Stopped>>
         requires { HaveBegun self.old.offices }
         ensures begun { HaveBegunUnless (end_of_round result) self.new.offices }
-        ensures hosts { Serves R.Responder (MakesRound 2401 result (standing N.name self.old) (standing N.name self.new)) (end_of_round result) (N.history net.old) desk.old (here N.name self.old) (N.history net.new) desk.new (here N.name self.new) }
+        ensures hosts { Serves R.Responder R.JournalResponder.own (MakesRound 2401 result (standing N.name self.old) (standing N.name self.new)) (end_of_round result) (N.history net.old) desk.old (here N.name self.old) (N.history net.new) desk.new (here N.name self.new) }
     {
         let patience = self.patience();
         self.wait(net, desk, patience)?;
@@ -323,7 +327,7 @@ impl<S: Drop> Rounds<S> {
     }
 
     /// A round: all that may continue are served, and then those that wait at the doors are taken.
-    fn round<N: Network<Socket = S>, R: Responder, L: AccessLog<S>>(
+    fn round<N: Network<Socket = S>, R: JournalResponder<Reading = J>, L: AccessLog<S>>(
         &mut self,
         net: &mut N,
         desk: &mut Desk<R>,
@@ -331,7 +335,7 @@ impl<S: Drop> Rounds<S> {
     ) -> Result<Option<Stopped>>
         requires { HaveBegun self.old.offices }
         ensures begun { HaveBegunUnless (end_of_round result) self.new.offices }
-        ensures hosts { Serves R.Responder (MakesRound most_in_round result (standing N.name self.old) (standing N.name self.new)) (end_of_round result) (N.history net.old) desk.old (here N.name self.old) (N.history net.new) desk.new (here N.name self.new) }
+        ensures hosts { Serves R.Responder R.JournalResponder.own (MakesRound most_in_round result (standing N.name self.old) (standing N.name self.new)) (end_of_round result) (N.history net.old) desk.old (here N.name self.old) (N.history net.new) desk.new (here N.name self.new) }
     {
         if let Some(stopped) = self.serve_all(net, desk, log)? {
             return Ok(Some(stopped));
@@ -342,14 +346,14 @@ impl<S: Drop> Rounds<S> {
     }
 
     /// Rounds, until hosting ends by one of them.
-    pub(crate) fn run<N: Network<Socket = S>, R: Responder, L: AccessLog<S>>(
+    pub(crate) fn run<N: Network<Socket = S>, R: JournalResponder<Reading = J>, L: AccessLog<S>>(
         &mut self,
         net: &mut N,
         desk: &mut Desk<R>,
         log: &mut L,
     ) -> Result<Stopped>
         requires { HaveBegun self.old.offices }
-        ensures { Serves R.Responder (AreServed (standing N.name self.old)) (end_of_rounds result) (N.history net.old) desk.old (here N.name self.old) (N.history net.new) desk.new (here N.name self.new) }
+        ensures { Serves R.Responder R.JournalResponder.own (AreServed (standing N.name self.old)) (end_of_rounds result) (N.history net.old) desk.old (here N.name self.old) (N.history net.new) desk.new (here N.name self.new) }
     {
         for _ in 0..u64::MAX {
             if let Some(stopped) = self.round(net, desk, log)? {

@@ -5,7 +5,9 @@ ghost use Rattle.cad_office_socket.specs.Buffering.{IsOfOneLine, before_end};
 ghost use Rattle.cad_office_socket.specs.Turns.{IsUnheld};
 ghost use Rattle.cad_office.specs.Lines.{BuffersLine, longest_line};
 ghost use Rattle.cad_office_socket.specs.Checks.{IsCheck};
+ghost use Rattle.cad_office_socket.specs.Journals.{most_revision, IsJournal, IsJournalAfter};
 
+use cad_io::number;
 use cad_office::{Line, LineState};
 
 /// The line that asks to stop.
@@ -13,6 +15,9 @@ const STOP: &[u8] = b"stop";
 
 /// What a line begins with if the rest of it is to be checked.
 const CHECK: &[u8] = b"check ";
+
+/// What a line begins with if it asks for the journal after the revision that follows.
+const JOURNAL: &[u8] = b"journal ";
 
 /// The number of bytes before the first LF, if there is one.
 pub(crate) fn first_end(bytes: &[u8]) -> Option<usize>
@@ -57,6 +62,21 @@ pub(crate) fn line_to_check(line: &Line) -> Option<&[u8]>
         LineState::Buffered => {
             let line = line.bytes().strip_prefix(CHECK)?;
             Some(line)
+        }
+        LineState::TooLong | LineState::OutOfMemory(_) => None,
+    }
+}
+
+/// The N of a line `journal N`, or 10^18 if it is more. A line that could not be held asks for nothing.
+pub(crate) fn journal_after(line: &Line) -> Option<u64>
+    ensures bound { IfSome result (λ behind. behind ≤ most_revision) }
+    ensures asked { IfSome result (λ behind. (text : List ℕ) → BuffersLine text line.now → IsJournalAfter text behind) }
+    ensures unasked { result ≡ None → (text : List ℕ) → BuffersLine text line.now → IsJournal text → IsUnheld line.now.state ⊎ longest_line < length text }
+{
+    match line.state() {
+        LineState::Buffered => {
+            let digits = line.bytes().strip_prefix(JOURNAL)?;
+            number(digits)
         }
         LineState::TooLong | LineState::OutOfMemory(_) => None,
     }

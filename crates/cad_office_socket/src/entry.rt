@@ -4,28 +4,33 @@ ghost use Rattle.std.specs.Prelude.{◌≡◌, ◌≤◌, length, IfOk, IsTrue};
 ghost use Rattle.cad_dry_run.specs.Reports.{report_text};
 
 use crate::answering::{answer_line, checked};
-use crate::buffering::{add_all, asks_to_stop, first_end};
+use crate::buffering::{add_all, asks_to_stop, first_end, journal_after};
+use crate::journal::{begin, next_lines, read_rows, refusal_text};
+use crate::journal_state::{JournalRequest, JournalState};
 use crate::turned::{EntryServed, EntryTurned, end_at};
 use cad_desk::Desk;
 use cad_dry_run::{Report, print_report};
 use cad_io::{PIECE_LEN, WriteFailed, rest_from};
 use cad_network::{Network, is_blocked};
-use cad_office::{Line, print_answer};
-use cad_stream::Responder;
+use cad_office::{JournalLines, Line, print_answer};
+use cad_stream::JournalResponder;
+use cad_versions::RegisterFault;
 use std::alloc::Global;
+use std::mem;
 
 /// The most turns of the office before the clients have theirs.
 const TURNS: u32 = 8;
 
-/// What the office's connection holds between its socket and the desk: the bytes that were read and not taken, the line that has begun, and
-/// the unwritten part of the answer to the line before it.
+/// What the office's connection holds between its socket and the desk: the bytes that were read and not taken, the line that has begun,
+/// the unwritten part of the answer to the line before it, and how much of a journal the office got, of which `J` are the rows.
 #[derive(Drop)]
-pub struct Entry {
+pub struct Entry<J> {
     input: Vec<u8>,
     input_at: usize,
     line: Line,
     output: Vec<u8>,
     output_at: usize,
+    journal: JournalState<J>,
     ends: bool,
     pub ghost input_within: { input_at ≤ length input.items },
     pub ghost output_within: { output_at ≤ length output.items },
@@ -40,6 +45,13 @@ fn report_bytes(alloc: Global, report: &Report) -> Result<Vec<u8>, WriteFailed>
     Ok(bytes)
 }
 
+/// Whether rows of a journal were read: others are served before more are.
+fn has_read(turned: &EntryTurned) -> bool
+    ensures { IsTrue result → turned.now ≡ EntryTurned.RowsRead }
+{
+    matches!(turned, EntryTurned::RowsRead)
+}
+
 /// Whether bytes were written.
 fn has_written(turned: &EntryTurned) -> bool
     ensures { IsTrue result → turned.now ≡ EntryTurned.Wrote }
@@ -47,16 +59,18 @@ fn has_written(turned: &EntryTurned) -> bool
     matches!(turned, EntryTurned::Wrote)
 }
 
-impl Entry {
-    ghost use Rattle.std.specs.Prelude.{◌↔◌, ◌⊎◌, ◌<◌, ℕ, List, true, false, []};
+impl<J: Drop> Entry<J> {
+    ghost use Rattle.std.specs.Prelude.{◌↔◌, ◌⊎◌, ◌<◌, ℕ, List, true, false, [], None, IfSome};
     ghost use Rattle.cad_office.specs.Lines.{longest_line};
     ghost use Rattle.cad_office_socket.specs.Checks.{IsCheck};
     ghost use Rattle.cad_network.specs.Deeds.{AddsSome};
-    ghost use Rattle.cad_office_socket.specs.Turns.{has_ended, HasBegun, IsUnheld, IsNewEntry, IsFed, IsEntryTurn, IsLineEnd, IsSending, MayEnd, SendsSome, unread, unwritten};
+    ghost use Rattle.cad_office_socket.specs.Turns.{has_ended, HasBegun, HasNoJournal, IsUnheld, IsNewEntry, IsFed, IsEntryTurn, IsLineEnd, IsSending, MayEnd, SendsSome, AdvancesJournal, unread, unwritten};
     ghost use Rattle.cad_office_socket.specs.Serving.{IsEntryServed};
+    ghost use Rattle.cad_office_socket.specs.inner.Pieces.{HasText, ReadsOn};
+    ghost use Rattle.cad_office_socket.specs.Journals.{IsJournal, IsPiece};
 
     /// The connection of an office from which nothing was read.
-    pub fn new(alloc: Global) -> Entry
+    pub fn new(alloc: Global) -> Entry<J>
         ensures { IsNewEntry result }
     {
         Entry {
@@ -65,6 +79,7 @@ impl Entry {
             line: Line::new(alloc),
             output: Vec::new(alloc),
             output_at: 0,
+            journal: JournalState::Idle,
             ends: false,
         }
     }
@@ -102,13 +117,19 @@ impl Entry {
         }
     }
 
-    /// Answers the line that ended, which asks for no check. An empty one asks for nothing.
-    fn end_unchecked<R: Responder>(&mut self, alloc: Global, desk: &mut Desk<R>) -> EntryTurned
+    /// Answers the line that ended, which asks for no check and no journal. An empty one asks for nothing.
+    fn end_unchecked<R: JournalResponder<Reading = J>>(
+        &mut self,
+        alloc: Global,
+        desk: &mut Desk<R>,
+    ) -> EntryTurned
         requires nothing_unwritten { unwritten self.old ≡ [] }
+        requires no_journal { HasNoJournal self.old }
         requires unchecked { (text : List ℕ) → HasBegun text self.old → IsCheck text → IsUnheld self.old.line.state ⊎ longest_line < length text }
+        requires no_request { (text : List ℕ) → HasBegun text self.old → IsJournal text → IsUnheld self.old.line.state ⊎ longest_line < length text }
         ensures ends { MayEnd result }
         ensures goes_on { has_ended self.new ≡ has_ended self.old }
-        ensures line { IsLineEnd R.Responder desk.old self.old result desk.new self.new }
+        ensures line { IsLineEnd R.Responder R.JournalResponder.own desk.old self.old result desk.new self.new }
     {
         if self.line.is_empty() {
             return EntryTurned::Added;
@@ -128,12 +149,17 @@ impl Entry {
         EntryTurned::Answered(answer)
     }
 
-    /// Answers the line that ended, or checks the rest of one that asks for that.
-    fn end_line<R: Responder>(&mut self, alloc: Global, desk: &mut Desk<R>) -> EntryTurned
-        requires { unwritten self.old ≡ [] }
+    /// Answers the line that ended; or checks the rest of one that asks for that, or begins the journal that it asks for.
+    fn end_line<R: JournalResponder<Reading = J>>(
+        &mut self,
+        alloc: Global,
+        desk: &mut Desk<R>,
+    ) -> EntryTurned
+        requires nothing_unwritten { unwritten self.old ≡ [] }
+        requires no_journal { HasNoJournal self.old }
         ensures ends { MayEnd result }
         ensures goes_on { has_ended self.new ≡ has_ended self.old }
-        ensures line { IsLineEnd R.Responder desk.old self.old result desk.new self.new }
+        ensures line { IsLineEnd R.Responder R.JournalResponder.own desk.old self.old result desk.new self.new }
     {
         if let Some(report) = checked(alloc, &self.line, desk) {
             self.line.clear();
@@ -144,15 +170,25 @@ impl Entry {
             self.output_at = 0;
             return EntryTurned::Checked(report);
         }
+        if let Some(behind) = journal_after(&self.line) {
+            self.line.clear();
+            self.journal = begin(desk, behind);
+            return EntryTurned::JournalBegun(behind);
+        }
         self.end_unchecked(alloc, desk)
     }
 
     /// Takes the bytes of a line, up to its end if that was read.
-    fn feed_some<R: Responder>(&mut self, alloc: Global, desk: &mut Desk<R>) -> EntryTurned
-        requires { unwritten self.old ≡ [] }
+    fn feed_some<R: JournalResponder<Reading = J>>(
+        &mut self,
+        alloc: Global,
+        desk: &mut Desk<R>,
+    ) -> EntryTurned
+        requires nothing_unwritten { unwritten self.old ≡ [] }
+        requires no_journal { HasNoJournal self.old }
         ensures ends { MayEnd result }
         ensures goes_on { has_ended self.new ≡ has_ended self.old }
-        ensures fed { IsFed R.Responder desk.old self.old result desk.new self.new }
+        ensures fed { IsFed R.Responder R.JournalResponder.own desk.old self.old result desk.new self.new }
     {
         let rest = rest_from(&self.input, self.input_at);
         let Some(count) = first_end(rest) else {
@@ -166,18 +202,23 @@ impl Entry {
     }
 
     /// The office sends no more: this ends a line that has begun.
-    fn end_input<R: Responder>(&mut self, alloc: Global, desk: &mut Desk<R>) -> EntryTurned
-        requires { unwritten self.old ≡ [] }
+    fn end_input<R: JournalResponder<Reading = J>>(
+        &mut self,
+        alloc: Global,
+        desk: &mut Desk<R>,
+    ) -> EntryTurned
+        requires nothing_unwritten { unwritten self.old ≡ [] }
+        requires no_journal { HasNoJournal self.old }
         ensures ends { MayEnd result }
         ensures over { has_ended self.new ≡ true }
-        ensures line { IsLineEnd R.Responder desk.old self.old result desk.new self.new }
+        ensures line { IsLineEnd R.Responder R.JournalResponder.own desk.old self.old result desk.new self.new }
     {
         self.ends = true;
         self.end_line(alloc, desk)
     }
 
     /// One read.
-    fn read_some<N: Network, R: Responder>(
+    fn read_some<N: Network, R: JournalResponder<Reading = J>>(
         &mut self,
         alloc: Global,
         net: &mut N,
@@ -186,9 +227,10 @@ impl Entry {
     ) -> EntryTurned
         requires nothing_unread { unread self.old ≡ [] }
         requires nothing_unwritten { unwritten self.old ≡ [] }
+        requires no_journal { HasNoJournal self.old }
         requires goes_on { has_ended self.old ≡ false }
         ensures { AddsSome (N.history net.old) (N.history net.new)
-            (IsEntryTurn R.Responder (N.name socket.now) desk.old self.old result desk.new self.new) }
+            (IsEntryTurn R.Responder R.JournalResponder.own (N.name socket.now) desk.old self.old result desk.new self.new) }
     {
         let mut buffer = [0; PIECE_LEN];
         match net.read(socket, &mut buffer) {
@@ -209,9 +251,83 @@ impl Entry {
         }
     }
 
-    /// Does one thing. If an answer is to be written, this is a write. Else, if bytes were read and not taken, it takes those of a line,
-    /// and if the line ends, its command is entered and answered. Else it is a read. The last line needs no LF.
-    pub fn turn<N: Network, R: Responder>(
+    /// The office gets no journal: the refusal is to be written.
+    fn refuse(&mut self, alloc: Global, fault: RegisterFault) -> EntryTurned
+        requires { HasNoJournal self.old }
+        ensures { HasText (IsPiece (JournalState.Rejected fault)) self.old result self.new }
+    {
+        let Ok(output) = refusal_text(alloc, fault) else {
+            return EntryTurned::PieceLost;
+        };
+        self.output = output;
+        self.output_at = 0;
+        EntryTurned::Piece
+    }
+
+    /// The next lines of a journal are to be written.
+    fn write_lines(&mut self, alloc: Global, lines: JournalLines) -> EntryTurned
+        ensures { HasText (IsPiece (JournalState.Writing lines)) self.old result self.new }
+    {
+        let Ok((output, rest)) = next_lines(alloc, lines) else {
+            return EntryTurned::PieceLost;
+        };
+        self.output = output;
+        self.output_at = 0;
+        self.journal = rest;
+        EntryTurned::Piece
+    }
+
+    /// Reads the next rows of a journal. If the desk refuses that, the refusal is to be written.
+    fn read_on<R: JournalResponder<Reading = J>>(
+        &mut self,
+        alloc: Global,
+        desk: &mut Desk<R>,
+        asked: JournalRequest<J>,
+    ) -> EntryTurned
+        requires nothing_unwritten { unwritten self.old ≡ [] }
+        requires no_journal { HasNoJournal self.old }
+        ensures { ReadsOn R.Responder R.JournalResponder.own asked desk.old self.old result desk.new self.new }
+    {
+        match read_rows(desk, asked) {
+            Ok(next) => {
+                self.journal = next;
+                EntryTurned::RowsRead
+            }
+            Err(fault) => {
+                let Ok(output) = refusal_text(alloc, fault) else {
+                    return EntryTurned::RowsLost(fault);
+                };
+                self.output = output;
+                self.output_at = 0;
+                EntryTurned::RowsRefused(fault)
+            }
+        }
+    }
+
+    /// Goes on with the journal that the office requested, if it did.
+    fn advance_journal<R: JournalResponder<Reading = J>>(
+        &mut self,
+        alloc: Global,
+        desk: &mut Desk<R>,
+    ) -> Option<EntryTurned>
+        requires { unwritten self.old ≡ [] }
+        ensures quiet { result ≡ None → HasNoJournal self.old }
+        ensures same { result ≡ None → self.new ≡ self.old }
+        ensures still { result ≡ None → desk.new ≡ desk.old }
+        ensures turn { IfSome result (λ turned. AdvancesJournal R.Responder R.JournalResponder.own desk.old self.old turned desk.new self.new) }
+    {
+        match mem::replace(&mut self.journal, JournalState::Idle) {
+            JournalState::Idle => None,
+            JournalState::Rejected(fault) => Some(self.refuse(alloc, fault)),
+            JournalState::Reading(asked) => Some(self.read_on(alloc, desk, asked)),
+            JournalState::Writing(lines) => Some(self.write_lines(alloc, lines)),
+        }
+    }
+
+    /// Does one thing. If an answer is to be written, this is a write. Else, if the office requested a journal, more of it is read or is to be written. Else,
+    /// if bytes were read and not taken, it takes those of a line, and if the line ends, its command is entered and answered. Else it is a
+    /// read. The last line needs no LF.
+    pub fn turn<N: Network, R: JournalResponder<Reading = J>>(
         &mut self,
         alloc: Global,
         net: &mut N,
@@ -219,10 +335,13 @@ impl Entry {
         desk: &mut Desk<R>,
     ) -> EntryTurned
         ensures { AddsSome (N.history net.old) (N.history net.new)
-            (IsEntryTurn R.Responder (N.name socket.now) desk.old self.old result desk.new self.new) }
+            (IsEntryTurn R.Responder R.JournalResponder.own (N.name socket.now) desk.old self.old result desk.new self.new) }
     {
         if self.output_at < self.output.len() {
             return self.send(net, socket);
+        }
+        if let Some(turned) = self.advance_journal(alloc, desk) {
+            return turned;
         }
         if self.ends {
             return EntryTurned::Over;
@@ -234,8 +353,9 @@ impl Entry {
     }
 
     /// Serves the office with at most eight turns: up to one that ends its work, or at which its socket gives and takes nothing, or with
-    /// which an answer is fully written. A refusal by the register's database ends its work before its answer is written.
-    pub fn serve<N: Network, R: Responder>(
+    /// which an answer is fully written, or at which rows of a journal are read. A refusal by the register's database ends its work before
+    /// its answer is written.
+    pub fn serve<N: Network, R: JournalResponder<Reading = J>>(
         &mut self,
         alloc: Global,
         net: &mut N,
@@ -243,12 +363,15 @@ impl Entry {
         desk: &mut Desk<R>,
     ) -> EntryServed
         ensures { AddsSome (N.history net.old) (N.history net.new)
-            (IsEntryServed R.Responder (N.name socket.now) desk.old self.old result desk.new self.new) }
+            (IsEntryServed R.Responder R.JournalResponder.own (N.name socket.now) desk.old self.old result desk.new self.new) }
     {
         for _ in 0..TURNS {
             let turned = self.turn(alloc, net, socket, desk);
             if let Some(served) = end_at(&turned) {
                 return served;
+            }
+            if has_read(&turned) {
+                return EntryServed::Goes;
             }
             if has_written(&turned) && !self.is_sending() {
                 return EntryServed::Goes;

@@ -24,6 +24,19 @@ pub enum EntryTurned {
     Checked(Report),
     /// The same, and there is no memory for the text: nothing more is written to the office.
     CheckLost(Report),
+    /// A line `journal N` was read: the commands after the revision N follow, or a refusal. A number above 10^18 counts as
+    /// 10^18.
+    JournalBegun(u64),
+    /// Rows of the journal were read.
+    RowsRead,
+    /// The desk refused to read rows, and this is to be written.
+    RowsRefused(RegisterFault),
+    /// The same, and there is no memory for the text: nothing more is written to the office.
+    RowsLost(RegisterFault),
+    /// The next piece of the journal is to be written: lines, or why there are none.
+    Piece,
+    /// There is no memory for the text: nothing more is written to the office.
+    PieceLost,
     /// The line `stop` was read.
     Stops,
     /// The socket gives or takes nothing for now.
@@ -55,17 +68,23 @@ pub(crate) fn end_at(turned: &EntryTurned) -> Option<EntryServed>
         EntryTurned::Answered(Answer::Refused(RegisterFault::Store))
         | EntryTurned::Lost(Answer::Refused(RegisterFault::Store))
         | EntryTurned::Checked(Report::Refused(RegisterFault::Store))
-        | EntryTurned::CheckLost(Report::Refused(RegisterFault::Store)) => Some(
-            EntryServed::StoreRefused,
-        ),
+        | EntryTurned::CheckLost(Report::Refused(RegisterFault::Store))
+        | EntryTurned::RowsRefused(RegisterFault::Store)
+        | EntryTurned::RowsLost(RegisterFault::Store) => Some(EntryServed::StoreRefused),
         EntryTurned::Wrote
         | EntryTurned::Took
         | EntryTurned::Added
         | EntryTurned::Answered(_)
-        | EntryTurned::Checked(_) => None,
-        EntryTurned::Lost(_) | EntryTurned::CheckLost(_) | EntryTurned::Over => Some(
-            EntryServed::Over,
-        ),
+        | EntryTurned::Checked(_)
+        | EntryTurned::JournalBegun(_)
+        | EntryTurned::RowsRead
+        | EntryTurned::RowsRefused(_)
+        | EntryTurned::Piece => None,
+        EntryTurned::Lost(_)
+        | EntryTurned::CheckLost(_)
+        | EntryTurned::RowsLost(_)
+        | EntryTurned::PieceLost
+        | EntryTurned::Over => Some(EntryServed::Over),
         EntryTurned::Stops => Some(EntryServed::Stops),
         EntryTurned::Waits => Some(EntryServed::Waits),
     }

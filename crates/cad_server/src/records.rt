@@ -12,7 +12,7 @@ use cad_json::word_body;
 use cad_request::{FeatureRequest, ParsedRequest, Response};
 use cad_snapshot::Snapshot;
 use cad_versions::laws::revisions_stay;
-use cad_versions::{Command, Ledger, RegisterFault};
+use cad_versions::{Command, JournalLedger, Ledger, RegisterFault};
 use std::alloc::{AllocError, Global};
 
 /// How many changes the bases of a collection get before new ones are made, by default.
@@ -262,6 +262,28 @@ impl<L: Ledger> Records<L> {
             ParsedRequest::Immediate(response) => Ok(response),
             ParsedRequest::Features(sought) => self.answer(sought),
         }
+    }
+}
+
+impl<L: JournalLedger> Records<L> {
+    ghost use Rattle.cad_server.specs.inner.Journals.{BeginsReading, ReadsRows};
+
+    /// Begins to read the ledger's commands after a revision.
+    pub(crate) fn begin_journal(&self, behind: u64) -> Result<L::Reading, RegisterFault>
+        ensures { BeginsReading L.Ledger L.JournalLedger.own self.now behind result }
+    {
+        self.ledger.begin_journal(behind)
+    }
+
+    /// Reads the next rows of the ledger's journal, and returns whether all were read.
+    pub(crate) fn read_on(
+        &mut self,
+        reading: &mut L::Reading,
+        most: u32,
+    ) -> Result<bool, RegisterFault>
+        ensures { ReadsRows L.Ledger L.JournalLedger.own self.old reading.old most result self.new reading.new }
+    {
+        self.ledger.read_on(reading, most)
     }
 }
 

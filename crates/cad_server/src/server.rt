@@ -6,8 +6,8 @@ use cad_head::reply_bytes;
 use cad_json::word_body;
 use cad_request::ParsedRequest;
 use cad_resource::{Check, Routes, decide};
-use cad_stream::{Answer, Responder};
-use cad_versions::{Command, Ledger, RegisterFault};
+use cad_stream::{Answer, JournalResponder, Responder};
+use cad_versions::{Command, JournalLedger, Ledger, RegisterFault};
 use httparse::spans::{HeaderSpan, RequestSpans};
 use std::alloc::{AllocError, Global};
 
@@ -158,5 +158,47 @@ impl<L: Ledger> Responder for Server<L> {
 
     fn one_reply() {
         requests_have_one_reply();
+    }
+}
+
+impl<L: JournalLedger> JournalResponder for Server<L> {
+    ghost use Rattle.cad_server.specs.Servers.{ledger_of};
+
+    type Reading = L::Reading;
+
+    ghost has_read = { L.has_read };
+
+    ghost behind_of = { L.behind_of };
+
+    ghost newest_of = { L.newest_of };
+
+    ghost rows_left = { L.rows_left };
+
+    ghost fails_to_read = { L.fails_to_read };
+
+    ghost refuses_reading = { λ old new. L.refuses_reading (ledger_of old) (ledger_of new) };
+
+    ghost damaged_for_reading = { λ old new. L.damaged_for_reading (ledger_of old) (ledger_of new) };
+
+    ghost read_keeps = { L.read_keeps };
+
+    ghost were_accepted = { λ server commands them. L.Ledger.were_accepted (ledger_of server) commands them.ledger };
+
+    ghost readings_are_within = { L.readings_are_within };
+
+    fn begin_journal(&self, behind: u64) -> Result<L::Reading, RegisterFault> {
+        self.records.begin_journal(behind)
+    }
+
+    fn read_on(&mut self, reading: &mut L::Reading, most: u32) -> Result<bool, RegisterFault> {
+        self.records.read_on(reading, most)
+    }
+
+    fn commands(reading: L::Reading, alloc: Global) -> Result<Vec<Command>, RegisterFault> {
+        L::commands(reading, alloc)
+    }
+
+    fn readings_stay() {
+        L::readings_stay();
     }
 }

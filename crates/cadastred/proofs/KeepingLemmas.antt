@@ -3,7 +3,9 @@ use Rattle.std.proofs.Common.{◌≡◌, ◌⊎◌, ℕ, List, ◌++◌, Option,
 use Rattle.std.specs.declared.net.socket_addr.SocketAddr.{SocketAddr}
 use Rattle.cad_versions.specs.declared.command.Command.{Command}
 use Rattle.cad_versions.specs.declared.ledger.Ledger as ledger
+use Rattle.cad_versions.specs.declared.journal_ledger.JournalLedger as journal_ledger
 use Rattle.cad_stream.specs.declared.responder.Responder.{Ghosts}
+use Rattle.cad_stream.specs.declared.journal_responder.JournalResponder.{Ghosts as JournalGhosts}
 use Rattle.cad_desk.specs.declared.desk.Desk.{Desk}
 use Rattle.cad_desk.specs.Desks.{responder_of}
 use Rattle.cad_server.specs.declared.server.Server.{Server}
@@ -17,25 +19,26 @@ use Rattle.cad_event_loop.specs.Laws.{LedgerStands}
 use Rattle.cadastred_run.specs.declared.outcome.Outcome.{Outcome}
 use Rattle.cadastred_run.specs.declared.outcome.Outcome.TheVariants as outcome
 use Rattle.cadastred_run.specs.Hosting.{EndsHosting, HostsOver}
-use Rattle.cadastred.proofs.CleanLemmas.{clean_same, clean_goes}
+use Rattle.cad_event_loop.specs.lemmas.CleanLemmas.{same_counts, goes_clean}
+use Rattle.cadastred_run.specs.Journals.{journals_of}
 use Rattle.cadastred.specs.Keeping.{KeepsHosted, KeepsEither, KeepsFailed, KeepsAfter, Keeps}
 
 -- a clean disk at the end of hosting was clean before
-module _ {R : Type 0} (g : Ghosts R) (old new : Desk R) (from to : Option (List Deed)) (counts : g.counts (responder_of new)) where
-  hosted_clean : (end : Option Stopped) → HostsBy g end from old to new → g.counts (responder_of old)
-  hosted_clean end hosted = clean_goes g (hosted.works ++ hosted.closing) old new hosted.first hosted.last hosted.goes counts
+module _ {R J : Type 0} (g : Ghosts R) (jg : JournalGhosts R J) (old new : Desk R) (from to : Option (List Deed)) (counts : g.counts (responder_of new)) where
+  hosted_clean : (end : Option Stopped) → HostsBy g jg end from old to new → g.counts (responder_of old)
+  hosted_clean end hosted = goes_clean g jg (hosted.works ++ hosted.closing) old new hosted.first hosted.last hosted.goes counts
 
-  either_clean : HostsBy g None from old to new ⊎ HostsBy g (Some Asked) from old to new → g.counts (responder_of old)
+  either_clean : HostsBy g jg None from old to new ⊎ HostsBy g jg (Some Asked) from old to new → g.counts (responder_of old)
   either_clean (inl hosted) = hosted_clean None hosted
   either_clean (inr hosted) = hosted_clean (Some Asked) hosted
 
   module _ (asked : SocketAddr) (before after : Option (List ℕ)) where
-    failed_clean : EndsHosting asked before after from to g old outcome.Failed new → g.counts (responder_of old)
-    failed_clean (inl unhosted) = clean_same g old new unhosted.0 counts
+    failed_clean : EndsHosting asked before after from to g jg old outcome.Failed new → g.counts (responder_of old)
+    failed_clean (inl unhosted) = same_counts g jg old new unhosted.0 counts
     failed_clean (inr hosted) = either_clean hosted.1
 
-    ended_clean : (ended : Outcome) → EndsHosting asked before after from to g old ended new → g.counts (responder_of old)
-    ended_clean outcome.Address it = clean_same g old new it.1.0 counts
+    ended_clean : (ended : Outcome) → EndsHosting asked before after from to g jg old ended new → g.counts (responder_of old)
+    ended_clean outcome.Address it = same_counts g jg old new it.1.0 counts
     ended_clean outcome.Good it = hosted_clean _ it.1
     ended_clean (outcome.Register fault) it = hosted_clean _ it.2
     ended_clean outcome.Failed it = failed_clean it
@@ -45,14 +48,14 @@ module _ {R : Type 0} (g : Ghosts R) (old new : Desk R) (from to : Option (List 
     ended_clean (outcome.Lines fault) it = absurd it
 
 -- a server over a ledger, which held these commands before, by the law of what is done; what it holds at the end is held so
-module _ {L : Type 0} (g : ledger.Ghosts L) (law : LedgerStands (answers_of g)) (commands : List Command) (Holds : List Command → Type 0) (old new : Desk (Server L)) (from to : Option (List Deed))
+module _ {L J : Type 0} (g : ledger.Ghosts L) (j : journal_ledger.Ghosts L J) (law : LedgerStands (answers_of g) (journals_of j)) (commands : List Command) (Holds : List Command → Type 0) (old new : Desk (Server L)) (from to : Option (List Deed))
     (stands : IsServerOf g (responder_of old) commands) (counts : g.counts (ledger_of (responder_of new))) (holds : (all : List Command) → IsServerOf g (responder_of new) all → Holds all) where
-  keeps_hosted : (end : Option Stopped) → (hosted : HostsBy (answers_of g) end from old to new) → KeepsHosted (answers_of g) commands Holds hosted
+  keeps_hosted : (end : Option Stopped) → (hosted : HostsBy (answers_of g) (journals_of j) end from old to new) → KeepsHosted (answers_of g) (journals_of j) commands Holds hosted
   keeps_hosted end hosted may =
       let all = law commands (hosted.works ++ hosted.closing) old new hosted.first hosted.last hosted.goes may counts stands in
       (all.0, all.1, holds (commands ++ all.0) all.3)
 
-  keeps_either : (either : HostsBy (answers_of g) None from old to new ⊎ HostsBy (answers_of g) (Some Asked) from old to new) → KeepsEither (answers_of g) commands Holds either
+  keeps_either : (either : HostsBy (answers_of g) (journals_of j) None from old to new ⊎ HostsBy (answers_of g) (journals_of j) (Some Asked) from old to new) → KeepsEither (answers_of g) (journals_of j) commands Holds either
   keeps_either (inl hosted) = keeps_hosted None hosted
   keeps_either (inr hosted) = keeps_hosted (Some Asked) hosted
 
@@ -60,11 +63,11 @@ module _ {L : Type 0} (g : ledger.Ghosts L) (law : LedgerStands (answers_of g)) 
   keeps_same same = holds commands (subst (λ (d : Desk (Server L)). IsServerOf g (responder_of d) commands) (sym same) stands)
 
   module _ (asked : SocketAddr) (before after : Option (List ℕ)) where
-    keeps_failed : (it : EndsHosting asked before after from to (answers_of g) old outcome.Failed new) → KeepsFailed (answers_of g) commands Holds it
+    keeps_failed : (it : EndsHosting asked before after from to (answers_of g) (journals_of j) old outcome.Failed new) → KeepsFailed (answers_of g) (journals_of j) commands Holds it
     keeps_failed (inl unhosted) = keeps_same unhosted.0
     keeps_failed (inr hosted) = keeps_either hosted.1
 
-    keeps_after : (ended : Outcome) (it : EndsHosting asked before after from to (answers_of g) old ended new) → KeepsAfter asked before after from to (answers_of g) commands Holds old ended new it
+    keeps_after : (ended : Outcome) (it : EndsHosting asked before after from to (answers_of g) (journals_of j) old ended new) → KeepsAfter asked before after from to (answers_of g) (journals_of j) commands Holds old ended new it
     keeps_after outcome.Address it = keeps_same it.1.0
     keeps_after outcome.Good it = keeps_hosted _ it.1
     keeps_after (outcome.Register fault) it = keeps_hosted _ it.2
@@ -75,17 +78,17 @@ module _ {L : Type 0} (g : ledger.Ghosts L) (law : LedgerStands (answers_of g)) 
     keeps_after (outcome.Lines fault) it = absurd it
 
 -- the ledger that is given back
-module _ {L : Type 0} (g : ledger.Ghosts L) (asked : SocketAddr) (before after : Option (List ℕ)) (from to : Option (List Deed)) (lent : L) (ended : Outcome × L) where
-  pub clean_before : HostsOver asked before after from to g lent ended → g.counts ended.1 → g.counts lent
+module _ {L J : Type 0} (g : ledger.Ghosts L) (j : journal_ledger.Ghosts L J) (asked : SocketAddr) (before after : Option (List ℕ)) (from to : Option (List Deed)) (lent : L) (ended : Outcome × L) where
+  pub clean_before : HostsOver asked before after from to g j lent ended → g.counts ended.1 → g.counts lent
   clean_before (inl without) counts = subst g.counts without.back counts
   clean_before (inr hosted) counts =
       let last = subst g.counts hosted.back counts in
-      let first = ended_clean (answers_of g) hosted.old hosted.new from to last asked before after ended.0 hosted.hosting in
+      let first = ended_clean (answers_of g) (journals_of j) hosted.old hosted.new from to last asked before after ended.0 hosted.hosting in
       subst g.counts hosted.over.same first
 
-  pub keeps : LedgerStands (answers_of g) → (hosts : HostsOver asked before after from to g lent ended) → g.counts ended.1 → (commands : List Command) → g.stands_for lent commands
-      → Keeps asked before after from to g commands lent ended hosts
+  pub keeps : LedgerStands (answers_of g) (journals_of j) → (hosts : HostsOver asked before after from to g j lent ended) → g.counts ended.1 → (commands : List Command) → g.stands_for lent commands
+      → Keeps asked before after from to g j commands lent ended hosts
   keeps law (inl without) counts commands stands = subst (λ (l : L). g.stands_for l commands) (sym without.back) stands
   keeps law (inr hosted) counts commands stands =
-      keeps_after g law commands (g.stands_for ended.1) hosted.old hosted.new from to (hosted.over.stands commands stands) (subst g.counts hosted.back counts)
+      keeps_after g j law commands (g.stands_for ended.1) hosted.old hosted.new from to (hosted.over.stands commands stands) (subst g.counts hosted.back counts)
       (λ all it. subst (λ (l : L). g.stands_for l all) (sym hosted.back) it.ledger) asked before after ended.0 hosted.hosting

@@ -1,4 +1,3 @@
-pub mod CleanLemmas
 pub mod FileLemmas
 pub mod JournalLemmas
 pub mod ReadingLemmas

@@ -1,5 +1,5 @@
 -- A run that reads the register of a file.
-use Rattle.std.proofs.Common.{◌≡◌, ◌≤◌, List, length, Result, Ok, Err, sym, subst}
+use Rattle.std.proofs.Common.{◌≤◌, List, length, Result, Ok, Err, sym, subst}
 use Rattle.sqlite_disk.specs.declared.Disk as disk
 use Rattle.sqlite_store.specs.declared.store.FileStore.{FileStore}
 use Rattle.sqlite.specs.Files.{file_state, over_files}

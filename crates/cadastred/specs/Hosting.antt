@@ -24,19 +24,20 @@ use Rattle.cadastred_run.specs.declared.outcome.Outcome.{Outcome}
 use Rattle.cadastred_run.specs.declared.outcome.Outcome.TheVariants as outcome
 use Rattle.cadastred_run.specs.Hosting.{HostsOver}
 use Rattle.cadastred.specs.Keeping.{Keeps}
+use Rattle.cadastred.specs.Readings.{register_as_journal}
 
 -- the address that was requested, what standard output holds before and after, and what was done at the network before and after
 module _ (asked : SocketAddr) (before after : Option (List ℕ)) (from to : Option (List Deed)) where
   -- the register is hosted, and the database's connection is given back
   pub record HostsRegister {S : Type 0} (g : Ghosts S) (register : Register S) (ended : Outcome × Held S) : Type 0 where
     pub left : Register S
-    pub hosts : HostsOver asked before after from to (register_as_ledger g) register (ended.0, left)
+    pub hosts : HostsOver asked before after from to (register_as_ledger g) (register_as_journal g) register (ended.0, left)
     pub back : ended.1 ≡ connection_of left
     -- if the disk is clean at the end, it was so at first
     pub clean : HasCleanDisk (state_of g left) → HasCleanDisk (state_of g register)
     -- and then the register holds what it held at first, and what the office entered
     pub keeps : HasCleanDisk (state_of g left) → (commands : List Command) → IsRegisterOf g register commands
-        → Keeps asked before after from to (register_as_ledger g) commands register (ended.0, left) hosts
+        → Keeps asked before after from to (register_as_ledger g) (register_as_journal g) commands register (ended.0, left) hosts
 
   -- if no register is found or made, the run ends for this cause, and nothing is written, logged or done at the network
   abbrev pub HostsFound : {S : Type 0} → Type 0 → Ghosts S → Result (Register S) (RegisterFault × Held S) → Outcome × Held S → Type 0
@@ -47,7 +48,7 @@ module _ (asked : SocketAddr) (before after : Option (List ℕ)) (from to : Opti
   abbrev pub KeepsFound : {S : Type 0} (NothingLogged : Type 0) (g : Ghosts S) → List Command → (found : Result (Register S) (RegisterFault × Held S)) (ended : Outcome × Held S) → HostsFound NothingLogged g found ended → Type 0
   KeepsFound NothingLogged g commands (Err refused) ended hosts = ⊤
   KeepsFound NothingLogged g commands (Ok register) ended hosts =
-      HasCleanDisk (state_of g hosts.left) → Keeps asked before after from to (register_as_ledger g) commands register (ended.0, hosts.left) hosts.hosts
+      HasCleanDisk (state_of g hosts.left) → Keeps asked before after from to (register_as_ledger g) (register_as_journal g) commands register (ended.0, hosts.left) hosts.hosts
 
 -- what standard output holds before and after, and what the file held at first
 module _ (before after : Option (List ℕ)) (image : Image) where

@@ -4,11 +4,11 @@ ghost use Rattle.std.specs.Io.KnownBytes.{IsAtEnd};
 ghost use Rattle.std.specs.Prelude.{◌≡◌, [], IfOk, IfErr};
 ghost use Rattle.sqlite.specs.Steps.{over_memory};
 ghost use Rattle.sqlite.specs.WalFiles.{image_at};
-ghost use Rattle.cad_versions.specs.Keeping.{IsOfKeeping};
 ghost use Rattle.cad_versions.specs.Refusals.{AreAccepted};
 ghost use Rattle.cad_register.specs.Opening.{Opened};
 ghost use Rattle.cad_register.specs.Registers.{IsRegisterOf};
 ghost use Rattle.cad_register.specs.Running.{RunsOver};
+ghost use Rattle.cad_register.specs.Stands.{IsStoreFault};
 ghost use Rattle.cadastred.specs.Checking.{ChecksAfter, ChecksFound, ChecksInFile, ChecksRegister, IsCheckEnd};
 ghost use Rattle.cadastred.specs.Reading.{IsUnfound};
 
@@ -23,7 +23,7 @@ use std::io::Write;
 /// The register of no commands, in memory.
 fn empty_register(alloc: Global) -> Result<Register<MemStore>, RegisterFault>
     ensures empty { IfOk result (λ register. IsRegisterOf over_memory register []) }
-    ensures cause { IfErr result IsOfKeeping }
+    ensures cause { IfErr result IsStoreFault }
 {
     let Ok(connection) = Connection::open_in_memory(alloc) else {
         return Err(RegisterFault::Memory);

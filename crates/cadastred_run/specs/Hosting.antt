@@ -6,7 +6,9 @@ use Rattle.cad_serve.specs.Arguments.{listening_line, IsBoundFor}
 use Rattle.cad_serve.specs.Statuses.{EndsWithout}
 use Rattle.cad_versions.specs.declared.fault.RegisterFault.TheVariants as register
 use Rattle.cad_versions.specs.declared.ledger.Ledger as ledger
+use Rattle.cad_versions.specs.declared.journal_ledger.JournalLedger as journal_ledger
 use Rattle.cad_stream.specs.declared.responder.Responder as responder
+use Rattle.cad_stream.specs.declared.journal_responder.JournalResponder as journal_responder
 use Rattle.cad_desk.specs.declared.desk.Desk.{Desk}
 use Rattle.cad_desk.specs.Desks.{responder_of}
 use Rattle.cad_server.specs.declared.server.Server.{Server}
@@ -18,6 +20,7 @@ use Rattle.cad_event_loop.specs.Hosting.{HostsBy}
 use Rattle.cad_network.specs.Deeds.{Deed, Adds}
 use Rattle.cadastred_run.specs.declared.outcome.Outcome.{Outcome}
 use Rattle.cadastred_run.specs.declared.outcome.Outcome.TheVariants as outcome
+use Rattle.cadastred_run.specs.Journals.{journals_of}
 
 -- how hosting ends a run
 abbrev pub outcome_of_hosting : {E : Type 0} → Result Stopped E → Outcome
@@ -39,21 +42,21 @@ module _ (asked : SocketAddr) (before after : Option (List ℕ)) (from to : Opti
   -- The requested address is not bound, and nothing is written.
   -- Or the address is written, and then the desk is hosted until the office asks to stop, or the database refuses.
   -- Or the address cannot be written, and nothing is hosted. Or it is written and hosting failed, and the database did not refuse.
-  abbrev pub EndsHosting : {R : Type 0} → responder.Ghosts R → Desk R → Outcome → Desk R → Type 0
-  EndsHosting g old outcome.Address new = (after ≡ before) × IsUnhosted old new
-  EndsHosting g old outcome.Good new = TellsAddress × HostsBy g (Some Asked) from old to new
-  EndsHosting g old (outcome.Register fault) new = (fault ≡ register.Store) × TellsAddress × HostsBy g (Some StoreRefused) from old to new
-  EndsHosting g old outcome.Failed new = IsUnhosted old new ⊎ (TellsAddress × (HostsBy g None from old to new ⊎ HostsBy g (Some Asked) from old to new))
-  EndsHosting g old other new = ⊥
+  abbrev pub EndsHosting : {R J : Type 0} → responder.Ghosts R → journal_responder.Ghosts R J → Desk R → Outcome → Desk R → Type 0
+  EndsHosting g j old outcome.Address new = (after ≡ before) × IsUnhosted old new
+  EndsHosting g j old outcome.Good new = TellsAddress × HostsBy g j (Some Asked) from old to new
+  EndsHosting g j old (outcome.Register fault) new = (fault ≡ register.Store) × TellsAddress × HostsBy g j (Some StoreRefused) from old to new
+  EndsHosting g j old outcome.Failed new = IsUnhosted old new ⊎ (TellsAddress × (HostsBy g j None from old to new ⊎ HostsBy g j (Some Asked) from old to new))
+  EndsHosting g j old other new = ⊥
 
   -- a desk over the ledger is hosted, and the ledger is given back
-  pub record EndsHosted {L : Type 0} (g : ledger.Ghosts L) (lent : L) (ended : Outcome × L) : Type 0 where
+  pub record EndsHosted {L J : Type 0} (g : ledger.Ghosts L) (j : journal_ledger.Ghosts L J) (lent : L) (ended : Outcome × L) : Type 0 where
     pub old : Desk (Server L)
     pub new : Desk (Server L)
     pub over : IsDeskOver g lent old
-    pub hosting : EndsHosting (answers_of g) old ended.0 new
+    pub hosting : EndsHosting (answers_of g) (journals_of j) old ended.0 new
     pub back : ended.1 ≡ ledger_of (responder_of new)
 
   -- there is no memory for a desk, and nothing is written or done at the network; or a desk is hosted
-  abbrev pub HostsOver : {L : Type 0} → ledger.Ghosts L → L → Outcome × L → Type 0
-  HostsOver g lent ended = EndsWithout ((after ≡ before) × Adds from to []) (outcome.Register register.Memory) lent ended ⊎ EndsHosted g lent ended
+  abbrev pub HostsOver : {L J : Type 0} → ledger.Ghosts L → journal_ledger.Ghosts L J → L → Outcome × L → Type 0
+  HostsOver g j lent ended = EndsWithout ((after ≡ before) × Adds from to []) (outcome.Register register.Memory) lent ended ⊎ EndsHosted g j lent ended

@@ -1,6 +1,7 @@
 pub mod Doors
 pub mod Invocations
 pub mod Outcomes
+pub mod Journals
 pub mod Hosting
 pub mod Checking
 pub mod inner

@@ -14,8 +14,8 @@ use cad_event_loop::host;
 use cad_network::Network;
 use cad_serve::{bound_for, read_address, tell_address};
 use cad_server::Server;
-use cad_stream::Responder;
-use cad_versions::{Ledger, RegisterFault};
+use cad_stream::JournalResponder;
+use cad_versions::{JournalLedger, RegisterFault};
 use std::alloc::Global;
 use std::fs::Files;
 use std::io::{Result as IoResult, Write};
@@ -36,7 +36,7 @@ pub fn open_doors<N: Net + Files>(rt: &N, service: Service<'_>) -> Result<Doors,
 }
 
 /// Writes the address, if the address that is found is the requested one, and serves the desk at the network.
-fn host_desk<N: Network, R: Responder, W: Write, A: AccessLog<N::Socket>>(
+fn host_desk<N: Network, R: JournalResponder, W: Write, A: AccessLog<N::Socket>>(
     alloc: Global,
     asked: SocketAddr,
     found: IoResult<SocketAddr>,
@@ -45,7 +45,7 @@ fn host_desk<N: Network, R: Responder, W: Write, A: AccessLog<N::Socket>>(
     log: &mut A,
     desk: &mut Desk<R>,
 ) -> Outcome
-    ensures { EndsHosting asked (W.contents writer.old) (W.contents writer.new) (N.history net.old) (N.history net.new) R.Responder desk.old result desk.new }
+    ensures { EndsHosting asked (W.contents writer.old) (W.contents writer.new) (N.history net.old) (N.history net.new) R.Responder R.JournalResponder.own desk.old result desk.new }
 {
     let Some(bound) = bound_for(asked, found) else {
         return Outcome::Address;
@@ -58,7 +58,7 @@ fn host_desk<N: Network, R: Responder, W: Write, A: AccessLog<N::Socket>>(
 
 /// Writes the address, if the address that is found is the requested one, takes clients and the land office at the doors of a network,
 /// serves them over the ledger until the office asks to stop, and gives the ledger back.
-pub fn host_over<N: Network, L: Ledger, W: Write, A: AccessLog<N::Socket>>(
+pub fn host_over<N: Network, L: JournalLedger, W: Write, A: AccessLog<N::Socket>>(
     alloc: Global,
     ledger: L,
     asked: SocketAddr,
@@ -67,7 +67,7 @@ pub fn host_over<N: Network, L: Ledger, W: Write, A: AccessLog<N::Socket>>(
     writer: &mut W,
     log: &mut A,
 ) -> (Outcome, L)
-    ensures { HostsOver asked (W.contents writer.old) (W.contents writer.new) (N.history net.old) (N.history net.new) L.Ledger ledger result }
+    ensures { HostsOver asked (W.contents writer.old) (W.contents writer.new) (N.history net.old) (N.history net.new) L.Ledger L.JournalLedger.own ledger result }
 {
     match Server::new(alloc, ledger) {
         Ok(server) => {

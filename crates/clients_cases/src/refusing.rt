@@ -2,7 +2,8 @@
 
 ghost use Rattle.clients_cases.specs.Refusing.{StandsFor};
 
-use cad_stream::{Answer, Responder};
+use cad_memory_ledger::MemoryReading;
+use cad_stream::{Answer, JournalResponder, Responder};
 use cad_versions::{Command, RegisterFault};
 use httparse::spans::{HeaderSpan, RequestSpans};
 use std::alloc::{AllocError, Global};
@@ -11,7 +12,21 @@ use test_support::Echo;
 /// The object whose commands the database refuses.
 const REFUSED: u32 = 6;
 
-/// Answers like `Echo`, but refuses each command for one object as a database would.
+/// The revision after which the database refuses to read a journal.
+const UNREAD: u64 = 6;
+
+/// The revision after which a journal is not read since the database holds no register.
+const UNFIT: u64 = 5;
+
+/// A journal whose rows are read in turns, as many as it has commands.
+#[derive(Drop)]
+pub(crate) struct SlowReading {
+    reading: MemoryReading,
+    behind: u64,
+    left: u64,
+}
+
+/// Answers like `Echo`, but refuses each command for one object and the rows of one journal as a database would.
 #[derive(Drop)]
 pub(crate) struct Refusing {
     echo: Echo,
@@ -107,4 +122,59 @@ impl Responder for Refusing {
 
     #[tactic(auto, using(test_support::specs::Echoes::one_echo))]
     fn one_reply() {}
+}
+
+impl JournalResponder for Refusing {
+    ghost use Rattle.clients_cases.specs.Refusing.{HasRead, FailsToRead, IsUnread, behind_of as reading_behind, newest_of as reading_newest, rows_left as reading_left, unread_keeps};
+
+    type Reading = SlowReading;
+
+    ghost has_read = { HasRead };
+
+    ghost behind_of = { reading_behind };
+
+    ghost newest_of = { reading_newest };
+
+    ghost rows_left = { reading_left };
+
+    ghost fails_to_read = { λ _. FailsToRead };
+
+    ghost refuses_reading = { λ _ _ reading _. IsUnread reading };
+
+    ghost damaged_for_reading = { λ _ _ _ _ _ _. ⊥ };
+
+    ghost read_keeps = { λ _. unread_keeps };
+
+    ghost were_accepted = { λ _ _ stands. stands.accepted };
+
+    ghost readings_are_within = { λ _ _ has. (has.behind, has.newest) };
+
+    fn begin_journal(&self, behind: u64) -> Result<SlowReading, RegisterFault> {
+        let reading = self.echo.begin_journal(behind)?;
+        let left = self.echo.revision();
+        Ok(SlowReading {
+            reading,
+            behind,
+            left,
+        })
+    }
+
+    fn read_on(&mut self, reading: &mut SlowReading, most: u32) -> Result<bool, RegisterFault> {
+        if reading.behind == UNREAD {
+            return Err(RegisterFault::Store);
+        }
+        if reading.behind == UNFIT {
+            return Err(RegisterFault::NotARegister);
+        }
+        reading.left = reading.left.saturating_sub(u64::from(most));
+        Ok(reading.left == 0)
+    }
+
+    fn commands(reading: SlowReading, alloc: Global) -> Result<Vec<Command>, RegisterFault> {
+        Echo::commands(reading.reading, alloc)
+    }
+
+    fn readings_stay() {
+        Echo::readings_stay();
+    }
 }

@@ -4,6 +4,7 @@ use crate::wire::Wire;
 use crate::world::Peer;
 use cad_clients::{Clients, Limits, NoLog, ROOM, Served};
 use cad_desk::Desk;
+use cad_memory_ledger::MemoryReading;
 use cad_office_socket::{Entry, EntryTurned};
 use std::alloc::{AllocError, Global};
 use test_support::Echo;
@@ -23,7 +24,7 @@ pub(crate) struct Room {
     wire: Wire,
     /// The number of each client's peer.
     names: Vec<Option<u32>>,
-    entry: Entry,
+    entry: Entry<MemoryReading>,
     office: u32,
     pub(crate) now: u64,
 }

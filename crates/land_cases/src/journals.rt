@@ -20,6 +20,7 @@ use cad_commands::{CommandError, read_command};
 use cad_io::{Counted, number};
 use cad_office::{Answer, JournalLines, office, print_answer};
 use cad_register::{Command, JournalReading, Register, RegisterFault};
+use cad_versions::Ledger;
 use sqlite::{Connection, MemStore};
 use std::alloc::Global;
 use std::io::{Cursor, Error, ErrorKind, Result};
@@ -27,8 +28,8 @@ use std::io::{Cursor, Error, ErrorKind, Result};
 /// The most commands of a piece of a journal.
 const PIECE: usize = 16;
 
-/// The error that ends the program if the register refuses.
-fn error_of(fault: RegisterFault) -> Error {
+/// The error that ends the program if a ledger refuses.
+pub(crate) fn error_of(fault: RegisterFault) -> Error {
     match fault {
         RegisterFault::Memory => Error::from(ErrorKind::OutOfMemory),
         _ => Error::from(ErrorKind::Other),
@@ -45,7 +46,7 @@ fn empty_register(alloc: Global) -> Result<Register<MemStore>> {
 }
 
 /// Prints the lines of the commands, piece by piece, and the end.
-fn print_commands(rt: &HostRuntime, commands: Vec<Command>, newest: u64) -> Result<()> {
+pub(crate) fn print_commands(rt: &HostRuntime, commands: Vec<Command>, newest: u64) -> Result<()> {
     let pieces = commands.len().div_ceil(PIECE).max(1);
     let mut lines = JournalLines::new(commands, newest);
     for _ in 0..pieces {
@@ -63,27 +64,23 @@ fn print_as_office(rt: &HostRuntime, answer: Answer) -> Result<()> {
     }
 }
 
-/// Prints why the register refuses.
-fn print_refusal(rt: &HostRuntime, fault: RegisterFault) -> Result<()> {
+/// Prints why a ledger refuses.
+pub(crate) fn print_refusal(rt: &HostRuntime, fault: RegisterFault) -> Result<()> {
     print_as_office(rt, Answer::Refused(fault))
 }
 
-/// Prints what the register would answer to a command.
-fn print_check(
-    rt: &HostRuntime,
-    register: &mut Register<MemStore>,
-    command: &Command,
-) -> Result<()> {
-    match register.check(command) {
+/// Prints what a ledger would answer to a command.
+fn print_check<L: Ledger>(rt: &HostRuntime, ledger: &mut L, command: &Command) -> Result<()> {
+    match ledger.check(command) {
         Ok(revision) => println!(rt; "would be {revision}"),
         Err(fault) => print_refusal(rt, fault),
     }
 }
 
-/// Prints what the register would answer to a line.
-fn check_line(rt: &HostRuntime, register: &mut Register<MemStore>, line: &[u8]) -> Result<()> {
+/// Prints what a ledger would answer to a line.
+pub(crate) fn check_line<L: Ledger>(rt: &HostRuntime, ledger: &mut L, line: &[u8]) -> Result<()> {
     match read_command(rt.alloc(), line) {
-        Ok(command) => print_check(rt, register, &command),
+        Ok(command) => print_check(rt, ledger, &command),
         Err(CommandError::NotACommand) => print_as_office(rt, Answer::NotACommand),
         Err(CommandError::Memory) => Err(Error::from(ErrorKind::OutOfMemory)),
     }
@@ -109,16 +106,16 @@ fn print_read(rt: &HostRuntime, reading: JournalReading) -> Result<()>
 }
 
 /// Enters a line, and prints its answer.
-fn enter_line(rt: &HostRuntime, register: &mut Register<MemStore>, line: &[u8]) -> Result<()> {
+pub(crate) fn enter_line<L: Ledger>(rt: &HostRuntime, ledger: &mut L, line: &[u8]) -> Result<()> {
     let mut reader = Counted::new(Cursor::new(line));
-    match office(rt.alloc(), &mut reader, &mut rt.stdout(), register) {
+    match office(rt.alloc(), &mut reader, &mut rt.stdout(), ledger) {
         Ok(_) => Ok(()),
         Err(_) => Err(Error::from(ErrorKind::Other)),
     }
 }
 
 /// What a line asks for.
-enum Line<'a> {
+pub(crate) enum Line<'a> {
     /// What would be answered to this line.
     Check(&'a [u8]),
     /// The journal after a revision.
@@ -138,7 +135,7 @@ fn number_after(line: &[u8], word: &[u8]) -> Option<u64> {
 }
 
 /// What the line asks for.
-fn line_of(line: &[u8]) -> Line<'_> {
+pub(crate) fn line_of(line: &[u8]) -> Line<'_> {
     if let Some(checked) = line.strip_prefix(b"check ".as_slice()) {
         return Line::Check(checked);
     }

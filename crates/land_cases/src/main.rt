@@ -4,7 +4,9 @@
 //! - `= shapes`: rings, regions, segments and the relations of shapes
 //! - `= office`: lines of the land office over a ledger in memory
 //! - `= features`: commands, and the features that they make, as JSON
+//! - `= histories`: commands, and the features of each revision, by their histories
 //! - `= journals`: commands to a register in a database in memory, and questions to it
+//! - `= memory journals`: the same to a ledger in memory
 //! - `= dry run`: lines of a dry run over a ledger in memory
 //!
 //! The module of a part says how its lines are answered. The answers are printed in this order of the parts.
@@ -16,7 +18,9 @@
 mod days;
 mod dry_run;
 mod features;
+mod histories;
 mod journals;
+mod memory_journals;
 mod office_lines;
 mod parts;
 mod shapes;
@@ -35,7 +39,9 @@ fn run(rt: &HostRuntime) -> Result<(), Stop> {
     shapes::print_answers(rt, lines_of(&input, b"\n= shapes"))?;
     office_lines::print_answers(rt, lines_of(&input, b"\n= office"))?;
     features::print_answers(rt, lines_of(&input, b"\n= features"))?;
+    histories::print_answers(rt, lines_of(&input, b"\n= histories"))?;
     journals::print_answers(rt, lines_of(&input, b"\n= journals"))?;
+    memory_journals::print_answers(rt, lines_of(&input, b"\n= memory journals"))?;
     dry_run::print_reports(rt, lines_of(&input, b"\n= dry run"))?;
     Ok(())
 }

@@ -8,13 +8,13 @@ use Rattle.cad_event_loop.specs.Turns.{Standings}
 use Rattle.cad_event_loop.specs.Works.{Place, place_of}
 
 -- the clients and the land office's connections, if sockets of this type have these names
-abbrev pub here : {S : Type 0} → (S → ℕ) → Rounds S → Place
+abbrev pub here : {S J : Type 0} → (S → ℕ) → Rounds S J → Place J
 here name rounds = place_of name rounds.peers.clients (offices_at name rounds.offices)
 
 -- their states
-abbrev pub standing : {S : Type 0} → (S → ℕ) → Rounds S → Standings
+abbrev pub standing : {S J : Type 0} → (S → ℕ) → Rounds S J → Standings
 standing name rounds = standings rounds.peers (offices_at name rounds.offices)
 
 -- none of them
-abbrev pub IsNobody : {S : Type 0} → Rounds S → Type 0
+abbrev pub IsNobody : {S J : Type 0} → Rounds S J → Type 0
 IsNobody rounds = ((c : ℕ) → client_at rounds.peers.clients c ≡ None) × ((k : ℕ) → seat_at rounds.offices k ≡ None)

@@ -22,16 +22,16 @@ standing_at clients c = standing_of (client_at clients c)
 abbrev pub flag_at : Readiness → ℕ → Option Bool
 flag_at readiness k = slice_get readiness.offices k
 
-abbrev pub standing_office : AtOffice → Option Bool → Standing
+abbrev pub standing_office : {J : Type 0} → AtOffice J → Option Bool → Standing
 standing_office None flag = absent
 standing_office (Some office) None = absent
 standing_office (Some office) (Some is_ready) = if is_ready then ready else waiting
 
 -- the states of all, with these connections of the land office, whose sockets may or may not give or take something
-abbrev pub standings_of : {S : Type 0} → Clients S → AtOffices → (ℕ → Option Bool) → Standings
+abbrev pub standings_of : {S J : Type 0} → Clients S → AtOffices J → (ℕ → Option Bool) → Standings
 standings_of clients offices flags = record { clients = standing_at clients; offices = λ k. standing_office (offices k) (flags k) }
 
-abbrev pub standings : {S : Type 0} → Peers S → AtOffices → Standings
+abbrev pub standings : {S J : Type 0} → Peers S → AtOffices J → Standings
 standings peers offices = standings_of peers.clients offices (flag_at peers.ready)
 
 -- the network reported its socket, or not

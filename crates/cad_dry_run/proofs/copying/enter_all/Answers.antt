@@ -1,5 +1,6 @@
 use Rattle.std.proofs.Common.{[], ◌∷◌, ◌++◌, arith, length-append, append-nil, append_assoc, ◌∙◌, ap, sym, subst}
 use Rattle.cad_versions.specs.Refusals.{AreAccepted}
+use Rattle.cad_dry_run.specs.Copying.{IsOfStore}
 use Rattle.cad_dry_run.proofs.CopyingLemmas.{all_of, holds_more, of_store}
 use Rattle.cad_dry_run.proofs.copying.enter_all.Goals as goal
 
@@ -39,8 +40,9 @@ returns-in-Err g c =
       holds = λ counts. tt;
       refused = λ counts before stands accepted.
           let earlier = c.loop-command.invariant.holds (c.in-Err.ensures.clean counts) before stands in
-          of_store g.L.Ledger c.loop-command.ledger c.apply.new.self x (before ++ so_far) later c.in-Err.fault
-          (subst (AreAccepted []) (ap (λ l. before ++ l) (sym all) ∙ sym (append_assoc before so_far (x ∷ later))) accepted) c.in-Err.ensures counts earlier;
+          let whole = ap (λ l. before ++ l) (sym all) ∙ sym (append_assoc before so_far (x ∷ later)) in
+          subst (λ l. IsOfStore g.L.Ledger l c.in-Err.fault) (sym whole)
+          (of_store g.L.Ledger c.loop-command.ledger c.apply.new.self x (before ++ so_far) later c.in-Err.fault (subst (AreAccepted []) whole accepted) c.in-Err.ensures counts earlier);
       clean = λ counts. c.loop-command.invariant.clean (c.in-Err.ensures.clean counts);
     }
 

@@ -17,10 +17,10 @@ use Rattle.cad_event_loop.proofs.hosting.host.Goals as goal
 pub returns-in_err-rounds : goal.returns-in_err-rounds
 returns-in_err-rounds g c =
     let p = err_from_is_err_and c.from_residual.result c.from_residual.ensures.1 in
-    rw p.1 (inl (unhosted g.R.Responder (g.N.Network.history c.args.net.now) c.args.desk.now))
+    rw p.1 (inl (unhosted g.R.Responder g.R.JournalResponder (g.N.Network.history c.args.net.now) c.args.desk.now))
 
 pub run-hosted-requires : goal.run-hosted-requires
-run-hosted-requires g c = record { each = λ k. subst (λ (o : Option (Office _)). HasBegun o) (sym (c.in_ok-rounds.ensures.1 k)) tt }
+run-hosted-requires g c = record { each = λ k. subst (λ (o : Option (Office _ _)). HasBegun o) (sym (c.in_ok-rounds.ensures.1 k)) tt }
 
 pub returns : goal.returns
 returns g c =
@@ -28,9 +28,9 @@ returns g c =
     let rounds = c.in_ok-rounds.rounds in
     let stand = standing g.N.Network.name rounds in
     let clients : ((d : ℕ) → nobody.clients d ≡ stand.clients d) = (λ d. sym (ap (λ (o : Option (Client _)). standing_of o) (c.in_ok-rounds.ensures.0 d))) in
-    let offices : ((k : ℕ) → nobody.offices k ≡ stand.offices k) = (λ k. sym (ap (λ (o : Option (Office _)). standing_office (office_at g.N.Network.name o) (flag_at rounds.peers.ready k)) (c.in_ok-rounds.ensures.1 k))) in
+    let offices : ((k : ℕ) → nobody.offices k ≡ stand.offices k) = (λ k. sym (ap (λ (o : Option (Office _ _)). standing_office (office_at g.N.Network.name o) (flag_at rounds.peers.ready k)) (c.in_ok-rounds.ensures.1 k))) in
     let served =
-    serves-so g.R.Responder (AreServed stand) (AreServed nobody) (end_of_rounds c.run-hosted.result) _ _ c.args.desk.now c.run-hosted.new.desk _ _
+    serves-so g.R.Responder g.R.JournalResponder (AreServed stand) (AreServed nobody) (end_of_rounds c.run-hosted.result) _ _ c.args.desk.now c.run-hosted.new.desk _ _
     (λ works. served_alike stand nobody works (clients, offices)) c.run-hosted.ensures in
-    let all = hosted_by g.R.Responder (end_of_rounds c.run-hosted.result) _ _ _ c.args.desk.now c.run-hosted.new.desk c.end-ended.new.desk (here g.N.Network.name c.in_ok-rounds.rounds) (here g.N.Network.name c.run-hosted.new.self) (here g.N.Network.name c.end-ended.new.self) first c.end-ended.ensures.nobody served c.end-ended.ensures.hosts in
-    hosted_so g.R.Responder Error c.run-hosted.result c.last_of.result _ _ c.args.desk.now c.end-ended.new.desk c.last_of.ensures all
+    let all = hosted_by g.R.Responder g.R.JournalResponder (end_of_rounds c.run-hosted.result) _ _ _ c.args.desk.now c.run-hosted.new.desk c.end-ended.new.desk (here g.N.Network.name c.in_ok-rounds.rounds) (here g.N.Network.name c.run-hosted.new.self) (here g.N.Network.name c.end-ended.new.self) first c.end-ended.ensures.nobody served c.end-ended.ensures.hosts in
+    hosted_so g.R.Responder g.R.JournalResponder Error c.run-hosted.result c.last_of.result _ _ c.args.desk.now c.end-ended.new.desk c.last_of.ensures all

@@ -8,15 +8,15 @@ use Rattle.cad_event_loop.proofs.GoesLemmas.{opened_hosts, away_hosts}
 use Rattle.cad_event_loop.proofs.peers.Peers.admit.Goals as goal
 
 pub returns-in_default : goal.returns-in_default
-returns-in_default g c = λ office before comes. away_hosts g.R.Responder (g.N.Network.name c.args.socket) before _ _ c.args.desk.now (place_of g.N.Network.name c.args.self.now.clients office) (standings c.args.self.now office) comes c.turn_away.ensures
+returns-in_default g c = λ office before comes. away_hosts g.R.Responder g.R.JournalResponder (g.N.Network.name c.args.socket) before _ _ c.args.desk.now (place_of g.N.Network.name c.args.self.now.clients office) (standings c.args.self.now office) comes c.turn_away.ensures
 
 pub returns-then-is_err : goal.returns-then-is_err
 returns-then-is_err g c = λ office before comes.
     let watched = Adds-trans _ _ _ (came (g.N.Network.name c.args.socket) ∷ []) [] comes c.watch.ensures.done in
-    away_hosts g.R.Responder (g.N.Network.name c.args.socket) before _ _ c.args.desk.now (place_of g.N.Network.name c.args.self.now.clients office) (standings c.args.self.now office) watched (subst (λ (n : ℕ). AddsSome (g.N.Network.history c.watch.new.self) (g.N.Network.history c.turn_away-then-is_err.new.net) (IsTurnedAway n)) c.watch.ensures.same c.turn_away-then-is_err.ensures)
+    away_hosts g.R.Responder g.R.JournalResponder (g.N.Network.name c.args.socket) before _ _ c.args.desk.now (place_of g.N.Network.name c.args.self.now.clients office) (standings c.args.self.now office) watched (subst (λ (n : ℕ). AddsSome (g.N.Network.history c.watch.new.self) (g.N.Network.history c.turn_away-then-is_err.new.net) (IsTurnedAway n)) c.watch.ensures.same c.turn_away-then-is_err.ensures)
 
 pub returns : goal.returns
 returns g c = λ office before comes.
     let watched = Adds-trans _ _ _ (came (g.N.Network.name c.args.socket) ∷ []) [] comes c.watch.ensures.done in
     let renamed = subst (λ (n : ℕ). Adds before (g.N.Network.history c.watch.new.self) (came n ∷ [])) (sym c.watch.ensures.same) watched in
-    opened_hosts g.R.Responder g.N.Network.name c.in-Some.c office (flag_at c.args.self.now.ready) c.args.self.now.now c.open-2.result c.watch.new.socket before _ _ c.args.desk.now c.open-2.new.desk c.args.self.now.clients c.open-2.new.self c.in-Some.ensures.free.1 renamed c.open-2.ensures
+    opened_hosts g.R.Responder g.R.JournalResponder g.N.Network.name c.in-Some.c office (flag_at c.args.self.now.ready) c.args.self.now.now c.open-2.result c.watch.new.socket before _ _ c.args.desk.now c.open-2.new.desk c.args.self.now.clients c.open-2.new.self c.in-Some.ensures.free.1 renamed c.open-2.ensures

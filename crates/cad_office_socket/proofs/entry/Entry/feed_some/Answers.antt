@@ -11,7 +11,7 @@ returns-in_default g c =
     let added = rw rest at c.add_all.ensures in
     let before = rw rest at c.in_default.ensures.before in
     let left = drop_all c.len-self.result entry.input.items (let e = c.len-self.ensures in omega (arith, e)) in
-    record { ends = tt; goes_on = refl; fed = λ begun stands. (unread entry, before, inl (refl, refl, c.requires, refl, left, added begun stands)) }
+    record { ends = tt; goes_on = refl; fed = λ begun stands. (unread entry, before, inl (refl, refl, c.requires.nothing_unwritten, refl, left, added begun stands, c.requires.no_journal)) }
 
 pub returns : goal.returns
 returns g c =

@@ -9,10 +9,10 @@ returns-in_default g c =
     let no_zero = c.in-Ok.count-test.1 in
     let taken = length-take c.in-Ok.count bytes in
     let some : 0 < length (take c.in-Ok.count bytes) = omega (arith, bound, no_zero, taken) in
-    (_, c.in-Ok.ensures.done, (inr (inr (inr (_, refl, some, (c.requires.nothing_unwritten, c.requires.nothing_unread, c.requires.goes_on)))), refl))
+    (_, c.in-Ok.ensures.done, (inr (inr (inr (_, refl, some, (c.requires.nothing_unwritten, c.requires.nothing_unread, c.requires.goes_on, c.requires.no_journal)))), refl))
 
 pub returns-in-Ok-eq0 : goal.returns-in-Ok-eq0
 returns-in-Ok-eq0 g c =
     let done = rw c.in-Ok-eq0.field-0-test at c.in-Ok-eq0.ensures.done in
     let requires = c.requires in
-    (_, done, last_turn g.R.Responder _ c.args.desk.now c.end_input.new.desk c.args.self.now c.end_input.new.self c.end_input.result c.end_input.ensures.ends requires.nothing_unread requires.nothing_unwritten requires.goes_on c.end_input.ensures.line c.end_input.ensures.over)
+    (_, done, last_turn g.R.Responder g.R.JournalResponder _ c.args.desk.now c.end_input.new.desk c.args.self.now c.end_input.new.self c.end_input.result c.end_input.ensures.ends requires.nothing_unread requires.nothing_unwritten requires.no_journal requires.goes_on c.end_input.ensures.line c.end_input.ensures.over)
