@@ -25,6 +25,7 @@ use Rattle.cad_schema.specs.declared.attribute.Attribute.TheVariants as attribut
 use Rattle.cad_schema.specs.declared.collection.Collection.{Collection}
 use Rattle.cad_schema.specs.declared.collection.Collection.TheVariants.{Units, Parties}
 use Rattle.cad_schema.specs.Attributes.{attributes_of}
+use Rattle.cad_feature.specs.Periods.{always}
 use Rattle.cad_feature.specs.Features.{Item, datum_at}
 use Rattle.cad_feature.specs.Flatten.{class_for, is_in, joined_name, or_null, as_text, value_in, feature_in, features_in}
 use Rattle.cad_feature.specs.Lifespans.{is_up_to, holds_on}
@@ -182,6 +183,7 @@ module _ (vs : List VersionedObject) (c : Command) (new : AddsNew vs c) where
       number = v.number;
       values = ((λ j. edited_data (names_joined (features_in vs Units) (features_in vs Parties) v) (first_is (v ∷ []) v collection j) (attributes_of collection) (map (value_in (v ∷ []) v) (attributes_of collection)))
           ∙ edited_is (names_joined (features_in vs Units) (features_in vs Parties) v) (Some v.first) (value_in (v ∷ []) v) (value_in (next vs c) v) (attributes_of collection) value_added) i;
+      period = always;
     }
 
   module _ (first : Day) (body : Body) (collection : Collection) where

@@ -25,6 +25,7 @@ use Rattle.cad_schema.specs.declared.attribute.Attribute.TheVariants as attribut
 use Rattle.cad_schema.specs.declared.collection.Collection.{Collection}
 use Rattle.cad_schema.specs.Attributes.{attributes_of}
 use Rattle.cad_feature.specs.Features.{Item, identifier_of, by_identifier}
+use Rattle.cad_feature.specs.Periods.{always}
 use Rattle.cad_feature.specs.Flatten.{is_in, joined_name, or_null, as_text, value_in, feature_in, features_in}
 use Rattle.cad_feature.specs.Lifespans.{holds_on, is_up_to}
 use Rattle.cad_feature.specs.Values.{Datum}
@@ -144,7 +145,7 @@ module _ (vs : List VersionedObject) (c : Command) (new : AddsNew vs c) where
   pub feature_stays : (collection : Collection) (v : VersionedObject) → is_touched_by c v ≡ false → feature_in vs collection v ≡ feature_in (next vs c) collection (left_by c v)
   feature_stays collection v e =
       let both = or_parts (is_closed_by c v) _ e in
-      let as_item : List Datum → Item = λ ds. record { object = v.object; number = v.number; values = ds } in
+      let as_item : List Datum → Item = λ ds. record { object = v.object; number = v.number; values = ds; period = always } in
       ap as_item (map_same (value_in vs v) (value_in (next vs c) v) (value_next v both.1) (attributes_of collection))
       ∙ ap (feature_in (next vs c) collection) (sym (left_whole c v both.0))
 

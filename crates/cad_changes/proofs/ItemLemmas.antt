@@ -20,6 +20,7 @@ use Rattle.cad_schema.specs.declared.attribute.Attribute.TheVariants as attribut
 use Rattle.cad_schema.specs.declared.collection.Collection.{Collection}
 use Rattle.cad_schema.specs.declared.collection.Collection.TheVariants.{Parcels, Units, Parties}
 use Rattle.cad_schema.specs.Attributes.{attributes_of}
+use Rattle.cad_feature.specs.Periods.{always}
 use Rattle.cad_feature.specs.Flatten.{is_in, joined_name, or_null, as_text, as_whole, value_in, feature_in, features_in}
 use Rattle.cad_feature.specs.Values.{Datum, a_day, a_span}
 use Rattle.cad_layer.specs.lemmas.SegmentLemmas.{kept_pass}
@@ -186,6 +187,7 @@ module _ (vs : List VersionedObject) (c : Command) (new : AddsNew vs c) (all : A
     number = same (λ w. w.number) (λ day w. refl) i;
     values = ((λ j. edited_data (edits_are vs v c collection inside j) (first_is vs v collection j) (attributes_of collection) (map (value_in vs v) (attributes_of collection)))
         ∙ edited_is (edits_of vs v c collection inside) (Some v.first) (value_in vs v) (value_in (next vs c) (left_by c v)) (attributes_of collection) (value_left collection inside)) i;
+    period = always;
   }
 
 -- ---- all that the command leaves

@@ -101,7 +101,7 @@ edited_data e first (a ∷ rest) (d ∷ ds) = edited_datum e first a d ∷ edite
 
 -- a feature of the collection with these edits
 abbrev pub edited : Edits → Collection → Item → Item
-edited e collection x = record { object = x.object; number = x.number; values = edited_data e (first_of x) (attributes_of collection) x.values }
+edited e collection x = record { object = x.object; number = x.number; values = edited_data e (first_of x) (attributes_of collection) x.values; period = x.period }
 
 -- ---- features that the command leaves
 

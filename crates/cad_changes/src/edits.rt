@@ -125,5 +125,6 @@ pub(crate) fn edited(
         object: feature.object,
         number: feature.number,
         values,
+        period: feature.period,
     })
 }

@@ -13,6 +13,7 @@ use Rattle.cad_schema.specs.declared.collection.Collection.{Collection}
 use Rattle.cad_schema.specs.declared.property.Property.{Property}
 use Rattle.cad_schema.specs.Attributes.{attribute_of, attributes_of, named}
 use Rattle.cad_feature.specs.Features.{Item, FitSchema}
+use Rattle.cad_feature.specs.Periods.{always}
 use Rattle.cad_feature.specs.Flatten.{or_null, as_text, joined_name, value_in, feature_in}
 use Rattle.cad_feature.specs.inner.WithNames.{value_with, feature_with}
 use Rattle.cad_schema.specs.Schema.{schema_of}
@@ -73,5 +74,5 @@ module _ (vs : List VersionedObject) (v : VersionedObject) (last : Option Day) (
   -- it is the feature of the version with this last day, among versions that give these names
   pub with_is : (collection : Collection) → feature_with v last unit_name party_name collection ≡ feature_in vs collection (with_last v last)
   with_is collection =
-      let as_item : List Datum → Item = λ ds. record { object = v.object; number = v.number; values = ds } in
+      let as_item : List Datum → Item = λ ds. record { object = v.object; number = v.number; values = ds; period = always } in
       ap as_item (map_same (value_with v last unit_name party_name) (value_in vs (with_last v last)) value_is (attributes_of collection))

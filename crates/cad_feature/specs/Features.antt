@@ -9,13 +9,15 @@ use Rattle.cad_versions.specs.Identifiers.{identifier, identifier_cmp, Numbers, 
 use Rattle.cad_schema.specs.declared.collection.Collection.{Collection}
 use Rattle.cad_schema.specs.Attributes.{Named}
 use Rattle.cad_schema.specs.Schema.{schema_of}
+use Rattle.cad_feature.specs.declared.period.Period.{Period}
 use Rattle.cad_feature.specs.Values.{Datum, null, IsOfKind}
 
--- a feature as definitions see it: a version of an object, with its values in the order of the schema
+-- a feature as definitions see it: a version of an object, with its values in the order of the schema, and the revisions at which it has them
 pub record Item : Type 0 where
   pub object : ObjectId
   pub number : ℕ
   pub values : List Datum
+  pub period : Period
 
 -- the value of the property at that place of the schema; null past the last property
 abbrev pub datum_at : Item → ℕ → Datum

@@ -19,6 +19,7 @@ use Rattle.cad_schema.specs.declared.collection.Collection.{Collection}
 use Rattle.cad_schema.specs.declared.collection.Collection.TheVariants.{Parcels, Rights, Restrictions, Units, Parties, Responsibilities}
 use Rattle.cad_schema.specs.Attributes.{attributes_of}
 use Rattle.cad_feature.specs.Features.{Item}
+use Rattle.cad_feature.specs.Periods.{always}
 use Rattle.cad_feature.specs.Lifespans.{holds_on}
 use Rattle.cad_feature.specs.Values.{Datum, null, a_text, a_whole, a_flag, a_day, a_span, a_spot, an_area}
 
@@ -83,9 +84,9 @@ value_in vs v attribute.PartyRequired = or_null a_flag (required_in v.body)
 
 -- ---- features
 
--- the version as a feature of the collection, among these versions
+-- the version as a feature of the collection, among these versions; they say nothing of other revisions, so its period has all
 abbrev pub feature_in : List VersionedObject → Collection → VersionedObject → Item
-feature_in vs collection v = record { object = v.object; number = v.number; values = map (value_in vs v) (attributes_of collection) }
+feature_in vs collection v = record { object = v.object; number = v.number; values = map (value_in vs v) (attributes_of collection); period = always }
 
 -- one feature for each version of the collection's class, in their order
 abbrev pub features_in : List VersionedObject → Collection → List Item

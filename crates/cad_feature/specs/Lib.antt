@@ -4,6 +4,7 @@ pub mod Flatten
 pub mod Laws
 pub mod Lifespans
 pub mod Limits
+pub mod Periods
 pub mod Values
 pub mod inner
 pub mod lemmas

@@ -1,11 +1,12 @@
 //! Features.
 
-use crate::Value;
+use crate::{Period, Value};
 use cad_versions::{Identifier, ObjectId, compare_identifiers};
 use std::cmp::Ordering;
 use std::marker::Model;
 
-/// One version of an object as a feature of a collection: its values are in the order of the collection's schema.
+/// One version of an object as a feature of a collection, with the values that it has at some revisions: they are in the order of the
+/// collection's schema.
 ///
 /// `object` and `number` identify it; the number is from 1 to 2,147,483,647. Contracts see it as an `Item`.
 #[derive(Debug, Drop)]
@@ -16,6 +17,8 @@ pub struct Feature {
     pub number: u32,
     /// The values of its properties, in the order of the schema.
     pub values: Vec<Value>,
+    /// The revisions at which it has these values.
+    pub period: Period,
 }
 
 impl Model for Feature {
@@ -25,7 +28,7 @@ impl Model for Feature {
 
     ghost Value = { Item };
 
-    ghost view = { λ x. record { object = x.object; number = x.number; values = map datum_of x.values.items } };
+    ghost view = { λ x. record { object = x.object; number = x.number; values = map datum_of x.values.items; period = x.period } };
 
     ghost use Rattle.cad_versions.specs.Identifiers.{IsVersionNumber};
 

@@ -9,10 +9,10 @@ ghost use Rattle.cad_feature.specs.inner.Joined.{is_joined as is_joined_of, join
 ghost use Rattle.cad_feature.specs.inner.WithNames.{feature_with};
 ghost use Rattle.cad_feature.specs.Flatten.{class_for, is_in as is_of_class, feature_in, features_in};
 
-use crate::Feature;
 use crate::joining::joined_name;
 use crate::objects::Objects;
 use crate::values::value;
+use crate::{Feature, Period};
 use cad_day::Day;
 use cad_schema::{Attribute, Collection, schema};
 use cad_versions::{Class, Version, Words};
@@ -62,6 +62,7 @@ pub(crate) fn feature(
         object: version.object,
         number: version.number,
         values,
+        period: Period::always(),
     })
 }
 

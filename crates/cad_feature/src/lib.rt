@@ -1,6 +1,7 @@
 //! The features of a register.
 //!
 //! - [`Feature`], [`Value`]: one version of an object, with its values in the order of the schema.
+//! - [`Period`]: the revisions at which a feature has its values.
 //! - [`FeatureHistory`], [`EarlierForm`]: a feature with the forms that it had at earlier revisions.
 //! - [`flatten`]: the features of a collection, from the versions of a register.
 //! - [`flatten_histories`]: the same with their earlier forms, from the stored versions of a register.
@@ -20,6 +21,7 @@ mod histories;
 mod joining;
 pub mod laws;
 mod objects;
+mod period;
 mod range;
 mod value;
 mod values;
@@ -29,5 +31,6 @@ pub use feature::Feature;
 pub use feature_history::{EarlierForm, FeatureHistory};
 pub use flattening::flatten;
 pub use histories::flatten_histories;
+pub use period::Period;
 pub use range::{Edge, Range, Scalar};
 pub use value::Value;

@@ -54,5 +54,6 @@ pub(crate) fn copy_feature(alloc: Global, feature: &Feature) -> Result<Feature, 
         object: feature.object,
         number: feature.number,
         values,
+        period: feature.period,
     })
 }

@@ -3,7 +3,7 @@
 
 use anyhow::{Context, Result};
 use cad_day::{Day, Interval};
-use cad_feature::{Feature, Value};
+use cad_feature::{Feature, Period, Value};
 use cad_schema::Collection;
 use cad_shape::{Point, Region, Ring};
 use cad_versions::{Identifier, ObjectId};
@@ -95,6 +95,7 @@ fn feature(head: Head, values: Vec<Value>) -> Result<Feature> {
         object: identifier.object,
         number: identifier.number,
         values,
+        period: Period::always(),
     })
 }
 

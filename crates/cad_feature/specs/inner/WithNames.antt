@@ -10,6 +10,7 @@ use Rattle.cad_schema.specs.declared.collection.Collection.{Collection}
 use Rattle.cad_schema.specs.Attributes.{attributes_of}
 use Rattle.cad_feature.specs.Features.{Item}
 use Rattle.cad_feature.specs.Flatten.{or_null, as_text, value_in}
+use Rattle.cad_feature.specs.Periods.{always}
 use Rattle.cad_feature.specs.Values.{Datum, a_day, a_span}
 
 -- all else is what the version itself says
@@ -22,4 +23,4 @@ value_with v last unit_name party_name a = value_in [] v a
 
 abbrev pub feature_with : VersionedObject → Option Day → Option Words → Option Words → Collection → Item
 feature_with v last unit_name party_name collection =
-    record { object = v.object; number = v.number; values = map (value_with v last unit_name party_name) (attributes_of collection) }
+    record { object = v.object; number = v.number; values = map (value_with v last unit_name party_name) (attributes_of collection); period = always }
