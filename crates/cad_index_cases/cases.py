@@ -392,7 +392,40 @@ def lists():
                         yield layer_case(labels.split(), size, times, most, changed.split())
 
 
+# No revision has this number: periods without an end end there.
+NO_REVISION = 2**32 - 1
+
+
+def history_case(lists, revisions):
+    """Each list is that of one revision, from 1 on: it gives the first parcels these labels, and all others keep theirs."""
+    shown = [[]]
+    for labels in lists:
+        shown.append(labels + shown[-1][len(labels):])
+
+    def labels_at(revision):
+        return shown[min(revision, len(lists))] if revision < NO_REVISION else []
+
+    asked = f"history {' / '.join(' '.join(labels) for labels in lists)} ? {' '.join(map(str, revisions))}"
+    return asked, "".join(f"{revision}:{''.join(f' {label}' for label in labels_at(revision))};" for revision in revisions)
+
+
+def histories(random):
+    """Parcels that change at every revision, at some, once, or never, and revisions that change none of them."""
+    for lists in ["a", "a/b", "a b/c", "a/b c", "a b c//d", "//a", "a/a/a", "a b c d/e/f g/h/i j k", "a b//c//d e f//g"]:
+        named = [labels.split() for labels in lists.split("/")]
+        yield history_case(named, [*range(len(named) + 2), NO_REVISION - 1, NO_REVISION, 2**64 - 1])
+    for _ in range(60):
+        named = [[random.choice("abcdefgh") for _ in range(random.choice((0, 1, 1, 2, 3, 5, 8, 13)))] for _ in range(random.randrange(1, 9))]
+        yield history_case(named, [random.randrange(len(named) + 2) for _ in range(4)])
+    # More changes of one parcel than of the others, so that its earlier rows need many lists.
+    yield history_case([["a", "b", "c"], *([label] for label in "defghijklmnopqrstuvwxyz" * 3)], range(0, 72, 5))
+    yield history_case([[f"p{number}" for number in range(1, 41)], *([f"q{revision}"] * (revision % 40) for revision in range(2, 60))], range(0, 61, 7))
+
+
 UNREAD = [
+    "history a / b ? 1 x",
+    "history a / b ? -1",
+    "history a / b ? 18446744073709551616",
     "layer a b ? 1 1 1",
     "layer a b ? 1 1",
     "layer a b ? 1",
@@ -413,7 +446,7 @@ UNREAD = [
 
 def main():
     random = Random(65_536)
-    cases = [("# Boxes", None), *named_boxes(), *drawn_boxes(random), ("# Squares", None), *square_boxes(), ("# Ranges", None), *ranges(random), ("# Layers", None), *layers(), ("# Lists of changes", None), *lists(), ("# As many times as a line may say", None), layer_case("a b c d e f g h".split(), 3, 65535, 40, ["x"]), ("# Lines that are no cases", None), *((line, "unread") for line in UNREAD)]
+    cases = [("# Boxes", None), *named_boxes(), *drawn_boxes(random), ("# Squares", None), *square_boxes(), ("# Ranges", None), *ranges(random), ("# Layers", None), *layers(), ("# Lists of changes", None), *lists(), ("# As many times as a line may say", None), layer_case("a b c d e f g h".split(), 3, 65535, 40, ["x"]), ("# Histories", None), *histories(random), ("# Lines that are no cases", None), *((line, "unread") for line in UNREAD)]
     here = Path(__file__).parent
     (here / "stdin").write_text("".join(f"{asked}\n" for asked, _ in cases), encoding="utf-8")
     (here / "stdout").write_text("".join(f"{answer}\n" for _, answer in cases if answer is not None), encoding="utf-8")

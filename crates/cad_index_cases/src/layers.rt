@@ -52,7 +52,8 @@ fn merged_lists(alloc: Global, layer: Layer, lists: &str, times: u16) -> Result<
     Ok(layer)
 }
 
-fn label(feature: &Feature, place: usize) -> &str {
+/// The feature's text at the place of the schema, or `-`.
+pub fn label(feature: &Feature, place: usize) -> &str {
     match feature.values.get(place) {
         Some(Value::Text(text)) => text.as_str(),
         _ => "-",

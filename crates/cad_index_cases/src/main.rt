@@ -9,6 +9,10 @@
 //!   other), how many they are and in how many segments, whether new bases are due at the given most changes (`settled` or `due`), and what
 //!   was spent: how many features were put into indexes, and what takes as much; then the same over new bases
 //!
+//! - `history LABEL LABEL / LABEL .. ? REVISION REVISION ..`: what is shown at each of these revisions of the labels of the parcels 1, 2 and
+//!   so on, up to the first that is not there, if revision 1 enters the parcels with the first list of labels, and each revision after it
+//!   gives the first parcels the labels of the next list
+//!
 //! The values are those of parcels at the positions 0, 1 and so on, `-` if one has none: `X,Y,X,Y` is a rectangle by its least and greatest
 //! corner, `X,Y` a point, `2001-01-01` a day; a label has no blank. An end is `free`, `with:VALUE` or `without:VALUE`. A line that is not
 //! of this form is answered by `unread`; one without text, or that begins with `#`, is skipped.
@@ -16,6 +20,7 @@
 
 mod between;
 mod cases;
+mod histories;
 mod layers;
 mod parcels;
 mod values;

@@ -1,0 +1,7 @@
+-- Lemmas about the definitions, for the proofs of crates above. No contract cites them.
+pub mod ApartLemmas
+pub mod RowLemmas
+pub mod TurnLemmas
+pub mod NextLemmas
+pub mod ShownLemmas
+pub mod ReplacedLemmas
