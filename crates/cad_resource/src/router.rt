@@ -17,12 +17,14 @@ pub struct Routes {
 }
 
 impl Routes {
-    ghost use Rattle.std.specs.Prelude.{◌≡◌, option_map};
+    ghost use Rattle.std.specs.Prelude.{◌≡◌, IfOk, option_map};
     ghost use Rattle.cad_resource.specs.Places.{place_of};
-    ghost use Rattle.cad_resource.specs.RouteRows.{place_routed};
+    ghost use Rattle.cad_resource.specs.RouteRows.{place_routed, route_rows};
 
     /// All routes. An error means out of memory.
-    pub fn new(alloc: Global) -> Result<Routes, AllocError> {
+    pub fn new(alloc: Global) -> Result<Routes, AllocError>
+        ensures { IfOk result (λ routes. routes.router ≡ route_rows) }
+    {
         Ok(Routes {
             router: router(alloc)?,
         })

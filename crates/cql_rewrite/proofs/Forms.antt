@@ -13,7 +13,7 @@ use Rattle.cql_rewrite.specs.declared.form.Normal.TheVariants.{Constant, Range, 
 use Rattle.cql_rewrite.specs.declared.form.Normal.TheFolds.{fold-roll-Normal}
 use Rattle.cql_rewrite.specs.declared.form.Normal.TheOpen.{Normal-F}
 use Rattle.std.proofs.Common.{◌<◌, zero, suc, length, get_or, Option, Some, None, Bor, arith}
-use Rattle.std.specs.Prelude.{IfSome, IsTrue}
+use Rattle.std.specs.Prelude.{IfOk, IfSome, IsTrue, Result, Ok, Err}
 use Rattle.std.specs.List.{remove}
 use Rattle.std.proofs.lemmas.Bool.{and_parts, or_right, or_left}
 use Rattle.cad_shape.specs.declared.shape.Shape.{Shape}
@@ -25,6 +25,11 @@ use Rattle.cad_range.specs.Ranges.{lies_in_if_any}
 use Rattle.cql_meaning.specs.Sides.{Sides, conjunction}
 use Rattle.cql_rewrite.specs.Meets.{folds, folds_step, in_side, is_liked, joined_test, meet_step, meets, side_of}
 use Rattle.cql_meaning.specs.lemmas.ListLemmas.{list_any-map}
+
+-- two clauses of one returned value
+pub both_ok : {X Y : Type 0} (r : Result X Y) (P Q R : X → Type 0) → ((x : X) → P x → Q x → R x) → IfOk r P → IfOk r Q → IfOk r R
+both_ok (Ok x) P Q R f p q = f x p q
+both_ok (Err y) P Q R f p q = tt
 
 pub list_all-map : {A B : Type 0} (p : B → Bool) (f : A → B) (xs : List A) → list_all p (map f xs) ≡ list_all (λ x. p (f x)) xs
 list_all-map p f [] = refl

@@ -25,8 +25,7 @@ pub fn normal(alloc: Global, filter: &Filter) -> Result<Normal<'_>, AllocError>
     ensures costs { IfOk result (λ n. (t : List Written) → least t n ≤ bound t filter.now) }
     ensures atoms { IfOk result HasPlainAtoms }
 {
-    let form = normal_side(alloc, filter, true)?;
-    Ok(form)
+    normal_side(alloc, filter, true)
 }
 
 // The form of the features of which the filter is true, or of those of which it is false.
@@ -39,55 +38,25 @@ fn normal_side(alloc: Global, filter: &Filter, side: bool) -> Result<Normal<'_>,
     match filter {
         Filter::Truth(b) => Ok(Normal::Constant(*b == side)),
         Filter::CompareWhole { by, left, right } => {
-            let form = formed(alloc, filter, plain_wholes(*by, left, right), side)?;
-            Ok(form)
+            formed(alloc, filter, plain_wholes(*by, left, right), side)
         }
         Filter::CompareText { by, left, right } => {
             let plain = plain_texts(alloc, *by, left, right)?;
-            let form = formed(alloc, filter, plain, side)?;
-            Ok(form)
+            formed(alloc, filter, plain, side)
         }
         Filter::CompareDay { by, left, right } => {
-            let form = formed(alloc, filter, plain_days(*by, left, right), side)?;
-            Ok(form)
+            formed(alloc, filter, plain_days(*by, left, right), side)
         }
-        Filter::Between { value, low, high } => {
-            let form = between(alloc, filter, value, low, high, side)?;
-            Ok(form)
-        }
+        Filter::Between { value, low, high } => between(alloc, filter, value, low, high, side),
         Filter::Spatial { by, left, right } => Ok(spatial(filter, *by, left, right, side)),
-        Filter::Not(part) => {
-            let form = normal_side(alloc, part, !side)?;
-            Ok(form)
-        }
-        Filter::And(parts) => {
-            let form = normal_parts(alloc, parts, side, side)?;
-            Ok(form)
-        }
-        Filter::Or(parts) => {
-            let form = normal_parts(alloc, parts, side, !side)?;
-            Ok(form)
-        }
-        Filter::Like { value, pattern } => {
-            let form = likeness(alloc, filter, value, pattern, side)?;
-            Ok(form)
-        }
-        Filter::InWhole { value, items } => {
-            let form = members(alloc, filter, value, items, side)?;
-            Ok(form)
-        }
-        Filter::InText { value, items } => {
-            let form = members(alloc, filter, value, items, side)?;
-            Ok(form)
-        }
-        Filter::InDay { value, items } => {
-            let form = members(alloc, filter, value, items, side)?;
-            Ok(form)
-        }
-        Filter::InFlag { value, items } => {
-            let form = flag_members(alloc, filter, value, items, side)?;
-            Ok(form)
-        }
+        Filter::Not(part) => normal_side(alloc, part, !side),
+        Filter::And(parts) => normal_parts(alloc, parts, side, side),
+        Filter::Or(parts) => normal_parts(alloc, parts, side, !side),
+        Filter::Like { value, pattern } => likeness(alloc, filter, value, pattern, side),
+        Filter::InWhole { value, items } => members(alloc, filter, value, items, side),
+        Filter::InText { value, items } => members(alloc, filter, value, items, side),
+        Filter::InDay { value, items } => members(alloc, filter, value, items, side),
+        Filter::InFlag { value, items } => flag_members(alloc, filter, value, items, side),
         Filter::CompareFlag { .. } | Filter::IsNull(_) | Filter::Temporal { .. } => {
             Ok(Normal::Atom { filter, side })
         }

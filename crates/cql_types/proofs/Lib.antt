@@ -7,6 +7,7 @@ mod NumberLemmas
 mod Relating
 mod Senses
 mod Terms
+mod Tests
 mod Trees
 mod Verdict
 mod Weights

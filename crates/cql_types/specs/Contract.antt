@@ -1,9 +1,9 @@
 -- What the private functions of the walk answer.
-use Rattle.std.specs.Prelude.{◌≡◌, ◌⊎◌, ℕ, List, [], ◌∷◌, Some, None, Result, Err, MatchResult, Vec, ⊤, map}
+use Rattle.std.specs.Prelude.{◌≡◌, ◌⊎◌, ℕ, Bool, true, false, List, [], ◌∷◌, Some, None, Result, Err, MatchResult, Vec, ⊤, map}
 use Rattle.std.specs.declared.alloc.Global.{Global}
 use Rattle.cad_schema.specs.Attributes.{Named}
 use Rattle.cql_lexer.specs.declared.token.Comparison.{Comparison}
-use Rattle.cql_tree.specs.Syntax.{Syntax, Parts, none, part, leaf, node, place_of, Leaf, Op, keyed, compare_op}
+use Rattle.cql_tree.specs.Syntax.{Syntax, Parts, none, part, leaf, node, place_of, Leaf, Op, keyed, compare_op, like_op, between_op, in_op, is_null_op, spatial_op, temporal_op}
 use Rattle.cql_types.specs.declared.fault.Misuse.{Misuse}
 use Rattle.cql_types.specs.declared.fault.Fault.{Fault}
 use Rattle.cql_types.specs.declared.fault.TypeFault.{TypeFault}
@@ -32,6 +32,19 @@ mutual
 pub record IsJudged (s : List Named) (t : Syntax) (j : Judged) : Type 0 where
   pub place : place_of t ≡ j.place
   pub means : Means s t j.node
+
+-- LIKE, BETWEEN, IN, IS NULL, or a relation of shapes or of times
+abbrev pub is_test : Syntax → Bool
+is_test (node (like_op n) ps) = true
+is_test (node (between_op n) ps) = true
+is_test (node (in_op n) ps) = true
+is_test (node (is_null_op n) ps) = true
+is_test (node (spatial_op p by) ps) = true
+is_test (node (temporal_op p by) ps) = true
+is_test t = false
+
+abbrev pub IsTest : Syntax → Type 0
+IsTest t = is_test t ≡ true
 
 -- if memory ran out, nothing is said
 abbrev pub ForFault : (Fault → Type 0) → TypeFault → Type 0

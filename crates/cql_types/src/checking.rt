@@ -4,7 +4,7 @@ ghost use Rattle.std.specs.Prelude.{◌≡◌, Err, IfErr, IfOk, IsOk, OnOk};
 ghost use Rattle.cad_schema.specs.Schema.{schema_of};
 ghost use Rattle.cql_tree.specs.Syntax.{leaf, node, part, parts_of, none, day_leaf, or_op, and_op, not_op, compare_op, like_op, between_op, in_op, is_null_op, computed_op, casei_op, date_op, spatial_op, temporal_op};
 ghost use Rattle.cql_tree.specs.Views.{syntax_of, syntaxes_of, operands_of, operations_of};
-ghost use Rattle.cql_types.specs.Contract.{ForFault, OrMemory, Judges, JudgesList, JudgesPair, JudgesParts, JudgesSteps};
+ghost use Rattle.cql_types.specs.Contract.{ForFault, IsTest, OrMemory, Judges, JudgesList, JudgesPair, JudgesParts, JudgesSteps};
 ghost use Rattle.cql_types.specs.Kinds.{IsCondition, IsFault, IsLeast};
 ghost use Rattle.cql_types.specs.Means.{IsFilter};
 ghost use Rattle.cql_types.specs.declared.fault.Fault.{Fault};
@@ -66,6 +66,33 @@ fn judge(alloc: Global, tree: &Expression, collection: Collection) -> Result<Jud
         Expression::Compare { by, left, right } => judge_compare(
             alloc, *by, left, right, collection,
         ),
+        Expression::Like { .. }
+        | Expression::Between { .. }
+        | Expression::In { .. }
+        | Expression::IsNull { .. }
+        | Expression::Spatial { .. }
+        | Expression::Temporal { .. } => judge_test(alloc, tree, collection),
+        Expression::Computed { first, others } => judge_computed(alloc, first, others, collection),
+        Expression::Casei { place, part } => judge_casei(alloc, *place, part, collection),
+        Expression::Date {
+            place,
+            text_place,
+            text,
+        } => judge_date(*place, *text_place, text, collection),
+        Expression::Interval { place, from, to } => literal::interval(*place, from, to, collection),
+        Expression::Point { place, corner } => literal::point(*place, corner, collection),
+        Expression::Polygon { place, rings } => literal::polygon(alloc, *place, rings, collection),
+        Expression::Bbox { place, low, high } => literal::bbox(*place, low, high, collection),
+    }
+}
+
+// A test: LIKE, BETWEEN, IN, IS NULL, or a relation of shapes or of times.
+#[cycle(judges)]
+fn judge_test(alloc: Global, tree: &Expression, collection: Collection) -> Result<Judged, TypeFault>
+    requires { IsTest (syntax_of tree.now) }
+    ensures { Judges (schema_of collection) (syntax_of tree.now) result }
+{
+    match tree {
         Expression::Like {
             is_negated,
             value,
@@ -83,23 +110,9 @@ fn judge(alloc: Global, tree: &Expression, collection: Collection) -> Result<Jud
             first,
             others,
         } => judge_in(alloc, *is_negated, value, first, others, collection),
-        Expression::IsNull { is_negated, value } => judge_is_null(
-            alloc,
-            *is_negated,
-            value,
-            collection,
-        ),
-        Expression::Computed { first, others } => judge_computed(alloc, first, others, collection),
-        Expression::Casei { place, part } => judge_casei(alloc, *place, part, collection),
-        Expression::Date {
-            place,
-            text_place,
-            text,
-        } => judge_date(*place, *text_place, text, collection),
-        Expression::Interval { place, from, to } => literal::interval(*place, from, to, collection),
-        Expression::Point { place, corner } => literal::point(*place, corner, collection),
-        Expression::Polygon { place, rings } => literal::polygon(alloc, *place, rings, collection),
-        Expression::Bbox { place, low, high } => literal::bbox(*place, low, high, collection),
+        Expression::IsNull { is_negated, value } => {
+            judge_is_null(alloc, *is_negated, value, collection)
+        }
         Expression::Spatial {
             place,
             by,
@@ -112,6 +125,7 @@ fn judge(alloc: Global, tree: &Expression, collection: Collection) -> Result<Jud
             left,
             right,
         } => judge_temporal(alloc, *place, *by, left, right, collection),
+        _ => unreachable!(),
     }
 }
 

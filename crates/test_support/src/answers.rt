@@ -1,5 +1,14 @@
 //! What is printed for a line.
 
+ghost use Rattle.std.specs.Prelude.{◌≡◌, Result, Err, IsErr};
+ghost use Rattle.cad_desk.specs.Desks.{Steps};
+ghost use Rattle.cad_desk.specs.declared.event.Event.{Event as EventOf};
+ghost use Rattle.cad_desk.specs.declared.event.Reply.{Reply as ReplyOf};
+ghost use Rattle.cad_desk.specs.declared.fault.DeskFault.{DeskFault as FaultOf};
+ghost use Rattle.cad_desk.specs.declared.fault.DeskFault.TheVariants as fault_of;
+ghost use Rattle.test_support.specs.declared.answers.Memory.TheVariants.{IsAmple};
+ghost use Rattle.test_support.specs.declared.lines.Line.TheVariants as line_of;
+
 use crate::bytes::json_of;
 use crate::lines::Line;
 use crate::served::answer_served;
@@ -17,11 +26,9 @@ pub enum Memory {
 }
 
 /// The text of a refusal by the desk.
-pub(crate) fn refusal(
-    alloc: Global,
-    fault: DeskFault,
-    memory: Memory,
-) -> Result<String, AllocError> {
+pub(crate) fn refusal(alloc: Global, fault: DeskFault, memory: Memory) -> Result<String, AllocError>
+    ensures { memory ≡ IsAmple → fault ≡ fault_of.Memory → IsErr result }
+{
     if fault == DeskFault::Memory && memory == Memory::IsAmple {
         return Err(AllocError);
     }
@@ -45,25 +52,31 @@ fn told(alloc: Global, reply: Reply) -> Result<String, AllocError> {
     }
 }
 
-/// What is printed for a desk's answer to an event.
+/// What is printed for a desk's answer to an event. No clause says which text it is: the cases of `cad_cases` compare it.
 pub fn answer_event(
     alloc: Global,
     answer: Result<Reply, DeskFault>,
     memory: Memory,
-) -> Result<String, AllocError> {
+) -> Result<String, AllocError>
+    ensures { memory ≡ IsAmple → answer ≡ Err fault_of.Memory → IsErr result }
+{
     match answer {
         Ok(reply) => told(alloc, reply),
         Err(fault) => refusal(alloc, fault, memory),
     }
 }
 
-/// Does what a line asks for, and returns what is printed for it.
+/// Does what a line asks for, and returns what is printed for it. No clause says which text it is: the cases of `cad_cases` and
+/// `cad_register_cases` compare it.
 pub fn answer<R: Responder>(
     alloc: Global,
     desk: &mut Desk<R>,
     line: Line,
     memory: Memory,
-) -> Result<String, AllocError> {
+) -> Result<String, AllocError>
+    ensures { (event : EventOf) → line ≡ line_of.Event event →
+        (reply : Result ReplyOf FaultOf) × Steps R.Responder desk.old event reply desk.new }
+{
     match line {
         Line::Serve(served) => answer_served(alloc, desk, &served, memory),
         Line::Event(event) => answer_event(alloc, desk.step(event), memory),

@@ -1,5 +1,7 @@
 //! A reader without an end.
 
+ghost use Rattle.std.specs.Prelude.{◌≡◌};
+
 use std::io::{Read, Result};
 
 /// A reader that gives a text again and again, one byte a call, and counts its calls.
@@ -12,7 +14,11 @@ pub struct Endless<'a> {
 
 impl<'a> Endless<'a> {
     /// It begins at the text's first byte. If the text has no bytes, it gives nothing.
-    pub fn new(text: &'a [u8]) -> Endless<'a> {
+    pub fn new(text: &'a [u8]) -> Endless<'a>
+        ensures text { result.text.now ≡ text.now }
+        ensures begins { result.at ≡ 0 }
+        ensures unread { result.reads ≡ 0 }
+    {
         Endless {
             text,
             at: 0,
@@ -21,7 +27,9 @@ impl<'a> Endless<'a> {
     }
 
     /// How often it was read.
-    pub fn reads(&self) -> usize {
+    pub fn reads(&self) -> usize
+        ensures { result ≡ self.now.reads }
+    {
         self.reads
     }
 }

@@ -22,7 +22,8 @@ fn text_of(alloc: Global, revision: u64, versions: &[Version]) -> Result<String,
 }
 
 /// The newest revision of a ledger, and the versions that it lists then, each with the numbers of its first and its last day: `1: 11.1
-/// 10957 None;` if version 11.1 alone is listed at revision 1, open since 2000-01-01.
+/// 10957 None;` if version 11.1 alone is listed at revision 1, open since 2000-01-01. No clause says which text it is: the tests of
+/// `cad_disk_tests` compare it.
 pub fn listed<L: Ledger>(alloc: Global, ledger: &mut L) -> Result<String, RegisterFault> {
     let revision = ledger.revision();
     let versions = ledger.as_of(revision)?;

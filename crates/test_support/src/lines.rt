@@ -91,7 +91,8 @@ fn failing_line(alloc: Global, word: &str, rest: &str) -> Result<Option<Line>, A
     }
 }
 
-/// What the line asks for, if it is a case.
+/// What the line asks for, if it is a case. No clause says which lines are cases: those of `cad_cases` and `cad_register_cases` have a
+/// line of each kind, and lines that are none.
 pub fn line_of(alloc: Global, line: &[u8]) -> Result<Option<Line>, AllocError> {
     let Ok(text) = str::from_utf8(line) else {
         return Ok(None);

@@ -1,5 +1,7 @@
 //! A reader.
 
+ghost use Rattle.std.specs.Prelude.{◌≡◌, take};
+
 use crate::Stop;
 use std::io::{Error, ErrorKind, Read, Result};
 
@@ -14,7 +16,12 @@ pub struct Peer<'a> {
 
 impl<'a> Peer<'a> {
     /// It gives at most `piece` bytes a call, and then stops after `most` bytes of the text, or after all of them.
-    pub fn new(text: &'a [u8], piece: usize, most: usize, stop: Stop) -> Peer<'a> {
+    pub fn new(text: &'a [u8], piece: usize, most: usize, stop: Stop) -> Peer<'a>
+        ensures left { result.left.now ≡ take most text.now }
+        ensures piece { result.piece ≡ piece }
+        ensures stop { result.stop ≡ stop }
+        ensures unread { result.reads ≡ 0 }
+    {
         Peer {
             left: &text[..most.min(text.len())],
             piece,
@@ -24,7 +31,9 @@ impl<'a> Peer<'a> {
     }
 
     /// How often it was read.
-    pub fn reads(&self) -> usize {
+    pub fn reads(&self) -> usize
+        ensures { result ≡ self.now.reads }
+    {
         self.reads
     }
 }

@@ -98,7 +98,8 @@ fn ending(
     }
 }
 
-/// How serving the connection ended, and what was written.
+/// How serving the connection ended, and what was written. What happens to the desk is said at `cad_serve::serve`. No clause says
+/// which text is returned: the cases of `cad_cases` compare it.
 pub fn answer_served<R: Responder>(
     alloc: Global,
     desk: &mut Desk<R>,

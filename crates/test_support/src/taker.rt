@@ -1,5 +1,8 @@
 //! A writer.
 
+ghost use Rattle.std.specs.Bool.{Decides};
+ghost use Rattle.std.specs.Prelude.{◌≡◌, ◌≤◌, [], min, take};
+
 use crate::Stop;
 use std::io::{Error, ErrorKind, Result, Write};
 
@@ -13,11 +16,17 @@ pub struct Taker {
     piece: usize,
     most: usize,
     stop: Stop,
+    ghost within: { count ≤ 512 },
 }
 
 impl Taker {
     /// It takes at most `piece` bytes a call, and stops after `most` bytes.
-    pub fn new(piece: usize, most: usize, stop: Stop) -> Taker {
+    pub fn new(piece: usize, most: usize, stop: Stop) -> Taker
+        ensures taken { take result.count result.taken ≡ [] }
+        ensures piece { result.piece ≡ piece }
+        ensures most { result.most ≡ min most 512 }
+        ensures stop { result.stop ≡ stop }
+    {
         Taker {
             taken: [0; 512],
             count: 0,
@@ -28,7 +37,9 @@ impl Taker {
     }
 
     /// Whether these bytes and no others were taken.
-    pub fn has_taken(&self, bytes: &[u8]) -> bool {
+    pub fn has_taken(&self, bytes: &[u8]) -> bool
+        ensures { Decides result (take self.now.count self.now.taken ≡ bytes.now) }
+    {
         match self.taken.get(..self.count) {
             Some(taken) => taken == bytes,
             None => false,

@@ -1,62 +1,89 @@
-use Rattle.std.proofs.Common.{◌∙◌, ap, arith}
+use Rattle.std.proofs.Common.{◌∙◌, ap, arith, refl, inl, inr}
 use Rattle.std.proofs.lemmas.Result.{err_from_is_err_and}
 use Rattle.cad_schema.specs.Schema.{schema_of}
 use Rattle.cql_tree.specs.Syntax.{none, part, parts_of, or_op, and_op, not_op, compare_op, like_op, between_op, in_op, is_null_op, computed_op, casei_op, spatial_op, temporal_op}
 use Rattle.cql_tree.specs.Views.{syntax_of, syntaxes_of, operands_of, operations_of}
 use Rattle.cql_types.proofs.Judging.{node_judged, list_judged, steps_judged, last_part, and_part, boxed, fault_here, fault_later, fault_inside, first_fault, next_fault, completes_more, completes_all, first_more, fault_among, operations_from, by_more, by_all}
 use Rattle.cql_types.specs.Contract.{parts_judged, operations_judged}
+use Rattle.cql_types.proofs.Tests.{tests}
 use Rattle.cql_types.proofs.Terms.{parts_more, operations_more}
 use Rattle.cql_types.proofs.Trees.{parts_from, syntax_of-Name, syntax_of-Number, syntax_of-Text, syntax_of-Truth, syntax_of-Or, syntax_of-And, syntax_of-Not, syntax_of-Compare, syntax_of-Like, syntax_of-Between, syntax_of-In, syntax_of-IsNull, syntax_of-Computed, syntax_of-Casei, syntax_of-Date, syntax_of-Interval, syntax_of-Point, syntax_of-Polygon, syntax_of-Bbox, syntax_of-Spatial, syntax_of-Temporal}
-use Rattle.cql_types.proofs.Weights.{falls_inside, falls_among}
+use Rattle.cql_types.proofs.Weights.{falls_below, falls_inside, falls_among}
 use Rattle.cql_types.proofs.checking.+judges.Goals as goal
 
 pub judge-judge_or-requires : goal.judge-judge_or-requires
 judge-judge_or-requires t c =
-    (rw (← c.deref-in-Or.ensures, ← c.deref-in-Or-2.ensures.value) at (falls_inside 3 (omega arith) (ap syntax_of c.in-Or.is ∙ syntax_of-Or _ _) c.decreases), tt)
+    (rw (← c.deref-in-Or.ensures, ← c.deref-in-Or-2.ensures.value) at (falls_below 4 (omega arith) (ap syntax_of c.in-Or.is ∙ syntax_of-Or _ _) c.decreases), tt)
 
 pub judge-judge_and-requires : goal.judge-judge_and-requires
 judge-judge_and-requires t c =
-    (rw (← c.deref-in-And.ensures, ← c.deref-in-And-2.ensures.value) at (falls_inside 3 (omega arith) (ap syntax_of c.in-And.is ∙ syntax_of-And _ _) c.decreases), tt)
+    (rw (← c.deref-in-And.ensures, ← c.deref-in-And-2.ensures.value) at (falls_below 4 (omega arith) (ap syntax_of c.in-And.is ∙ syntax_of-And _ _) c.decreases), tt)
 
 pub judge-judge_not-requires : goal.judge-judge_not-requires
 judge-judge_not-requires t c =
-    (rw (← c.deref-in-Not.ensures) at (falls_inside 1 (omega arith) (ap syntax_of c.in-Not.is ∙ syntax_of-Not _ _) c.decreases), tt)
+    (rw (← c.deref-in-Not.ensures) at (falls_below 2 (omega arith) (ap syntax_of c.in-Not.is ∙ syntax_of-Not _ _) c.decreases), tt)
 
 pub judge-judge_compare-requires : goal.judge-judge_compare-requires
 judge-judge_compare-requires t c =
-    (rw (← c.deref-in-Compare.ensures, ← c.deref-in-Compare-2.ensures) at (falls_inside 2 (omega arith) (ap syntax_of c.in-Compare.is ∙ syntax_of-Compare _ _ _) c.decreases), tt)
+    (rw (← c.deref-in-Compare.ensures, ← c.deref-in-Compare-2.ensures) at (falls_below 3 (omega arith) (ap syntax_of c.in-Compare.is ∙ syntax_of-Compare _ _ _) c.decreases), tt)
 
-pub judge-judge_like-requires : goal.judge-judge_like-requires
-judge-judge_like-requires t c =
-    (rw (← c.deref-in-Like.ensures, ← c.deref-in-Like-2.ensures) at (falls_inside 2 (omega arith) (ap syntax_of c.in-Like.is ∙ syntax_of-Like _ _ _) c.decreases), tt)
+pub judge_test-judge_like-requires : goal.judge_test-judge_like-requires
+judge_test-judge_like-requires t c =
+    (rw (← c.deref.ensures, ← c.deref-in-Like.ensures) at (falls_inside 3 (omega arith) (ap syntax_of c.in-Like.is ∙ syntax_of-Like _ _ _) c.decreases), tt)
 
-pub judge-judge_between-requires : goal.judge-judge_between-requires
-judge-judge_between-requires t c =
-    (rw (← c.deref-in-Between.ensures, ← c.deref-in-Between-2.ensures, ← c.deref-in-Between-3.ensures) at (falls_inside 2 (omega arith) (ap syntax_of c.in-Between.is ∙ syntax_of-Between _ _ _ _) c.decreases), tt)
+pub judge_test-judge_between-requires : goal.judge_test-judge_between-requires
+judge_test-judge_between-requires t c =
+    (rw (← c.deref-in-Between.ensures, ← c.deref-in-Between-2.ensures, ← c.deref-in-Between-3.ensures) at (falls_inside 3 (omega arith) (ap syntax_of c.in-Between.is ∙ syntax_of-Between _ _ _ _) c.decreases), tt)
 
-pub judge-judge_in-requires : goal.judge-judge_in-requires
-judge-judge_in-requires t c =
-    (rw (← c.deref-in-In.ensures, ← c.deref-in-In-2.ensures, ← c.deref-in-In-3.ensures.value) at (falls_inside 3 (omega arith) (ap syntax_of c.in-In.is ∙ syntax_of-In _ _ _ _) c.decreases), tt)
+pub judge_test-judge_in-requires : goal.judge_test-judge_in-requires
+judge_test-judge_in-requires t c =
+    (rw (← c.deref-in-In.ensures, ← c.deref-in-In-2.ensures, ← c.deref-in-In-3.ensures.value) at (falls_inside 4 (omega arith) (ap syntax_of c.in-In.is ∙ syntax_of-In _ _ _ _) c.decreases), tt)
 
-pub judge-judge_is_null-requires : goal.judge-judge_is_null-requires
-judge-judge_is_null-requires t c =
-    (rw (← c.deref-in-IsNull.ensures) at (falls_inside 1 (omega arith) (ap syntax_of c.in-IsNull.is ∙ syntax_of-IsNull _ _) c.decreases), tt)
+pub judge_test-judge_is_null-requires : goal.judge_test-judge_is_null-requires
+judge_test-judge_is_null-requires t c =
+    (rw (← c.deref-in-IsNull.ensures) at (falls_inside 2 (omega arith) (ap syntax_of c.in-IsNull.is ∙ syntax_of-IsNull _ _) c.decreases), tt)
 
 pub judge-judge_computed-requires : goal.judge-judge_computed-requires
 judge-judge_computed-requires t c =
-    (rw (← c.deref-in-Computed.ensures, ← c.deref-in-Computed-2.ensures.value) at (falls_inside 2 (omega arith) (ap syntax_of c.in-Computed.is ∙ syntax_of-Computed _ _) c.decreases), tt)
+    (rw (← c.deref-in-Computed.ensures, ← c.deref-in-Computed-2.ensures.value) at (falls_below 3 (omega arith) (ap syntax_of c.in-Computed.is ∙ syntax_of-Computed _ _) c.decreases), tt)
 
 pub judge-judge_casei-requires : goal.judge-judge_casei-requires
 judge-judge_casei-requires t c =
-    (rw (← c.deref-in-Casei.ensures) at (falls_inside 1 (omega arith) (ap syntax_of c.in-Casei.is ∙ syntax_of-Casei _ _) c.decreases), tt)
+    (rw (← c.deref-in-Casei.ensures) at (falls_below 2 (omega arith) (ap syntax_of c.in-Casei.is ∙ syntax_of-Casei _ _) c.decreases), tt)
 
-pub judge-judge_spatial-requires : goal.judge-judge_spatial-requires
-judge-judge_spatial-requires t c =
-    (rw (← c.deref-in-Spatial.ensures, ← c.deref-in-Spatial-2.ensures) at (falls_inside 2 (omega arith) (ap syntax_of c.in-Spatial.is ∙ syntax_of-Spatial _ _ _ _) c.decreases), tt)
+pub judge_test-judge_spatial-requires : goal.judge_test-judge_spatial-requires
+judge_test-judge_spatial-requires t c =
+    (rw (← c.deref-in-Spatial.ensures, ← c.deref-in-Spatial-2.ensures) at (falls_inside 3 (omega arith) (ap syntax_of c.in-Spatial.is ∙ syntax_of-Spatial _ _ _ _) c.decreases), tt)
 
-pub judge-judge_temporal-requires : goal.judge-judge_temporal-requires
-judge-judge_temporal-requires t c =
-    (rw (← c.deref-in-Temporal.ensures, ← c.deref-in-Temporal-2.ensures) at (falls_inside 2 (omega arith) (ap syntax_of c.in-Temporal.is ∙ syntax_of-Temporal _ _ _ _) c.decreases), tt)
+pub judge_test-judge_temporal-requires : goal.judge_test-judge_temporal-requires
+judge_test-judge_temporal-requires t c =
+    (rw (← c.deref-in-Temporal.ensures, ← c.deref-in-Temporal-2.ensures) at (falls_inside 3 (omega arith) (ap syntax_of c.in-Temporal.is ∙ syntax_of-Temporal _ _ _ _) c.decreases), tt)
+
+pub judge-judge_test-requires : goal.judge-judge_test-requires
+judge-judge_test-requires t c = (
+  omega (arith, c.decreases),
+  elim c.in-Like.is [
+    | inl like ↦ rw (like.3, syntax_of-Like) refl
+    | inr others ↦ elim others [
+      | inl between ↦ rw (between.4, syntax_of-Between) refl
+      | inr others ↦ elim others [
+        | inl among ↦ rw (among.4, syntax_of-In) refl
+        | inr others ↦ elim others [
+          | inl null ↦ rw (null.2, syntax_of-IsNull) refl
+          | inr others ↦ elim others [
+            | inl shapes ↦ rw (shapes.4, syntax_of-Spatial) refl
+            | inr times ↦ rw (times.4, syntax_of-Temporal) refl
+          ]
+        ]
+      ]
+    ]
+  ],
+)
+
+pub judge_test-unreachable-requires : goal.judge_test-unreachable-requires
+judge_test-unreachable-requires t c =
+    let other = c.in_default in
+    tests c.args.tree.now c.requires other.not-Like other.not-Between other.not-In other.not-IsNull other.not-Spatial other.not-Temporal
 
 pub judge_all-judge-requires : goal.judge_all-judge-requires
 judge_all-judge-requires t c =
@@ -98,20 +125,20 @@ pub judge-returns-in-Compare : goal.judge-returns-in-Compare
 judge-returns-in-Compare t c =
     rw (c.in-Compare.is, syntax_of-Compare) (rw (c.deref-in-Compare.ensures, c.deref-in-Compare-2.ensures) at c.judge_compare.ensures)
 
-pub judge-returns-in-Like : goal.judge-returns-in-Like
-judge-returns-in-Like t c =
-    rw (c.in-Like.is, syntax_of-Like) (rw (c.deref-in-Like.ensures, c.deref-in-Like-2.ensures) at c.judge_like.ensures)
+pub judge_test-returns-in-Like : goal.judge_test-returns-in-Like
+judge_test-returns-in-Like t c =
+    rw (c.in-Like.is, syntax_of-Like) (rw (c.deref.ensures, c.deref-in-Like.ensures) at c.judge_like.ensures)
 
-pub judge-returns-in-Between : goal.judge-returns-in-Between
-judge-returns-in-Between t c =
+pub judge_test-returns-in-Between : goal.judge_test-returns-in-Between
+judge_test-returns-in-Between t c =
     rw (c.in-Between.is, syntax_of-Between) (rw (c.deref-in-Between.ensures, c.deref-in-Between-2.ensures, c.deref-in-Between-3.ensures) at c.judge_between.ensures)
 
-pub judge-returns-in-In : goal.judge-returns-in-In
-judge-returns-in-In t c =
+pub judge_test-returns-in-In : goal.judge_test-returns-in-In
+judge_test-returns-in-In t c =
     rw (c.in-In.is, syntax_of-In) (rw (c.deref-in-In.ensures, c.deref-in-In-2.ensures, c.deref-in-In-3.ensures.value) at c.judge_in.ensures)
 
-pub judge-returns-in-IsNull : goal.judge-returns-in-IsNull
-judge-returns-in-IsNull t c =
+pub judge_test-returns-in-IsNull : goal.judge_test-returns-in-IsNull
+judge_test-returns-in-IsNull t c =
     rw (c.in-IsNull.is, syntax_of-IsNull) (rw c.deref-in-IsNull.ensures at c.judge_is_null.ensures)
 
 pub judge-returns-in-Computed : goal.judge-returns-in-Computed
@@ -142,12 +169,12 @@ pub judge-returns-in-Polygon : goal.judge-returns-in-Polygon
 judge-returns-in-Polygon t c =
     rw (c.in-Polygon.is, syntax_of-Polygon, ← c.deref-in-Polygon.ensures.value) c.polygon.ensures
 
-pub judge-returns-in-Spatial : goal.judge-returns-in-Spatial
-judge-returns-in-Spatial t c =
+pub judge_test-returns-in-Spatial : goal.judge_test-returns-in-Spatial
+judge_test-returns-in-Spatial t c =
     rw (c.in-Spatial.is, syntax_of-Spatial) (rw (c.deref-in-Spatial.ensures, c.deref-in-Spatial-2.ensures) at c.judge_spatial.ensures)
 
-pub judge-returns-in-Temporal : goal.judge-returns-in-Temporal
-judge-returns-in-Temporal t c =
+pub judge_test-returns-in-Temporal : goal.judge_test-returns-in-Temporal
+judge_test-returns-in-Temporal t c =
     rw (c.in-Temporal.is, syntax_of-Temporal) (rw (c.deref-in-Temporal.ensures, c.deref-in-Temporal-2.ensures) at c.judge_temporal.ensures)
 
 pub judge_pair-returns-in_err-judge : goal.judge_pair-returns-in_err-judge

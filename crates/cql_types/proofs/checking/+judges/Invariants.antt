@@ -11,55 +11,58 @@ use Rattle.cql_types.proofs.checking.+judges.Given as goal
 
 -- The weight of what is judged falls, and for the same parts the rank.
 abbrev pub decreases-judge : goal.decreases-judge
-decreases-judge l = 4 * weight_of (syntax_of l.tree.now)
+decreases-judge l = 5 * weight_of (syntax_of l.tree.now) + 1
+
+abbrev pub decreases-judge_test : goal.decreases-judge_test
+decreases-judge_test l = 5 * weight_of (syntax_of l.tree.now)
 
 abbrev pub decreases-judge_all : goal.decreases-judge_all
-decreases-judge_all l = 4 * weight_in (parts_of (syntaxes_of l.trees.now)) + 1
+decreases-judge_all l = 5 * weight_in (parts_of (syntaxes_of l.trees.now)) + 2
 
 abbrev pub decreases-judge_steps : goal.decreases-judge_steps
-decreases-judge_steps l = 4 * weight_in (parts_of (operands_of l.operands.now)) + 1
+decreases-judge_steps l = 5 * weight_in (parts_of (operands_of l.operands.now)) + 2
 
 abbrev pub decreases-judge_pair : goal.decreases-judge_pair
-decreases-judge_pair l = 4 * weight_in (part (syntax_of l.left.now) (part (syntax_of l.right.now) none)) + 1
+decreases-judge_pair l = 5 * weight_in (part (syntax_of l.left.now) (part (syntax_of l.right.now) none)) + 2
 
 abbrev pub decreases-judge_list : goal.decreases-judge_list
-decreases-judge_list l = 4 * weight_in (part (syntax_of l.first.now) (parts_of (syntaxes_of l.others.now))) + 2
+decreases-judge_list l = 5 * weight_in (part (syntax_of l.first.now) (parts_of (syntaxes_of l.others.now))) + 3
 
 abbrev pub decreases-judge_or : goal.decreases-judge_or
-decreases-judge_or l = 4 * weight_in (part (syntax_of l.first.now) (parts_of (syntaxes_of l.others.now))) + 3
+decreases-judge_or l = 5 * weight_in (part (syntax_of l.first.now) (parts_of (syntaxes_of l.others.now))) + 4
 
 abbrev pub decreases-judge_and : goal.decreases-judge_and
-decreases-judge_and l = 4 * weight_in (part (syntax_of l.first.now) (parts_of (syntaxes_of l.others.now))) + 3
+decreases-judge_and l = 5 * weight_in (part (syntax_of l.first.now) (parts_of (syntaxes_of l.others.now))) + 4
 
 abbrev pub decreases-judge_not : goal.decreases-judge_not
-decreases-judge_not l = 4 * weight_in (part (syntax_of l.operand.now) none) + 1
+decreases-judge_not l = 5 * weight_in (part (syntax_of l.operand.now) none) + 2
 
 abbrev pub decreases-judge_compare : goal.decreases-judge_compare
-decreases-judge_compare l = 4 * weight_in (part (syntax_of l.left.now) (part (syntax_of l.right.now) none)) + 2
+decreases-judge_compare l = 5 * weight_in (part (syntax_of l.left.now) (part (syntax_of l.right.now) none)) + 3
 
 abbrev pub decreases-judge_like : goal.decreases-judge_like
-decreases-judge_like l = 4 * weight_in (part (syntax_of l.value.now) (part (syntax_of l.pattern.now) none)) + 2
+decreases-judge_like l = 5 * weight_in (part (syntax_of l.value.now) (part (syntax_of l.pattern.now) none)) + 3
 
 abbrev pub decreases-judge_between : goal.decreases-judge_between
-decreases-judge_between l = 4 * weight_in (part (syntax_of l.value.now) (part (syntax_of l.low.now) (part (syntax_of l.high.now) none))) + 2
+decreases-judge_between l = 5 * weight_in (part (syntax_of l.value.now) (part (syntax_of l.low.now) (part (syntax_of l.high.now) none))) + 3
 
 abbrev pub decreases-judge_in : goal.decreases-judge_in
-decreases-judge_in l = 4 * weight_in (part (syntax_of l.value.now) (part (syntax_of l.first.now) (parts_of (syntaxes_of l.others.now)))) + 3
+decreases-judge_in l = 5 * weight_in (part (syntax_of l.value.now) (part (syntax_of l.first.now) (parts_of (syntaxes_of l.others.now)))) + 4
 
 abbrev pub decreases-judge_is_null : goal.decreases-judge_is_null
-decreases-judge_is_null l = 4 * weight_in (part (syntax_of l.value.now) none) + 1
+decreases-judge_is_null l = 5 * weight_in (part (syntax_of l.value.now) none) + 2
 
 abbrev pub decreases-judge_computed : goal.decreases-judge_computed
-decreases-judge_computed l = 4 * weight_in (part (syntax_of l.first.now) (parts_of (operands_of l.others.now))) + 2
+decreases-judge_computed l = 5 * weight_in (part (syntax_of l.first.now) (parts_of (operands_of l.others.now))) + 3
 
 abbrev pub decreases-judge_casei : goal.decreases-judge_casei
-decreases-judge_casei l = 4 * weight_in (part (syntax_of l.operand.now) none) + 1
+decreases-judge_casei l = 5 * weight_in (part (syntax_of l.operand.now) none) + 2
 
 abbrev pub decreases-judge_spatial : goal.decreases-judge_spatial
-decreases-judge_spatial l = 4 * weight_in (part (syntax_of l.left.now) (part (syntax_of l.right.now) none)) + 2
+decreases-judge_spatial l = 5 * weight_in (part (syntax_of l.left.now) (part (syntax_of l.right.now) none)) + 3
 
 abbrev pub decreases-judge_temporal : goal.decreases-judge_temporal
-decreases-judge_temporal l = 4 * weight_in (part (syntax_of l.left.now) (part (syntax_of l.right.now) none)) + 2
+decreases-judge_temporal l = 5 * weight_in (part (syntax_of l.left.now) (part (syntax_of l.right.now) none)) + 3
 
 -- What is judged completes what is left, and the first fault of what is left is that of all.
 abbrev pub invariant-judge_all-loop-tree : goal.invariant-judge_all-loop-tree
