@@ -73,6 +73,7 @@ test: cases
 	scripts/check_stops
 	scripts/refused 500
 	scripts/check_host
+	scripts/check_status
 
 # Sends COUNT filters, drawn at random by SEED, to the programs of cases and to the second implementations.
 random:
@@ -139,10 +140,11 @@ serve-file: sample
 stops: sample cadastred
 	scripts/check_stops
 
-# Runs `cadastred` on a new register, in under two minutes. Sixty clients connect at once, some of them odd. The office enters commands
-# between the pages of walks. The program is killed and stopped.
+# Runs `cadastred` on a new register, in about two minutes. Sixty clients connect at once, some of them odd. The office enters commands
+# between the pages of walks. The program is killed and stopped. Its status is compared with what a script counts, and the exporter with both.
 host: cadastred
 	scripts/check_host
+	scripts/check_status
 
 # Reads a register of 2,000 parcels by curl, GDAL and OWSLib from `cadastred` and from `cadastre serve`.
 clients: sample cadastred

@@ -4,6 +4,7 @@
     scripts/host_cases.py [SEED] [COUNT]     prints the cases; the stored ones have seed 1 and count 400
     scripts/host_cases.py offices [SEED]     prints those of several connections of the office; the stored ones have seed 1
     scripts/host_cases.py journals [SEED]    prints those in which offices ask for journals; the stored ones have seed 1
+    scripts/host_cases.py statuses [SEED]    prints those in which offices ask for the status; the stored ones have seed 1
 
 Each case is a line `host STEPS`. In it, clients and land offices connect, send, take and fail in some order, and the network reports them in
 some order. The cases have:
@@ -16,7 +17,8 @@ some order. The cases have:
 - stops while replies are being written.
 
 Several connections of the office send lines alternately, wait at the door, do nothing, or take nothing for 300 seconds. Journals are asked
-for while others enter commands; they are long or short, are taken slowly or not at all, and two of them are not read.
+for while others enter commands; they are long or short, are taken slowly or not at all, and two of them are not read. The status is asked for
+while clients come, go, and are refused, and commands are entered, refused and checked.
 
 The database refuses commands for object 6. The end must report that even if the office has left, and the first cases test this.
 """
@@ -153,6 +155,42 @@ JOURNALS = [
     TWO + filled(0, 8) + [enters(1, 7), journal(0, 6), "wake 66 67"] + rounds(4),
     SLOW + filled(1, 8) + [journal(0, 6), "wake 66", "end", f"room 0 {10**6}", "wake 66", "end"],
     TWO + filled(0, 4) + [journal(0, 5), journal(0, 6), "wake 66"] + rounds(6) + BYE,
+]
+
+
+def status(peer):
+    """A connection of the office asks for the status."""
+    return f"give {peer} status_"
+
+
+STATUSES = [
+    # of an empty register, and after commands that are accepted, refused and checked, and lines that are none
+    ONE + [status(0), "wake 66"] + rounds(3) + BYE,
+    ONE + filled(0, 3) + [status(0), "wake 66"] + rounds(3) + [enters(0, 11), "give 0 hello_", "give 0 check " + LINES[0] % 9, enters(0, 2), status(0), status(0), "wake 66"] + rounds(12) + BYE,
+    # the line comes in pieces, with no end, or is another one
+    ONE + ["give 0 sta", "wake 66", "end", "give 0 tus", "wake 66", "end", "give 0 _", "wake 66"] + rounds(3) + BYE,
+    TWO + ["give 0 status", "hang 0", "wake 66"] + rounds(4) + ["give 1 status_", "give 1 stop_", "wake 67"] + rounds(4),
+    *(ONE + [f"give 0 {text}_", status(0), "wake 66"] + rounds(6) + BYE for text in ("statu", "status ", " status", "statuses", "status 1", "STATUS", "check status", "stat us", "|status", "status|")),
+    # it is taken slowly, or not at all, and others are served meanwhile
+    SLOW + [status(0), "wake 66", "end", "room 0 7", "wake 66", "end", enters(1, 7), status(1), "wake 67", "end", "end", f"room 0 {10**6}", "wake 66", "end", "end", "give 1 stop_", "wake 67", "end"],
+    SLOW + [status(0), "wake 66", "end", "second 299", "end", enters(1, 7), "wake 67", "end", "second 300", "end", "end", status(1), "wake 67", "end", "end", "give 1 stop_", "wake 67", "end"],
+    SLOW + [status(0), "wake 66", "end", "give 1 stop_", "wake 67", "end", f"room 0 {10**6}", "wake 66", "end"],
+    TWO + [status(0), "break 0", "wake 66", "end", status(1), "wake 67", "end", "end", "give 1 stop_", "wake 67", "end"],
+    # seconds go by
+    ONE + ["second 3", "end", status(0), "wake 66", "end", "end", "second 90000", status(0), "wake 66"] + rounds(3) + BYE,
+    # offices alternate: each command of another one counts
+    THREE + [enters(1, 1), status(0), enters(2, 1), status(1), enters(0, 2), status(2), "wake 66 67 68"] + rounds(6) + [status(2), status(0), "wake 68 66"] + rounds(4) + BYE,
+    # between the lines of a journal it waits for its end, and that of another office does not
+    TWO + filled(0, 20) + [journal(0, 0) + "status_", "wake 66", "end", status(1), "wake 67"] + rounds(10) + BYE,
+    # clients come, are answered, refused, turned away and dropped
+    ["come"] * 3 + ["office"] + [f"room {peer} {MUCH}" for peer in range(4)] + ["wake 64 65", "end", "end", status(3), "wake 66", "end", "end", "give 0 GET /lost HTTP/1.1||", "wake 0", "end", status(3), "wake 66", "end", "end",
+        "give 1 GET /full HTTP/1.1||", "wake 1", "end", status(3), "wake 66", "end", "end", "give 2 GET /a HTTP/1.1||", "wake 2", "end", "end", status(3), "wake 66", "end", "end", "second 61", "end", status(3), "wake 66", "end", "end",
+        "give 3 stop_", "wake 66", "end"],
+    ["come"] * 67 + ["office", "room 65 1000", "room 67 100000", "wake 64 65"] + rounds(3) + [status(67), "wake 66", "end", "end", "hang 1", "hang 2", "wake 1 2", "end", status(67), "wake 66", "end", "end", "come", "wake 64", "end", status(67),
+        "wake 66", "end", "end", "give 67 stop_", "wake 66", "end"],
+    ["come", "office", f"room 1 {MUCH}", "unwatched 1", "wake 64 65", "end", "end", status(1), "wake 66", "end", "end", "give 1 stop_", "wake 66", "end"],
+    # the database refuses a command: serving ends
+    TWO + [status(0), enters(1, 6), status(1), "wake 66 67"] + rounds(3),
 ]
 
 
@@ -299,7 +337,20 @@ def case_of_journals(chance):
     return drawn.end()
 
 
-KINDS = {"offices": (OFFICES, case_of_offices), "journals": (JOURNALS, case_of_journals)}
+def case_of_statuses(chance):
+    """Several connections of the office, which enter units and ask for the status, and some clients."""
+    drawn = Case(chance, range(64, 70))
+    drawn.lines, drawn.most, drawn.greatest = [LINES[0]] * 3 + ["status_"] * 3 + ["check " + LINES[0], "hello_", "_"], 12, 9
+    drawn.come()
+    for _ in range(chance.randint(1, 3)):
+        drawn.come_office()
+    for _ in range(chance.randint(12, 30)):
+        drawn.draw(OFFICE)
+        drawn.wait(chance.random() < 0.6)
+    return drawn.end()
+
+
+KINDS = {"offices": (OFFICES, case_of_offices), "journals": (JOURNALS, case_of_journals), "statuses": (STATUSES, case_of_statuses)}
 
 
 def main():

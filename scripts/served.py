@@ -49,16 +49,23 @@ def sample_lines():
 
 
 @contextlib.contextmanager
-def listening(*words):
-    """Runs a server at a port that the system chooses, and gives its address."""
+def started(*words):
+    """Runs a server at a port that the system chooses, and gives its address and the number of its process."""
     with subprocess.Popen(words, stdout=subprocess.PIPE, text=True) as server:
         try:
             first = server.stdout.readline().split()
             if first[:1] != ["listening"]:
                 sys.exit(f"{' '.join(words)} prints no address")
-            yield f"http://{first[1]}"
+            yield f"http://{first[1]}", server.pid
         finally:
             server.kill()
+
+
+@contextlib.contextmanager
+def listening(*words):
+    """The same, and gives its address."""
+    with started(*words) as (address, _):
+        yield address
 
 
 def serving(file):
@@ -67,10 +74,18 @@ def serving(file):
 
 
 @contextlib.contextmanager
+def hosting_process(file):
+    """Runs `cadastred` on the file, with its office's socket in a folder of its own. Gives its address, the socket's path and the number of its
+    process."""
+    with tempfile.TemporaryDirectory() as folder, started(SERVICE, str(file), "127.0.0.1:0", f"{folder}/office") as (address, number):
+        yield address, f"{folder}/office", number
+
+
+@contextlib.contextmanager
 def hosting_at(file):
-    """Runs `cadastred` on the file, with its office's socket in a folder of its own, and gives its address and the socket's path."""
-    with tempfile.TemporaryDirectory() as folder, listening(SERVICE, str(file), "127.0.0.1:0", f"{folder}/office") as address:
-        yield address, f"{folder}/office"
+    """The same, and gives its address and the socket's path."""
+    with hosting_process(file) as (address, office, _):
+        yield address, office
 
 
 @contextlib.contextmanager

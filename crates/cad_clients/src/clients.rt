@@ -170,6 +170,13 @@ impl<S: Drop> Clients<S> {
         self.client(c).is_some_and(|client| client.is_ready)
     }
 
+    /// Whether a connection has this number.
+    pub fn is_open(&self, c: u32) -> bool
+        ensures { IsTrue result ↔ IsSome (client_at self.now c) }
+    {
+        self.client(c).is_some()
+    }
+
     /// Whether a reply of this connection has not gone out.
     pub fn is_sending(&self, c: u32) -> bool
         ensures { IsTrue result ↔ IsSomeAnd (client_at self.now c) IsSending }

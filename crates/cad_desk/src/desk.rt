@@ -2,7 +2,7 @@
 
 use crate::event::{Event, Outgoing, Reply};
 use crate::fault::DeskFault;
-use cad_stream::{Connection, Fed, JournalResponder, Responder};
+use cad_stream::{Connection, Fed, JournalResponder, Responder, Summary};
 use cad_versions::{Command, RegisterFault};
 use std::alloc::Global;
 use std::collections::HashMap;
@@ -153,12 +153,20 @@ impl<R: JournalResponder> Desk<R> {
     ghost use Rattle.std.specs.Prelude.{◌≡◌};
     ghost use Rattle.cad_versions.specs.Journals.{GivesJournal};
     ghost use Rattle.cad_desk.specs.Journals.{BeginsAtDesk, ReadsAtDesk};
+    ghost use Rattle.cad_desk.specs.Desks.{SummarizesDesk};
 
     /// Begins to read the commands after a revision, up to the newest. A revision above the newest is `UnknownRevision`.
     pub fn begin_journal(&self, behind: u64) -> Result<R::Reading, RegisterFault>
         ensures { BeginsAtDesk R.Responder R.JournalResponder.own self.now behind result }
     {
         self.responder.begin_journal(behind)
+    }
+
+    /// What the register holds, in numbers. Nothing is read for it.
+    pub fn summary(&self) -> Summary
+        ensures { SummarizesDesk R.Responder self.now result }
+    {
+        self.responder.summary()
     }
 
     /// Reads the next rows of a journal, at most `most`, and returns whether all were read. Events may have been answered since the last rows

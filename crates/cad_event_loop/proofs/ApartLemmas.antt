@@ -14,7 +14,7 @@ use Rattle.cad_event_loop.specs.Works.{Held, AtOffice, AtOffices, Place, Puts, S
 use Rattle.cad_event_loop.specs.Lives.{own_deeds}
 use Rattle.cad_office_socket.specs.declared.entry.Entry.{Entry}
 use Rattle.cad_office_socket.specs.declared.turned.EntryTurned.{EntryTurned}
-use Rattle.cad_office_socket.specs.declared.turned.EntryTurned.TheVariants.{Wrote, Took, Added, Answered, Lost, Checked, CheckLost, JournalBegun, RowsRead, RowsRefused, RowsLost, Piece, PieceLost, Stops, Waits, Over}
+use Rattle.cad_office_socket.specs.declared.turned.EntryTurned.TheVariants.{Wrote, Took, Added, Answered, Lost, Checked, CheckLost, StatusAnswered, StatusLost, JournalBegun, RowsRead, RowsRefused, RowsLost, Piece, PieceLost, Stops, Waits, Over}
 use Rattle.cad_office_socket.specs.Turns.{IsTaken, IsEntryTurn}
 use Rattle.cad_event_loop.proofs.GoesLemmas.{told_quiet, aside_passes, woken_quiet}
 use Rattle.cad_event_loop.proofs.LifeLemmas.{apart, none_some, one_some}
@@ -106,6 +106,8 @@ module _ {R J : Type 0} (g : Ghosts R) (jg : JournalGhosts R J) where
   entry_quiet s o old new entry next (Lost answer) deeds e x = taken_quiet s o old new entry next (Lost answer) deeds e x
   entry_quiet s o old new entry next (Checked report) deeds e x = taken_quiet s o old new entry next (Checked report) deeds e x
   entry_quiet s o old new entry next (CheckLost report) deeds e x = taken_quiet s o old new entry next (CheckLost report) deeds e x
+  entry_quiet s o old new entry next (StatusAnswered status) deeds e x = taken_quiet s o old new entry next (StatusAnswered status) deeds e x
+  entry_quiet s o old new entry next StatusLost deeds e x = taken_quiet s o old new entry next StatusLost deeds e x
   entry_quiet s o old new entry next (JournalBegun behind) deeds e x = taken_quiet s o old new entry next (JournalBegun behind) deeds e x
   entry_quiet s o old new entry next RowsRead deeds e x = rw x.0 (refl, refl)
   entry_quiet s o old new entry next (RowsRefused fault) deeds e x = rw x.0 (refl, refl)

@@ -11,7 +11,7 @@ use Rattle.cad_office.specs.declared.print.Answer.TheVariants.{Entered, Refused,
 use Rattle.cad_dry_run.specs.declared.report.Report.{Report}
 use Rattle.cad_dry_run.specs.declared.report.Report.TheVariants as report
 use Rattle.cad_office_socket.specs.declared.turned.EntryTurned.{EntryTurned}
-use Rattle.cad_office_socket.specs.declared.turned.EntryTurned.TheVariants.{Wrote, Took, Added, Answered, Lost, Checked, CheckLost, JournalBegun, RowsRead, RowsRefused, RowsLost, Piece, PieceLost, Stops, Waits, Over}
+use Rattle.cad_office_socket.specs.declared.turned.EntryTurned.TheVariants.{Wrote, Took, Added, Answered, Lost, Checked, CheckLost, StatusAnswered, StatusLost, JournalBegun, RowsRead, RowsRefused, RowsLost, Piece, PieceLost, Stops, Waits, Over}
 use Rattle.cad_event_loop.specs.Works.{Place, rows, Said, Work, wakes, opens, acts, waits, ends, office_comes, enters, office_leaves, aside, SaysSo, ChecksSo, IsCheckSaid, IsLineSaid, Tells, Goes, MayGoOn}
 use Rattle.cad_event_loop.specs.Laws.{commands_by, commands_in, AreEntered, AreFirst, AreFirstBy, LedgerStands}
 use Rattle.cad_event_loop.specs.lemmas.CleanLemmas.{goes_clean}
@@ -85,6 +85,8 @@ module _ {R J : Type 0} (g : Ghosts R) (jg : JournalGhosts R J) where
     entered_by (Lost answer) line = answered answer line.1
     entered_by (Checked it) line = checked it line
     entered_by (CheckLost it) line = checked it line
+    entered_by (StatusAnswered status) line = let r = untold line.1 in (r.0.0, r.0.1, r.1 ∙ r.0.2)
+    entered_by StatusLost line = let r = untold line.1 in (r.0.0, r.0.1, r.1 ∙ r.0.2)
     entered_by (JournalBegun behind) line = let r = untold line.1 in (r.0.0, r.0.1, r.1 ∙ r.0.2)
     entered_by RowsRead line = rows_read (Ok line.0) line.1
     entered_by (RowsRefused fault) line = rows_read (Err fault) line

@@ -10,4 +10,6 @@ pub mod StreamLemmas
 pub mod OfficeLemmas
 pub mod HostLemmas
 pub mod ReplyLemmas
+pub mod BegunLemmas
 pub mod JournalLemmas
+pub mod StatusLemmas

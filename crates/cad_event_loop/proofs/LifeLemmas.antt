@@ -27,7 +27,7 @@ use Rattle.cad_office.specs.declared.print.Answer.TheVariants.{Entered, Refused,
 use Rattle.cad_dry_run.specs.declared.report.Report.{Report}
 use Rattle.cad_dry_run.specs.declared.report.Report.TheVariants as report
 use Rattle.cad_office_socket.specs.declared.turned.EntryTurned.{EntryTurned}
-use Rattle.cad_office_socket.specs.declared.turned.EntryTurned.TheVariants.{Wrote, Took, Added, Answered, Lost, Checked, CheckLost, JournalBegun, RowsRead, RowsRefused, RowsLost, Piece, PieceLost, Stops, Waits, Over}
+use Rattle.cad_office_socket.specs.declared.turned.EntryTurned.TheVariants.{Wrote, Took, Added, Answered, Lost, Checked, CheckLost, StatusAnswered, StatusLost, JournalBegun, RowsRead, RowsRefused, RowsLost, Piece, PieceLost, Stops, Waits, Over}
 use Rattle.cad_event_loop.specs.Works.{Held, Place, event, question, rows, Said, Work, wakes, opens, acts, waits, ends, office_comes, enters, office_leaves, aside, deeds_in, SaysSo, ChecksSo, IsLineSaid, IsEventOf, IsOf, IsOfNone, Tells, Leaves, Works, Goes, MayAsk, MayGoOn}
 use Rattle.cad_event_loop.specs.Lives.{by_another, by_desk, life_of, own_deeds, end_of, last_deeds, IsLifeBy, IsLife, EachHasItsLife}
 
@@ -158,6 +158,8 @@ module _ {R J : Type 0} (g : Ghosts R) (jg : JournalGhosts R J) (c s : ℕ) wher
   office_apart text (Lost answer) said line = answer_apart text answer said line.1
   office_apart text (Checked it) said line = check_apart line.0 it said line.2
   office_apart text (CheckLost it) said line = check_apart line.0 it said line.2
+  office_apart text (StatusAnswered status) said line = untold_apart said line.1
+  office_apart text StatusLost said line = untold_apart said line.1
   office_apart text (JournalBegun behind) said line = untold_apart said line.1
   office_apart text RowsRead said line = rows_apart (Ok line.0) said line.1
   office_apart text (RowsRefused fault) said line = rows_apart (Err fault) said line

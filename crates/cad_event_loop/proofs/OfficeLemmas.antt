@@ -18,7 +18,7 @@ use Rattle.cad_office_socket.specs.declared.entry.Entry.{Entry}
 use Rattle.cad_office_socket.specs.declared.turned.EntryServed.{EntryServed}
 use Rattle.cad_office_socket.specs.declared.turned.EntryServed.TheVariants as served
 use Rattle.cad_office_socket.specs.declared.turned.EntryTurned.{EntryTurned}
-use Rattle.cad_office_socket.specs.declared.turned.EntryTurned.TheVariants.{Wrote, Took, Added, Answered, Lost, Checked, CheckLost, JournalBegun, RowsRead, RowsRefused, RowsLost, Piece, PieceLost, Stops, Waits, Over}
+use Rattle.cad_office_socket.specs.declared.turned.EntryTurned.TheVariants.{Wrote, Took, Added, Answered, Lost, Checked, CheckLost, StatusAnswered, StatusLost, JournalBegun, RowsRead, RowsRefused, RowsLost, Piece, PieceLost, Stops, Waits, Over}
 use Rattle.cad_desk.specs.Desks.{ChecksAtDesk}
 use Rattle.cad_dry_run.specs.declared.report.Report.{Report}
 use Rattle.cad_dry_run.specs.declared.report.Report.TheVariants as report
@@ -30,6 +30,7 @@ use Rattle.cad_office_socket.specs.declared.journal_state.JournalRequest.{Journa
 use Rattle.cad_office_socket.specs.declared.journal_state.JournalState.{JournalState}
 use Rattle.cad_office_socket.specs.declared.journal_state.JournalState.TheVariants.{Idle, Rejected, Reading, Writing}
 use Rattle.cad_office_socket.specs.Journals.{IsRead}
+use Rattle.cad_office_socket.specs.declared.figures.Figures.{Figures}
 use Rattle.cad_office_socket.specs.Serving.{is_store, end_at, all_go_on, most_turns, IsEnough, HasTurns, IsEntryServed}
 use Rattle.cad_office_socket.specs.lemmas.BegunLemmas.{Later, begun_later}
 use Rattle.cad_clients.specs.declared.clients.Clients.{Clients}
@@ -83,6 +84,8 @@ same_end (CheckLost it) = go (is_store (answer_of it))
     go : (refused : Bool) → store_end refused ≡ end_of_some (if refused then Some served.StoreRefused else Some served.Over)
     go true = refl
     go false = refl
+same_end (StatusAnswered status) = refl
+same_end StatusLost = refl
 same_end (JournalBegun behind) = refl
 same_end RowsRead = refl
 same_end (RowsRefused fault) = go (is_store (Refused fault))
@@ -125,6 +128,8 @@ same_last (CheckLost it) = go (is_store (answer_of it))
     go : (refused : Bool) → not refused ≡ over_of_some (if refused then Some served.StoreRefused else Some served.Over)
     go true = refl
     go false = refl
+same_last (StatusAnswered status) = refl
+same_last StatusLost = refl
 same_last (JournalBegun behind) = refl
 same_last RowsRead = refl
 same_last (RowsRefused fault) = go (is_store (Refused fault))
@@ -175,6 +180,8 @@ same_stand (CheckLost it) = go (is_store (answer_of it))
     go : (refused : Bool) → office_turned (not refused) (CheckLost it) ≡ stand_of_some (if refused then Some served.StoreRefused else Some served.Over)
     go true = refl
     go false = refl
+same_stand (StatusAnswered status) = refl
+same_stand StatusLost = refl
 same_stand (JournalBegun behind) = refl
 same_stand RowsRead = refl
 same_stand (RowsRefused fault) = go (is_store (Refused fault))
@@ -230,6 +237,8 @@ begun_then (CheckLost it) next l = go (is_store (answer_of it))
     go : (refused : Bool) → BegunIf (if refused then Some served.StoreRefused else Some served.Over) next
     go true = tt
     go false = tt
+begun_then (StatusAnswered status) next l = l
+begun_then StatusLost next l = tt
 begun_then (JournalBegun behind) next l = l
 begun_then RowsRead next l = l
 begun_then (RowsRefused fault) next l = go (is_store (Refused fault)) l
@@ -276,6 +285,8 @@ module _ {R J : Type 0} (g : Ghosts R) (jg : JournalGhosts R J) where
   ended text (Lost answer) old new next e = let s = answer_said text answer old new e.1 in (text, s.0, (e.0, s.1), s.2, tt)
   ended text (Checked it) old new next e = let s = check_said e.0.0 it old new e.0.2 in (text, s.0, (e.0.0, e.0.1, s.1), s.2, tt)
   ended text (CheckLost it) old new next e = let s = check_said e.0.0 it old new e.0.2 in (text, s.0, (e.0.0, e.0.1, s.1), s.2, tt)
+  ended text (StatusAnswered status) old new next e = (text, None, (e.0.0, refl), e.0.2, tt)
+  ended text StatusLost old new next e = (text, None, (e.0, refl), e.1, tt)
   ended text (JournalBegun behind) old new next e = (text, None, (e.0, refl), e.2, tt)
   ended text RowsRead old new next e = absurd e
   ended text (RowsRefused fault) old new next e = absurd e
@@ -314,6 +325,8 @@ module _ {R J : Type 0} (g : Ghosts R) (jg : JournalGhosts R J) where
   turn_said o (Lost answer) old new entry next deeds begun t = taken_said o begun.0 (Lost answer) old new entry next deeds begun.1 t
   turn_said o (Checked it) old new entry next deeds begun t = taken_said o begun.0 (Checked it) old new entry next deeds begun.1 t
   turn_said o (CheckLost it) old new entry next deeds begun t = taken_said o begun.0 (CheckLost it) old new entry next deeds begun.1 t
+  turn_said o (StatusAnswered status) old new entry next deeds begun t = taken_said o begun.0 (StatusAnswered status) old new entry next deeds begun.1 t
+  turn_said o StatusLost old new entry next deeds begun t = taken_said o begun.0 StatusLost old new entry next deeds begun.1 t
   turn_said o (JournalBegun behind) old new entry next deeds begun t = taken_said o begun.0 (JournalBegun behind) old new entry next deeds begun.1 t
   turn_said o RowsRead old new entry next deeds begun t = let r = read_said old t.2.0 new next.journal t.2.2 in ([], Some (rows (Ok r.0)), (r.0, refl), r.1, tt)
   turn_said o (RowsRefused fault) old new entry next deeds begun t = ([], Some (rows (Err fault)), refl, (t.2.0.reading, t.2.2.0, t.2.2.1), tt)
@@ -472,10 +485,10 @@ module _ {R J : Type 0} (g : Ghosts R) (jg : JournalGhosts R J) where
         }
 
     -- the office was served
-    served_go : (end : EntryServed) (old new : Desk R) (here there : AtOffices J) (entry next : Entry J) (deeds : List Deed) → here k ≡ Some (o, entry) → Puts here there k (left_at (is_over end) o next) → IsBegun entry
-        → IsEntryServed g jg o old entry end new next deeds
+    served_go : (shown counted : Figures) (end : EntryServed) (old new : Desk R) (here there : AtOffices J) (entry next : Entry J) (deeds : List Deed) → here k ≡ Some (o, entry) → Puts here there k (left_at (is_over end) o next) → IsBegun entry
+        → IsEntryServed g jg o shown counted old entry end new next deeds
         → (works : List Work) × (deeds ++ left_deeds (is_over end) o ≡ all_deeds works) × EndsBy (end_of_office end) works × Goes g jg old (at_offices here) works new (at_offices there) × Each IsServing works × AreFew end works
-    served_go end old new here there entry next deeds at puts begun s = go s.0 s.1 s.2
+    served_go shown counted end old new here there entry next deeds at puts begun s = go s.0 s.1 s.2
       where
         go : (turns : List EntryTurned) → HasTurns g jg o old entry turns new next deeds → IsEnough turns end next
             → (works : List Work) × (deeds ++ left_deeds (is_over end) o ≡ all_deeds works) × EndsBy (end_of_office end) works × Goes g jg old (at_offices here) works new (at_offices there) × Each IsServing works × AreFew end works
@@ -491,8 +504,8 @@ module _ {R J : Type 0} (g : Ghosts R) (jg : JournalGhosts R J) where
         ]
 
   -- where it goes on a line has begun
-  served_begun : (o : ℕ) (end : EntryServed) (old new : Desk R) (entry next : Entry J) (deeds : List Deed) → IsBegun entry → IsEntryServed g jg o old entry end new next deeds → BegunIf (Some end) next
-  served_begun o end old new entry next deeds begun s = go s.0 s.1 s.2
+  served_begun : (o : ℕ) (shown counted : Figures) (end : EntryServed) (old new : Desk R) (entry next : Entry J) (deeds : List Deed) → IsBegun entry → IsEntryServed g jg o shown counted old entry end new next deeds → BegunIf (Some end) next
+  served_begun o shown counted end old new entry next deeds begun s = go s.0 s.1 s.2
     where
       go : (turns : List EntryTurned) → HasTurns g jg o old entry turns new next deeds → IsEnough turns end next → BegunIf (Some end) next
       go [] t enough = absurd enough
@@ -515,14 +528,14 @@ module _ {R J : Type 0} (g : Ghosts R) (jg : JournalGhosts R J) where
 
     module _ (k : ℕ) (clients : Clients S) (flags set : ℕ → Option Bool) (offices next : AtOffices J) where
       -- connection k of the land office was served
-      pub office_hosts : (office : Office S J) (result : EntryServed × Option (Office S J)) (from to : Option (List Deed)) (old new : Desk R) → offices k ≡ office_at name (Some office) → Puts offices next k (office_at name result.1) → Puts flags set k (Some (may_go_on result.0))
-          → IsBegun office.entry → AddsSome from to (HasOfficeTurns g jg name old office result new)
+      pub office_hosts : (shown counted : Figures) (office : Office S J) (result : EntryServed × Option (Office S J)) (from to : Option (List Deed)) (old new : Desk R) → offices k ≡ office_at name (Some office) → Puts offices next k (office_at name result.1) → Puts flags set k (Some (may_go_on result.0))
+          → IsBegun office.entry → AddsSome from to (HasOfficeTurns g jg name shown counted old office result new)
           → Serves g jg (ServesOffice k 8 (standings_of clients offices flags) (standings_of clients next set)) (end_of_office result.0) from old (place_of name clients offices) to new (place_of name clients next)
-      office_hosts office result from to old new at puts sets begun s =
+      office_hosts shown counted office result from to old new at puts sets begun s =
           let t = s.2 in
           let slots : Held = (place_of name clients offices).slots in
           let left = subst (λ (it : AtOffice J). Puts offices next k it) t.4 puts in
-          let go = served_go slots (name office.socket) k result.0 old new offices next office.entry t.0 t.1 at left begun t.2 in
+          let go = served_go slots (name office.socket) k shown counted result.0 old new offices next office.entry t.0 t.1 at left begun t.2 in
           let first = standings_of clients offices flags in
           let last = standings_of clients next set in
           let own : (next k ≡ left_at (is_over result.0) (name office.socket) t.0) = left k ∙ rw (eq-eqb k k refl) refl in
@@ -559,6 +572,8 @@ module _ {R J : Type 0} (g : Ghosts R) (jg : JournalGhosts R J) where
           by_send (Lost answer) after own w = absurd w
           by_send (Checked it) after own w = absurd w
           by_send (CheckLost it) after own w = absurd w
+          by_send (StatusAnswered status) after own w = absurd w
+          by_send StatusLost after own w = absurd w
           by_send Stops after own w = absurd w
           by_send (JournalBegun behind) after own w = absurd w
           by_send RowsRead after own w = absurd w
@@ -613,10 +628,10 @@ module _ {R J : Type 0} (g : Ghosts R) (jg : JournalGhosts R J) where
     begun_at served.StoreRefused o after it begun at = tt
 
     -- and of what is left of it a line has begun
-    pub office_begun : (office : Office S J) (result : EntryServed × Option (Office S J)) (old new : Desk R) (deeds : List Deed) → IsBegun office.entry → HasOfficeTurns g jg name old office result new deeds
+    pub office_begun : (shown counted : Figures) (office : Office S J) (result : EntryServed × Option (Office S J)) (old new : Desk R) (deeds : List Deed) → IsBegun office.entry → HasOfficeTurns g jg name shown counted old office result new deeds
         → BegunUnless (end_of_office result.0) result.1
-    office_begun office result old new deeds begun t =
-        begun_at result.0 (name office.socket) t.0 result.1 (served_begun (name office.socket) result.0 old new office.entry t.0 t.1 begun t.2) t.4
+    office_begun shown counted office result old new deeds begun t =
+        begun_at result.0 (name office.socket) t.0 result.1 (served_begun (name office.socket) shown counted result.0 old new office.entry t.0 t.1 begun t.2) t.4
 
     -- the office comes, and the network can't tell of it
     pub unwatched_hosts : (t : ℕ) (from mid to : Option (List Deed)) (old : Desk R) (here : Place J) (stand : Standings) → Adds from mid (office_came t ∷ []) → Adds mid to (left t ∷ []) → Serves g jg (IsAtDoors 1 stand stand) None from old here to old here

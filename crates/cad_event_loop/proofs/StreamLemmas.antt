@@ -12,8 +12,9 @@ use Rattle.cad_clients.specs.declared.channel.Channel.{Channel}
 use Rattle.cad_office.specs.Lines.{is_lf, is_filled, lines_in}
 use Rattle.cad_office_socket.specs.declared.entry.Entry.{Entry}
 use Rattle.cad_office_socket.specs.declared.turned.EntryTurned.{EntryTurned}
-use Rattle.cad_office_socket.specs.declared.turned.EntryTurned.TheVariants.{Wrote, Took, Added, Answered, Lost, Checked, CheckLost, JournalBegun, RowsRead, RowsRefused, RowsLost, Piece, PieceLost, Stops, Waits, Over}
+use Rattle.cad_office_socket.specs.declared.turned.EntryTurned.TheVariants.{Wrote, Took, Added, Answered, Lost, Checked, CheckLost, StatusAnswered, StatusLost, JournalBegun, RowsRead, RowsRefused, RowsLost, Piece, PieceLost, Stops, Waits, Over}
 use Rattle.cad_office_socket.specs.Buffering.{IsOfOneLine}
+use Rattle.cad_office_socket.specs.Statuses.{IsStatusLine}
 use Rattle.cad_office_socket.specs.Checks.{IsCheckOf}
 use Rattle.cad_office_socket.specs.Turns.{unread, unwritten, has_ended, HasBegun, IsElseSame, EndsLine, IsTaken, IsCutOff, IsEntryTurn}
 use Rattle.cad_event_loop.specs.Works.{AtOffice, AtOffices, IsPieceWritten, Place, Puts, Same, Said, Work, wakes, opens, acts, waits, ends, office_comes, enters, office_leaves, aside, is_last, deeds_in, deeds_of, all_deeds, Works, Goes}
@@ -156,6 +157,9 @@ module _ {R J : Type 0} (g : Ghosts R) (jg : JournalGhosts R J) (o : ℕ) where
     written : (told : List ℕ) → answer_text told turned ≡ unwritten after
 
   -- a line that asks for a check is not empty
+  status_some : (text : List ℕ) → IsStatusLine text → text ≡ [] → ⊥
+  status_some text is none = (let clash : ◌≡◌ {A = List ℕ} [] (codes "status") = sym none ∙ is in cc)
+
   check_some : (text line : List ℕ) → IsCheckOf text line → text ≡ [] → ⊥
   check_some text line is none = (let clash : ◌≡◌ {A = List ℕ} [] (codes "check " ++ line) = sym none ∙ is in cc)
 
@@ -203,6 +207,22 @@ module _ {R J : Type 0} (g : Ghosts R) (jg : JournalGhosts R J) (o : ℕ) where
     last = line_last text one (check_some text e.0.0 e.0.1);
     comes_to = λ Come lines come. (e.0, come);
     written = λ told. sym e.1;
+  }
+  ended_text (StatusAnswered status) old mid text after one e = record {
+    ls = text ∷ [];
+    has = e.2;
+    whole = λ rest. line_first text rest one (status_some text e.0.0);
+    last = line_last text one (status_some text e.0.0);
+    comes_to = λ Come lines come. (e.0, come);
+    written = λ told. sym e.1;
+  }
+  ended_text StatusLost old mid text after one e = record {
+    ls = text ∷ [];
+    has = e.3;
+    whole = λ rest. line_first text rest one (status_some text e.0);
+    last = line_last text one (status_some text e.0);
+    comes_to = λ Come lines come. ((e.0, e.1), come);
+    written = λ told. sym e.2;
   }
   ended_text Stops old mid text after one e =
       let some : (text ≡ [] → ⊥) = (λ none. (let clash : ◌≡◌ {A = List ℕ} [] (codes "stop") = sym none ∙ e.0 in cc)) in
@@ -332,6 +352,8 @@ module _ {R J : Type 0} (g : Ghosts R) (jg : JournalGhosts R J) (o : ℕ) where
   turn_step told (Lost answer) old mid begun entry after own ready not t text = taken_step told (Lost answer) old mid begun entry after own ready t
   turn_step told (Checked report) old mid begun entry after own ready not t text = taken_step told (Checked report) old mid begun entry after own ready t
   turn_step told (CheckLost report) old mid begun entry after own ready not t text = taken_step told (CheckLost report) old mid begun entry after own ready t
+  turn_step told (StatusAnswered status) old mid begun entry after own ready not t text = taken_step told (StatusAnswered status) old mid begun entry after own ready t
+  turn_step told StatusLost old mid begun entry after own ready not t text = taken_step told StatusLost old mid begun entry after own ready t
   turn_step told Stops old mid begun entry after own ready not t text = taken_step told Stops old mid begun entry after own ready t
   turn_step told (JournalBegun behind) old mid begun entry after own ready not t text = taken_step told (JournalBegun behind) old mid begun entry after own ready t
   turn_step told RowsRead old mid begun entry after own ready not t text = telling_step told RowsRead old mid begun entry after own ready refl t.0 t.1 t.2.4 (sym t.2.3)
@@ -521,6 +543,8 @@ module _ {R J : Type 0} (g : Ghosts R) (jg : JournalGhosts R J) (o : ℕ) where
   not_left (Lost answer) deeds not well = well
   not_left (Checked report) deeds not well = well
   not_left (CheckLost report) deeds not well = well
+  not_left (StatusAnswered status) deeds not well = well
+  not_left StatusLost deeds not well = well
   not_left (JournalBegun behind) deeds not well = well
   not_left RowsRead deeds not well = well
   not_left (RowsRefused fault) deeds not well = well
@@ -539,6 +563,8 @@ module _ {R J : Type 0} (g : Ghosts R) (jg : JournalGhosts R J) (o : ℕ) where
   is_over (Lost answer) = inr (λ e. cc)
   is_over (Checked report) = inr (λ e. cc)
   is_over (CheckLost report) = inr (λ e. cc)
+  is_over (StatusAnswered status) = inr (λ e. cc)
+  is_over StatusLost = inr (λ e. cc)
   is_over (JournalBegun behind) = inr (λ e. cc)
   is_over RowsRead = inr (λ e. cc)
   is_over (RowsRefused fault) = inr (λ e. cc)

@@ -12,7 +12,7 @@ use Rattle.cad_office.specs.declared.print.Answer.TheVariants.{Refused}
 use Rattle.cad_office.specs.Answers.{printed}
 use Rattle.cad_office.specs.JournalLines.{lines_of, end_line}
 use Rattle.cad_office_socket.specs.declared.turned.EntryTurned.{EntryTurned}
-use Rattle.cad_office_socket.specs.declared.turned.EntryTurned.TheVariants.{Wrote, Took, Added, Answered, Lost, Checked, CheckLost, JournalBegun, RowsRead, RowsRefused, RowsLost, Piece, PieceLost, Stops, Waits, Over}
+use Rattle.cad_office_socket.specs.declared.turned.EntryTurned.TheVariants.{Wrote, Took, Added, Answered, Lost, Checked, CheckLost, StatusAnswered, StatusLost, JournalBegun, RowsRead, RowsRefused, RowsLost, Piece, PieceLost, Stops, Waits, Over}
 use Rattle.cad_event_loop.specs.Works.{Place, Said, Work, enters, office_leaves, IsEmpty, Goes, MayGoOn}
 use Rattle.cad_event_loop.specs.Laws.{commands_in}
 

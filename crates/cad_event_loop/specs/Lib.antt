@@ -5,6 +5,7 @@ pub mod Lives
 pub mod Laws
 pub mod Streams
 pub mod Journals
+pub mod Statuses
 pub mod Replying
 pub mod inner
 pub mod lemmas

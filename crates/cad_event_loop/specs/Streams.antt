@@ -9,10 +9,11 @@ use Rattle.cad_office.specs.declared.print.Answer.TheVariants.{Refused}
 use Rattle.cad_office.specs.Keeping.{AnswersLine}
 use Rattle.cad_office.specs.Lines.{lines_in}
 use Rattle.cad_office_socket.specs.declared.turned.EntryTurned.{EntryTurned}
-use Rattle.cad_office_socket.specs.declared.turned.EntryTurned.TheVariants.{Answered, Lost, Checked, CheckLost, JournalBegun, RowsRefused, Piece, Stops, Over}
+use Rattle.cad_office_socket.specs.declared.turned.EntryTurned.TheVariants.{Answered, Lost, Checked, CheckLost, StatusAnswered, StatusLost, JournalBegun, RowsRefused, Piece, Stops, Over}
 use Rattle.cad_dry_run.specs.Reports.{report_text}
 use Rattle.cad_office_socket.specs.Checks.{ChecksLine}
 use Rattle.cad_office_socket.specs.Journals.{IsJournalAfter}
+use Rattle.cad_office_socket.specs.Statuses.{IsStatusLine, IsStatusOf, status_text}
 use Rattle.cad_office_socket.specs.Entries.{EntersAtDesk}
 use Rattle.cad_event_loop.specs.Works.{Place, Work, office_comes, enters, IsEmpty, all_deeds, Goes}
 
@@ -22,6 +23,8 @@ ends_line (Answered answer) = true
 ends_line (Lost answer) = true
 ends_line (Checked report) = true
 ends_line (CheckLost report) = true
+ends_line (StatusAnswered status) = true
+ends_line StatusLost = true
 ends_line (JournalBegun behind) = true
 ends_line Stops = true
 ends_line other = false
@@ -30,6 +33,7 @@ ends_line other = false
 abbrev pub answer_text : List ℕ → EntryTurned → List ℕ
 answer_text text (Answered answer) = printed answer
 answer_text text (Checked report) = report_text report
+answer_text text (StatusAnswered status) = status_text status
 answer_text text (RowsRefused fault) = printed (Refused fault)
 answer_text text Piece = text
 answer_text text other = []
@@ -52,12 +56,14 @@ EndsWell o (other ∷ later) = EndsWell o later
 
 module _ {R J : Type 0} (g : Ghosts R) (jg : JournalGhosts R J) where
   -- the result of a line at the desk: its command is entered, and then it gets this answer; or it asks for a check, and gets this report; or
-  -- it asks for a journal
+  -- it asks for the status, and gets this one; or it asks for a journal
   abbrev pub ComesTo : List ℕ → Desk R → EntryTurned → Desk R → Type 0
   ComesTo line old (Answered answer) new = AnswersLine (EntersAtDesk g) line old answer new
   ComesTo line old (Lost answer) new = AnswersLine (EntersAtDesk g) line old answer new
   ComesTo line old (Checked report) new = ChecksLine g line old report new
   ComesTo line old (CheckLost report) new = ChecksLine g line old report new
+  ComesTo line old (StatusAnswered status) new = IsStatusOf g line old status new
+  ComesTo line old StatusLost new = IsStatusLine line × (new ≡ old)
   ComesTo line old (JournalBegun behind) new = IsJournalAfter line behind × (new ≡ old)
   ComesTo line old Stops new = (line ≡ codes "stop") × (new ≡ old)
   ComesTo line old other new = ⊥

@@ -39,6 +39,7 @@ use Rattle.cad_dry_run.specs.declared.report.Report.TheVariants as report
 use Rattle.cad_dry_run.specs.Reports.{answer_of}
 use Rattle.cad_office_socket.specs.Checks.{IsCheckOf}
 use Rattle.cad_office_socket.specs.Journals.{most_rows, IsJournalAfter}
+use Rattle.cad_office_socket.specs.Statuses.{IsStatusLine}
 use Rattle.cad_office_socket.specs.Serving as serving
 use Rattle.cad_office_socket.specs.Turns.{unwritten, IsNewEntry, IsAsking, IsEntryTurn, IsSending}
 use Rattle.cad_event_loop.specs.declared.stopped.Stopped.{Stopped}
@@ -175,6 +176,8 @@ end_of_turned (turn.Answered answer) = store_end (serving.is_store answer)
 end_of_turned (turn.Lost answer) = store_end (serving.is_store answer)
 end_of_turned (turn.Checked it) = store_end (serving.is_store (answer_of it))
 end_of_turned (turn.CheckLost it) = store_end (serving.is_store (answer_of it))
+end_of_turned (turn.StatusAnswered status) = None
+end_of_turned turn.StatusLost = None
 end_of_turned (turn.JournalBegun behind) = None
 end_of_turned turn.RowsRead = None
 end_of_turned (turn.RowsRefused fault) = store_end (serving.is_store (answer.Refused fault))
@@ -252,6 +255,8 @@ IsLineSaid text (turn.Answered answer) said = IsAsking text answer × SaysSo tex
 IsLineSaid text (turn.Lost answer) said = IsAsking text answer × SaysSo text answer said
 IsLineSaid text (turn.Checked it) said = IsCheckSaid text it said
 IsLineSaid text (turn.CheckLost it) said = IsCheckSaid text it said
+IsLineSaid text (turn.StatusAnswered status) said = IsStatusLine text × (said ≡ None)
+IsLineSaid text turn.StatusLost said = IsStatusLine text × (said ≡ None)
 IsLineSaid text (turn.JournalBegun behind) said = IsJournalAfter text behind × (said ≡ None)
 IsLineSaid text turn.RowsRead said = (whole : Bool) × (said ≡ Some (rows (Ok whole)))
 IsLineSaid text (turn.RowsRefused fault) said = said ≡ Some (rows (Err fault))
@@ -270,6 +275,7 @@ is_last turn.Over = true
 is_last (turn.Lost answer) = not (serving.is_store answer)
 is_last (turn.CheckLost it) = not (serving.is_store (answer_of it))
 is_last (turn.RowsLost fault) = not (serving.is_store (answer.Refused fault))
+is_last turn.StatusLost = true
 is_last turn.PieceLost = true
 is_last other = false
 

@@ -4,6 +4,7 @@ ghost use Rattle.cad_event_loop.specs.Lives.{EachHasItsLife};
 ghost use Rattle.cad_event_loop.specs.Journals.{JournalsAreWritten};
 ghost use Rattle.cad_event_loop.specs.Laws.{LedgerStands, SocketsAreTheirOwn};
 ghost use Rattle.cad_event_loop.specs.Replying.{EachIsServed};
+ghost use Rattle.cad_event_loop.specs.Statuses.{StatusesAreCurrent};
 ghost use Rattle.cad_event_loop.specs.Streams.{OfficeIsAnswered};
 
 use cad_clients::laws::channels_are_their_own;
@@ -44,6 +45,12 @@ pub fn journals_are_written<R: JournalResponder>()
 {
     R::readings_stay();
 }
+
+/// If a line of the land office asks for the status, the answer sums up the commands that were in force when the line ended: their number,
+/// and the versions after them by their classes if these are known. This holds for any other connections and for all that they do.
+pub fn statuses_are_current<R: JournalResponder>()
+    ensures { StatusesAreCurrent R.Responder R.JournalResponder.own }
+{}
 
 /// For a connection that is open when a round begins, one of these holds in that round, if the round is made to its end:
 ///

@@ -30,6 +30,7 @@
 #![tactic(auto)]
 
 mod closing;
+mod counting;
 mod hosting;
 pub mod laws;
 mod office;

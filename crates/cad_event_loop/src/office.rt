@@ -9,7 +9,7 @@ use cad_desk::Desk;
 use cad_dry_run::Report;
 use cad_network::Network;
 use cad_office::Answer;
-use cad_office_socket::{Entry, EntryServed, EntryTurned};
+use cad_office_socket::{Entry, EntryServed, EntryTurned, Figures};
 use cad_stream::JournalResponder;
 use cad_versions::RegisterFault;
 use std::alloc::Global;
@@ -53,6 +53,7 @@ fn is_last(turned: &EntryTurned) -> bool
         EntryTurned::Over
         | EntryTurned::Lost(_)
         | EntryTurned::CheckLost(_)
+        | EntryTurned::StatusLost
         | EntryTurned::RowsLost(_)
         | EntryTurned::PieceLost => true,
         EntryTurned::Wrote
@@ -60,6 +61,7 @@ fn is_last(turned: &EntryTurned) -> bool
         | EntryTurned::Added
         | EntryTurned::Answered(_)
         | EntryTurned::Checked(_)
+        | EntryTurned::StatusAnswered(_)
         | EntryTurned::JournalBegun(_)
         | EntryTurned::RowsRead
         | EntryTurned::RowsRefused(_)
@@ -121,15 +123,16 @@ impl<S: Drop, J: Drop> Office<S, J> {
         self.entry.is_sending() && LONGEST_PAUSE <= now.saturating_sub(self.moved)
     }
 
-    /// Serves the office with some turns, and returns it. If its connection is over, its socket is let go and no office is returned.
+    /// Serves the office with some turns, and returns it. Their answers count, and a status shows the figures. If its connection is over, its socket is let go and no office is returned.
     pub(crate) fn serve<N: Network<Socket = S>, R: JournalResponder<Reading = J>>(
         self,
         alloc: Global,
         now: u64,
         net: &mut N,
         desk: &mut Desk<R>,
+        figures: &mut Figures,
     ) -> (EntryServed, Option<Office<S, J>>)
-        ensures { AddsSome (N.history net.old) (N.history net.new) (HasOfficeTurns R.Responder R.JournalResponder.own N.name desk.old self result desk.new) }
+        ensures { AddsSome (N.history net.old) (N.history net.new) (HasOfficeTurns R.Responder R.JournalResponder.own N.name figures.old figures.new desk.old self result desk.new) }
     {
         let Office {
             socket,
@@ -137,7 +140,7 @@ impl<S: Drop, J: Drop> Office<S, J> {
             moved,
         } = self;
         let before = entry.unwritten_len();
-        let served = entry.serve(alloc, net, &socket, desk);
+        let served = entry.serve(alloc, net, &socket, desk, figures);
         if is_over(served) {
             net.let_go(socket);
             return (served, None);

@@ -3,11 +3,13 @@
 ghost use Rattle.std.specs.Prelude.{◌≡◌};
 ghost use Rattle.cad_event_loop.specs.Hosting.{end_of_client};
 
+use crate::counting::{Counted, after_fault, after_opening, after_serving};
 use crate::readiness::{CLIENTS_DOOR, OFFICE, OFFICE_DOOR, PLACES, Readiness};
 use crate::stopped::Stopped;
 use cad_clients::{AccessLog, Clients, Ending, Limits, ROOM, Served, tell_fault};
 use cad_desk::{Desk, DeskFault};
 use cad_network::{Network, is_blocked};
+use cad_office_socket::Figures;
 use cad_stream::JournalResponder;
 use cad_versions::RegisterFault;
 use std::alloc::{AllocError, Global};
@@ -28,6 +30,10 @@ pub(crate) struct Peers<S> {
     pub(crate) clients: Clients<S>,
     pub(crate) ready: Readiness,
     pub(crate) now: u64,
+    /// What the service did so far.
+    pub(crate) figures: Figures,
+    /// In which second the memory was looked at last, if it was.
+    measured: Option<u64>,
     pub(crate) alloc: Global,
 }
 
@@ -60,6 +66,8 @@ impl<S: Drop> Peers<S> {
             clients: Clients::new(alloc)?,
             ready: Readiness::new(),
             now: 0,
+            figures: Figures::default(),
+            measured: None,
             alloc,
         })
     }
@@ -104,6 +112,33 @@ impl<S: Drop> Peers<S> {
         }
     }
 
+    /// How many clients are connected.
+    pub(crate) fn client_count(&self) -> u64 {
+        let mut count: u64 = 0;
+        for c in 0..ROOM {
+            if self.clients.is_open(c) {
+                count = count.saturating_add(1);
+            }
+        }
+        count
+    }
+
+    /// Waits until a socket may give or take something, or until the time is over. Returns the second, and the bytes of memory that the
+    /// program occupies, which are looked at once in a second.
+    fn pass_time<N: Network<Socket = S>>(
+        &self,
+        net: &mut N,
+        milliseconds: u64,
+    ) -> Result<(u64, u64)>
+        ensures { Adds (N.history net.old) (N.history net.new) [] }
+    {
+        let seconds = net.wait(milliseconds)?.max(self.now);
+        if self.measured == Some(seconds) {
+            return Ok((seconds, self.figures.resident_bytes));
+        }
+        Ok((seconds, net.resident_bytes()))
+    }
+
     /// Waits until a socket may give or take something, or until the time is over, and looks at the clock.
     pub(crate) fn wait<N: Network<Socket = S>>(
         &mut self,
@@ -113,8 +148,11 @@ impl<S: Drop> Peers<S> {
         ensures told { AddsSome (N.history net.old) (N.history net.new) (IsWoken self.old self.new) }
         ensures held { Same (held_at N.name self.old.clients) (held_at N.name self.new.clients) }
     {
-        let seconds = net.wait(milliseconds)?;
-        self.now = self.now.max(seconds);
+        let (seconds, resident_bytes) = self.pass_time(net, milliseconds)?;
+        self.now = seconds;
+        self.measured = Some(seconds);
+        self.figures.seconds = seconds;
+        self.figures.resident_bytes = resident_bytes;
         self.note(net);
         Ok(())
     }
@@ -130,7 +168,16 @@ impl<S: Drop> Peers<S> {
         ensures { (offices : AtOffices R.Reading) → Serves R.Responder R.JournalResponder.own (GivesTurnAlone c 4 (standings self.old offices) (standings self.new offices)) result (N.history net.old) desk.old (place_of N.name self.old.clients offices)
             (N.history net.new) desk.new (place_of N.name self.new.clients offices) }
     {
-        end_of(self.clients.serve(self.alloc, c, self.now, net, desk, log))
+        let mut counted = Counted {
+            log,
+            figures: self.figures,
+        };
+        let served = self
+            .clients
+            .serve(self.alloc, c, self.now, net, desk, &mut counted);
+        let Counted { log: _, figures } = counted;
+        self.figures = after_serving(figures, served);
+        end_of(served)
     }
 
     /// Writes once to a client what is not written yet.
@@ -228,17 +275,20 @@ impl<S: Drop> Peers<S> {
             (N.history net.new) desk.new (place_of N.name self.new.clients offices) }
     {
         let Some(c) = self.clients.free_number() else {
+            self.figures = after_fault(self.figures, DeskFault::Memory);
             self.turn_away(socket, net);
             return;
         };
         if net.watch(&mut socket, c as usize).is_err() {
+            self.figures = after_fault(self.figures, DeskFault::Memory);
             self.turn_away(socket, net);
             return;
         }
         log.open(c, &socket);
-        let _ = self
+        let opened = self
             .clients
             .open(self.alloc, c, self.now, socket, net, desk);
+        self.figures = after_opening(self.figures, opened);
     }
 
     /// Takes the client that waits. `false` means that none waits for now. A client that the system could not hand over is skipped: if

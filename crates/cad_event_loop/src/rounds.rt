@@ -72,7 +72,14 @@ impl<S: Drop, J: Drop> Rounds<S, J> {
             self.peers.ready.set_office(k, false);
             return None;
         };
-        let (served, office) = office.serve(self.peers.alloc, self.peers.now, net, desk);
+        self.peers.figures.clients.connected = self.peers.client_count();
+        let (served, office) = office.serve(
+            self.peers.alloc,
+            self.peers.now,
+            net,
+            desk,
+            &mut self.peers.figures,
+        );
         self.offices.put(k, office);
         self.peers.ready.set_office(k, may_go_on(served));
         end_of(served)

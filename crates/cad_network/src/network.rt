@@ -52,6 +52,10 @@ pub trait Network {
     fn next_ready(&mut self) -> Option<usize>
         ensures { Adds (history self.old) (history self.new) (waking result) };
 
+    /// How many bytes of memory the program occupies, or 0 if the system does not say.
+    fn resident_bytes(&mut self) -> u64
+        ensures { Adds (history self.old) (history self.new) [] };
+
     /// Waits until the peers of sockets that were let go have what was written to them.
     fn drain(&mut self) -> Result<()>
         ensures { Adds (history self.old) (history self.new) [] };

@@ -12,10 +12,11 @@ use Rattle.cad_office.specs.declared.print.Answer.{Answer}
 use Rattle.cad_office.specs.declared.print.Answer.TheVariants.{Refused}
 use Rattle.cad_office_socket.specs.declared.entry.Entry.{Entry}
 use Rattle.cad_office_socket.specs.declared.turned.EntryTurned.{EntryTurned}
-use Rattle.cad_office_socket.specs.declared.turned.EntryTurned.TheVariants.{Wrote, Took, Added, Answered, Lost, Checked, CheckLost, JournalBegun, RowsRead, RowsRefused, RowsLost, Piece, PieceLost, Stops, Waits, Over}
+use Rattle.cad_office_socket.specs.declared.turned.EntryTurned.TheVariants.{Wrote, Took, Added, Answered, Lost, Checked, CheckLost, StatusAnswered, StatusLost, JournalBegun, RowsRead, RowsRefused, RowsLost, Piece, PieceLost, Stops, Waits, Over}
 use Rattle.cad_office.specs.Lines.{longest_line}
 use Rattle.cad_office_socket.specs.Checks.{IsCheck}
 use Rattle.cad_office_socket.specs.Journals.{IsJournal}
+use Rattle.cad_office_socket.specs.Statuses.{IsStatusLine}
 use Rattle.cad_office_socket.specs.declared.journal_state.JournalRequest.{JournalRequest}
 use Rattle.cad_office_socket.specs.declared.journal_state.JournalState.TheVariants.{Reading}
 use Rattle.cad_office_socket.specs.inner.Pieces.{ReadsOn}
@@ -34,15 +35,16 @@ asks_else text state answer unheld told asks = elim (unheld asks) [
   | inr long ↦ inr long
 ]
 
--- a line that is not empty, and which asks to stop, for a check or for a journal only where it could not be held
+-- a line that is not empty, and which asks to stop, for the status, for a check or for a journal only where it could not be held
 pub asking : (text : List ℕ) (state : LineState) (answer : Answer) → (length text == 0) ≡ false → (text ≡ codes "stop" → IsUnheld state) → (IsCheck text → IsUnheld state ⊎ longest_line < length text)
-    → (IsJournal text → IsUnheld state ⊎ longest_line < length text) → (IsUnheld state → answer ≡ Refused Memory) → IsAsking text answer
-asking [] state answer filled stop check journal told = absurd (let clash : true ≡ false = filled in cc)
-asking (byte ∷ text) state answer filled stop check journal told = (
+    → (IsJournal text → IsUnheld state ⊎ longest_line < length text) → (IsStatusLine text → IsUnheld state) → (IsUnheld state → answer ≡ Refused Memory) → IsAsking text answer
+asking [] state answer filled stop check journal status told = absurd (let clash : true ≡ false = filled in cc)
+asking (byte ∷ text) state answer filled stop check journal status told = (
   (λ e. cc),
   (λ e. told (stop e)),
   (λ asks. asks_else (byte ∷ text) state answer check told asks),
   (λ asks. asks_else (byte ∷ text) state answer journal told asks),
+  (λ asks. told (status asks)),
 )
 
 pub empty_text : (text : List ℕ) → (length text == 0) ≡ true → text ≡ []
@@ -62,6 +64,8 @@ module _ {R J : Type 0} (g : Ghosts R) (j : JournalGhosts R J) (s : ℕ) (old ne
   last_turn (Lost answer) ends read written quiet goes line over = (written, inr (refl, read, line, over, goes), quiet)
   last_turn (Checked report) ends read written quiet goes line over = (written, inr (refl, read, line, over, goes), quiet)
   last_turn (CheckLost report) ends read written quiet goes line over = (written, inr (refl, read, line, over, goes), quiet)
+  last_turn (StatusAnswered status) ends read written quiet goes line over = (written, inr (refl, read, line, over, goes), quiet)
+  last_turn StatusLost ends read written quiet goes line over = (written, inr (refl, read, line, over, goes), quiet)
   last_turn (JournalBegun behind) ends read written quiet goes line over = (written, inr (refl, read, line, over, goes), quiet)
   last_turn RowsRead ends read written quiet goes line over = absurd ends
   last_turn (RowsRefused fault) ends read written quiet goes line over = absurd ends
@@ -81,6 +85,8 @@ module _ {R J : Type 0} (g : Ghosts R) (j : JournalGhosts R J) (s : ℕ) (old ne
   fed_turn (Lost answer) ends written quiet some fed goes = (written, inl (refl, some, fed, goes), quiet)
   fed_turn (Checked report) ends written quiet some fed goes = (written, inl (refl, some, fed, goes), quiet)
   fed_turn (CheckLost report) ends written quiet some fed goes = (written, inl (refl, some, fed, goes), quiet)
+  fed_turn (StatusAnswered status) ends written quiet some fed goes = (written, inl (refl, some, fed, goes), quiet)
+  fed_turn StatusLost ends written quiet some fed goes = (written, inl (refl, some, fed, goes), quiet)
   fed_turn (JournalBegun behind) ends written quiet some fed goes = (written, inl (refl, some, fed, goes), quiet)
   fed_turn RowsRead ends written quiet some fed goes = absurd ends
   fed_turn (RowsRefused fault) ends written quiet some fed goes = absurd ends
@@ -104,6 +110,8 @@ module _ {R J : Type 0} (g : Ghosts R) (j : JournalGhosts R J) (s : ℕ) (old ne
   rows_turn asked from (Lost answer) is same r = absurd r
   rows_turn asked from (Checked report) is same r = absurd r
   rows_turn asked from (CheckLost report) is same r = absurd r
+  rows_turn asked from (StatusAnswered status) is same r = absurd r
+  rows_turn asked from StatusLost is same r = absurd r
   rows_turn asked from (JournalBegun behind) is same r = absurd r
   rows_turn asked from Piece is same r = absurd r
   rows_turn asked from PieceLost is same r = absurd r
@@ -125,6 +133,8 @@ module _ {R J : Type 0} (g : Ghosts R) (j : JournalGhosts R J) (s : ℕ) (old ne
   journal_turn (Lost answer) written told = absurd told
   journal_turn (Checked report) written told = absurd told
   journal_turn (CheckLost report) written told = absurd told
+  journal_turn (StatusAnswered status) written told = absurd told
+  journal_turn StatusLost written told = absurd told
   journal_turn (JournalBegun behind) written told = absurd told
   journal_turn Stops written told = absurd told
   journal_turn Waits written told = absurd told
@@ -142,6 +152,8 @@ sent_turn g j s desk entry next (Answered answer) deeds sending t = absurd t
 sent_turn g j s desk entry next (Lost answer) deeds sending t = absurd t
 sent_turn g j s desk entry next (Checked report) deeds sending t = absurd t
 sent_turn g j s desk entry next (CheckLost report) deeds sending t = absurd t
+sent_turn g j s desk entry next (StatusAnswered status) deeds sending t = absurd t
+sent_turn g j s desk entry next StatusLost deeds sending t = absurd t
 sent_turn g j s desk entry next Stops deeds sending t = absurd t
 sent_turn g j s desk entry next (JournalBegun behind) deeds sending t = absurd t
 sent_turn g j s desk entry next RowsRead deeds sending t = absurd t

@@ -2,6 +2,8 @@ pub mod Buffering
 pub mod Entries
 pub mod Checks
 pub mod Journals
+pub mod Statuses
+pub mod Counting
 pub mod Turns
 pub mod Serving
 pub mod inner

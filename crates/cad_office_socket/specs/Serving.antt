@@ -12,7 +12,9 @@ use Rattle.cad_office_socket.specs.declared.entry.Entry.{Entry}
 use Rattle.cad_office_socket.specs.declared.turned.EntryServed.{EntryServed}
 use Rattle.cad_office_socket.specs.declared.turned.EntryServed.TheVariants as entry_served
 use Rattle.cad_office_socket.specs.declared.turned.EntryTurned.{EntryTurned}
-use Rattle.cad_office_socket.specs.declared.turned.EntryTurned.TheVariants.{Wrote, Took, Added, Answered, Lost, Checked, CheckLost, JournalBegun, RowsRead, RowsRefused, RowsLost, Piece, PieceLost, Stops, Waits, Over}
+use Rattle.cad_office_socket.specs.declared.turned.EntryTurned.TheVariants.{Wrote, Took, Added, Answered, Lost, Checked, CheckLost, StatusAnswered, StatusLost, JournalBegun, RowsRead, RowsRefused, RowsLost, Piece, PieceLost, Stops, Waits, Over}
+use Rattle.cad_office_socket.specs.declared.figures.Figures.{Figures}
+use Rattle.cad_office_socket.specs.Counting.{figures_in, AllShowFigures}
 use Rattle.cad_office_socket.specs.Turns.{unwritten, IsEntryTurn}
 
 -- the register's database refused the command
@@ -31,6 +33,8 @@ end_at (Answered answer) = if is_store answer then Some entry_served.StoreRefuse
 end_at (Lost answer) = if is_store answer then Some entry_served.StoreRefused else Some entry_served.Over
 end_at (Checked report) = if is_store (answer_of report) then Some entry_served.StoreRefused else None
 end_at (CheckLost report) = if is_store (answer_of report) then Some entry_served.StoreRefused else Some entry_served.Over
+end_at (StatusAnswered status) = None
+end_at StatusLost = Some entry_served.Over
 end_at (JournalBegun behind) = None
 end_at RowsRead = None
 end_at (RowsRefused fault) = if is_store (Refused fault) then Some entry_served.StoreRefused else None
@@ -67,6 +71,7 @@ module _ {R J : Type 0} (g : Ghosts R) (j : JournalGhosts R J) (s : ℕ) where
       (mid : Desk R) × (between : Entry J) × (front : List Deed) × (last : List Deed)
       × HasTurns old entry before mid between front × IsEntryTurn g j s mid between turned new next last × (deeds ≡ front ++ last)
 
-  -- the office is served with turns, as many as are enough for now
-  abbrev pub IsEntryServed : Desk R → Entry J → EntryServed → Desk R → Entry J → List Deed → Type 0
-  IsEntryServed old entry served new next deeds = (turns : List EntryTurned) × HasTurns old entry turns new next deeds × IsEnough turns served next
+  -- the office is served with turns, as many as are enough for now; the first figures count the answers, and a status shows those of its time
+  abbrev pub IsEntryServed : Figures → Figures → Desk R → Entry J → EntryServed → Desk R → Entry J → List Deed → Type 0
+  IsEntryServed first last old entry served new next deeds =
+      (turns : List EntryTurned) × HasTurns old entry turns new next deeds × IsEnough turns served next × AllShowFigures first turns × (last ≡ figures_in first turns)

@@ -16,9 +16,10 @@ use Rattle.cad_office.specs.Lines.{longest_line, BuffersLine}
 use Rattle.cad_dry_run.specs.Reports.{report_text}
 use Rattle.cad_office_socket.specs.declared.entry.Entry.{Entry}
 use Rattle.cad_office_socket.specs.declared.turned.EntryTurned.{EntryTurned}
-use Rattle.cad_office_socket.specs.declared.turned.EntryTurned.TheVariants.{Wrote, Took, Added, Answered, Lost, Checked, CheckLost, JournalBegun, RowsRead, RowsRefused, RowsLost, Piece, PieceLost, Stops, Waits, Over}
+use Rattle.cad_office_socket.specs.declared.turned.EntryTurned.TheVariants.{Wrote, Took, Added, Answered, Lost, Checked, CheckLost, StatusAnswered, StatusLost, JournalBegun, RowsRead, RowsRefused, RowsLost, Piece, PieceLost, Stops, Waits, Over}
 use Rattle.cad_office_socket.specs.Buffering.{IsOfOneLine}
 use Rattle.cad_office_socket.specs.Checks.{IsCheck, ChecksLine}
+use Rattle.cad_office_socket.specs.Statuses.{IsStatusLine, IsStatusOf, status_text}
 use Rattle.cad_office_socket.specs.Entries.{EntersAtDesk}
 use Rattle.cad_office_socket.specs.Journals.{IsJournal, IsJournalAfter, Begins, IsRead, IsPiece, IsUnread}
 use Rattle.cad_office_socket.specs.declared.journal_state.JournalRequest.{JournalRequest}
@@ -90,12 +91,13 @@ IsUnheld Buffered = ⊥
 IsUnheld TooLong = ⊥
 IsUnheld (OutOfMemory count) = ⊤
 
--- a line that has an answer: it is not empty; it is `stop` only if there was no memory to hold it; and it asks for a check or a journal
--- only if there was none, or if it is too long
+-- a line that has an answer: it is not empty; it is `stop` or `status` only if there was no memory to hold it; and it asks for a check or a
+-- journal only if there was none, or if it is too long
 abbrev pub IsAsking : List ℕ → Answer → Type 0
 IsAsking text answer =
     (text ≢ []) × (text ≡ codes "stop" → answer ≡ Refused Memory)
     × (IsCheck text → (answer ≡ Refused Memory) ⊎ (longest_line < length text)) × (IsJournal text → (answer ≡ Refused Memory) ⊎ (longest_line < length text))
+    × (IsStatusLine text → answer ≡ Refused Memory)
 
 -- the possible results of the end of a line
 abbrev pub MayEnd : EntryTurned → Type 0
@@ -116,11 +118,13 @@ module _ {R J : Type 0} (g : Ghosts R) (j : JournalGhosts R J) where
   EndsLine text old Added new next = (text ≡ []) × (new ≡ old) × (unwritten next ≡ []) × HasBegun [] next × HasNoJournal next
   EndsLine text old (Answered answer) new next = IsAsking text answer × AnswersLine (EntersAtDesk g) text old answer new × (unwritten next ≡ printed answer) × HasBegun [] next × HasNoJournal next
   EndsLine text old (Checked report) new next = ChecksLine g text old report new × (unwritten next ≡ report_text report) × HasBegun [] next × HasNoJournal next
+  EndsLine text old (StatusAnswered status) new next = IsStatusOf g text old status new × (unwritten next ≡ status_text status) × HasBegun [] next × HasNoJournal next
   EndsLine text old (JournalBegun behind) new next = IsJournalAfter text behind × Begins g j old behind next.journal × (new ≡ old) × (unwritten next ≡ []) × HasBegun [] next
   EndsLine text old Stops new next = (text ≡ codes "stop") × (new ≡ old) × (unwritten next ≡ []) × HasBegun [] next × HasNoJournal next
   -- no memory for the text of the answer
   EndsLine text old (Lost answer) new next = IsAsking text answer × AnswersLine (EntersAtDesk g) text old answer new × (unwritten next ≡ []) × HasBegun [] next × HasNoJournal next
   EndsLine text old (CheckLost report) new next = ChecksLine g text old report new × (unwritten next ≡ []) × HasBegun [] next × HasNoJournal next
+  EndsLine text old StatusLost new next = IsStatusLine text × (new ≡ old) × (unwritten next ≡ []) × HasBegun [] next × HasNoJournal next
   EndsLine text old Over new next = ⊥
   EndsLine text old Wrote new next = ⊥
   EndsLine text old Took new next = ⊥
@@ -188,6 +192,8 @@ module _ {R J : Type 0} (g : Ghosts R) (j : JournalGhosts R J) (s : ℕ) where
   IsEntryTurn old entry (Lost answer) new next deeds = IsTaken old entry (Lost answer) new next deeds
   IsEntryTurn old entry (Checked report) new next deeds = IsTaken old entry (Checked report) new next deeds
   IsEntryTurn old entry (CheckLost report) new next deeds = IsTaken old entry (CheckLost report) new next deeds
+  IsEntryTurn old entry (StatusAnswered status) new next deeds = IsTaken old entry (StatusAnswered status) new next deeds
+  IsEntryTurn old entry StatusLost new next deeds = IsTaken old entry StatusLost new next deeds
   IsEntryTurn old entry (JournalBegun behind) new next deeds = IsTaken old entry (JournalBegun behind) new next deeds
   IsEntryTurn old entry RowsRead new next deeds = IsJournalTurn old entry RowsRead new next deeds
   IsEntryTurn old entry (RowsRefused fault) new next deeds = IsJournalTurn old entry (RowsRefused fault) new next deeds

@@ -5,6 +5,7 @@ ghost use Rattle.cad_office_socket.specs.Buffering.{IsOfOneLine, before_end};
 ghost use Rattle.cad_office_socket.specs.Turns.{IsUnheld};
 ghost use Rattle.cad_office.specs.Lines.{BuffersLine, longest_line};
 ghost use Rattle.cad_office_socket.specs.Checks.{IsCheck};
+ghost use Rattle.cad_office_socket.specs.Statuses.{IsStatusLine};
 ghost use Rattle.cad_office_socket.specs.Journals.{most_revision, IsJournal, IsJournalAfter};
 
 use cad_io::number;
@@ -12,6 +13,9 @@ use cad_office::{Line, LineState};
 
 /// The line that asks to stop.
 const STOP: &[u8] = b"stop";
+
+/// The line that asks for the status.
+const STATUS: &[u8] = b"status";
 
 /// What a line begins with if the rest of it is to be checked.
 const CHECK: &[u8] = b"check ";
@@ -48,6 +52,17 @@ pub(crate) fn asks_to_stop(line: &Line) -> bool
 {
     match line.state() {
         LineState::Buffered => line.bytes() == STOP,
+        LineState::TooLong | LineState::OutOfMemory(_) => false,
+    }
+}
+
+/// Whether the line asks for the status. A line that could not be held asks for nothing.
+pub(crate) fn asks_for_status(line: &Line) -> bool
+    ensures asked { (text : List ℕ) → BuffersLine text line.now → IsTrue result → IsStatusLine text }
+    ensures unasked { (text : List ℕ) → BuffersLine text line.now → result ≡ false → IsStatusLine text → IsUnheld line.now.state }
+{
+    match line.state() {
+        LineState::Buffered => line.bytes() == STATUS,
         LineState::TooLong | LineState::OutOfMemory(_) => false,
     }
 }

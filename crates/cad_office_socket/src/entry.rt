@@ -4,9 +4,11 @@ ghost use Rattle.std.specs.Prelude.{◌≡◌, ◌≤◌, length, IfOk, IsTrue};
 ghost use Rattle.cad_dry_run.specs.Reports.{report_text};
 
 use crate::answering::{answer_line, checked};
-use crate::buffering::{add_all, asks_to_stop, first_end, journal_after};
+use crate::buffering::{add_all, asks_for_status, asks_to_stop, first_end, journal_after};
+use crate::figures::Figures;
 use crate::journal::{begin, next_lines, read_rows, refusal_text};
 use crate::journal_state::{JournalRequest, JournalState};
+use crate::status::{Status, status_bytes};
 use crate::turned::{EntryServed, EntryTurned, end_at};
 use cad_desk::Desk;
 use cad_dry_run::{Report, print_report};
@@ -63,6 +65,9 @@ impl<J: Drop> Entry<J> {
     ghost use Rattle.std.specs.Prelude.{◌↔◌, ◌⊎◌, ◌<◌, ℕ, List, true, false, [], None, IfSome};
     ghost use Rattle.cad_office.specs.Lines.{longest_line};
     ghost use Rattle.cad_office_socket.specs.Checks.{IsCheck};
+    ghost use Rattle.cad_office_socket.specs.Counting.{ShowsFigures};
+    ghost use Rattle.cad_office_socket.specs.Statuses.{IsStatusLine};
+    ghost use Rattle.cad_office_socket.specs.declared.figures.Figures.{Figures as FiguresOf};
     ghost use Rattle.cad_network.specs.Deeds.{AddsSome};
     ghost use Rattle.cad_office_socket.specs.Turns.{has_ended, HasBegun, HasNoJournal, IsUnheld, IsNewEntry, IsFed, IsEntryTurn, IsLineEnd, IsSending, MayEnd, SendsSome, AdvancesJournal, unread, unwritten};
     ghost use Rattle.cad_office_socket.specs.Serving.{IsEntryServed};
@@ -117,7 +122,36 @@ impl<J: Drop> Entry<J> {
         }
     }
 
-    /// Answers the line that ended, which asks for no check and no journal. An empty one asks for nothing.
+    /// Answers the line `status`, which ended.
+    fn answer_status<R: JournalResponder<Reading = J>>(
+        &mut self,
+        alloc: Global,
+        desk: &Desk<R>,
+        figures: &Figures,
+    ) -> EntryTurned
+        requires nothing_unwritten { unwritten self.old ≡ [] }
+        requires no_journal { HasNoJournal self.old }
+        requires asked { (text : List ℕ) → HasBegun text self.old → IsStatusLine text }
+        ensures ends { MayEnd result }
+        ensures shown { ShowsFigures figures.now result }
+        ensures goes_on { has_ended self.new ≡ has_ended self.old }
+        ensures line { IsLineEnd R.Responder R.JournalResponder.own desk.now self.old result desk.now self.new }
+    {
+        let summary = desk.summary();
+        let status = Status {
+            summary,
+            figures: *figures,
+        };
+        self.line.clear();
+        let Ok(output) = status_bytes(alloc, &status) else {
+            return EntryTurned::StatusLost;
+        };
+        self.output = output;
+        self.output_at = 0;
+        EntryTurned::StatusAnswered(status)
+    }
+
+    /// Answers the line that ended, which asks for no check, no status and no journal. An empty one asks for nothing.
     fn end_unchecked<R: JournalResponder<Reading = J>>(
         &mut self,
         alloc: Global,
@@ -126,8 +160,10 @@ impl<J: Drop> Entry<J> {
         requires nothing_unwritten { unwritten self.old ≡ [] }
         requires no_journal { HasNoJournal self.old }
         requires unchecked { (text : List ℕ) → HasBegun text self.old → IsCheck text → IsUnheld self.old.line.state ⊎ longest_line < length text }
+        requires no_status { (text : List ℕ) → HasBegun text self.old → IsStatusLine text → IsUnheld self.old.line.state }
         requires no_request { (text : List ℕ) → HasBegun text self.old → IsJournal text → IsUnheld self.old.line.state ⊎ longest_line < length text }
         ensures ends { MayEnd result }
+        ensures shown { (figures : FiguresOf) → ShowsFigures figures result }
         ensures goes_on { has_ended self.new ≡ has_ended self.old }
         ensures line { IsLineEnd R.Responder R.JournalResponder.own desk.old self.old result desk.new self.new }
     {
@@ -149,15 +185,17 @@ impl<J: Drop> Entry<J> {
         EntryTurned::Answered(answer)
     }
 
-    /// Answers the line that ended; or checks the rest of one that asks for that, or begins the journal that it asks for.
+    /// Answers the line that ended; or checks the rest of one that asks for that, or shows the status or begins the journal that it asks for.
     fn end_line<R: JournalResponder<Reading = J>>(
         &mut self,
         alloc: Global,
         desk: &mut Desk<R>,
+        figures: &Figures,
     ) -> EntryTurned
         requires nothing_unwritten { unwritten self.old ≡ [] }
         requires no_journal { HasNoJournal self.old }
         ensures ends { MayEnd result }
+        ensures shown { ShowsFigures figures.now result }
         ensures goes_on { has_ended self.new ≡ has_ended self.old }
         ensures line { IsLineEnd R.Responder R.JournalResponder.own desk.old self.old result desk.new self.new }
     {
@@ -169,6 +207,9 @@ impl<J: Drop> Entry<J> {
             self.output = output;
             self.output_at = 0;
             return EntryTurned::Checked(report);
+        }
+        if asks_for_status(&self.line) {
+            return self.answer_status(alloc, desk, figures);
         }
         if let Some(behind) = journal_after(&self.line) {
             self.line.clear();
@@ -183,10 +224,12 @@ impl<J: Drop> Entry<J> {
         &mut self,
         alloc: Global,
         desk: &mut Desk<R>,
+        figures: &Figures,
     ) -> EntryTurned
         requires nothing_unwritten { unwritten self.old ≡ [] }
         requires no_journal { HasNoJournal self.old }
         ensures ends { MayEnd result }
+        ensures shown { ShowsFigures figures.now result }
         ensures goes_on { has_ended self.new ≡ has_ended self.old }
         ensures fed { IsFed R.Responder R.JournalResponder.own desk.old self.old result desk.new self.new }
     {
@@ -198,7 +241,7 @@ impl<J: Drop> Entry<J> {
         };
         add_all(&mut self.line, &rest[..count]);
         self.input_at += count + 1;
-        self.end_line(alloc, desk)
+        self.end_line(alloc, desk, figures)
     }
 
     /// The office sends no more: this ends a line that has begun.
@@ -206,15 +249,17 @@ impl<J: Drop> Entry<J> {
         &mut self,
         alloc: Global,
         desk: &mut Desk<R>,
+        figures: &Figures,
     ) -> EntryTurned
         requires nothing_unwritten { unwritten self.old ≡ [] }
         requires no_journal { HasNoJournal self.old }
         ensures ends { MayEnd result }
+        ensures shown { ShowsFigures figures.now result }
         ensures over { has_ended self.new ≡ true }
         ensures line { IsLineEnd R.Responder R.JournalResponder.own desk.old self.old result desk.new self.new }
     {
         self.ends = true;
-        self.end_line(alloc, desk)
+        self.end_line(alloc, desk, figures)
     }
 
     /// One read.
@@ -224,17 +269,19 @@ impl<J: Drop> Entry<J> {
         net: &mut N,
         socket: &N::Socket,
         desk: &mut Desk<R>,
+        figures: &Figures,
     ) -> EntryTurned
         requires nothing_unread { unread self.old ≡ [] }
         requires nothing_unwritten { unwritten self.old ≡ [] }
         requires no_journal { HasNoJournal self.old }
         requires goes_on { has_ended self.old ≡ false }
-        ensures { AddsSome (N.history net.old) (N.history net.new)
+        ensures shown { ShowsFigures figures.now result }
+        ensures turned { AddsSome (N.history net.old) (N.history net.new)
             (IsEntryTurn R.Responder R.JournalResponder.own (N.name socket.now) desk.old self.old result desk.new self.new) }
     {
         let mut buffer = [0; PIECE_LEN];
         match net.read(socket, &mut buffer) {
-            Ok(0) => self.end_input(alloc, desk),
+            Ok(0) => self.end_input(alloc, desk, figures),
             Ok(count) => {
                 let Ok(input) = Vec::from_slice(alloc, &buffer[..count]) else {
                     return EntryTurned::Over;
@@ -326,15 +373,17 @@ impl<J: Drop> Entry<J> {
 
     /// Does one thing. If an answer is to be written, this is a write. Else, if the office requested a journal, more of it is read or is to be written. Else,
     /// if bytes were read and not taken, it takes those of a line, and if the line ends, its command is entered and answered. Else it is a
-    /// read. The last line needs no LF.
+    /// read. The last line needs no LF. A status shows these figures.
     pub fn turn<N: Network, R: JournalResponder<Reading = J>>(
         &mut self,
         alloc: Global,
         net: &mut N,
         socket: &N::Socket,
         desk: &mut Desk<R>,
+        figures: &Figures,
     ) -> EntryTurned
-        ensures { AddsSome (N.history net.old) (N.history net.new)
+        ensures shown { ShowsFigures figures.now result }
+        ensures turned { AddsSome (N.history net.old) (N.history net.new)
             (IsEntryTurn R.Responder R.JournalResponder.own (N.name socket.now) desk.old self.old result desk.new self.new) }
     {
         if self.output_at < self.output.len() {
@@ -347,26 +396,28 @@ impl<J: Drop> Entry<J> {
             return EntryTurned::Over;
         }
         if self.input_at < self.input.len() {
-            return self.feed_some(alloc, desk);
+            return self.feed_some(alloc, desk, figures);
         }
-        self.read_some(alloc, net, socket, desk)
+        self.read_some(alloc, net, socket, desk, figures)
     }
 
     /// Serves the office with at most eight turns: up to one that ends its work, or at which its socket gives and takes nothing, or with
     /// which an answer is fully written, or at which rows of a journal are read. A refusal by the register's database ends its work before
-    /// its answer is written.
+    /// its answer is written. A status shows the figures before its turn, and each answer to a command counts.
     pub fn serve<N: Network, R: JournalResponder<Reading = J>>(
         &mut self,
         alloc: Global,
         net: &mut N,
         socket: &N::Socket,
         desk: &mut Desk<R>,
+        figures: &mut Figures,
     ) -> EntryServed
         ensures { AddsSome (N.history net.old) (N.history net.new)
-            (IsEntryServed R.Responder R.JournalResponder.own (N.name socket.now) desk.old self.old result desk.new self.new) }
+            (IsEntryServed R.Responder R.JournalResponder.own (N.name socket.now) figures.old figures.new desk.old self.old result desk.new self.new) }
     {
         for _ in 0..TURNS {
-            let turned = self.turn(alloc, net, socket, desk);
+            let turned = self.turn(alloc, net, socket, desk, figures);
+            *figures = figures.with_turn(&turned);
             if let Some(served) = end_at(&turned) {
                 return served;
             }

@@ -3,6 +3,7 @@
 ghost use Rattle.std.specs.Prelude.{◌≡◌};
 ghost use Rattle.cad_office_socket.specs.Serving.{end_at as end_at_of};
 
+use crate::status::Status;
 use cad_dry_run::Report;
 use cad_office::Answer;
 use cad_versions::RegisterFault;
@@ -24,6 +25,10 @@ pub enum EntryTurned {
     Checked(Report),
     /// The same, and there is no memory for the text: nothing more is written to the office.
     CheckLost(Report),
+    /// A line `status` was answered by this, and it is to be written.
+    StatusAnswered(Status),
+    /// The same, and there is no memory for the text: nothing more is written to the office.
+    StatusLost,
     /// A line `journal N` was read: the commands after the revision N follow, or a refusal. A number above 10^18 counts as
     /// 10^18.
     JournalBegun(u64),
@@ -76,12 +81,14 @@ pub(crate) fn end_at(turned: &EntryTurned) -> Option<EntryServed>
         | EntryTurned::Added
         | EntryTurned::Answered(_)
         | EntryTurned::Checked(_)
+        | EntryTurned::StatusAnswered(_)
         | EntryTurned::JournalBegun(_)
         | EntryTurned::RowsRead
         | EntryTurned::RowsRefused(_)
         | EntryTurned::Piece => None,
         EntryTurned::Lost(_)
         | EntryTurned::CheckLost(_)
+        | EntryTurned::StatusLost
         | EntryTurned::RowsLost(_)
         | EntryTurned::PieceLost
         | EntryTurned::Over => Some(EntryServed::Over),

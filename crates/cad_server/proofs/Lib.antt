@@ -2,3 +2,4 @@ pub mod KeptLemmas
 pub mod FoundLemmas
 pub mod ReplyLemmas
 pub mod CallLemmas
+pub mod CountLemmas

@@ -2,9 +2,12 @@
 
 ghost use Rattle.std.specs.Prelude.{◌≡◌, ◌<◌, [], IfOk};
 ghost use Rattle.lru.specs.LruCache.{lru_cache};
+ghost use Rattle.cad_server.specs.inner.Counts.{AreCountsOf};
 
 use crate::snapshot_cache::SnapshotCache;
+use cad_schema::Collection;
 use cad_snapshot::Snapshot;
+use cad_stream::VersionCounts;
 use lru::LruCache;
 use std::alloc::{AllocError, Global};
 use std::num::NonZeroUsize;
@@ -17,12 +20,14 @@ const MOST_ENTERED: usize = 6160;
 const MOST_READ: usize = 2;
 
 impl SnapshotCache {
-    ghost use Rattle.std.specs.Prelude.{◌≡◌, ◌<◌, nat_eq, length, IfOk, List};
+    ghost use Rattle.std.specs.Prelude.{◌≡◌, ◌<◌, ◌≤◌, nat_eq, length, IfOk, IfSome, List};
     ghost use Rattle.std.specs.Map.{lookup};
     ghost use Rattle.std.specs.Option.{option_copied};
     ghost use Rattle.cad_versions.specs.declared.command.Command.{Command as CommandOf};
     ghost use Rattle.cad_server.specs.Keeping.{KeepsOf, StaysCached, StaysWith, LetsOldestGo, LetsEnteredGo, cached_at};
     ghost use Rattle.cad_server.specs.inner.Rooms.{most_read};
+    ghost use Rattle.cad_stream.specs.Summaries.{AreSoMany};
+    ghost use Rattle.cad_versions.specs.AsOf.{as_of};
 
     /// Nothing is kept yet. An error means out of memory.
     pub(crate) fn new(alloc: Global) -> Result<SnapshotCache, AllocError>
@@ -55,6 +60,22 @@ impl SnapshotCache {
         ensures { result ≡ length self.now.entered.entries }
     {
         self.entered.len()
+    }
+
+    /// The versions of each class after the first commands, if the features of this revision are kept.
+    pub(crate) fn counts_at(&self, revision: u64) -> Option<VersionCounts>
+        ensures { IfSome result (λ counts. (commands : List CommandOf) → KeepsOf commands self.now → AreSoMany (as_of revision commands) counts) }
+    {
+        let snapshot = self.entered_at(revision)?;
+        Some(counts_of(snapshot))
+    }
+
+    /// The oldest of the revisions that were entered last and are kept.
+    pub(crate) fn oldest(&self) -> Option<u64>
+        ensures { (commands : List CommandOf) → KeepsOf commands self.now → IfSome result (λ oldest. oldest ≤ length commands) }
+    {
+        let (revision, _) = self.entered.peek_lru()?;
+        Some(*revision)
     }
 
     /// What had been spent on the features of the oldest of these revisions.
@@ -109,6 +130,20 @@ impl SnapshotCache {
     {
         let revision = snapshot.revision();
         drop(self.read.put(revision, snapshot));
+    }
+}
+
+/// How many features there are of each collection.
+fn counts_of(snapshot: &Snapshot) -> VersionCounts
+    ensures { AreCountsOf snapshot.now result }
+{
+    VersionCounts {
+        parties: snapshot.layer(Collection::Parties).count(),
+        units: snapshot.layer(Collection::Units).count(),
+        parcels: snapshot.layer(Collection::Parcels).count(),
+        rights: snapshot.layer(Collection::Rights).count(),
+        restrictions: snapshot.layer(Collection::Restrictions).count(),
+        responsibilities: snapshot.layer(Collection::Responsibilities).count(),
     }
 }
 

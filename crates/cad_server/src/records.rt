@@ -11,6 +11,7 @@ use cad_head::Status;
 use cad_json::word_body;
 use cad_request::{FeatureRequest, ParsedRequest, Response};
 use cad_snapshot::Snapshot;
+use cad_stream::Summary;
 use cad_versions::laws::revisions_stay;
 use cad_versions::{Command, JournalLedger, Ledger, RegisterFault};
 use std::alloc::{AllocError, Global};
@@ -53,6 +54,7 @@ impl<L: Ledger> Records<L> {
     ghost use Rattle.cad_versions.specs.declared.command.Command.{Command as CommandOf};
     ghost use Rattle.cad_versions.specs.Refusals.{AreAccepted};
     ghost use Rattle.cad_server.specs.Keeping.{IsCached, cached_at};
+    ghost use Rattle.cad_stream.specs.Summaries.{Summarizes};
     ghost use Rattle.cad_server.specs.Servers.{bound_in, ledger_in, AreRecordsOf, Checks, Enters, Forgets, Keeps, Recalls, Finds, Seeks, Tells};
 
     /// A ledger from which nothing was read yet, or the ledger back if there is no memory.
@@ -112,6 +114,18 @@ impl<L: Ledger> Records<L> {
         ensures { Checks L.Ledger self.old command.now result self.new }
     {
         self.ledger.check(command)
+    }
+
+    /// What the ledger holds, in numbers, as far as it is known without reading it.
+    pub(crate) fn summary(&self) -> Summary
+        ensures { Summarizes (AreRecordsOf L.Ledger) self.now result }
+    {
+        let revision = self.ledger.revision();
+        Summary {
+            revision,
+            versions: self.kept.counts_at(revision),
+            oldest: self.kept.oldest(),
+        }
     }
 
     /// The features after the command, made from those of the revision in force; `None` if these are not kept, memory runs out, or there is

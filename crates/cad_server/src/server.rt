@@ -6,7 +6,7 @@ use cad_head::reply_bytes;
 use cad_json::word_body;
 use cad_request::ParsedRequest;
 use cad_resource::{Check, Routes, decide};
-use cad_stream::{Answer, JournalResponder, Responder};
+use cad_stream::{Answer, JournalResponder, Responder, Summary};
 use cad_versions::{Command, JournalLedger, Ledger, RegisterFault};
 use httparse::spans::{HeaderSpan, RequestSpans};
 use std::alloc::{AllocError, Global};
@@ -196,6 +196,10 @@ impl<L: JournalLedger> JournalResponder for Server<L> {
 
     fn commands(reading: L::Reading, alloc: Global) -> Result<Vec<Command>, RegisterFault> {
         L::commands(reading, alloc)
+    }
+
+    fn summary(&self) -> Summary {
+        self.records.summary()
     }
 
     fn readings_stay() {

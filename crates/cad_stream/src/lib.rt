@@ -1,7 +1,8 @@
 //! The replies to the requests of a connection's bytes, for any pieces in which they come.
 //!
 //! - `Responder`: what answers requests, and enters the land office's commands between them
-//! - `JournalResponder`: a responder that also gives the commands back, in pieces
+//! - `JournalResponder`: a responder that also gives the commands back, in pieces, and says how many there are
+//! - `Summary`: what it holds, in numbers
 //! - `Answer`: the reply to one request
 //! - `Connection`: the bytes of a connection that no request took yet, and the result of the next piece
 //! - `Fed`: the replies to a piece, and the connection after it
@@ -27,8 +28,10 @@ mod journal_responder;
 pub mod laws;
 mod replies;
 mod responder;
+mod summary;
 
 pub use answer::Answer;
 pub use connection::{Connection, Fed};
 pub use journal_responder::JournalResponder;
 pub use responder::Responder;
+pub use summary::{Summary, VersionCounts};

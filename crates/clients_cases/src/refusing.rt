@@ -3,7 +3,7 @@
 ghost use Rattle.clients_cases.specs.Refusing.{StandsFor};
 
 use cad_memory_ledger::MemoryReading;
-use cad_stream::{Answer, JournalResponder, Responder};
+use cad_stream::{Answer, JournalResponder, Responder, Summary};
 use cad_versions::{Command, RegisterFault};
 use httparse::spans::{HeaderSpan, RequestSpans};
 use std::alloc::{AllocError, Global};
@@ -172,6 +172,10 @@ impl JournalResponder for Refusing {
 
     fn commands(reading: SlowReading, alloc: Global) -> Result<Vec<Command>, RegisterFault> {
         Echo::commands(reading.reading, alloc)
+    }
+
+    fn summary(&self) -> Summary {
+        self.echo.summary()
     }
 
     fn readings_stay() {

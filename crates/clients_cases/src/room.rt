@@ -5,7 +5,7 @@ use crate::world::Peer;
 use cad_clients::{Clients, Limits, NoLog, ROOM, Served};
 use cad_desk::Desk;
 use cad_memory_ledger::MemoryReading;
-use cad_office_socket::{Entry, EntryTurned};
+use cad_office_socket::{Entry, EntryTurned, Figures};
 use std::alloc::{AllocError, Global};
 use test_support::Echo;
 
@@ -26,6 +26,7 @@ pub(crate) struct Room {
     names: Vec<Option<u32>>,
     entry: Entry<MemoryReading>,
     office: u32,
+    figures: Figures,
     pub(crate) now: u64,
 }
 
@@ -60,6 +61,7 @@ impl Room {
             names,
             entry: Entry::new(alloc),
             office,
+            figures: Figures::default(),
             now: 0,
         })
     }
@@ -145,9 +147,14 @@ impl Room {
 
     /// A turn of the land office. Also returns what was written to it since its last turn.
     pub(crate) fn serve_office(&mut self) -> (EntryTurned, Vec<u8>) {
-        let turned = self
-            .entry
-            .turn(self.alloc, &mut self.wire, &self.office, &mut self.desk);
+        let turned = self.entry.turn(
+            self.alloc,
+            &mut self.wire,
+            &self.office,
+            &mut self.desk,
+            &self.figures,
+        );
+        self.figures = self.figures.with_turn(&turned);
         let written = take_written(self.alloc, self.wire.peer(self.office));
         (turned, written)
     }

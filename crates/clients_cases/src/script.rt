@@ -61,6 +61,8 @@ fn turned_name(turned: EntryTurned) -> &'static str {
         EntryTurned::Piece => "told",
         EntryTurned::PieceLost => "untold",
         EntryTurned::CheckLost(_) => "check lost",
+        EntryTurned::StatusAnswered(_) => "status",
+        EntryTurned::StatusLost => "status lost",
         EntryTurned::Stops => "stops",
         EntryTurned::Waits => "waits",
         EntryTurned::Over => "over",

@@ -94,6 +94,10 @@ impl Network for Wire {
         Some(place)
     }
 
+    fn resident_bytes(&mut self) -> u64 {
+        self.world.resident_bytes()
+    }
+
     fn drain(&mut self) -> Result<()> {
         Ok(())
     }

@@ -212,6 +212,11 @@ impl World {
         }
     }
 
+    /// How many bytes of memory are occupied: 256 pages, and one more for each second.
+    pub(crate) fn resident_bytes(&self) -> u64 {
+        self.seconds.saturating_add(256).saturating_mul(4096)
+    }
+
     /// The next place that the network reports.
     pub(crate) fn next_place(&mut self) -> Option<usize> {
         let place = self.places.get(self.places_at)?;

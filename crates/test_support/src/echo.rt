@@ -5,7 +5,7 @@ ghost use Rattle.test_support.specs.Echoes.{echo as echo_of};
 
 use cad_head::closes_connection;
 use cad_memory_ledger::{MemoryLedger, MemoryReading};
-use cad_stream::{Answer, JournalResponder, Responder};
+use cad_stream::{Answer, JournalResponder, Responder, Summary};
 use cad_versions::{Command, JournalLedger, Ledger, RegisterFault};
 use httparse::spans::{HeaderSpan, RequestSpans};
 use std::alloc::{AllocError, Global};
@@ -178,6 +178,14 @@ impl JournalResponder for Echo {
 
     fn commands(reading: MemoryReading, alloc: Global) -> Result<Vec<Command>, RegisterFault> {
         MemoryLedger::commands(reading, alloc)
+    }
+
+    fn summary(&self) -> Summary {
+        Summary {
+            revision: self.ledger.revision(),
+            versions: None,
+            oldest: None,
+        }
     }
 
     fn readings_stay() {

@@ -9,6 +9,7 @@ use Rattle.cad_office_socket.specs.declared.entry.Entry.{Entry}
 use Rattle.cad_office_socket.specs.declared.turned.EntryServed.{EntryServed}
 use Rattle.cad_office_socket.specs.declared.turned.EntryServed.TheVariants as served
 use Rattle.cad_office_socket.specs.declared.turned.EntryTurned.{EntryTurned}
+use Rattle.cad_office_socket.specs.declared.figures.Figures.{Figures}
 use Rattle.cad_office_socket.specs.Serving.{IsEntryServed}
 use Rattle.cad_office_socket.specs.Turns.{IsBegun, IsSending, SendsSome}
 use Rattle.cad_event_loop.specs.declared.office.Office.{Office}
@@ -85,9 +86,9 @@ left_at over o entry = if over then None else Some (o, entry)
 
 module _ {R S J : Type 0} (g : Ghosts R) (jg : JournalGhosts R J) (name : S → ℕ) where
   -- the land office is served, and this remains of it
-  abbrev pub HasOfficeTurns : Desk R → Office S J → EntryServed × Option (Office S J) → Desk R → List Deed → Type 0
-  HasOfficeTurns old office result new deeds =
-      (after : Entry J) × (own : List Deed) × IsEntryServed g jg (name office.socket) old office.entry result.0 new after own
+  abbrev pub HasOfficeTurns : Figures → Figures → Desk R → Office S J → EntryServed × Option (Office S J) → Desk R → List Deed → Type 0
+  HasOfficeTurns first last old office result new deeds =
+      (after : Entry J) × (own : List Deed) × IsEntryServed g jg (name office.socket) first last old office.entry result.0 new after own
       × (deeds ≡ own ++ left_deeds (is_over result.0) (name office.socket)) × (office_at name result.1 ≡ left_at (is_over result.0) (name office.socket) after)
 
 -- a further part of an answer to the land office is written, if there is one, and this remains of the office

@@ -6,7 +6,7 @@ use Rattle.cad_stream.specs.declared.journal_responder.JournalResponder.{Ghosts 
 use Rattle.cad_desk.specs.declared.desk.Desk.{Desk}
 use Rattle.cad_office_socket.specs.declared.entry.Entry.{Entry}
 use Rattle.cad_office_socket.specs.declared.turned.EntryTurned.{EntryTurned}
-use Rattle.cad_office_socket.specs.declared.turned.EntryTurned.TheVariants.{Wrote, Took, Added, Answered, Lost, Checked, CheckLost, JournalBegun, RowsRead, RowsRefused, RowsLost, Piece, PieceLost, Stops, Waits, Over}
+use Rattle.cad_office_socket.specs.declared.turned.EntryTurned.TheVariants.{Wrote, Took, Added, Answered, Lost, Checked, CheckLost, StatusAnswered, StatusLost, JournalBegun, RowsRead, RowsRefused, RowsLost, Piece, PieceLost, Stops, Waits, Over}
 use Rattle.cad_office_socket.specs.Turns.{HasBegun, IsBegun, EndsLine, IsTaken, IsEntryTurn}
 
 -- a line has begun, unless the connection is over
@@ -21,6 +21,8 @@ module _ {R J : Type 0} (g : Ghosts R) (j : JournalGhosts R J) where
   ended text (Lost answer) old new next e = ([], e.3)
   ended text (Checked report) old new next e = ([], e.2)
   ended text (CheckLost report) old new next e = ([], e.2)
+  ended text (StatusAnswered status) old new next e = ([], e.2)
+  ended text StatusLost old new next e = ([], e.3)
   ended text (JournalBegun behind) old new next e = ([], e.4)
   ended text RowsRead old new next e = absurd e
   ended text (RowsRefused fault) old new next e = absurd e
@@ -52,6 +54,8 @@ module _ {R J : Type 0} (g : Ghosts R) (j : JournalGhosts R J) where
   begun_later s (Lost answer) old new entry next deeds begun t = taken_later s deeds begun.0 (Lost answer) old new entry next begun.1 t
   begun_later s (Checked report) old new entry next deeds begun t = taken_later s deeds begun.0 (Checked report) old new entry next begun.1 t
   begun_later s (CheckLost report) old new entry next deeds begun t = taken_later s deeds begun.0 (CheckLost report) old new entry next begun.1 t
+  begun_later s (StatusAnswered status) old new entry next deeds begun t = taken_later s deeds begun.0 (StatusAnswered status) old new entry next begun.1 t
+  begun_later s StatusLost old new entry next deeds begun t = taken_later s deeds begun.0 StatusLost old new entry next begun.1 t
   begun_later s (JournalBegun behind) old new entry next deeds begun t = taken_later s deeds begun.0 (JournalBegun behind) old new entry next begun.1 t
   begun_later s RowsRead old new entry next deeds begun t = (begun.0, rw t.2.4.1 begun.1)
   begun_later s (RowsRefused fault) old new entry next deeds begun t = (begun.0, rw t.2.4.1 begun.1)

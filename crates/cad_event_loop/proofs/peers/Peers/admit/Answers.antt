@@ -19,4 +19,4 @@ pub returns : goal.returns
 returns g c = λ office before comes.
     let watched = Adds-trans _ _ _ (came (g.N.Network.name c.args.socket) ∷ []) [] comes c.watch.ensures.done in
     let renamed = subst (λ (n : ℕ). Adds before (g.N.Network.history c.watch.new.self) (came n ∷ [])) (sym c.watch.ensures.same) watched in
-    opened_hosts g.R.Responder g.R.JournalResponder g.N.Network.name c.in-Some.c office (flag_at c.args.self.now.ready) c.args.self.now.now c.open-2.result c.watch.new.socket before _ _ c.args.desk.now c.open-2.new.desk c.args.self.now.clients c.open-2.new.self c.in-Some.ensures.free.1 renamed c.open-2.ensures
+    opened_hosts g.R.Responder g.R.JournalResponder g.N.Network.name c.in-Some.c office (flag_at c.args.self.now.ready) c.args.self.now.now c.open-opened.result c.watch.new.socket before _ _ c.args.desk.now c.open-opened.new.desk c.args.self.now.clients c.open-opened.new.self c.in-Some.ensures.free.1 renamed c.open-opened.ensures

@@ -10,7 +10,7 @@ use Rattle.cad_event_loop.proofs.rounds.Rounds.serve_office_once.Goals as goal
 pub returns-clause-begun : goal.returns-clause-begun
 returns-clause-begun g c =
     let begun = was_begun c.in-Some.office c.args.k c.args.self.now.offices c.in-Some.ensures.was c.requires.begun in
-    let left = office_begun g.R.Responder g.R.JournalResponder g.N.Network.name c.in-Some.office c.serve-served.result c.args.desk.now c.serve-served.new.desk c.serve-served.ensures.0 begun c.serve-served.ensures.2 in
+    let left = office_begun g.R.Responder g.R.JournalResponder g.N.Network.name _ _ c.in-Some.office c.serve-served.result c.args.desk.now c.serve-served.new.desk c.serve-served.ensures.0 begun c.serve-served.ensures.2 in
     let seats = put_seat c.args.k None c.serve-served.result.1 c.args.self.now.offices c.take.new.self c.put.new.self c.take.ensures.rest c.put.ensures in
     rw c.end_of.ensures (all_begun _ c.args.k c.serve-served.result.1 c.args.self.now.offices c.put.new.self c.requires.begun seats left)
 
@@ -23,7 +23,7 @@ returns-clause-hosts g c =
     let set = flag_at c.set_office-2.new.self in
     let sets = subst (λ (is : Bool). Puts flags set c.args.k (Some is)) c.may_go_on.ensures c.set_office-2.ensures in
     rw c.end_of.ensures
-    (office_hosts g.R.Responder g.R.JournalResponder name c.args.k c.args.self.now.peers.clients flags set (offices_at name c.args.self.now.offices) (offices_at name c.put.new.self) c.in-Some.office c.serve-served.result _ _ c.args.desk.now c.serve-served.new.desk
+    (office_hosts g.R.Responder g.R.JournalResponder name c.args.k c.args.self.now.peers.clients flags set (offices_at name c.args.self.now.offices) (offices_at name c.put.new.self) _ _ c.in-Some.office c.serve-served.result _ _ c.args.desk.now c.serve-served.new.desk
     (seat_here name c.args.k c.in-Some.office c.args.self.now.offices c.in-Some.ensures.was) (seats_put name c.args.k c.serve-served.result.1 c.args.self.now.offices c.put.new.self seats) sets begun c.serve-served.ensures)
 
 pub returns-in_default-clause-hosts : goal.returns-in_default-clause-hosts

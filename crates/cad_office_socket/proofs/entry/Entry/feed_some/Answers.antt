@@ -11,7 +11,7 @@ returns-in_default g c =
     let added = rw rest at c.add_all.ensures in
     let before = rw rest at c.in_default.ensures.before in
     let left = drop_all c.len-self.result entry.input.items (let e = c.len-self.ensures in omega (arith, e)) in
-    record { ends = tt; goes_on = refl; fed = λ begun stands. (unread entry, before, inl (refl, refl, c.requires.nothing_unwritten, refl, left, added begun stands, c.requires.no_journal)) }
+    record { ends = tt; shown = tt; goes_on = refl; fed = λ begun stands. (unread entry, before, inl (refl, refl, c.requires.nothing_unwritten, refl, left, added begun stands, c.requires.no_journal)) }
 
 pub returns : goal.returns
 returns g c =
@@ -24,6 +24,7 @@ returns g c =
     let whole = line_and_rest entry.input_at c.in-Some.count entry.input.items ends in
     record {
       ends = c.end_line.ensures.ends;
+      shown = c.end_line.ensures.shown;
       goes_on = c.end_line.ensures.goes_on;
       fed = λ begun stands.
           let ended = c.end_line.ensures.line (begun ++ part) (added begun stands) in

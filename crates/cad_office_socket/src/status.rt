@@ -1,0 +1,86 @@
+//! The answer to the line `status`: what the register holds and what the service did, as one line of JSON.
+
+ghost use Rattle.std.specs.Prelude.{◌≡◌, IfOk};
+ghost use Rattle.serde_json.specs.View.{view};
+ghost use Rattle.cad_office_socket.specs.Statuses.{clients_data, commands_data, number_or_null, replies_data, status_data, status_text, versions_data, versions_or_null};
+
+use crate::figures::{ClientCounts, CommandCounts, Figures, ReplyCounts};
+use cad_stream::{Summary, VersionCounts};
+use serde_json::{Value as Json, json};
+use std::alloc::{AllocError, Global};
+
+/// What the register holds, and what the service did since its start.
+#[derive(Clone, Copy, Debug, PartialEq, Eq)]
+pub struct Status {
+    /// What the register holds.
+    pub summary: Summary,
+    /// What the service did.
+    pub figures: Figures,
+}
+
+fn number_json(number: Option<u64>) -> Json
+    ensures { view result ≡ number_or_null number }
+{
+    match number {
+        None => Json::Null,
+        Some(number) => Json::from(number),
+    }
+}
+
+fn counts_json(alloc: Global, counts: &VersionCounts) -> Result<Json, AllocError>
+    ensures { IfOk result (λ json. view json ≡ versions_data counts.now) }
+{
+    json!(in alloc; {"parcel": counts.parcels, "party": counts.parties, "responsibility": counts.responsibilities,
+        "restriction": counts.restrictions, "right": counts.rights, "unit": counts.units})
+}
+
+fn versions_json(alloc: Global, counts: &Option<VersionCounts>) -> Result<Json, AllocError>
+    ensures { IfOk result (λ json. view json ≡ versions_or_null counts.now) }
+{
+    match counts {
+        None => Ok(Json::Null),
+        Some(counts) => counts_json(alloc, counts),
+    }
+}
+
+fn clients_json(alloc: Global, clients: &ClientCounts) -> Result<Json, AllocError>
+    ensures { IfOk result (λ json. view json ≡ clients_data clients.now) }
+{
+    json!(in alloc; {"all": clients.all, "now": clients.connected})
+}
+
+fn commands_json(alloc: Global, commands: &CommandCounts) -> Result<Json, AllocError>
+    ensures { IfOk result (λ json. view json ≡ commands_data commands.now) }
+{
+    json!(in alloc; {"accepted": commands.accepted, "refused": commands.refused})
+}
+
+fn replies_json(alloc: Global, replies: &ReplyCounts) -> Result<Json, AllocError>
+    ensures { IfOk result (λ json. view json ≡ replies_data replies.now) }
+{
+    json!(in alloc; {"200": replies.ok, "400": replies.bad_request, "404": replies.not_found,
+        "405": replies.method_not_allowed, "500": replies.internal_error, "503": replies.unavailable})
+}
+
+fn status_json(alloc: Global, status: &Status) -> Result<Json, AllocError>
+    ensures { IfOk result (λ json. view json ≡ status_data status.now) }
+{
+    let Status { summary, figures } = status;
+    let clients = clients_json(alloc, &figures.clients)?;
+    let commands = commands_json(alloc, &figures.commands)?;
+    let oldest = number_json(summary.oldest);
+    let replies = replies_json(alloc, &figures.replies)?;
+    let versions = versions_json(alloc, &summary.versions)?;
+    json!(in alloc; {"clients": clients, "commands": commands, "oldest": oldest, "replies": replies,
+        "reply_bytes": figures.reply_bytes, "resident_bytes": figures.resident_bytes, "revision": summary.revision,
+        "seconds": figures.seconds, "versions": versions})
+}
+
+/// The line of the status, with its end. An error means out of memory.
+pub fn status_bytes(alloc: Global, status: &Status) -> Result<Vec<u8>, AllocError>
+    ensures { IfOk result (λ bytes. bytes.items ≡ status_text status.now) }
+{
+    let mut text = status_json(alloc, status)?.to_string(alloc)?;
+    text.push('\n')?;
+    Ok(text.into_bytes())
+}
