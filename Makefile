@@ -10,7 +10,7 @@ COLLECTION ?= parcels
 REQUEST ?=
 export QUERY COLLECTION REQUEST
 
-.PHONY: look sample cadastred explain cases test random check wrong-bodies tests-refuse refused damage bench compare register-file journal office-file serve-file stops host clients proxy import viewer deb clean
+.PHONY: look sample cadastred explain cases early test random check wrong-bodies tests-refuse refused damage bench compare register-file journal office-file serve-file stops host clients proxy import viewer deb clean
 
 # Answers a request over the sample register without a proof, in a few minutes. The request is that of crates/cadastre/stdin, or
 # `make look REQUEST='/collections/parcels/items?filter=area+>+400'`.
@@ -53,15 +53,19 @@ cases:
 	scripts/check_collections
 	scripts/check_prose
 
-# The whole gate. It runs:
-# - `make cases`, every proof from nothing, the must-fail edits, and the tests;
-# - each program, as two compilers build it;
-# - both programs on files of the office, at an address, and at the office's socket;
-# - the office with a stop at each call of its files, and a database that is refused memory.
-test: cases
+# What the gate does before it proves anything. It takes a minute, and is run before each commit.
+early: cases
+	scripts/check_format
 	scripts/check_wrong_bodies
 	scripts/crate_rows --check
 	scripts/chain
+
+# The whole gate. It runs:
+# - `make early`, every proof from nothing, the must-fail edits, and the tests;
+# - each program, as two compilers build it;
+# - both programs on files of the office, at an address, and at the office's socket;
+# - the office with a stop at each call of its files, and a database that is refused memory.
+test: early
 	$(RT) ci
 	scripts/check_changes
 	scripts/check_office
@@ -74,6 +78,7 @@ test: cases
 	scripts/refused 500
 	scripts/check_host
 	scripts/check_status
+	scripts/check_past
 
 # Sends COUNT filters, drawn at random by SEED, to the programs of cases and to the second implementations.
 random:
@@ -112,6 +117,7 @@ bench: sample cadastred
 	scripts/bench_serve
 	scripts/bench_host
 	scripts/bench_changes
+	scripts/bench_past
 
 # Asks the same questions of `cadastred`, PostGIS and SpatiaLite over counties of 10,000 and 100,000 parcels, and prints the times.
 # Needs postgresql-15-postgis-3, libsqlite3-mod-spatialite and python3-psycopg2.

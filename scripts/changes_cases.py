@@ -18,6 +18,9 @@ After each command of the second part come requests:
 - for parts of collections, drawn at random, at drawn revisions;
 - for single features.
 
+At the end come requests at every revision of the register: for a whole collection, and for a part of another. Half of the registers are
+served anew before these.
+
 The first request for a page comes at one of three times: before the first command, after the first part, or after the first command of the
 second part. A third of the registers has each of these.
 
@@ -193,6 +196,14 @@ class Register:
         yield from map(asked, dict.fromkeys(singles))
 
 
+    def at_each_revision(self):
+        """The requests at the end."""
+        kinds = list(COLLECTIONS)
+        for revision in range(self.revision + 1):
+            yield self.whole(kinds[revision % len(kinds)], revision)
+            yield self.drawn(kinds[(revision * 5 + 3) % len(kinds)], revision)
+
+
 # ---- the sixty registers
 
 def merged(chance, runs):
@@ -288,6 +299,10 @@ def script(chance, at):
     for number, line in second_part(register, planned, more):
         yield line
         yield from register.questions(number, begun)
+    if at % 2:
+        yield from ("restart", "open 1")
+    register.chance = random.Random(at)
+    yield from register.at_each_revision()
 
 
 # ---- further registers

@@ -11,7 +11,7 @@ from pathlib import Path
 
 CASES = Path(__file__).resolve().parent.parent / "crates/land_cases"
 # The parts, in their order.
-NAMES = ["days", "shapes", "office", "features", "histories", "journals", "memory journals", "dry run"]
+NAMES = ["days", "shapes", "office", "features", "histories", "rows", "starts", "journals", "memory journals", "dry run"]
 
 
 def parts():

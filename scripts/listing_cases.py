@@ -1,14 +1,13 @@
 #!/usr/bin/env python3
-"""Writes cases of crates/cad_cases that show that a server does not read kept revisions again.
+"""Writes cases of crates/cad_cases that show that a server reads its ledger once, and has every revision then.
 
     scripts/listing_cases.py        prints the cases, which are the last of the stored ones
 
 A server over the sample register may list its ledger once, for the first page. Then the cases enter each kind of command on each class.
 The first of them change names that parcels, rights and restrictions show. After each command, they request pages of what it can touch.
 
-At the end they request pages of the revisions before, as many as the server keeps at least. This is done with bases that get at most 512, 3
-and no changes. A server that may not list its ledger reports out of memory for a revision that it does not keep, and continues with the
-others.
+At the end they request pages of all collections at every revision. This is done with bases that get at most 512, 3 and no changes. A server
+that may not list its ledger reports out of memory, and continues with what needs no ledger.
 """
 import json
 
@@ -17,8 +16,8 @@ COLLECTIONS = ["parcels", "rights", "restrictions", "units", "parties", "respons
 UNITS, PARTIES = COLLECTIONS[:4] + COLLECTIONS[5:], COLLECTIONS[1:3] + COLLECTIONS[4:]
 FIRST, NO_BOUND = 10, 2**64 - 1
 
-# The bound of changes, and the least number of revisions before the newest whose pages are kept.
-BOUNDS = [(512, 20), (3, 3), (0, 1)]
+# The bounds of changes.
+BOUNDS = [512, 3, 0]
 
 # A command, and the collections that it can touch.
 COMMANDS = [
@@ -55,31 +54,32 @@ def entered(command):
     return f"office {json.dumps(command, separators=(',', ':'))}"
 
 
-def listed_once(most, before):
+def listed_once(most):
     yield from (f"changes {most}", "listings 1", "sample", "open 1")
     yield from map(asked, COLLECTIONS)
     for command, touched in COMMANDS:
         yield entered(command)
         yield from map(asked, touched)
-    newest = FIRST + len(COMMANDS)
-    for revision in range(newest - before, newest):
-        yield from (asked(it, revision) for it in COLLECTIONS[revision % 2 :: 2])
+    for revision in range(FIRST + len(COMMANDS) + 1):
+        yield from (asked(it, revision) for it in COLLECTIONS)
 
 
 def wanting():
-    """A ledger that cannot be listed, one that can be listed once, and the same after a restart."""
-    yield from ("memory may be wanting", "listings 0", "sample", "open 1", asked("units"), asked("units"), "open 1", asked("lakes"))
-    yield from ("listings 1", "restart", "open 1", asked("units", 3), asked("units"), "open 1", asked("parcels", 3))
-    yield from (entered(COMMANDS[0][0]), asked("units", FIRST), "open 1", asked("parcels", 3), "restart", "open 1")
-    yield from (asked("units"), entered(COMMANDS[1][0]), asked("parties"), asked("parties", 3), "open 1", asked("parties"))
+    """A ledger that cannot be listed, one that can be listed once, and the same after a restart: first asked for an old revision, then for the
+    newest, then after a command."""
+    yield from ("memory may be wanting", "listings 0", "sample", "open 1", asked("units"), asked("units", 3), "open 1", asked("lakes"))
+    yield from ("listings 1", "restart", "open 1", asked("units", 3), asked("units"), asked("parcels", 3))
+    yield from (entered(COMMANDS[0][0]), asked("units", FIRST), asked("units"), asked("parcels", 3), "restart", "open 1")
+    yield from (asked("units"), entered(COMMANDS[1][0]), asked("parties"), asked("parties", 3), asked("parties"), "restart")
+    yield from (entered(COMMANDS[2][0]), "open 1", *(asked("units", it) for it in range(FIRST + 4)))
     yield f"listings {NO_BOUND}"
 
 
 def cases():
     """The lines of these cases."""
     yield HEAD
-    for most, before in BOUNDS:
-        yield from listed_once(most, before)
+    for most in BOUNDS:
+        yield from listed_once(most)
     yield "changes 512"
     yield from wanting()
 

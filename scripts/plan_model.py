@@ -229,7 +229,13 @@ def feature_answer(words):
         return server.compact(refused.tree).decode()
 
 
-SHOWN = {b"explain": request_answer, b"page": page_answer, b"grown": page_answer, b"feature": feature_answer}
+SHOWN = {
+    b"explain": request_answer,
+    b"grown-explain": request_answer,
+    b"page": page_answer,
+    b"grown": page_answer,
+    b"feature": feature_answer,
+}
 
 
 def answer(line):

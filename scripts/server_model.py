@@ -45,15 +45,14 @@ class Wanting(Exception):
 
 
 class Register:
-    """It may be listed `listings` times; None means no limit. A revision that was listed is kept. If the newest revision is kept, so is the
-    one that a command makes of it."""
+    """It may be listed `listings` times; None means no limit. Once it was listed, every revision is kept, those of further commands too."""
 
     def __init__(self):
         self.versions, self.revision = [], 0
-        self.listings, self.kept = None, set()
+        self.listings, self.is_kept = None, False
 
     def begin(self, listings):
-        self.listings, self.kept = listings, set()
+        self.listings, self.is_kept = listings, False
 
     def refusal(self, command):
         mine = [it for it in self.versions if it["object"] == command["object"]]
@@ -83,8 +82,6 @@ class Register:
         if why:
             return f"5 Register {why}"
         self.revision += 1
-        if self.revision - 1 in self.kept:
-            self.kept.add(self.revision)
         mine = [it for it in self.versions if it["object"] == command["object"]]
         if command["do"] == "retire":
             mine[-1].update(last=command["last"], closed=self.revision)
@@ -97,11 +94,11 @@ class Register:
         return f"Entered {self.revision}"
 
     def as_of(self, revision):
-        if self.listings is not None and revision not in self.kept:
+        if self.listings is not None and not self.is_kept:
             if self.listings == 0:
                 raise Wanting
             self.listings -= 1
-            self.kept.add(revision)
+            self.is_kept = True
         shown = [dict(it) for it in self.versions if it["entered"] <= revision]
         for it in shown:
             if it["closed"] and it["closed"] > revision:

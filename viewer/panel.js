@@ -202,7 +202,7 @@ function barsOf(versions) {
 
 // ---- what the register recorded
 
-/** A list of the revisions that entered, amended or ended a parcel. It is read when it is opened, since older revisions may take the server long. */
+/** A list of the revisions that entered, amended or ended a parcel. It is read when it is opened, by some requests for each. */
 function historyOf(object) {
   const body = element("div", {}, element("p", { className: "none" }, "Reading older revisions."));
   const made = element("details", { className: "history" }, element("summary", {}, "Changes by revision"), body);

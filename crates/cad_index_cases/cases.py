@@ -281,18 +281,16 @@ LISTS = ["v w x y z / p", "v w x y z / p q", "v w x y z / p / q r s t u o", "x /
 # A layer with a base that has more than so many times as many features as a segment is cut of is cut anew; a segment with more than
 # this part of the most changes gets a new base, too.
 MOST_GROWN = MANY_OF_MOST = 4
-# So many entries of lists, which are written anew where parcels are merged in, are told as much as a parcel.
-ENTRIES = 16
 # A segment has no more recent changes than one for so many of the parcels of which it is cut, and no more than so many: where there are
 # more they are put into indexes, with the older ones and with what these stand in the place of.
 PARCELS_FOR_A_RECENT, MOST_RECENT = 4, 64
 
 
 class Segment:
-    """The parcels of a base, older changes to it and recent ones, and what was spent on them."""
+    """The parcels of a base, older changes to it and recent ones."""
 
-    def __init__(self, parcels, spent=0):
-        self.base, self.older, self.recent, self.spent = dict(parcels), {}, {}, spent
+    def __init__(self, parcels):
+        self.base, self.older, self.recent = dict(parcels), {}, {}
 
     def start(self):
         return min(self.base, default=0)
@@ -304,16 +302,14 @@ class Segment:
         return {**self.base, **self.older, **self.recent}
 
     def merge(self, own, most_recent):
-        self.spent += len(own) + most_recent // ENTRIES
         self.recent |= own
         if len(self.recent) > most_recent:
             self.older, self.recent = self.older | self.recent, {}
-            self.spent += 2 * len(self.older)
 
 
 class Layer:
     def __init__(self, labels, size):
-        self.size, self.others_spent = size, 0
+        self.size = size
         self.cut(list(enumerate(labels, 1)))
 
     def cut(self, parcels):
@@ -324,11 +320,7 @@ class Layer:
             parcels = parcels[:at]
         self.segments.insert(0, Segment(parcels))
 
-    def spent(self):
-        return self.others_spent + sum(segment.spent for segment in self.segments)
-
     def merge(self, labels):
-        self.others_spent += len(self.segments) // ENTRIES
         starts = [segment.start() for segment in self.segments]
         own = [{} for _ in starts]
         for number, label in enumerate(labels, 1):
@@ -343,21 +335,19 @@ class Layer:
 
     def renew(self, most):
         if max(len(segment.base) for segment in self.segments) // MOST_GROWN > self.size:
-            self.others_spent = self.spent() + len(self.parcels())
             self.cut(self.parcels())
             return
         counts = [segment.changes() for segment in self.segments]
         fullest = counts.index(max(counts))
         for place, segment in enumerate(self.segments):
             if place == fullest or counts[place] > most // MANY_OF_MOST:
-                parcels = segment.parcels()
-                self.segments[place] = Segment(parcels, segment.spent + len(parcels))
+                self.segments[place] = Segment(segment.parcels())
 
     def told(self, most):
         parcels = self.parcels()
         state = "settled" if sum(segment.changes() for segment in self.segments) <= most else "due"
         labels = "".join(f"{label} " for _, label in parcels)
-        return f"{labels}count {len(parcels)} in {len(self.segments)} {state} spent {self.spent()}"
+        return f"{labels}count {len(parcels)} in {len(self.segments)} {state}"
 
 
 def layer_case(labels, size, times, most, changed):
@@ -390,6 +380,9 @@ def lists():
                 for times in (1, 2):
                     for most in (0, 1, 8):
                         yield layer_case(labels.split(), size, times, most, changed.split())
+    # A parcel that changes again after its change got indexes counts as two changes: an older one and a recent one.
+    for most in (5, 6):
+        yield layer_case("a b c d e f g h".split(), 16, 1, most, "v w x y z / p".split())
 
 
 # No revision has this number: periods without an end end there.
@@ -422,7 +415,105 @@ def histories(random):
     yield history_case([[f"p{number}" for number in range(1, 41)], *([f"q{revision}"] * (revision % 40) for revision in range(2, 60))], range(0, 61, 7))
 
 
+def counts_case(name, word, lists, revisions, ends, passes):
+    """As `history_case` with values of any property: how many parcels a revision shows, and how many of them pass."""
+    at_revision = [[]]
+    for values in lists:
+        at_revision.append(values + at_revision[-1][len(values):])
+
+    def counts(revision):
+        values = at_revision[min(revision, len(lists))] if revision < NO_REVISION else []
+        return f"{revision}: {len(values)} {sum(map(passes, values))};"
+
+    words = " / ".join(" ".join("-" if value is None else word(value) for value in values) for values in lists)
+    return f"counts {name} {words} ? {' '.join(map(str, revisions))} ? {ends}", "".join(map(counts, revisions))
+
+
+def range_counts(name, lists, revisions, low, high):
+    return counts_case(name, str, lists, revisions, f"{edge_word(low)} {edge_word(high)}", lambda value: lies_in(value, low, high))
+
+
+def near_counts(lists, revisions, box, spots=False):
+    name, word = ("reference_point", spot_word) if spots else ("geometry", shape_word)
+    return counts_case(name, word, lists, revisions, shape_word(box), lambda shape: is_near(shape, box))
+
+
+def drawn_lists(random, value, sizes, most):
+    return [[value() for _ in range(random.choice(sizes))] for _ in range(random.randrange(1, most))]
+
+
+def all_revisions(lists):
+    return [*range(len(lists) + 2), NO_REVISION - 1, NO_REVISION, 2**64 - 1]
+
+
+def counts_in_ranges(random):
+    areas = [0, 1, 2, 3, 100, 380, 390, 400, 4_294_967_295]
+    later = [day for day in DAYS if day >= "2000-01-01"]
+    for lists in [[[5]], [[5], [7]], [[5, 7], [7]], [[5, 7, None], [None, 5]], [[5, None], [], [7, 7, 7]], [[], [], [5]], [[7], [5], [7], [5], [7]], [[1, 2, 3, 4], [5], [6, 7], [8, 9, 10]]]:
+        for low, high in [("free", "free"), (("with", 5), ("with", 5)), (("without", 5), "free"), ("free", ("without", 7)), (("with", 6), ("with", 6))]:
+            yield range_counts("area", lists, all_revisions(lists), low, high)
+    for name, values, nulls in [("area", areas, 0.2), ("label", LABELS, 0), ("begin", DAYS, 0), ("end", later, 0.3)]:
+        for _ in range(12):
+            lists = drawn_lists(random, lambda: None if random.random() < nulls else random.choice(values), (0, 1, 1, 2, 3, 5, 8, 13), 9)
+            yield range_counts(name, lists, all_revisions(lists), edges(random, values), edges(random, values))
+        # More parcels than recent changes, so that the newest rows are in indexes, too.
+        for _ in range(4):
+            lists = drawn_lists(random, lambda: None if random.random() < nulls else random.choice(values), (0, 1, 3, 30, 66, 90, 140), 7)
+            yield range_counts(name, lists, all_revisions(lists), edges(random, values), edges(random, values))
+    # A first list that no later revision touches as a whole.
+    for changes in [[[5]], [[5]] * 7, [[5] * 66, [7]], [[7], [5] * 66], [[5] * 100]]:
+        lists = [[number % 11 for number in range(100)], *changes]
+        yield range_counts("area", lists, all_revisions(lists), ("with", 5), ("without", 8))
+        yield range_counts("area", lists, all_revisions(lists), "free", ("with", 4))
+    # By the number of the object, whatever the words are.
+    for sizes in [(3, 1), (70, 2), (1, 70), (140, 66, 66)]:
+        lists = [list(range(1, size + 1)) for size in sizes]
+        yield range_counts("object", lists, all_revisions(lists), ("without", 1), ("with", 67))
+    # More changes of one parcel than of the others, so that its earlier rows need many lists.
+    lists = [[1, 2, 3], *([revision % 5] for revision in range(2, 60))]
+    yield range_counts("area", lists, range(0, 62, 3), ("with", 2), ("with", 3))
+
+
+def counts_near_boxes(random):
+    low, high, middle = (0, 0, 65_535, 65_535), (0, 0, 65_536, 65_536), (-1, -1, 1, 1)
+    for lists in [[[low]], [[low], [None]], [[None, low], [high]], [[middle, None, high], [], [low, low]], [[low], [middle], [low], [middle]]]:
+        for point in [(65_536, 0), (0, 0), (-65_536, -65_536), (131_072, 0)]:
+            yield near_counts(lists, all_revisions(lists), (*point, *point))
+
+    def shape():
+        if random.random() < 0.1:
+            return None
+        return box_at(random, random.randint(-400_000, 400_000), random.randint(-400_000, 400_000), random.choice([10, 70_000, 300_000, 900_000]))
+
+    def spot():
+        x, y = random.randint(-200_000, 200_000), random.choice([-65_537, -65_536, -1, 0, 65_535, 65_536, 131_072])
+        return None if random.random() < 0.2 else (x, y, x, y)
+
+    for sizes, times in [((0, 1, 1, 2, 3, 5, 8), 12), ((1, 2, 30, 66, 90), 6)]:
+        for _ in range(times):
+            lists = drawn_lists(random, shape, sizes, 7)
+            yield near_counts(lists, all_revisions(lists), box_at(random, random.randint(-500_000, 500_000), random.randint(-500_000, 500_000), random.choice([5, 65_536, 400_000, 1_500_000])))
+            lists = drawn_lists(random, spot, sizes, 7)
+            yield near_counts(lists, all_revisions(lists), box_at(random, random.randint(-200_000, 200_000), random.randint(-200_000, 200_000), 90_000), spots=True)
+    # Indexes of rows with several periods, of which a box is asked that touches one cell, several in few rows, or several in many rows.
+    kinds = [low, high, middle, None, *((0, row * SIDE, columns * SIDE - 1, (row + rows) * SIDE - 1) for row, columns, rows in [(2, 5, 1), (20, 8, 8), (20, 9, 8)])]
+    for sizes in [(70, 10, 68), (70, 68, 65), (40, 70, 66, 3)]:
+        lists = [[kinds[(at + revision) % (len(kinds) - revision)] for at in range(size)] for revision, size in enumerate(sizes)]
+        for box in [(0, 0, 0, 0), (0, 0, 3 * SIDE, 2 * SIDE), (-SIDE, -SIDE, -1, 4 * SIDE)]:
+            yield near_counts(lists, all_revisions(lists), box)
+    # No box is near a number, and no shape lies in a range.
+    yield counts_case("area", str, [[1, 2], [3]], [0, 1, 2], shape_word(PLANE), lambda value: False)
+    yield counts_case("geometry", shape_word, [[low, high], [middle]], [0, 1, 2], "free free", lambda value: False)
+
+
 UNREAD = [
+    "counts area 1 / 2 ? 1 x ? free free",
+    "counts area 1 / 2 ? -1 ? free free",
+    "counts area 1 / 2 ? 18446744073709551616 ? free free",
+    "counts area 1 / 2 ? 1 ? free",
+    "counts area 1 / 2 ? 1",
+    "counts nothing 1 / 2 ? 1 ? free free",
+    "counts area 1 / 2 ? 1 ? with:x free",
     "history a / b ? 1 x",
     "history a / b ? -1",
     "history a / b ? 18446744073709551616",
@@ -446,7 +537,7 @@ UNREAD = [
 
 def main():
     random = Random(65_536)
-    cases = [("# Boxes", None), *named_boxes(), *drawn_boxes(random), ("# Squares", None), *square_boxes(), ("# Ranges", None), *ranges(random), ("# Layers", None), *layers(), ("# Lists of changes", None), *lists(), ("# As many times as a line may say", None), layer_case("a b c d e f g h".split(), 3, 65535, 40, ["x"]), ("# Histories", None), *histories(random), ("# Lines that are no cases", None), *((line, "unread") for line in UNREAD)]
+    cases = [("# Boxes", None), *named_boxes(), *drawn_boxes(random), ("# Squares", None), *square_boxes(), ("# Ranges", None), *ranges(random), ("# Layers", None), *layers(), ("# Lists of changes", None), *lists(), ("# As many times as a line may say", None), layer_case("a b c d e f g h".split(), 3, 65535, 40, ["x"]), ("# Histories", None), *histories(random), ("# Counts at revisions", None), *counts_in_ranges(random), *counts_near_boxes(random), ("# Lines that are no cases", None), *((line, "unread") for line in UNREAD)]
     here = Path(__file__).parent
     (here / "stdin").write_text("".join(f"{asked}\n" for asked, _ in cases), encoding="utf-8")
     (here / "stdout").write_text("".join(f"{answer}\n" for _, answer in cases if answer is not None), encoding="utf-8")

@@ -3,7 +3,9 @@
 //! - [`PageQuery`]: days, a box and a filter that restrict an answer, the normal form of box and filter, by which features are
 //!   tested, and which part of the answer is wanted
 //! - [`page`]: the first features that answer, after one that is named, and whether more are left: a [`Page`]. It examines the candidates
-//!   of a [`Plan`] among the features of a [`Layer`]
+//!   of a [`Plan`] among the features of a revision: [`FeaturesAt`]
+//! - [`page_at`]: the same of those that pass any test
+//! - [`candidate_count`]: how many candidates a plan has among these features
 //! - `laws`: that pages ascend and are full, and that the pages of a walk, joined, are the whole answer. If a plan covers the answer, its
 //!   candidates that answer are all that answer
 //!
@@ -12,12 +14,17 @@
 #![tactic(auto)]
 
 mod answer;
+mod candidates;
+mod counting;
 pub mod laws;
 mod lifespans;
 mod paging;
+mod past_candidates;
 mod query;
 mod query_test;
 
-pub use cad_run::{Layer, Page, Plan};
-pub use paging::page;
+pub use cad_history::FeaturesAt;
+pub use cad_run::{Page, Plan};
+pub use counting::candidate_count;
+pub use paging::{page, page_at};
 pub use query::PageQuery;

@@ -3,7 +3,7 @@
 ghost use Rattle.std.specs.Prelude.{◌≡◌};
 
 use cad_memory_ledger::MemoryLedger;
-use cad_versions::{Command, Ledger, RegisterFault, Version};
+use cad_versions::{Command, HistoryLedger, Ledger, RegisterFault, StoredVersion, Version};
 
 /// A ledger in memory that can be listed so many more times; each listing after these runs out of memory. So if that is not reported,
 /// nothing more was read from it.
@@ -76,5 +76,15 @@ impl Ledger for LimitedLedger {
         }
         self.listings -= 1;
         self.ledger.as_of(revision)
+    }
+}
+
+impl HistoryLedger for LimitedLedger {
+    fn stored_versions(&mut self) -> Result<Vec<StoredVersion>, RegisterFault> {
+        if self.listings == 0 {
+            return Err(RegisterFault::Memory);
+        }
+        self.listings -= 1;
+        self.ledger.stored_versions()
     }
 }

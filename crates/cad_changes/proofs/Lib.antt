@@ -1,5 +1,6 @@
 mod AddedLemmas
 mod AloneLemmas
+mod BareLemmas
 mod ClassLemmas
 mod DependentLemmas
 mod EntryLemmas
@@ -12,6 +13,7 @@ mod ItemLemmas
 mod PartLemmas
 mod RevisionLemmas
 mod StandingLemmas
+mod StepLemmas
 mod TestLemmas
 mod TouchedLemmas
 mod VersionLemmas

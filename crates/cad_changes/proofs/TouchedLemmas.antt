@@ -22,9 +22,11 @@ use Rattle.cad_layer.specs.lemmas.ItemLemmas.{items_total}
 use Rattle.cad_layer.specs.lemmas.LookupLemmas.{has_change}
 use Rattle.cad_layer.specs.Merging.{put_if, merged}
 use Rattle.cad_layer.specs.lemmas.MergeLemmas.{put_ascends}
+use Rattle.cad_history.specs.Rows.{bare}
 use Rattle.cad_changes.specs.Changes.{left_by, next, is_touched_by, features_left, feature_added, touched}
 use Rattle.cad_changes.specs.Touching.{item_added, items_touched}
 use Rattle.cad_changes.proofs.AddedLemmas.{addition, sorted_addition, added_by}
+use Rattle.cad_changes.proofs.BareLemmas.{bare_touched}
 use Rattle.cad_changes.proofs.ClassLemmas.{classes_stand, enter_adds, amend_adds}
 use Rattle.cad_changes.proofs.ItemLemmas.{items_left_are}
 use Rattle.cad_changes.proofs.RevisionLemmas.{all_as_of, last_accepted, all_accepted, adds, rises, features_of_next}
@@ -105,3 +107,10 @@ touched_told cs c all collection xs units parties ys is f u p =
     let vs = as_of (length cs) cs in
     let same : items_touched xs units parties c collection ≡ items_touched (features_in vs collection) (features_in vs Units) (features_in vs Parties) c collection = λ i. items_touched (f i) (u i) (p i) c collection in
     is ∙ same ∙ touched_is cs c all collection
+
+-- and of lists that are they but for their periods
+pub touched_bare : (cs : List Command) (c : Command) → AreAccepted [] (cs ++ c ∷ []) → (collection : Collection) (xs units parties ys : List Item) → ys ≡ items_touched xs units parties c collection
+    → map bare xs ≡ features_in (as_of (length cs) cs) collection → map bare units ≡ features_in (as_of (length cs) cs) Units → map bare parties ≡ features_in (as_of (length cs) cs) Parties
+    → map bare ys ≡ touched (as_of (length cs) cs) c collection
+touched_bare cs c all collection xs units parties ys is =
+    touched_told cs c all collection (map bare xs) (map bare units) (map bare parties) (map bare ys) (ap (map bare) is ∙ sym (bare_touched xs units parties c collection))

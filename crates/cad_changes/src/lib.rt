@@ -2,7 +2,8 @@
 //!
 //! - [`touched`]: the features of a collection that a command adds or changes, determined by the features before it
 //! - [`histories_touched`]: the histories of the features that a command changes, as it leaves them
-//! - [`snapshot_after`]: the features of all collections after a command
+//! - [`history_after`]: the features of a collection at every revision, after a command
+//! - [`histories_after`]: the same of all collections
 //! - `laws`: that the features after a command are those before it with these merged, and more
 //!
 //! Unit 10 is called Mill from 2000-01-01 on, and parcel 1 and right 20 of it begin on 2000-01-01 and on 2005-03-01. Then a command
@@ -10,16 +11,17 @@
 #![tactic(auto)]
 
 mod adding;
+mod collections;
 mod dependents;
 mod edits;
-mod following;
+mod extending;
 mod histories;
 pub mod laws;
 mod leaving;
 mod reading;
-mod revisions;
 mod touching;
 
+pub use collections::histories_after;
+pub use extending::history_after;
 pub use histories::histories_touched;
-pub use revisions::snapshot_after;
 pub use touching::touched;

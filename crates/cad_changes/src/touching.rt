@@ -1,6 +1,6 @@
 //! What a command touches of the features of a collection.
 
-ghost use Rattle.std.specs.Prelude.{◌≡◌, List, [], ◌∷◌, ◌++◌, length, IfOk};
+ghost use Rattle.std.specs.Prelude.{◌≡◌, List, [], ◌∷◌, ◌++◌, length, map, IfOk};
 ghost use Rattle.std.specs.List.Sorted.{IsStrictlySortedBy};
 ghost use Rattle.cad_versions.specs.declared.command.Command.{Command as CommandOf};
 ghost use Rattle.cad_versions.specs.AsOf.{as_of};
@@ -9,6 +9,7 @@ ghost use Rattle.cad_schema.specs.declared.collection.Collection.TheVariants.{Un
 ghost use Rattle.cad_feature.specs.Features.{by_identifier, AreFeaturesOf};
 ghost use Rattle.cad_feature.specs.Flatten.{features_in};
 ghost use Rattle.cad_layer.specs.Merging.{put_if};
+ghost use Rattle.cad_history.specs.Rows.{bare};
 ghost use Rattle.cad_changes.specs.Changes as changes;
 ghost use Rattle.cad_changes.specs.Touching.{items_touched};
 
@@ -57,6 +58,12 @@ pub fn touched(
         → units.now.features ≡ features_in (as_of (length commands) commands) Units
         → parties.now.features ≡ features_in (as_of (length commands) commands) Parties
         → all.items ≡ changes.touched (as_of (length commands) commands) command.now features.now.collection) }
+    // The same of features with periods of their own.
+    ensures rows { IfOk result (λ all. (commands : List CommandOf) → AreAccepted [] (commands ++ command.now ∷ [])
+        → map bare features.now.features ≡ features_in (as_of (length commands) commands) features.now.collection
+        → map bare units.now.features ≡ features_in (as_of (length commands) commands) Units
+        → map bare parties.now.features ≡ features_in (as_of (length commands) commands) Parties
+        → map bare all.items ≡ changes.touched (as_of (length commands) commands) command.now features.now.collection) }
 {
     are_listed(features);
     let left = features_left(alloc, command, features)?;

@@ -38,7 +38,7 @@ module _ (form : ℕ → Item) (newest : ℕ) where
   abbrev pub Stays : ℕ → ℕ → Type 0
   Stays from upto = (n : ℕ) → from ≤ n → n < upto → form (suc n) ≡ form n
 
-  constant : (from upto : ℕ) → Stays from upto → (r : ℕ) → from ≤ r → r ≤ upto → form upto ≡ form r
+  pub constant : (from upto : ℕ) → Stays from upto → (r : ℕ) → from ≤ r → r ≤ upto → form upto ≡ form r
   constant from zero stays r h k = ap form (omega (arith, k))
   constant from (suc upto) stays r h k = go (split r upto k) (constant from upto (λ n l m. stays n l (omega (arith, m))) r h)
     where

@@ -4,5 +4,6 @@ mod FormLemmas
 mod HistoryLemmas
 mod LawLemmas
 mod ListLemmas
+mod RowLemmas
 mod RunLemmas
 mod StretchLemmas

@@ -6,5 +6,6 @@ pub mod Lifespans
 pub mod Limits
 pub mod Periods
 pub mod Values
+pub mod VersionRows
 pub mod inner
 pub mod lemmas

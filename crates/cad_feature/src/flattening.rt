@@ -32,7 +32,8 @@ fn class(collection: Collection) -> Class
     }
 }
 
-pub(crate) fn is_in(version: &Version, collection: Collection) -> bool
+/// Whether the version is of the collection's class.
+pub fn is_in(version: &Version, collection: Collection) -> bool
     ensures { result ≡ is_of_class collection version.now }
 {
     version.body.class() == class(collection)

@@ -19,7 +19,7 @@ use std::alloc::{AllocError, Global};
 use std::rc::Rc;
 
 /// The version of the entry, as a feature at the revision.
-fn feature_then(
+pub(crate) fn feature_then(
     alloc: Global,
     entries: &Entries<'_>,
     entry: &StoredVersion,
@@ -39,7 +39,7 @@ fn feature_then(
 }
 
 /// A revision, up to the last one, since which the entry's version is the same feature as at the last one.
-fn last_change(entries: &Entries<'_>, entry: &StoredVersion, most: u64) -> u64
+pub(crate) fn last_change(entries: &Entries<'_>, entry: &StoredVersion, most: u64) -> u64
     ensures within { result ≤ most }
     ensures stays { FeatureStays result most entries.now.entries.now entry.now }
 {

@@ -5,6 +5,7 @@
 //! - [`FeatureHistory`], [`EarlierForm`]: a feature with the forms that it had at earlier revisions.
 //! - [`flatten`]: the features of a collection, from the versions of a register.
 //! - [`flatten_histories`]: the same with their earlier forms, from the stored versions of a register.
+//! - [`StoredVersions`], [`VersionRows`]: the rows of each version, features with their periods, from the stored versions of a register.
 //! - [`Collection`], [`schema`], [`find_property`]: the collections and their properties, of `cad_schema`.
 //! - [`Range`], [`Edge`], [`Scalar`]: the values of one property from one end to another.
 //! - `laws`: what holds of features, beyond what each call says.
@@ -25,12 +26,14 @@ mod period;
 mod range;
 mod value;
 mod values;
+mod version_rows;
 
 pub use cad_schema::{Collection, Property, PropertyKind, find_property, schema};
 pub use feature::Feature;
 pub use feature_history::{EarlierForm, FeatureHistory};
-pub use flattening::flatten;
+pub use flattening::{flatten, is_in};
 pub use histories::flatten_histories;
 pub use period::Period;
 pub use range::{Edge, Range, Scalar};
 pub use value::Value;
+pub use version_rows::{StoredVersions, VersionRows};

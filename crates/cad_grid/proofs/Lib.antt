@@ -1,3 +1,4 @@
+pub mod PassingLemmas
 pub mod Tallies
 pub mod Once
 pub mod Walks

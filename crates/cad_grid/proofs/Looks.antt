@@ -25,11 +25,11 @@ all_near asked cells =
     let m : length cells - 0 ≡ length cells = omega arith in
     rw (n, m) (filter_agree (λ p. is_candidate (block_at asked) (get_or (map (option_map block_at) cells) p None)) (is_near_at asked cells) (λ p. ap (is_candidate (block_at asked)) (block_get cells p)) (range_with_len 0 (length cells)))
 
-none_left : (asked : Cells) (cells : List (Option Cells)) (from : ℕ) → length cells ≤ from → near_from asked cells from ≡ []
+pub none_left : (asked : Cells) (cells : List (Option Cells)) (from : ℕ) → length cells ≤ from → near_from asked cells from ≡ []
 unfolding near_from
 none_left asked cells from h = let e : length cells - from ≡ 0 = omega arith in rw e refl
 
-one_left : (asked : Cells) (cells : List (Option Cells)) (from : ℕ) → from < length cells → near_from asked cells from ≡ cond (is_near_at asked cells from) (from ∷ near_from asked cells (from + 1)) (near_from asked cells (from + 1))
+pub one_left : (asked : Cells) (cells : List (Option Cells)) (from : ℕ) → from < length cells → near_from asked cells from ≡ cond (is_near_at asked cells from) (from ∷ near_from asked cells (from + 1)) (near_from asked cells (from + 1))
 unfolding near_from
 one_left asked cells from h = let e : length cells - from ≡ suc (length cells - (from + 1)) = omega arith in rw e refl
 
@@ -53,19 +53,5 @@ list_end asked cells from found all h e = sym (append-nil found) ∙ ap (λ xs. 
 
 -- ---- counted
 
-pub count_start : (asked : Cells) (cells : List (Option Cells)) → 0 + length (near_from asked cells 0) ≡ length (near_positions (map (option_map block_at) cells) (block_at asked))
-count_start asked cells = omega (arith, ap length (all_near asked cells))
-
-pub count_taken : (asked : Cells) (cells : List (Option Cells)) (from found all : ℕ) → from < length cells → is_near_at asked cells from ≡ true → found + length (near_from asked cells from) ≡ all → found + 1 + length (near_from asked cells (from + 1)) ≡ all
-count_taken asked cells from found all h t e =
-    let f : near_from asked cells from ≡ from ∷ near_from asked cells (from + 1) = one_left asked cells from h ∙ rw t refl in
-    let g : length (near_from asked cells from) ≡ suc (length (near_from asked cells (from + 1))) = ap length f in
-    omega arith
-
-pub count_passed : (asked : Cells) (cells : List (Option Cells)) (from found all : ℕ) → from < length cells → is_near_at asked cells from ≡ false → found + length (near_from asked cells from) ≡ all → found + length (near_from asked cells (from + 1)) ≡ all
-count_passed asked cells from found all h t e =
-    let f : near_from asked cells from ≡ near_from asked cells (from + 1) = one_left asked cells from h ∙ rw t refl in
-    rw f at e
-
-pub count_end : (asked : Cells) (cells : List (Option Cells)) (from found all : ℕ) → length cells ≤ from → found + length (near_from asked cells from) ≡ all → found ≡ all
-count_end asked cells from found all h e = omega (arith, ap length (none_left asked cells from h))
+pub count_start : (keeps : ℕ → Bool) (asked : Cells) (cells : List (Option Cells)) → 0 + length (filter keeps (near_from asked cells 0)) ≡ length (filter keeps (near_positions (map (option_map block_at) cells) (block_at asked)))
+count_start keeps asked cells = omega (arith, ap (λ l. length (filter keeps l)) (all_near asked cells))

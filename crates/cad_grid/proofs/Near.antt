@@ -14,6 +14,7 @@ use Rattle.cad_positions.specs.Between.{below, hits_in, hits_out, range_increase
 use Rattle.cad_grid.specs.declared.entry.Entry.{Entry}
 use Rattle.cad_grid.specs.Entries.{tally, in_row, in_all, is_wide_at, small_tally, is_in_block, is_first_at, inside, counts, found_in, IsGrid}
 use Rattle.cad_grid.specs.Grids.{near_positions}
+use Rattle.cad_grid.proofs.PassingLemmas.{kept_picks, same_picked}
 use Rattle.cad_grid.proofs.Once.{counts_first, once_near}
 
 -- ---- a shape is found once, where it shares a cell
@@ -99,8 +100,13 @@ same_found : (asked : Cells) (block : Block) (cells : List (Option Cells)) (wide
 same_found asked block cells wide entries grid e v =
     found_hits asked cells wide entries grid v ∙ sym (near_hits (map (option_map block_at) cells) block v ∙ rw (block_get cells v, e) refl)
 
-pub found_length : (asked : Cells) (block : Block) (cells : List (Option Cells)) (wide : List ℕ) (entries : List Entry) → IsGrid cells wide entries → block_at asked ≡ block → length (found_in asked cells wide entries) ≡ length (near_positions (map (option_map block_at) cells) block)
-found_length asked block cells wide entries grid e = same_length _ _ (same_found asked block cells wide entries grid e)
+same_kept : (keeps : ℕ → Bool) (v : ℕ) (xs ys : List ℕ) → hits v xs ≡ hits v ys → hits v (filter keeps xs) ≡ hits v (filter keeps ys)
+same_kept keeps v xs ys e =
+    let own : (zs : List ℕ) → hits v (filter keeps zs) ≡ picks (λ x. keeps v) (λ x. x) v zs = λ zs. kept_picks keeps v zs ∙ same_picks keeps (λ x. keeps v) (λ x. x) v zs (λ x. at_position keeps true x v) in
+    own xs ∙ same_picked (keeps v) v xs ys e ∙ sym (own ys)
+
+pub found_kept : (keeps : ℕ → Bool) (asked : Cells) (block : Block) (cells : List (Option Cells)) (wide : List ℕ) (entries : List Entry) → IsGrid cells wide entries → block_at asked ≡ block → length (filter keeps (found_in asked cells wide entries)) ≡ length (filter keeps (near_positions (map (option_map block_at) cells) block))
+found_kept keeps asked block cells wide entries grid e = same_length _ _ (λ v. same_kept keeps v _ _ (same_found asked block cells wide entries grid e v))
 
 near_ascends : (blocks : List (Option Block)) (asked : Block) → IsNonDecreasing (near_positions blocks asked)
 unfolding near_positions

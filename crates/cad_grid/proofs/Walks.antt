@@ -1,6 +1,7 @@
 -- A walk that passes only entries that do not count.
 use Rattle.std.proofs.Common.{◌≡◌, ◌∙◌, ℕ, zero, suc, ◌+◌, ◌-◌, ◌<◌, ◌≤◌, Bool, true, false, cond, List, [], ◌∷◌, ◌++◌, append_assoc, append-nil, length, map, get_or, drop, drop-cons, add-one, ap, sym, refl, arith, Option, None, length-append}
 use Rattle.std.specs.Prelude.{filter, ◌&&◌}
+use Rattle.std.proofs.lemmas.List.Elements.{filter-append}
 use Rattle.cad_grid.specs.declared.cells.Cells.{Cells}
 use Rattle.cad_grid.specs.declared.entry.Entry.{Entry}
 use Rattle.cad_grid.specs.Entries.{entry_at, inside, counts, found_in, is_first_at}
@@ -62,7 +63,7 @@ both : (a b : Bool) → a ≡ true → (a && b) ≡ b
 both a b h = rw h refl
 
 -- an entry inside counts where it is the first of its shape
-left_inside : (asked : Cells) (cells : List (Option Cells)) (es : List Entry) (at next : ℕ) → at < length es → inside asked (entry_at es at) ≡ true → Passed asked es (at + 1) next → left_over asked cells es at ≡ cond (first_of asked cells (entry_at es at)) ((entry_at es at).position ∷ left_over asked cells es next) (left_over asked cells es next)
+pub left_inside : (asked : Cells) (cells : List (Option Cells)) (es : List Entry) (at next : ℕ) → at < length es → inside asked (entry_at es at) ≡ true → Passed asked es (at + 1) next → left_over asked cells es at ≡ cond (first_of asked cells (entry_at es at)) ((entry_at es at).position ∷ left_over asked cells es next) (left_over asked cells es next)
 left_inside asked cells es at next h i passed = left_here asked cells es at h ∙ rw (both (inside asked (entry_at es at)) (first_of asked cells (entry_at es at)) i, left_passed asked cells es (at + 1) next passed) refl
 
 pub taken_next : (asked : Cells) (cells : List (Option Cells)) (es : List Entry) (at next : ℕ) → at < length es → inside asked (entry_at es at) ≡ true → Passed asked es (at + 1) next → first_of asked cells (entry_at es at) ≡ true → left_over asked cells es at ≡ (entry_at es at).position ∷ left_over asked cells es next
@@ -73,17 +74,12 @@ alone_next asked cells es at next h i passed f = left_inside asked cells es at n
 
 -- ---- counted
 
-pub count_start : (asked : Cells) (cells : List (Option Cells)) (wide : List ℕ) (es : List Entry) (next : ℕ) → Passed asked es 0 next → length wide + length (left_over asked cells es next) ≡ length (found_in asked cells wide es)
-count_start asked cells wide es next passed = rw (← left_passed asked cells es 0 next passed) (sym (length-append wide (left_over asked cells es 0)) ∙ ap length (left_first asked cells wide es))
-
-pub count_taken : (found all : ℕ) (x : ℕ) (xs ys : List ℕ) → xs ≡ x ∷ ys → found + length xs ≡ all → found + 1 + length ys ≡ all
-count_taken found all x xs ys e i = let f : length xs ≡ suc (length ys) = ap length e in omega arith
-
-pub count_alone : (found all : ℕ) (xs ys : List ℕ) → xs ≡ ys → found + length xs ≡ all → found + length ys ≡ all
-count_alone found all xs ys e i = rw e at i
-
-pub count_end : (asked : Cells) (cells : List (Option Cells)) (es : List Entry) (at found all : ℕ) → length es ≤ at → found + length (left_over asked cells es at) ≡ all → found ≡ all
-count_end asked cells es at found all h i = omega (arith, ap length (left_last asked cells es at h))
+pub count_start : (keeps : ℕ → Bool) (asked : Cells) (cells : List (Option Cells)) (wide : List ℕ) (es : List Entry) (next : ℕ) → Passed asked es 0 next → length (filter keeps wide) + length (filter keeps (left_over asked cells es next)) ≡ length (filter keeps (found_in asked cells wide es))
+count_start keeps asked cells wide es next passed =
+    ap (λ l. length (filter keeps wide) + length (filter keeps l)) (sym (left_passed asked cells es 0 next passed))
+    ∙ sym (length-append (filter keeps wide) (filter keeps (left_over asked cells es 0)))
+    ∙ ap length (sym (filter-append keeps wide (left_over asked cells es 0)))
+    ∙ ap (λ l. length (filter keeps l)) (left_first asked cells wide es)
 
 -- ---- listed
 

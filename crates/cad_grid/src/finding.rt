@@ -1,11 +1,11 @@
 //! The positions that a walk finds.
 
-ghost use Rattle.std.specs.Prelude.{◌≡◌, ◌+◌, IfOk, None, get_or, length};
+ghost use Rattle.std.specs.Prelude.{◌≡◌, ◌+◌, ◌&&◌, IfOk, None, filter, get_or, length};
 ghost use Rattle.cad_grid.specs.Entries.{Ascends, found_in, is_first_at};
 
-use crate::Cells;
 use crate::entry::Entry;
 use crate::walking::next_inside;
+use crate::{Cells, PositionTest};
 use std::alloc::{AllocError, Global};
 
 // Whether the entry is in the first cell, by rows, that its shape's cells and the asked ones share.
@@ -23,20 +23,43 @@ fn is_first(cells: &[Option<Cells>], entry: Entry, asked: Cells) -> bool
     }
 }
 
-/// How many positions are found: those of the wide list, and one for each other shape in the asked cells.
-pub(crate) fn count_found(
+// Whether the entry is in that cell, and its position passes.
+fn is_first_and_passes<T: PositionTest>(
+    cells: &[Option<Cells>],
+    entry: Entry,
+    asked: Cells,
+    test: &T,
+) -> bool
+    ensures { result ≡ (is_first_at asked (get_or cells.now entry.position None) entry.row entry.column && T.passes test.now entry.position) }
+{
+    is_first(cells, entry, asked) && test.test(entry.position)
+}
+
+// How many of the positions pass.
+fn count_listed<T: PositionTest>(positions: &[u32], test: &T) -> u64
+    ensures { result ≡ length (filter (T.passes test.now) positions.now) }
+{
+    positions
+        .iter()
+        .filter(|position| test.test(**position))
+        .count() as u64
+}
+
+/// How many of the positions that are found pass: those of the wide list, and one for each other shape in the asked cells.
+pub(crate) fn count_found<T: PositionTest>(
     cells: &[Option<Cells>],
     wide: &[u32],
     entries: &[Entry],
     asked: Cells,
+    test: &T,
 ) -> u64
     requires { Ascends entries.now }
-    ensures { result ≡ length (found_in asked cells.now wide.now entries.now) }
+    ensures { result ≡ length (filter (T.passes test.now) (found_in asked cells.now wide.now entries.now)) }
 {
-    let mut found = wide.len() as u64;
+    let mut found = count_listed(wide, test);
     let mut at = next_inside(entries, 0, asked);
     while at < entries.len() {
-        if is_first(cells, entries[at], asked) {
+        if is_first_and_passes(cells, entries[at], asked, test) {
             found += 1;
         }
         at = next_inside(entries, at + 1, asked);

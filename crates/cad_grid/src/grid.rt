@@ -2,11 +2,12 @@
 
 ghost use Rattle.std.specs.Prelude.{◌≡◌};
 
-use crate::Cells;
 use crate::entering::{cells_at, enter_shape};
 use crate::entry::Entry;
 use crate::finding::{count_found, list_found};
 use crate::passing::{count_passing, list_passing};
+use crate::position_test::EveryPosition;
+use crate::{Cells, PositionTest};
 use cad_feature::Feature;
 use cad_shape::Bounds;
 use std::alloc::{AllocError, Global};
@@ -34,7 +35,7 @@ impl Model for Grid {
 }
 
 impl Grid {
-    ghost use Rattle.std.specs.Prelude.{◌≡◌, ◌≤◌, IfOk, length};
+    ghost use Rattle.std.specs.Prelude.{◌≡◌, ◌≤◌, IfOk, filter, length};
     ghost use Rattle.cad_grid.specs.Blocks.{block_of};
     ghost use Rattle.cad_grid.specs.Grids.{blocks_at, near_positions};
 
@@ -70,11 +71,18 @@ impl Grid {
     pub fn count(&self, bounds: Bounds) -> u64
         ensures { result ≡ length (near_positions self.now (block_of bounds)) }
     {
+        self.count_passing(bounds, &EveryPosition)
+    }
+
+    /// How many of the positions near the box pass. No memory is taken.
+    pub fn count_passing<T: PositionTest>(&self, bounds: Bounds, test: &T) -> u64
+        ensures { result ≡ length (filter (T.passes test.now) (near_positions self.now (block_of bounds))) }
+    {
         let asked = Cells::of(bounds);
         if self.are_many(asked) {
-            count_passing(&self.cells, asked)
+            count_passing(&self.cells, asked, test)
         } else {
-            count_found(&self.cells, &self.wide, &self.entries, asked)
+            count_found(&self.cells, &self.wide, &self.entries, asked, test)
         }
     }
 

@@ -3,6 +3,7 @@
 //! - [`Cells`]: the cells that a box touches, whether they are more than 64, and whether two boxes touch a common cell
 //! - [`bounds_of`]: the bounds of a value, if it is a shape
 //! - [`Grid`]: built once over a property; gives the positions near a box, or counts them
+//! - [`PositionTest`]: which of the positions near a box are counted
 //! - [`laws`]: that cells are squares of 65,536 mm, and that the numbers of columns and rows say which cells a box touches
 //!
 //! The box from (-1, -1) to (1, 1) touches the four cells around the origin. It shares a cell with the point (65535, 65535)
@@ -20,9 +21,11 @@ mod grid;
 pub mod laws;
 mod numbers;
 mod passing;
+mod position_test;
 mod shapes;
 mod walking;
 
 pub use cells::Cells;
 pub use grid::Grid;
+pub use position_test::PositionTest;
 pub use shapes::bounds_of;

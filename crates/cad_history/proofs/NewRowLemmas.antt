@@ -1,10 +1,11 @@
 -- The rows that a history has after a revision.
-use Rattle.std.proofs.Common.{◌≡◌, ◌∙◌, ℕ, ◌<◌, List, map, sym, ap, subst}
+use Rattle.std.proofs.Common.{◌≡◌, ◌∙◌, ℕ, ◌<◌, ◌≤◌, List, map, sym, ap, subst}
 use Rattle.cad_feature.specs.Features.{Item, AreFeaturesOf}
 use Rattle.cad_index.specs.Layers.{LayerFeatures}
 use Rattle.cad_layer.specs.Walks.{all_in}
 use Rattle.cad_history.specs.inner.Ending.{ended, begun, replaced_by, with_ended}
-use Rattle.cad_history.specs.Rows.{Rows, AreRows, AreNext}
+use Rattle.cad_history.specs.Lent.{rows_of}
+use Rattle.cad_history.specs.Rows.{Rows, AreRows, AreNext, row_count}
 use Rattle.cad_history.specs.lemmas.NextLemmas.{next_rows, are_next, are_rows, begun_listed, ended_listed}
 
 module _ (revision : ℕ) (few : revision < 4294967295) (touched : List Item) (old now : Rows) (view_is : old ≡ now) (later : now.last < revision) (rows : AreRows old) (listed : AreFeaturesOf now.collection touched) where
@@ -33,8 +34,8 @@ module _ (revision : ℕ) (few : revision < 4294967295) (touched : List Item) (o
       last = revision;
     }
 
-    pub are_new : AreRows (record { collection = newest.collection; newest = newest.features; earlier = earlier; last = revision })
-    are_new = subst AreRows (sym same) (are_rows revision few touched old sooner rows own)
+    pub are_new : row_count (rows_of newest earlier) ≤ 18446744073709551615 → AreRows (record { collection = newest.collection; newest = newest.features; earlier = earlier; last = revision })
+    are_new countable = subst AreRows (sym same) (are_rows revision few touched old sooner rows own (subst (λ s. row_count s ≤ 18446744073709551615) same countable))
 
     pub is_next : (result : Rows) → result ≡ record { collection = newest.collection; newest = newest.features; earlier = earlier; last = revision } → AreNext revision touched now result
     is_next result e = subst (λ (s : Rows). AreNext revision touched s result) view_is (subst (AreNext revision touched old) (sym (e ∙ same)) (are_next revision few touched old sooner rows own))

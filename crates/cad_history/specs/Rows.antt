@@ -1,12 +1,13 @@
 -- The features of a collection at every revision, as rows with periods (SQL:2011, 4.15.7: system-versioned tables; revisions: own profile).
-use Rattle.std.specs.Prelude.{◌≡◌, ℕ, ◌<◌, ◌≤◌, Bool, true, List, [], ◌∷◌, map, filter}
+use Rattle.std.specs.Prelude.{◌≡◌, ℕ, ◌+◌, ◌<◌, ◌≤◌, Bool, true, List, [], ◌∷◌, length, map}
 use Rattle.std.specs.List.{AllByRecursion}
 use Rattle.std.specs.List.Sorted.{IsStrictlySortedBy}
 use Rattle.std.specs.Ordering.{is_eq}
 use Rattle.cad_schema.specs.declared.collection.Collection.{Collection}
 use Rattle.cad_feature.specs.Features.{Item, by_identifier, AreFeaturesOf}
-use Rattle.cad_feature.specs.Periods.{always, is_within}
+use Rattle.cad_feature.specs.Periods.{always}
 use Rattle.cad_index.specs.Layers.{LayerFeatures}
+pub use Rattle.cad_index.specs.Moments.{is_shown_at, rows_at}
 use Rattle.cad_layer.specs.Walks.{all_in}
 
 -- the newest row of each version, earlier rows in lists of which each has at most one row of a version, and the last revision that changed them
@@ -17,13 +18,6 @@ pub record Rows : Type 0 where
   pub last : ℕ
 
 -- ---- at a revision
-
--- the row has its values at the revision
-abbrev pub is_shown_at : ℕ → Item → Bool
-is_shown_at revision x = is_within x.period revision
-
-abbrev pub rows_at : ℕ → List Item → List Item
-rows_at revision xs = filter (is_shown_at revision) xs
 
 abbrev pub earlier_at : ℕ → List LayerFeatures → List Item
 earlier_at revision [] = []
@@ -71,6 +65,15 @@ AllComeBefore [] newest = Unit {0}
 AllComeBefore (layer ∷ layers) newest =
     ComeBefore layer.features newest × AllByRecursion (λ (later : LayerFeatures). ComeBefore layer.features later.features) layers × AllComeBefore layers newest
 
+-- how many rows the lists have
+abbrev pub earlier_count : List LayerFeatures → ℕ
+earlier_count [] = 0
+earlier_count (layer ∷ layers) = length layer.features + earlier_count layers
+
+-- how many rows there are
+abbrev pub row_count : Rows → ℕ
+row_count rows = earlier_count rows.earlier + length rows.newest
+
 pub record AreRows (rows : Rows) : Type 0 where
   pub listed : AreFeaturesOf rows.collection rows.newest
   pub alike : AllByRecursion (λ (layer : LayerFeatures). layer.collection ≡ rows.collection) rows.earlier
@@ -78,6 +81,7 @@ pub record AreRows (rows : Rows) : Type 0 where
   pub newest_open : AllByRecursion (IsOpenRow rows.last) rows.newest
   pub earlier_ended : AllByRecursion (λ (layer : LayerFeatures). AllByRecursion (IsEndedRow rows.last) layer.features) rows.earlier
   pub in_turn : AllComeBefore rows.earlier rows.newest
+  pub few : row_count rows ≤ 18446744073709551615
 
 -- ---- after a revision
 

@@ -1,5 +1,7 @@
 -- Lemmas about the definitions, for the proofs of crates above. No contract cites them.
 pub mod ApartLemmas
+pub mod CollectionLemmas
+pub mod NewestLemmas
 pub mod RowLemmas
 pub mod TurnLemmas
 pub mod NextLemmas

@@ -15,7 +15,7 @@ use cad_schema::Collection;
 use std::alloc::{AllocError, Global};
 
 /// The most rows of a list: their positions are numbers of 32 bits.
-const MOST_ROWS: usize = 4_294_967_295;
+pub(crate) const MOST_ROWS: usize = 4_294_967_295;
 
 fn copy_values(alloc: Global, values: &[Value]) -> Result<Vec<Value>, AllocError>
     ensures { IfOk result (λ copies. map datum_of copies.items ≡ map datum_of values.now) }

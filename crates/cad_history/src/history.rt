@@ -1,11 +1,31 @@
 //! The features of a collection at every revision.
 
+ghost use Rattle.std.specs.Prelude.{◌≡◌, nat_le};
+ghost use Rattle.cad_history.specs.Rows.{row_count};
+ghost use Rattle.cad_history.specs.Lent.{rows_of};
+
 use crate::ending::{all_begun, all_ended, with_rows};
 use cad_feature::Feature;
 use cad_layer::Layer;
 use cad_schema::Collection;
 use std::alloc::{AllocError, Global};
 use std::marker::Model;
+
+/// Whether a counter of 64 bits holds the number of all rows.
+pub(crate) fn are_countable(newest: &Layer, earlier: &[Layer]) -> bool
+    ensures { result ≡ nat_le (row_count (rows_of newest.now earlier.now)) 18446744073709551615 }
+{
+    let mut count = newest.count();
+    let mut rest = earlier;
+    while let Some((layer, behind)) = rest.split_first() {
+        let Some(more) = count.checked_add(layer.count()) else {
+            return false;
+        };
+        count = more;
+        rest = behind;
+    }
+    true
+}
 
 /// The features of a collection at the newest revision and at all before it: the newest row of each version with its period, and earlier
 /// rows. Each list of earlier rows has at most one row of a version.
@@ -30,9 +50,9 @@ impl Model for History {
 }
 
 impl History {
-    ghost use Rattle.std.specs.Prelude.{◌≡◌, ◌<◌, [], IfOk};
+    ghost use Rattle.std.specs.Prelude.{◌≡◌, ℕ, ◌<◌, ◌≤◌, [], map, IfOk};
     ghost use Rattle.cad_feature.specs.Features.{AreFeaturesOf};
-    ghost use Rattle.cad_history.specs.Rows.{AreNext, AreRows};
+    ghost use Rattle.cad_history.specs.Rows.{AreNext, AreRows, bare, shown_at};
 
     /// A collection without features, before the first revision. An error means out of memory.
     pub fn new(alloc: Global, collection: Collection) -> Result<History, AllocError>
@@ -62,10 +82,11 @@ impl History {
         self.newest.collection()
     }
 
-    /// The newest rows.
+    /// The newest rows, which are the features at each revision from the last one on.
     pub fn newest(&self) -> &Layer
         ensures collection { result.now.collection ≡ self.now.collection }
         ensures rows { result.now.features ≡ self.now.newest }
+        ensures shown { (revision : ℕ) → self.now.last ≤ revision → revision < 4294967295 → shown_at revision self.now ≡ map bare result.now.features }
     {
         &self.newest
     }
@@ -101,6 +122,9 @@ impl History {
         let earlier = with_rows(alloc, &self.earlier, rows, collection)?;
         let begun = all_begun(alloc, touched, revision)?;
         let newest = self.newest.with(alloc, begun)?;
+        if !are_countable(&newest, &earlier) {
+            return Err(AllocError);
+        }
         Ok(History::of_layers(newest, earlier, revision))
     }
 }

@@ -3,22 +3,22 @@
 use cad_desk::{DeskFault, Event, Reply};
 use cad_server::Server;
 use cad_stream::Responder;
-use cad_versions::Ledger;
+use cad_versions::HistoryLedger;
 use std::alloc::Global;
 
-/// Many connections and one land office over a register. Here a register is any ledger of commands.
-pub struct Desk<L: Ledger> {
+/// Many connections and one land office over a register. Here a register is any ledger of commands that gives its stored versions.
+pub struct Desk<L: HistoryLedger> {
     /// The connections, with the server that answers their requests: `serve` and `listen` are called on these.
     pub connections: cad_desk::Desk<Server<L>>,
 }
 
-impl<L: Ledger + Drop> Drop for Desk<L> {
+impl<L: HistoryLedger + Drop> Drop for Desk<L> {
     fn drop(self) {
         let Desk { connections: _ } = self;
     }
 }
 
-impl<L: Ledger> Desk<L> {
+impl<L: HistoryLedger> Desk<L> {
     ghost use Rattle.std.specs.Prelude.{◌≡◌, List, IfOk, IfErr};
     ghost use Rattle.cad_versions.specs.declared.command.Command.{Command as CommandOf};
     ghost use Rattle.cad_desk.specs.Desks.{responder_of, Steps};

@@ -27,7 +27,7 @@ use cad_server::Server;
 pub use cad_server::laws::requests_have_one_reply;
 use cad_snapshot::registers::{accepted_are_few, accepted_are_listed};
 use cad_stream::Responder;
-use cad_versions::Ledger;
+use cad_versions::HistoryLedger;
 use cad_versions::laws::revisions_stay;
 
 /// The features that come after the one that is named take as many pages as their number requires.
@@ -62,7 +62,7 @@ pub fn runs_keep_accepted<R: Responder>()
 
 /// What goes out to a connection of the server, from its opening on, is a reply to each of its requests, one after the
 /// other, while the commands in force only grow.
-pub fn connections_are_visits<L: Ledger>()
+pub fn connections_are_visits<L: HistoryLedger>()
     ensures { ConnectionsAreVisits (rules_of ⟦<Server<L> as Responder>⟧) }
 {
     connections_are_their_own::<Server<L>>();
@@ -70,7 +70,7 @@ pub fn connections_are_visits<L: Ledger>()
 
 /// In any run of a desk over the server, the pages of a walk, joined, are the whole answer of the revision that its first request asks for.
 /// It does not matter on which connections its requests come, in which pieces, or what others and the office do between them.
-pub fn walks_in_runs_show_the_answer<L: Ledger>()
+pub fn walks_in_runs_show_the_answer<L: HistoryLedger>()
     ensures { WalksInRunsShowTheAnswer (rules_of ⟦<Server<L> as Responder>⟧) }
 {
     walks_show_the_answer();
@@ -79,7 +79,7 @@ pub fn walks_in_runs_show_the_answer<L: Ledger>()
 
 /// The answers of a desk over the server to events, one after the other, are a run, and the pages of a walk in it, joined, are the whole
 /// answer. No premise says that the commands were accepted: a ledger holds no others.
-pub fn walks_of_desks_show_the_answer<L: Ledger>()
+pub fn walks_of_desks_show_the_answer<L: HistoryLedger>()
     ensures { WalksOfDesksShowTheAnswer ⟦<Server<L> as Responder>⟧ }
 {
     steps_are_a_run::<Server<L>>();
@@ -94,7 +94,7 @@ pub fn restarts_keep_accepted<R: Responder>()
 
 /// What goes out to a connection, from its opening on and until the server is stopped, is a reply to each of its requests,
 /// one after the other, while the commands in force only grow.
-pub fn connections_among_restarts_are_visits<L: Ledger>()
+pub fn connections_among_restarts_are_visits<L: HistoryLedger>()
     ensures { ConnectionsAmongRestartsAreVisits (rules_of ⟦<Server<L> as Responder>⟧) }
 {
     connections_are_visits::<L>();
@@ -102,7 +102,7 @@ pub fn connections_among_restarts_are_visits<L: Ledger>()
 
 /// The pages of a walk, joined, are the whole answer of the revision that its first request asks for. It does not matter on which
 /// connections its requests come, or how often the server is stopped and started between them.
-pub fn walks_among_restarts_show_the_answer<L: Ledger>()
+pub fn walks_among_restarts_show_the_answer<L: HistoryLedger>()
     ensures { WalksAmongRestartsShowTheAnswer (rules_of ⟦<Server<L> as Responder>⟧) }
 {
     walks_show_the_answer();
@@ -110,7 +110,7 @@ pub fn walks_among_restarts_show_the_answer<L: Ledger>()
 }
 
 /// The same holds from a start on at which a ledger holds the commands that the start finds.
-pub fn walks_of_desks_among_restarts_show_the_answer<L: Ledger>()
+pub fn walks_of_desks_among_restarts_show_the_answer<L: HistoryLedger>()
     ensures { WalksOfDesksAmongRestartsShowTheAnswer ⟦<Server<L> as Responder>⟧ }
 {
     walks_among_restarts_show_the_answer::<L>();

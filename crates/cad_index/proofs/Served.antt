@@ -257,5 +257,13 @@ module _ (collection : Collection) (xs : List Item) (listed : AreFeaturesOf coll
   pub high_misfit : (o : Column) (low high : Edge) → Some o ≡ ordered_in (index_at indexes.properties.items place) → ¬ (IsEdgeOf o.kind high) → [] ≡ range_positions (column place xs) (limit_of low) (limit_of high)
   high_misfit o low high e other = no_positions place xs (limit_of low) (limit_of high) (λ k d h. high_apart o.kind low high _ (order_of (Some o) e k d h) other)
 
+  blocks_of : (g : Option (List (Option Block))) → g ≡ grid_in (index_at indexes.properties.items place) → IsGridOf g place xs
+  blocks_of g e =
+      let all : IsGridOf (grid_in (index_at (indexes_of collection xs) place)) place xs = rw start at (grid_from (schema_of collection) 0 place xs) in
+      subst (λ c. IsGridOf c place xs) (sym (e ∙ ap (λ is. grid_in (index_at is place)) made.properties)) all
+
+  pub with_grid : (g : List (Option Block)) (asked : Block) → Some g ≡ grid_in (index_at indexes.properties.items place) → near_positions g asked ≡ near_positions (blocks_at place xs) asked
+  with_grid g asked e = ap (λ bs. near_positions bs asked) (blocks_of (Some g) e)
+
   pub without_grid : (asked : Block) → None ≡ grid_in (index_at indexes.properties.items place) → [] ≡ near_positions (blocks_at place xs) asked
   without_grid asked e = no_near place xs asked (shape_of None e)

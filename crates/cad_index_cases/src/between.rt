@@ -8,7 +8,7 @@ use cad_schema::{Collection, PropertyKind, schema};
 use std::alloc::{AllocError, Global};
 
 /// The range of the property at the place that the words name.
-fn range(
+pub(crate) fn range(
     alloc: Global,
     place: usize,
     kind: PropertyKind,

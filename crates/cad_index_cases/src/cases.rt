@@ -6,6 +6,7 @@ ghost use Rattle.cad_feature.specs.Features.{AreFeaturesOf};
 ghost use Rattle.cad_ordered.specs.Edges.{IsEdgeOf};
 
 use crate::between::put_extents;
+use crate::counts::counts_answer;
 use crate::histories::history_answer;
 use crate::layers::layer_answer;
 use crate::parcels::{Parcel, bare, features};
@@ -196,6 +197,9 @@ fn read_answer(alloc: Global, line: &str) -> Result<Option<String>> {
     }
     if property == "history" {
         return history_answer(alloc, words, asked);
+    }
+    if property == "counts" {
+        return counts_answer(alloc, words, asked);
     }
     let Some((place, kind)) = find_property(Collection::Parcels, property) else {
         return Ok(None);

@@ -13,25 +13,31 @@ use cad_schema::{Collection, find_property};
 use cad_versions::ObjectId;
 use std::alloc::Global;
 
-/// The history after a revision gave the first parcels these labels.
-fn after(alloc: Global, history: &History, revision: u32, labels: &str) -> Result<History>
+/// The history after a revision gave the first parcels these values of the property.
+fn after(
+    alloc: Global,
+    history: &History,
+    revision: u32,
+    property: &str,
+    values: &str,
+) -> Result<History>
     requires { history.now.collection ≡ Parcels }
     ensures { IfOk result (λ next. next.collection ≡ Parcels) }
 {
     if revision <= history.last() || revision == u32::MAX {
         bail!("no later revision");
     }
-    let touched = features(alloc, parcels(alloc, "label", labels)?)?;
+    let touched = features(alloc, parcels(alloc, property, values)?)?;
     Ok(history.next(alloc, revision, touched)?)
 }
 
-/// The history after the revisions 1, 2 and so on, each with the labels that it gives the first parcels.
-fn history(alloc: Global, lists: &str) -> Result<History>
+/// The history after the revisions 1, 2 and so on, each with the values of the property that it gives the first parcels.
+pub fn history(alloc: Global, property: &str, lists: &str) -> Result<History>
     ensures { IfOk result (λ history. history.collection ≡ Parcels) }
 {
     let mut history = History::new(alloc, Collection::Parcels)?;
-    for (revision, labels) in (1..u32::MAX).zip(lists.split('/')) {
-        history = after(alloc, &history, revision, labels)?;
+    for (revision, values) in (1..u32::MAX).zip(lists.split('/')) {
+        history = after(alloc, &history, revision, property, values)?;
     }
     Ok(history)
 }
@@ -59,7 +65,7 @@ pub fn history_answer(alloc: Global, lists: &str, revisions: &str) -> Result<Opt
     let Some((place, _)) = find_property(Collection::Parcels, "label") else {
         return Ok(None);
     };
-    let history = history(alloc, lists)?;
+    let history = history(alloc, "label", lists)?;
     let mut answer = String::new(alloc);
     for word in revisions.split_whitespace() {
         let Ok(revision) = word.parse() else {

@@ -68,7 +68,7 @@ fn put_labels(told: &mut String, features: &[Feature], place: usize) -> Result<(
     Ok(())
 }
 
-/// The labels of the layer's parcels, how many it counts, in how many segments, whether new bases are due, and what was spent on it.
+/// The labels of the layer's parcels, how many it counts, in how many segments, and whether new bases are due.
 fn put_layer(
     alloc: Global,
     told: &mut String,
@@ -85,12 +85,7 @@ fn put_layer(
         "due"
     };
     let segments = layer.segments().len();
-    write!(
-        told,
-        "count {} in {segments} {state} spent {}",
-        layer.count(),
-        layer.spent()
-    )
+    write!(told, "count {} in {segments} {state}", layer.count())
 }
 
 /// What is printed for the layer, and for the same over new bases.

@@ -6,12 +6,15 @@
 //!   tested by their ranks, their number, and what the extents show
 //! - `layer LABEL LABEL .. ? SIZE TIMES MOST LABEL LABEL ..`: the labels of parcels in segments of that size, into which those with the
 //!   labels after the numbers are merged so many times (a `/` separates the labels of several lists, which are merged in one after the
-//!   other), how many they are and in how many segments, whether new bases are due at the given most changes (`settled` or `due`), and what
-//!   was spent: how many features were put into indexes, and what takes as much; then the same over new bases
+//!   other), how many they are and in how many segments, and whether new bases are due at the given most changes (`settled` or `due`); then
+//!   the same over new bases
 //!
 //! - `history LABEL LABEL / LABEL .. ? REVISION REVISION ..`: what is shown at each of these revisions of the labels of the parcels 1, 2 and
 //!   so on, up to the first that is not there, if revision 1 enters the parcels with the first list of labels, and each revision after it
 //!   gives the first parcels the labels of the next list
+//! - `counts PROPERTY VALUE VALUE / VALUE .. ? REVISION REVISION .. ? LOW HIGH`, or with `X,Y,X,Y` behind the second `?`: how many parcels
+//!   there are at each of these revisions, and how many of them have a value in the range, or are near the box, if revision 1 enters the
+//!   parcels with the first list of values, and each revision after it gives the first parcels the values of the next list
 //!
 //! The values are those of parcels at the positions 0, 1 and so on, `-` if one has none: `X,Y,X,Y` is a rectangle by its least and greatest
 //! corner, `X,Y` a point, `2001-01-01` a day; a label has no blank. An end is `free`, `with:VALUE` or `without:VALUE`. A line that is not
@@ -20,6 +23,7 @@
 
 mod between;
 mod cases;
+mod counts;
 mod histories;
 mod layers;
 mod parcels;

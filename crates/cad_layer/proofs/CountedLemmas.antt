@@ -6,12 +6,9 @@ use Rattle.cad_feature.specs.Features.{Item, by_identifier}
 use Rattle.cad_lookup.specs.Ways.{how_many}
 use Rattle.cad_layer.specs.lemmas.CountLemmas.{counted_by, merged_counted}
 use Rattle.cad_layer.specs.lemmas.ItemLemmas.{items_total}
+use Rattle.cad_layer.specs.lemmas.MomentLemmas.{each_counted}
 use Rattle.cad_layer.specs.inner.Replaced.{replaced_in}
 use Rattle.cad_layer.specs.Walks.{all_in, IsInOrder}
-
-all_pass : (xs : List Item) → how_many (λ x. true) xs ≡ length xs
-all_pass [] = refl
-all_pass (x ∷ xs) = omega (arith, all_pass xs)
 
 -- no more than there are
 pub no_more : (test : Item → Bool) (xs : List Item) → how_many test xs ≤ length xs
@@ -27,7 +24,7 @@ module _ (base changes replaced : List Item) (up : IsInOrder base changes) (is :
 
   pub merged_length : length (all_in base changes) + length replaced ≡ length base + length changes
   merged_length =
-      ap₂ (λ m n. m + n) (sym (all_pass (all_in base changes))) (sym (all_pass replaced)) ∙ merged_count (λ x. true) ∙ ap₂ (λ m n. m + n) (all_pass base) (all_pass changes)
+      ap₂ (λ m n. m + n) (sym (each_counted (all_in base changes))) (sym (each_counted replaced)) ∙ merged_count (λ x. true) ∙ ap₂ (λ m n. m + n) (each_counted base) (each_counted changes)
 
 -- where none passes
 pub none_counted : (test : Item → Bool) (xs : List Item) → AllByRecursion (λ x. test x ≡ false) xs → 0 ≡ how_many test xs

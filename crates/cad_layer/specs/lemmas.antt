@@ -6,5 +6,6 @@ pub mod ItemLemmas
 pub mod ListedLemmas
 pub mod LookupLemmas
 pub mod MergeLemmas
+pub mod MomentLemmas
 pub mod SearchLemmas
 pub mod SegmentLemmas

@@ -6,6 +6,7 @@ ghost use Rattle.cad_grid.specs.Blocks.{block_of};
 ghost use Rattle.cad_grid.specs.Counted.{block_at};
 ghost use Rattle.cad_grid.specs.Near.{is_candidate};
 ghost use Rattle.cad_extents.specs.Extents.{IsWithin};
+ghost use Rattle.cad_index.specs.Moments.{rows_at};
 
 use cad_extents::Extents;
 use cad_feature::{Feature, Range};
@@ -32,6 +33,41 @@ pub(crate) trait Criterion {
         ensures { result ≡ length (filter (passes self.now) base.now.features) };
 }
 
+/// A criterion by which the features at a revision are counted, too.
+pub(crate) trait CriterionAt: Criterion {
+    /// How many features of the base that have their values at the revision meet it. No memory is taken.
+    fn count_in_at(&self, base: &Base, revision: u64) -> u64
+        ensures { result ≡ length (filter (Self.passes self.now) (rows_at revision base.now.features)) };
+}
+
+/// Each feature meets it.
+#[derive(Clone, Copy)]
+pub(crate) struct AnyFeature;
+
+impl Criterion for AnyFeature {
+    ghost use Rattle.std.specs.Prelude.{true};
+
+    ghost passes = { λ t x. true };
+
+    fn is_met_by(&self, _feature: &Feature) -> bool {
+        true
+    }
+
+    fn may_be_met_in(&self, _extents: &Extents) -> bool {
+        true
+    }
+
+    fn count_in(&self, base: &Base) -> u64 {
+        base.features().len() as u64
+    }
+}
+
+impl CriterionAt for AnyFeature {
+    fn count_in_at(&self, base: &Base, revision: u64) -> u64 {
+        base.count_at(revision)
+    }
+}
+
 /// A value in the range.
 #[derive(Clone, Copy)]
 pub(crate) struct InRange<'a> {
@@ -53,6 +89,12 @@ impl Criterion for InRange<'_> {
 
     fn count_in(&self, base: &Base) -> u64 {
         base.count_in(self.range)
+    }
+}
+
+impl CriterionAt for InRange<'_> {
+    fn count_in_at(&self, base: &Base, revision: u64) -> u64 {
+        base.count_in_at(self.range, revision)
     }
 }
 
@@ -116,5 +158,11 @@ impl Criterion for NearCells {
 
     fn count_in(&self, base: &Base) -> u64 {
         base.count_near(self.property, self.bounds)
+    }
+}
+
+impl CriterionAt for NearCells {
+    fn count_in_at(&self, base: &Base, revision: u64) -> u64 {
+        base.count_near_at(self.property, self.bounds, revision)
     }
 }

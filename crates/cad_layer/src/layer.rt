@@ -2,16 +2,13 @@
 
 ghost use Rattle.std.specs.Prelude.{◌≡◌, IfOk};
 
-use crate::criterion::{InRange, NearCells};
+use crate::criterion::{AnyFeature, InRange, NearCells};
 use crate::cutting::cut;
 use crate::indexed::MOST_FEATURES;
-use crate::renewing::{
-    Due, all_features, change_count, fullest_of, greatest_base, renewed, spent_on,
-};
+use crate::renewing::{Due, all_features, change_count, fullest_of, greatest_base, renewed};
 use crate::searching::segment_of;
-use crate::segment::ENTRIES_FOR_A_FEATURE;
 use crate::spreading::spread;
-use crate::summing::{count_all, length_of_all};
+use crate::summing::{count_all, count_all_at, length_of_all};
 use crate::{Segment, Walk};
 use cad_feature::{Feature, Range};
 use cad_schema::Collection;
@@ -47,8 +44,6 @@ pub struct Layer {
     count: u64,
     /// The number of features of which a segment is cut.
     of_a_segment: usize,
-    /// What was spent on it since it was built, except what its segments report.
-    spent: usize,
 }
 
 fn share(alloc: Global, segments: Vec<Segment>) -> Result<Rc<Vec<Segment>>, AllocError>
@@ -86,6 +81,7 @@ impl Layer {
     ghost use Rattle.cad_feature.specs.Limits.{limit_of};
     ghost use Rattle.cad_lookup.specs.Ways.{counts_of};
     ghost use Rattle.cad_layer.specs.Identifiers.{identifier, of_object, IsTheOne};
+    ghost use Rattle.cad_index.specs.Moments.{rows_at};
     ghost use Rattle.cad_layer.specs.Segments.{joined};
     ghost use Rattle.cad_layer.specs.Walks.{all_in};
 
@@ -121,7 +117,6 @@ impl Layer {
             segments,
             count,
             of_a_segment,
-            spent: 0,
         })
     }
 
@@ -158,7 +153,6 @@ impl Layer {
         }
         let most_recent = (self.of_a_segment / FEATURES_FOR_A_RECENT).min(MOST_RECENT);
         let segments = listed(&self.segments);
-        let written = segments.len() / ENTRIES_FOR_A_FEATURE;
         let segments = spread(alloc, segments, touched, self.collection, most_recent)?;
         let Some(count) = length_of_all(&segments) else {
             return Err(AllocError);
@@ -169,7 +163,6 @@ impl Layer {
             segments,
             count,
             of_a_segment: self.of_a_segment,
-            spent: self.spent.saturating_add(written),
         })
     }
 
@@ -183,18 +176,12 @@ impl Layer {
             segments,
             count: self.count,
             of_a_segment: self.of_a_segment,
-            spent: self.spent,
         })
     }
 
     /// Whether no new base is due: all segments together have no more changes than `most`.
     pub fn is_settled(&self, most: usize) -> bool {
         change_count(listed(&self.segments)) <= most
-    }
-
-    /// How many features were put into indexes since it was built, and work of the same cost: revisions that it follows may keep as much.
-    pub fn spent(&self) -> usize {
-        self.spent.saturating_add(spent_on(listed(&self.segments)))
     }
 
     /// The same features, with new bases for the segment that has the most changes, and for those that have more than a quarter of
@@ -217,7 +204,6 @@ impl Layer {
             segments,
             count: self.count,
             of_a_segment: self.of_a_segment,
-            spent: self.spent,
         })
     }
 
@@ -226,19 +212,10 @@ impl Layer {
         ensures { IfOk result (λ layer. layer ≡ self.now) }
     {
         let features = self.features(alloc)?;
-        let count = features.len();
-        if count > MOST_FEATURES {
+        if features.len() > MOST_FEATURES {
             return self.copy();
         }
-        let segments = cut(alloc, features, self.collection, self.of_a_segment)?;
-        let segments = share(alloc, segments)?;
-        Ok(Layer {
-            collection: self.collection,
-            segments,
-            count: self.count,
-            of_a_segment: self.of_a_segment,
-            spent: self.spent().saturating_add(count),
-        })
+        Layer::in_segments(alloc, features, self.collection, self.of_a_segment)
     }
 
     /// The feature that is the version of that object with that number. No memory is taken.
@@ -281,5 +258,28 @@ impl Layer {
     {
         let near = NearCells::to(property, bounds);
         count_all(listed(&self.segments), &near, self.count)
+    }
+
+    /// How many features have their values at the revision. No memory is taken.
+    pub fn count_at(&self, revision: u64) -> u64
+        ensures { result ≡ length (rows_at revision self.now.features) }
+    {
+        count_all_at(listed(&self.segments), &AnyFeature, revision, self.count)
+    }
+
+    /// How many of the features that have their values at the revision have a value in the range. No memory is taken.
+    pub fn count_in_at(&self, range: &Range, revision: u64) -> u64
+        ensures { result ≡ (counts_of (rows_at revision self.now.features)).between range.now.property (limit_of range.now.low) (limit_of range.now.high) }
+    {
+        let in_range = InRange { range };
+        count_all_at(listed(&self.segments), &in_range, revision, self.count)
+    }
+
+    /// How many of the features that have their values at the revision are near the box. No memory is taken.
+    pub fn count_near_at(&self, property: usize, bounds: Bounds, revision: u64) -> u64
+        ensures { result ≡ (counts_of (rows_at revision self.now.features)).near property (block_of bounds) }
+    {
+        let near_cells = NearCells::to(property, bounds);
+        count_all_at(listed(&self.segments), &near_cells, revision, self.count)
     }
 }

@@ -28,6 +28,7 @@ mod indexed;
 pub mod laws;
 mod layer;
 mod merging;
+mod moment;
 mod placed;
 mod recent;
 mod renewing;

@@ -94,12 +94,3 @@ pub(crate) fn all_features(alloc: Global, segments: &[Segment]) -> Result<Vec<Fe
     }
     Ok(all)
 }
-
-/// How many features they have put into indexes, and work of the same cost.
-pub(crate) fn spent_on(segments: &[Segment]) -> usize {
-    let mut spent: usize = 0;
-    for segment in segments {
-        spent = spent.saturating_add(segment.spent());
-    }
-    spent
-}

@@ -20,9 +20,6 @@ use std::alloc::{AllocError, Global};
 use std::marker::Model;
 use std::rc::Rc;
 
-/// This many entries of lists that are written anew cost as much as one feature that is put into an index.
-pub(crate) const ENTRIES_FOR_A_FEATURE: usize = 16;
-
 /// The features of a collection at a revision that are of the objects from a number on, up to where the next segment starts: those that
 /// are in indexes, which other revisions share, and recent changes to them.
 ///
@@ -32,8 +29,6 @@ pub struct Segment {
     start: u32,
     indexed: Rc<Indexed>,
     recent: Rc<Recent>,
-    /// How many features it has put into indexes, and work of the same cost.
-    spent: usize,
 }
 
 /// The indexed features that are shared.
@@ -79,7 +74,6 @@ impl Segment {
         start: u32,
         indexed: Rc<Indexed>,
         recent: Recent,
-        spent: usize,
     ) -> Result<Segment, AllocError>
         requires { AreRecent indexed.value recent }
         ensures { IfOk result (λ segment. segment ≡ record { start = start; collection = indexed.value.collection; features = all_in indexed.value.features recent.changes.items }) }
@@ -89,7 +83,6 @@ impl Segment {
             start,
             indexed,
             recent,
-            spent,
         })
     }
 
@@ -99,7 +92,6 @@ impl Segment {
         start: u32,
         indexed: Indexed,
         extents: Extents,
-        spent: usize,
     ) -> Result<Segment, AllocError>
         requires listed { AreFeaturesOf indexed.collection indexed.features }
         requires within { AllByRecursion (IsWithin extents) indexed.features }
@@ -107,7 +99,7 @@ impl Segment {
     {
         let indexed = Rc::new(alloc, indexed)?;
         let recent = Recent::none(alloc, extents);
-        Segment::of(alloc, start, indexed, recent, spent)
+        Segment::of(alloc, start, indexed, recent)
     }
 
     /// These features with the changes to them, which get indexes too.
@@ -116,15 +108,12 @@ impl Segment {
         start: u32,
         indexed: &Indexed,
         recent: Recent,
-        spent: usize,
     ) -> Result<Segment, AllocError>
         requires { AreRecent indexed.now recent }
         ensures { IfOk result (λ segment. segment ≡ record { start = start; collection = indexed.now.collection; features = all_in indexed.now.features recent.changes.items }) }
     {
         let indexed = indexed.with(alloc, &recent.changes)?;
-        // The older changes have new indexes, and so may have the features that they replace.
-        let spent = spent.saturating_add(indexed.older_count().saturating_mul(2));
-        Segment::without_changes(alloc, start, indexed, recent.extents, spent)
+        Segment::without_changes(alloc, start, indexed, recent.extents)
     }
 
     /// These features of the collection, without changes. An error means out of memory.
@@ -138,24 +127,9 @@ impl Segment {
         requires listed { AreFeaturesOf collection features.items }
         ensures { IfOk result (λ segment. segment ≡ record { start = start; collection = collection; features = features.items }) }
     {
-        Segment::over(alloc, features, collection, start, 0)
-    }
-
-    /// The same, with the cost that was spent before.
-    fn over(
-        alloc: Global,
-        features: Vec<Feature>,
-        collection: Collection,
-        start: u32,
-        spent: usize,
-    ) -> Result<Segment, AllocError>
-        requires small { length features.items ≤ 4294967295 }
-        requires listed { AreFeaturesOf collection features.items }
-        ensures { IfOk result (λ segment. segment ≡ record { start = start; collection = collection; features = features.items }) }
-    {
         let extents = Extents::of(alloc, &features, schema(collection).len())?;
         let indexed = Indexed::build(alloc, features, collection)?;
-        Segment::without_changes(alloc, start, indexed, extents, spent)
+        Segment::without_changes(alloc, start, indexed, extents)
     }
 
     /// The number from which on it has objects.
@@ -188,17 +162,13 @@ impl Segment {
         if touched.is_empty() {
             return self.copy();
         }
-        let written = touched
-            .len()
-            .saturating_add(most_recent / ENTRIES_FOR_A_FEATURE);
-        let spent = self.spent.saturating_add(written);
         let indexed = shared(&self.indexed);
         let recent = recent_of(&self.recent).with(alloc, indexed, touched)?;
         if recent.changes.len() > most_recent {
-            return Segment::indexed_with(alloc, self.start, indexed, recent, spent);
+            return Segment::indexed_with(alloc, self.start, indexed, recent);
         }
         let indexed = self.indexed.clone()?;
-        Segment::of(alloc, self.start, indexed, recent, spent)
+        Segment::of(alloc, self.start, indexed, recent)
     }
 
     /// The same features: all is shared. An error means that too many share it.
@@ -211,7 +181,6 @@ impl Segment {
             start: self.start,
             indexed,
             recent,
-            spent: self.spent,
         })
     }
 
@@ -226,11 +195,6 @@ impl Segment {
         shared(&self.indexed).base_count()
     }
 
-    /// How many features it has put into indexes, and work of the same cost.
-    pub(crate) fn spent(&self) -> usize {
-        self.spent
-    }
-
     /// The same features over a base of their own, if a base can hold them. An error means out of memory.
     pub(crate) fn rebased(&self, alloc: Global) -> Result<Segment, AllocError>
         ensures { IfOk result (λ segment. segment ≡ self.now) }
@@ -241,8 +205,7 @@ impl Segment {
             return self.copy();
         }
         let collection = shared(&self.indexed).collection();
-        let spent = self.spent.saturating_add(features.len());
-        Segment::over(alloc, features, collection, self.start, spent)
+        Segment::build(alloc, features, collection, self.start)
     }
 
     /// The feature that is the version of that object with that number. No memory is taken.

@@ -33,7 +33,7 @@ distinct-filter e p [] h = tt
 distinct-filter e p (x ∷ xs) h =
     elim (p x) as (λ b. IsDistinct e (cond b (x ∷ filter p xs) (filter p xs))) [ true ↦ (all_filtered (λ y. e x y ≡ false) p xs h.0, distinct-filter e p xs h.1) | false ↦ distinct-filter e p xs h.1 ]
 
-distinct_by : {A X : Type 0} (e : X → X → Bool) (f : A → X) (xs : List A) → IsDistinct e (map f xs) → IsDistinct (λ a b. e (f a) (f b)) xs
+pub distinct_by : {A X : Type 0} (e : X → X → Bool) (f : A → X) (xs : List A) → IsDistinct e (map f xs) → IsDistinct (λ a b. e (f a) (f b)) xs
 unfolding IsDistinct
 distinct_by e f [] h = tt
 distinct_by {A} e f (x ∷ xs) h = (go xs h.0, distinct_by e f xs h.1)

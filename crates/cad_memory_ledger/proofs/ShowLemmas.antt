@@ -2,22 +2,24 @@
 use Rattle.std.proofs.Common.{◌≡◌, ℕ, suc, ◌+◌, ◌<◌, pos, true, false, cond, List, [], ◌∷◌, ◌++◌, length, map, refl, sym, ap, ◌∙◌, subst, arith, get_or, drop, append_assoc, Ordering, int_cmp, int_le, nat_cmp, IsPermutation, IsSorted}
 use Rattle.std.specs.List.{All}
 use Rattle.std.specs.List.Sorted.{IsSortedByKey}
-use Rattle.std.specs.Ordering.{ordering_then}
+use Rattle.std.specs.Ordering.{ordering_then, eq_by_cmp}
 use Rattle.std.proofs.lemmas.Int.{ints}
 use Rattle.std.proofs.Math.Seq.{drop-cons}
-use Rattle.std.proofs.lemmas.List.{length-map}
+use Rattle.std.proofs.lemmas.List.{length-map, map-append}
 use Rattle.std.proofs.lemmas.List.Elements.{All-push}
-use Rattle.cad_versions.specs.lemmas.ListLemmas.{filter_fewer}
+use Rattle.cad_versions.specs.lemmas.ListLemmas.{filter_fewer, sort_by-map}
 use Rattle.cad_versions.specs.Objects.{object_number}
 use Rattle.cad_versions.specs.VersionedObject.{VersionedObject, IsVersion}
-use Rattle.cad_versions.specs.Entries.{Entry, entries_at, seen_at}
+use Rattle.cad_versions.specs.AsOf.{entry_order}
+use Rattle.cad_versions.specs.Entries.{Entry, version_in, entries_at, seen_at}
 use Rattle.cad_versions.specs.Sorting.{sort_by}
 use Rattle.cad_versions.specs.Identifiers.{by_identifier}
 use Rattle.cad_versions.specs.Listing.{IsListing}
-use Rattle.cad_versions.specs.lemmas.OrderLemmas.{versions_total}
+use Rattle.cad_versions.specs.lemmas.OrderLemmas.{versions_total, identifiers_apart}
+use Rattle.cad_versions.specs.lemmas.SeenLemmas.{entries_total}
 use Rattle.cad_versions.specs.lemmas.SortLemmas.{sorted_is, sort_rises, length-sort_by}
 use Rattle.cad_memory_ledger.specs.inner.Plain.{AreHistories, AreApart}
-use Rattle.cad_memory_ledger.proofs.PlainLemmas.{seen_apart}
+use Rattle.cad_memory_ledger.proofs.PlainLemmas.{seen_apart, distinct_by}
 
 -- ---- the order of identifiers
 
@@ -66,3 +68,24 @@ shown_more r ls i l whole found more within is so_far added =
     let count : suc i ≡ i + 1 = omega arith in
     let next : drop i ls ≡ l ∷ drop (i + 1) ls = subst (λ n. drop i ls ≡ l ∷ drop n ls) count (drop-cons ls i l within ∙ ap (λ x. x ∷ drop (suc i) ls) (sym is)) in
     so_far ∙ ap (λ xs. found ++ shown r xs) next ∙ ap (λ xs. found ++ xs) (shown_first r l (drop (i + 1) ls)) ∙ sym (append_assoc found (shown r (l ∷ [])) (shown r (drop (i + 1) ls))) ∙ ap (λ xs. xs ++ shown r (drop (i + 1) ls)) (sym added)
+
+-- ---- all entries
+
+abbrev pub key_of_entry : Entry → ℕ × ℕ
+key_of_entry e = key_of (version_in e)
+
+sorted_by_entry_key : (es : List Entry) → IsSortedByKey key_of_entry key_cmp es → IsSorted entry_order es
+sorted_by_entry_key es sorted k d p q = rw (← keys_same _ _) (sorted k d p q)
+
+pub entries_in_order_are : (xs ys : List Entry) → AreApart (map version_in xs) → IsPermutation xs ys → IsSortedByKey key_of_entry key_cmp ys → ys ≡ sort_by entry_order xs
+entries_in_order_are xs ys apart same sorted = sorted_is entry_order entries_total xs ys (distinct_by (eq_by_cmp by_identifier) version_in xs apart) same (sorted_by_entry_key ys sorted)
+
+pub all_listed : (ls found : List Entry) → AreHistories ls → found ≡ sort_by entry_order ls → All IsVersion (map version_in found) → IsListing (map version_in found)
+all_listed ls found all e each = record {
+  ascending = rw (e, ← sort_by-map by_identifier version_in ls) (sort_rises by_identifier versions_total (map version_in ls) (identifiers_apart (map version_in ls) all.histories));
+  few = rw e (omega (arith, all.few, length-map (sort_by entry_order ls) version_in, length-sort_by entry_order ls));
+  each = each;
+}
+
+pub sound_more : (found more : List Entry) (copy : Entry) → more ≡ found ++ copy ∷ [] → All IsVersion (map version_in found) → IsVersion (version_in copy) → All IsVersion (map version_in more)
+sound_more found more copy added all one = subst (λ es. All IsVersion (map version_in es)) (sym added) (subst (All IsVersion) (sym (map-append version_in found (copy ∷ []))) (All-push IsVersion (map version_in found) (version_in copy) all one))

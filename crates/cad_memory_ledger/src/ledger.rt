@@ -3,7 +3,9 @@
 use crate::entering::enact;
 use crate::reading::MemoryReading;
 use crate::versions::StoredVersions;
-use cad_versions::{Command, JournalLedger, Ledger, RegisterFault, Version};
+use cad_versions::{
+    Command, HistoryLedger, JournalLedger, Ledger, RegisterFault, StoredVersion, Version,
+};
 use std::alloc::Global;
 
 /// A ledger in memory. The only fault of its own is `Memory`.
@@ -147,4 +149,11 @@ impl JournalLedger for MemoryLedger {
     }
 
     fn readings_stay() {}
+}
+
+impl HistoryLedger for MemoryLedger {
+    fn stored_versions(&mut self) -> Result<Vec<StoredVersion>, RegisterFault> {
+        let found = self.versions.all(self.alloc)?;
+        Ok(found)
+    }
 }

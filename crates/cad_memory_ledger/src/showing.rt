@@ -4,7 +4,8 @@ ghost use Rattle.std.specs.Prelude.{◌≡◌, ◌∷◌, [], ◌++◌, map, IfO
 ghost use Rattle.std.specs.List.{All};
 ghost use Rattle.std.specs.List.Sorted.{IsPermutation};
 ghost use Rattle.cad_versions.specs.VersionedObject.{IsVersion};
-ghost use Rattle.cad_versions.specs.Entries.{entries_at, seen_at as seen};
+ghost use Rattle.cad_versions.specs.AsOf.{entry_order};
+ghost use Rattle.cad_versions.specs.Entries.{version_in, entries_at, seen_at as seen};
 ghost use Rattle.cad_versions.specs.Sorting.{sort_by};
 ghost use Rattle.cad_versions.specs.Identifiers.{by_identifier};
 ghost use Rattle.cad_memory_ledger.specs.inner.Plain.{AreApart};
@@ -55,5 +56,33 @@ pub(crate) fn in_order(versions: &mut Vec<Version>) -> Result<(), AllocError>
     ensures same { IsPermutation versions.old.items versions.new.items }
 {
     versions.sort_by_key(|version| (version.object.number(), version.number))?;
+    Ok(())
+}
+
+/// Copies of all versions.
+pub(crate) fn copies(
+    alloc: Global,
+    versions: &[StoredVersion],
+) -> Result<Vec<cad_versions::StoredVersion>, AllocError>
+    ensures same { IfOk result (λ found. found.items ≡ versions.now) }
+    ensures sound { IfOk result (λ found. All IsVersion (map version_in found.items)) }
+{
+    let mut found = Vec::with_capacity(alloc, versions.len())?;
+    for version in versions {
+        let copy = version.copy(alloc)?;
+        found.push(copy)?;
+    }
+    Ok(found)
+}
+
+/// Sorts stored versions with different identifiers by identifier.
+pub(crate) fn entries_in_order(
+    entries: &mut Vec<cad_versions::StoredVersion>,
+) -> Result<(), AllocError>
+    requires { AreApart (map version_in entries.now.items) }
+    ensures sorted { OnOk result (entries.new.items ≡ sort_by entry_order entries.old.items) }
+    ensures same { IsPermutation entries.old.items entries.new.items }
+{
+    entries.sort_by_key(|entry| (entry.version.object.number(), entry.version.number))?;
     Ok(())
 }

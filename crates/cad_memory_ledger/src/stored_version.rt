@@ -117,4 +117,23 @@ impl StoredVersion {
             body: version.body.copy()?,
         })
     }
+
+    /// A copy, as ledgers give it.
+    pub(crate) fn copy(&self, alloc: Global) -> Result<cad_versions::StoredVersion, AllocError>
+        ensures copy { IfOk result (λ copy. copy ≡ self.now) }
+        ensures sound { IfOk result (λ copy. IsVersion (version_in copy)) }
+    {
+        let version = &self.version;
+        Ok(cad_versions::StoredVersion {
+            version: Version {
+                object: version.object,
+                number: version.number,
+                first: version.first,
+                last: version.last,
+                body: version.body.copy()?,
+            },
+            entered: self.entered,
+            closed: self.closed,
+        })
+    }
 }

@@ -4,7 +4,7 @@ ghost use Rattle.std.specs.Prelude.{◌≡◌, map, None, MatchResult, IfOk};
 ghost use Rattle.cad_versions.specs.Refusals.{refusal};
 ghost use Rattle.cad_versions.specs.Entries.{version_in, entries_after, entries_at, seen_at as seen};
 
-use crate::showing::{in_order, seen_at};
+use crate::showing::{copies, entries_in_order, in_order, seen_at};
 use crate::standing::refusal_of;
 use crate::stored_version::StoredVersion;
 use crate::writing::{amend, retire};
@@ -33,6 +33,7 @@ impl Model for StoredVersions {
 impl StoredVersions {
     ghost use Rattle.std.specs.Prelude.{◌≡◌, [], map, None, MatchResult, IfOk};
     ghost use Rattle.cad_versions.specs.Refusals.{refusal};
+    ghost use Rattle.cad_versions.specs.AsOf.{entry_order};
     ghost use Rattle.cad_versions.specs.Entries.{version_in, entries_after, entries_at, seen_at as seen};
     ghost use Rattle.cad_versions.specs.Sorting.{sort_by};
     ghost use Rattle.cad_versions.specs.Identifiers.{by_identifier};
@@ -87,5 +88,15 @@ impl StoredVersions {
         let mut versions = seen_at(alloc, &self.kept, revision)?;
         in_order(&mut versions)?;
         Ok(versions)
+    }
+
+    /// All versions, in the order of their identifiers.
+    pub(crate) fn all(&self, alloc: Global) -> Result<Vec<cad_versions::StoredVersion>, AllocError>
+        ensures shown { IfOk result (λ found. found.items ≡ sort_by entry_order self.now) }
+        ensures ascending { IfOk result (λ found. IsListing (map version_in found.items)) }
+    {
+        let mut entries = copies(alloc, &self.kept)?;
+        entries_in_order(&mut entries)?;
+        Ok(entries)
     }
 }

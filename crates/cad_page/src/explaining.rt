@@ -4,11 +4,10 @@ ghost use Rattle.std.specs.Prelude.{◌≡◌, IfOk, length};
 ghost use Rattle.cad_page.specs.Plans.{AreTestedIn, IsChosen, candidates_in, cost_in, examined_in};
 
 use crate::finding::{Planned, planned_page};
-use cad_answer::Plan;
 use cad_answer::laws::examined_are_tested;
+use cad_answer::{Plan, candidate_count};
 use cad_ask::Ask;
 use cad_plan::estimate;
-use cad_run::candidate_count;
 use cad_snapshot::Snapshot;
 use std::alloc::{AllocError, Global};
 
@@ -35,9 +34,9 @@ pub fn explain(alloc: Global, ask: &Ask, snapshot: &Snapshot) -> Result<Report, 
 {
     examined_are_tested();
     let Planned { plan, page } = planned_page(alloc, ask, snapshot)?;
-    let layer = snapshot.layer(ask.collection);
-    let cost = estimate(&plan, layer);
-    let candidates = candidate_count(alloc, &plan, layer)?;
+    let features = snapshot.features(ask.collection);
+    let cost = estimate(&plan, &features);
+    let candidates = candidate_count(alloc, &plan, &features)?;
     Ok(Report {
         plan,
         cost,

@@ -63,8 +63,8 @@ fn page_where<'a, 'f>(
     ensures features { IfOk result (λ page. All (IsFeatureOf ask.now.collection) (rows_of page)) }
 {
     covering_plans_have_the_answer();
-    let layer = snapshot.layer(ask.collection);
-    let page = page(alloc, plan, layer, query(ask, form))?;
+    let features = snapshot.features(ask.collection);
+    let page = page(alloc, plan, &features, query(ask, form))?;
     Ok(page)
 }
 

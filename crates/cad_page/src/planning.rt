@@ -70,10 +70,10 @@ pub(crate) fn plan_for(
     ensures covers { IfOk result (λ plan. CoversAnswer plan ask.now snapshot.now) }
     ensures chosen { IfOk result (λ plan. IsChosen plan ask.now snapshot.now) }
 {
-    let layer = snapshot.layer(ask.collection);
+    let features = snapshot.features(ask.collection);
     features_are_written(ask.collection);
-    // The layer's features are the collection's.
-    let _ = layer.collection();
-    let plan = choose(alloc, form, layer)?;
+    // The features are the collection's.
+    let _ = features.collection();
+    let plan = choose(alloc, form, &features)?;
     Ok(plan)
 }

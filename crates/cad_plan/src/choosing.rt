@@ -10,7 +10,7 @@ ghost use Rattle.cql_rewrite.specs.inner.Choices.{met as met_of};
 ghost use Rattle.cql_rewrite.specs.Meets.{meets};
 ghost use Rattle.cql_rewrite.specs.Menus.{IsFirstOfLeast, cheaper, choice, is_narrow, menu};
 
-use cad_layer::Layer;
+use cad_history::FeaturesAt;
 use cad_lookup::Plan;
 use cad_range::Range;
 use cad_shape::{Shape, bounds};
@@ -51,26 +51,26 @@ impl NarrowPlans {
     }
 }
 
-fn all(layer: &Layer) -> Priced
+fn all(features: &FeaturesAt) -> Priced
     ensures way { way_of result.plan ≡ all_features }
-    ensures cost { result.cost ≡ cost (counts_of layer.now.features) (way_of result.plan) }
+    ensures cost { result.cost ≡ cost (counts_of features.now.features) (way_of result.plan) }
 {
     Priced {
         plan: Plan::All,
-        cost: layer.count(),
+        cost: features.count(),
     }
 }
 
 // All, or the offered plan if it costs less.
-fn all_or(offered: Priced, layer: &Layer) -> Priced
-    requires { offered.cost ≡ cost (counts_of layer.now.features) (way_of offered.plan) }
-    ensures way { way_of result.plan ≡ cheaper (counts_of layer.now.features) all_features (way_of offered.plan) }
-    ensures cost { result.cost ≡ cost (counts_of layer.now.features) (way_of result.plan) }
+fn all_or(offered: Priced, features: &FeaturesAt) -> Priced
+    requires { offered.cost ≡ cost (counts_of features.now.features) (way_of offered.plan) }
+    ensures way { way_of result.plan ≡ cheaper (counts_of features.now.features) all_features (way_of offered.plan) }
+    ensures cost { result.cost ≡ cost (counts_of features.now.features) (way_of result.plan) }
 {
-    if offered.cost < layer.count() {
+    if offered.cost < features.count() {
         offered
     } else {
-        all(layer)
+        all(features)
     }
 }
 
@@ -97,33 +97,33 @@ pub(crate) fn near_plan(property: usize, shape: &Shape) -> Plan
     }
 }
 
-fn of_nothing(layer: &Layer) -> Priced
-    ensures way { way_of result.plan ≡ cheaper (counts_of layer.now.features) all_features no_feature }
-    ensures cost { result.cost ≡ cost (counts_of layer.now.features) (way_of result.plan) }
+fn of_nothing(features: &FeaturesAt) -> Priced
+    ensures way { way_of result.plan ≡ cheaper (counts_of features.now.features) all_features no_feature }
+    ensures cost { result.cost ≡ cost (counts_of features.now.features) (way_of result.plan) }
 {
     let nothing = Priced {
         plan: Plan::Empty,
         cost: 0,
     };
-    all_or(nothing, layer)
+    all_or(nothing, features)
 }
 
-fn of_range(alloc: Global, range: &Range, layer: &Layer) -> Result<Priced, AllocError>
-    ensures way { IfOk result (λ chosen. way_of chosen.plan ≡ cheaper (counts_of layer.now.features) all_features (range_way range.now)) }
-    ensures cost { IfOk result (λ chosen. chosen.cost ≡ cost (counts_of layer.now.features) (way_of chosen.plan)) }
+fn of_range(alloc: Global, range: &Range, features: &FeaturesAt) -> Result<Priced, AllocError>
+    ensures way { IfOk result (λ chosen. way_of chosen.plan ≡ cheaper (counts_of features.now.features) all_features (range_way range.now)) }
+    ensures cost { IfOk result (λ chosen. chosen.cost ≡ cost (counts_of features.now.features) (way_of chosen.plan)) }
 {
     let plan = range_plan(alloc, range)?;
-    let cost = layer.count_in(range);
-    Ok(all_or(Priced { plan, cost }, layer))
+    let cost = features.count_in(range);
+    Ok(all_or(Priced { plan, cost }, features))
 }
 
-fn of_shape(property: usize, shape: &Shape, layer: &Layer) -> Priced
-    ensures way { way_of result.plan ≡ cheaper (counts_of layer.now.features) all_features (near_block property (block_around (shape_corners shape.now))) }
-    ensures cost { result.cost ≡ cost (counts_of layer.now.features) (way_of result.plan) }
+fn of_shape(property: usize, shape: &Shape, features: &FeaturesAt) -> Priced
+    ensures way { way_of result.plan ≡ cheaper (counts_of features.now.features) all_features (near_block property (block_around (shape_corners shape.now))) }
+    ensures cost { result.cost ≡ cost (counts_of features.now.features) (way_of result.plan) }
 {
     let plan = near_plan(property, shape);
-    let cost = layer.count_near(property, bounds(shape));
-    all_or(Priced { plan, cost }, layer)
+    let cost = features.count_near(property, bounds(shape));
+    all_or(Priced { plan, cost }, features)
 }
 
 // The meet of two plans or more, else the only plan, or all.
@@ -143,38 +143,42 @@ fn meet(plans: Vec<Plan>) -> Plan
 
 /// The choice of the form's menu, with its cost.
 #[cycle(choose)]
-pub(crate) fn chosen(alloc: Global, form: &Normal, layer: &Layer) -> Result<Priced, AllocError>
-    ensures way { IfOk result (λ chosen. way_of chosen.plan ≡ choice (counts_of layer.now.features) form.now) }
-    ensures cost { IfOk result (λ chosen. chosen.cost ≡ cost (counts_of layer.now.features) (way_of chosen.plan)) }
+pub(crate) fn chosen(
+    alloc: Global,
+    form: &Normal,
+    features: &FeaturesAt,
+) -> Result<Priced, AllocError>
+    ensures way { IfOk result (λ chosen. way_of chosen.plan ≡ choice (counts_of features.now.features) form.now) }
+    ensures cost { IfOk result (λ chosen. chosen.cost ≡ cost (counts_of features.now.features) (way_of chosen.plan)) }
 {
     match form {
-        Normal::Constant(true) => Ok(all(layer)),
-        Normal::Constant(false) => Ok(of_nothing(layer)),
+        Normal::Constant(true) => Ok(all(features)),
+        Normal::Constant(false) => Ok(of_nothing(features)),
         Normal::Range(range) => {
-            let chosen = of_range(alloc, range, layer)?;
+            let chosen = of_range(alloc, range, features)?;
             Ok(chosen)
         }
         Normal::Like { range, .. } => {
-            let chosen = of_range(alloc, range, layer)?;
+            let chosen = of_range(alloc, range, features)?;
             Ok(chosen)
         }
-        Normal::Atom { .. } => Ok(all(layer)),
-        Normal::Owned { .. } => Ok(all(layer)),
+        Normal::Atom { .. } => Ok(all(features)),
+        Normal::Owned { .. } => Ok(all(features)),
         Normal::Near {
             property,
             shape,
             ..
-        } => Ok(of_shape(*property, shape, layer)),
+        } => Ok(of_shape(*property, shape, features)),
         Normal::And(parts) => {
-            let narrow = narrow(alloc, parts, layer)?;
+            let narrow = narrow(alloc, parts, features)?;
             Ok(Priced {
                 plan: meet(narrow.plans),
                 cost: narrow.cost,
             })
         }
         Normal::Or(parts) => {
-            let joined = joined(alloc, parts, layer)?;
-            Ok(all_or(joined, layer))
+            let joined = joined(alloc, parts, features)?;
+            Ok(all_or(joined, features))
         }
     }
 }
@@ -184,18 +188,18 @@ pub(crate) fn chosen(alloc: Global, form: &Normal, layer: &Layer) -> Result<Pric
 pub(crate) fn narrow(
     alloc: Global,
     parts: &[Normal],
-    layer: &Layer,
+    features: &FeaturesAt,
 ) -> Result<NarrowPlans, AllocError>
-    ensures ways { IfOk result (λ narrow. map way_of narrow.plans.items ≡ filter is_narrow (map (choice (counts_of layer.now.features)) parts.now)) }
-    ensures cost { IfOk result (λ narrow. narrow.cost ≡ min_of (length layer.now.features) (map (cost (counts_of layer.now.features)) (map way_of narrow.plans.items))) }
+    ensures ways { IfOk result (λ narrow. map way_of narrow.plans.items ≡ filter is_narrow (map (choice (counts_of features.now.features)) parts.now)) }
+    ensures cost { IfOk result (λ narrow. narrow.cost ≡ min_of (length features.now.features) (map (cost (counts_of features.now.features)) (map way_of narrow.plans.items))) }
 {
-    let all = layer.count();
+    let all = features.count();
     let mut narrow = NarrowPlans {
         plans: Vec::new(alloc),
         cost: all,
     };
     for part in parts {
-        let chosen = chosen(alloc, part, layer)?;
+        let chosen = chosen(alloc, part, features)?;
         narrow.add(chosen, all)?;
     }
     Ok(narrow)
@@ -203,14 +207,18 @@ pub(crate) fn narrow(
 
 // The join of the parts' choices.
 #[cycle(choose)]
-pub(crate) fn joined(alloc: Global, parts: &[Normal], layer: &Layer) -> Result<Priced, AllocError>
-    ensures way { IfOk result (λ chosen. way_of chosen.plan ≡ join_of (ways_in (map (choice (counts_of layer.now.features)) parts.now))) }
-    ensures cost { IfOk result (λ chosen. chosen.cost ≡ cost (counts_of layer.now.features) (way_of chosen.plan)) }
+pub(crate) fn joined(
+    alloc: Global,
+    parts: &[Normal],
+    features: &FeaturesAt,
+) -> Result<Priced, AllocError>
+    ensures way { IfOk result (λ chosen. way_of chosen.plan ≡ join_of (ways_in (map (choice (counts_of features.now.features)) parts.now))) }
+    ensures cost { IfOk result (λ chosen. chosen.cost ≡ cost (counts_of features.now.features) (way_of chosen.plan)) }
 {
     let mut plans = Vec::new(alloc);
     let mut cost: u64 = 0;
     for part in parts {
-        let chosen = chosen(alloc, part, layer)?;
+        let chosen = chosen(alloc, part, features)?;
         cost = cost.saturating_add(chosen.cost);
         plans.push(chosen.plan)?;
     }
@@ -220,15 +228,15 @@ pub(crate) fn joined(alloc: Global, parts: &[Normal], layer: &Layer) -> Result<P
     })
 }
 
-/// The first plan of least cost of the form's menu, for the features of the layer. Each feature that meets the form is one of
-/// its candidates, in the layer or not. An error means out of memory.
-pub fn choose(alloc: Global, form: &Normal, layer: &Layer) -> Result<Plan, AllocError>
-    ensures way { IfOk result (λ plan. way_of plan ≡ choice (counts_of layer.now.features) form.now) }
-    ensures least { IfOk result (λ plan. IsFirstOfLeast (counts_of layer.now.features) (way_of plan) (menu (counts_of layer.now.features) form.now)) }
+/// The first plan of least cost of the form's menu, for these features. Each feature that meets the form is one of its
+/// candidates, whether it is one of these or not. An error means out of memory.
+pub fn choose(alloc: Global, form: &Normal, features: &FeaturesAt) -> Result<Plan, AllocError>
+    ensures way { IfOk result (λ plan. way_of plan ≡ choice (counts_of features.now.features) form.now) }
+    ensures least { IfOk result (λ plan. IsFirstOfLeast (counts_of features.now.features) (way_of plan) (menu (counts_of features.now.features) form.now)) }
     ensures covers { IfOk result (λ plan. (x : Item) → IsTrue (meets x form.now) → IsTrue (is_candidate plan x)) }
 {
     choices_are_the_first_of_least();
     menus_cover();
-    let chosen = chosen(alloc, form, layer)?;
+    let chosen = chosen(alloc, form, features)?;
     Ok(chosen.plan)
 }

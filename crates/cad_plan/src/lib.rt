@@ -4,7 +4,7 @@
 //! - [`estimate`]: how many features a plan looks at. No memory is taken.
 //! - [`choose`]: the first plan of least cost of the menu
 //! - [`Plan`]: which features of a collection are looked at
-//! - [`Layer`]: the features of a collection, which counts them by their indexes
+//! - [`FeaturesAt`]: the features of a collection at a revision, which counts them by the indexes of their rows
 //!
 //! Of the five parcels 1.1, 1.2, 2.1, 3.1 and 4.1, the menu of `object = 3` is all, which costs 5, and the range of `object`
 //! from 3 to 3, which costs 1 and is chosen.
@@ -14,7 +14,7 @@ mod choosing;
 mod estimating;
 mod menus;
 
-pub use cad_layer::Layer;
+pub use cad_history::FeaturesAt;
 pub use cad_lookup::Plan;
 pub use choosing::choose;
 pub use estimating::estimate;

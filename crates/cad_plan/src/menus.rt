@@ -9,7 +9,7 @@ ghost use Rattle.cql_rewrite.specs.Meets.{meets};
 ghost use Rattle.cql_rewrite.specs.Menus.{and_menu, choice, menu as menu_of};
 
 use crate::choosing::{chosen, joined, narrow, near_plan, range_plan};
-use cad_layer::Layer;
+use cad_history::FeaturesAt;
 use cad_lookup::Plan;
 use cql_rewrite::Normal;
 use cql_rewrite::laws::menus_cover;
@@ -20,28 +20,28 @@ fn add_choices(
     alloc: Global,
     plans: &mut Vec<Plan>,
     parts: &[Normal],
-    layer: &Layer,
+    features: &FeaturesAt,
 ) -> Result<(), AllocError>
-    ensures { OnOk result (map way_of plans.new.items ≡ map way_of plans.old.items ++ map (choice (counts_of layer.now.features)) parts.now) }
+    ensures { OnOk result (map way_of plans.new.items ≡ map way_of plans.old.items ++ map (choice (counts_of features.now.features)) parts.now) }
 {
     for part in parts {
-        let chosen = chosen(alloc, part, layer)?;
+        let chosen = chosen(alloc, part, features)?;
         plans.push(chosen.plan)?;
     }
     Ok(())
 }
 
 // All, the meet of the parts' choices that are other than all, if there are two or more of them, and each part's choice.
-fn of_all(alloc: Global, parts: &[Normal], layer: &Layer) -> Result<Vec<Plan>, AllocError>
-    ensures { IfOk result (λ plans. map way_of plans.items ≡ and_menu (map (choice (counts_of layer.now.features)) parts.now)) }
+fn of_all(alloc: Global, parts: &[Normal], features: &FeaturesAt) -> Result<Vec<Plan>, AllocError>
+    ensures { IfOk result (λ plans. map way_of plans.items ≡ and_menu (map (choice (counts_of features.now.features)) parts.now)) }
 {
-    let narrow = narrow(alloc, parts, layer)?;
+    let narrow = narrow(alloc, parts, features)?;
     let mut plans = Vec::new(alloc);
     plans.push(Plan::All)?;
     if narrow.plans.len() >= 2 {
         plans.push(Plan::Meet(narrow.plans))?;
     }
-    add_choices(alloc, &mut plans, parts, layer)?;
+    add_choices(alloc, &mut plans, parts, features)?;
     Ok(plans)
 }
 
@@ -62,8 +62,8 @@ fn only_all(alloc: Global) -> Result<Vec<Plan>, AllocError>
     Ok(plans)
 }
 
-fn plans_for(alloc: Global, form: &Normal, layer: &Layer) -> Result<Vec<Plan>, AllocError>
-    ensures { IfOk result (λ plans. map way_of plans.items ≡ menu_of (counts_of layer.now.features) form.now) }
+fn plans_for(alloc: Global, form: &Normal, features: &FeaturesAt) -> Result<Vec<Plan>, AllocError>
+    ensures { IfOk result (λ plans. map way_of plans.items ≡ menu_of (counts_of features.now.features) form.now) }
 {
     match form {
         Normal::Constant(true) => {
@@ -101,24 +101,24 @@ fn plans_for(alloc: Global, form: &Normal, layer: &Layer) -> Result<Vec<Plan>, A
             Ok(plans)
         }
         Normal::And(parts) => {
-            let plans = of_all(alloc, parts, layer)?;
+            let plans = of_all(alloc, parts, features)?;
             Ok(plans)
         }
         Normal::Or(parts) => {
-            let joined = joined(alloc, parts, layer)?;
+            let joined = joined(alloc, parts, features)?;
             let plans = pair(alloc, joined.plan)?;
             Ok(plans)
         }
     }
 }
 
-/// The plans for the form, in order, for the features of the layer. Each feature that meets the form is a candidate of each plan, in
-/// the layer or not. An error means out of memory.
-pub fn menu(alloc: Global, form: &Normal, layer: &Layer) -> Result<Vec<Plan>, AllocError>
-    ensures ways { IfOk result (λ plans. map way_of plans.items ≡ menu_of (counts_of layer.now.features) form.now) }
+/// The plans for the form, in order, for these features. Each feature that meets the form is a candidate of each plan, whether
+/// it is one of these or not. An error means out of memory.
+pub fn menu(alloc: Global, form: &Normal, features: &FeaturesAt) -> Result<Vec<Plan>, AllocError>
+    ensures ways { IfOk result (λ plans. map way_of plans.items ≡ menu_of (counts_of features.now.features) form.now) }
     ensures covers { IfOk result (λ plans. (x : Item) → IsTrue (meets x form.now) → IsTrue (list_all (λ plan. is_candidate plan x) plans.items)) }
 {
     menus_cover();
-    let plans = plans_for(alloc, form, layer)?;
+    let plans = plans_for(alloc, form, features)?;
     Ok(plans)
 }

@@ -61,6 +61,13 @@ impl<'a> Found<'a> {
         self.high - self.low
     }
 
+    /// The positions in the order of their ranks. No memory is taken.
+    pub fn by_rank(&self) -> &'a [u32]
+        ensures { IsPermutation self.now result.now }
+    {
+        &self.places[self.low as usize..self.high as usize]
+    }
+
     /// The positions in the form that is best walked: few in a sorted list, many by their ranks. An error means out of memory.
     pub fn positions(&self, alloc: Global) -> Result<Positions<'a>, AllocError>
         ensures { IfOk result (Keeps self.now) }

@@ -9,7 +9,7 @@ use Rattle.cad_register.specs.declared.place.Place.{Place}
 use Rattle.cad_versions.specs.declared.fault.RegisterFault.{RegisterFault}
 use Rattle.cad_versions.specs.declared.fault.RegisterFault.TheVariants as fault
 use Rattle.cad_register.specs.declared.found.FoundRow.{FoundRow}
-use Rattle.cad_register.specs.Damage.{identifier_in, place_of, IsNext, AreInOrder, AreSound, AreSeenAt, IsFirstDamaged, IsCauseIn, ListsRows}
+use Rattle.cad_register.specs.Damage.{identifier_in, place_of, IsNext, AreInOrder, AreSound, AreSeenAt, IsFirstDamaged, IsCauseIn, ListsRows, ListsStored}
 use Rattle.cad_register.specs.inner.Found.{IsReadOf, AreReadOf}
 use Rattle.cad_register.proofs.KeptLemmas.{entry_same}
 
@@ -42,24 +42,39 @@ seen_of revision (r ∷ rows) [] vs are seen = absurd are
 seen_of revision (r ∷ rows) (e ∷ entries) [] are seen = absurd seen
 seen_of revision (r ∷ rows) (e ∷ entries) (v ∷ vs) are seen = ap₂ ◌∷◌ (seen.0.2 ∙ ap (seen_at revision) (entry_same r seen.0.0 e seen.0.1 are.0)) (seen_of revision rows entries vs are.1 seen.1)
 
--- one version more is what its row shows
-seen_push : (revision : ℕ) (rows : List Row) (vs : List VersionedObject) (row : Row) (v : VersionedObject) → AreSeenAt revision rows vs → ((e : Entry) × IsRowOf row e × (v ≡ seen_at revision e)) → AreSeenAt revision (rows ++ row ∷ []) (vs ++ v ∷ [])
-seen_push revision [] [] row v so_far here = (here, tt)
-seen_push revision [] (w ∷ vs) row v so_far here = absurd so_far
-seen_push revision (r ∷ rows) [] row v so_far here = absurd so_far
-seen_push revision (r ∷ rows) (w ∷ vs) row v so_far here = (so_far.0, seen_push revision rows vs row v so_far.1 here)
+-- what the rows of entries show at a revision
+pub rows_seen : (revision : ℕ) (rows : List Row) (entries : List Entry) → AreRowsOf rows entries → AreSeenAt revision rows (map (seen_at revision) entries)
+rows_seen revision [] [] are = tt
+rows_seen revision [] (e ∷ entries) are = absurd are
+rows_seen revision (r ∷ rows) [] are = absurd are
+rows_seen revision (r ∷ rows) (e ∷ entries) are = ((e, are.0, refl), rows_seen revision rows entries are.1)
+
+-- they represent no other entries
+pub entries_same : (rows : List Row) (entries others : List Entry) → AreRowsOf rows entries → AreRowsOf rows others → entries ≡ others
+entries_same [] [] [] are all = refl
+entries_same [] [] (d ∷ others) are all = absurd all
+entries_same [] (e ∷ entries) others are all = absurd are
+entries_same (r ∷ rows) [] others are all = absurd are
+entries_same (r ∷ rows) (e ∷ entries) [] are all = absurd all
+entries_same (r ∷ rows) (e ∷ entries) (d ∷ others) are all = ap₂ ◌∷◌ (entry_same r e d are.0 all.0) (entries_same rows entries others are.1 all.1)
+
+-- one entry more is the one of its row
+rows_push : (rows : List Row) (es : List Entry) (row : Row) (e : Entry) → AreRowsOf rows es → IsRowOf row e → AreRowsOf (rows ++ row ∷ []) (es ++ e ∷ [])
+rows_push [] [] row e so_far here = (here, tt)
+rows_push [] (d ∷ es) row e so_far here = absurd so_far
+rows_push (r ∷ rows) [] row e so_far here = absurd so_far
+rows_push (r ∷ rows) (d ∷ es) row e so_far here = (so_far.0, rows_push rows es row e so_far.1 here)
 
 pub take_row : (rows : List Row) (at : ℕ) (row : Row) → at < length rows → row ≡ get_or rows at row → take (at + 1) rows ≡ take at rows ++ row ∷ []
 take_row [] at row h is = absurd (omega arith)
 take_row (r ∷ rows) zero row h is = ap (λ x. x ∷ []) (sym is)
 take_row (r ∷ rows) (suc at) row h is = ap (λ n. take n (r ∷ rows)) (add-one (suc at)) ∙ ap (λ l. r ∷ l) (ap (λ n. take n rows) (sym (add-one at)) ∙ take_row rows at row (omega arith) is)
 
-pub shown_step : (revision : ℕ) (rows : List Row) (at : ℕ) (row : Row) (e : Entry) (v : VersionedObject) (vs : List VersionedObject) → at < length rows → row ≡ get_or rows at row → IsRowOf row e → v ≡ seen_at revision e
-    → AreSeenAt revision (take at rows) vs → AreSeenAt revision (take (at + 1) rows) (vs ++ v ∷ [])
-shown_step revision rows at row e v vs h here is seen so_far = subst (λ l. AreSeenAt revision l (vs ++ v ∷ [])) (sym (take_row rows at row h here)) (seen_push revision (take at rows) vs row v so_far (e, is, seen))
+pub rows_step : (rows : List Row) (at : ℕ) (row : Row) (e : Entry) (es : List Entry) → at < length rows → row ≡ get_or rows at row → IsRowOf row e → AreRowsOf (take at rows) es → AreRowsOf (take (at + 1) rows) (es ++ e ∷ [])
+rows_step rows at row e es h here is so_far = subst (λ l. AreRowsOf l (es ++ e ∷ [])) (sym (take_row rows at row h here)) (rows_push (take at rows) es row e so_far is)
 
-pub shown_all : (revision : ℕ) (rows : List Row) (n : ℕ) (vs : List VersionedObject) → length rows ≤ n → AreSeenAt revision (take n rows) vs → AreSeenAt revision rows vs
-shown_all revision rows n vs h so_far = subst (λ l. AreSeenAt revision l vs) (take_all rows n h) so_far
+pub rows_all : (rows : List Row) (n : ℕ) (es : List Entry) → length rows ≤ n → AreRowsOf (take n rows) es → AreRowsOf rows es
+rows_all rows n es h so_far = subst (λ l. AreRowsOf l es) (take_all rows n h) so_far
 
 -- what is made of the rows in order
 pub lists_rows : (revision newest : ℕ) (shown rows : List Row) (r : Result (Vec VersionedObject Global) RegisterFault) → AreInOrder shown rows → IfOk r (λ _. AreSound newest None 0 rows) → IfOk r (λ vs. AreSeenAt revision rows vs.items) → IfErr r (IsCauseIn newest rows)
@@ -68,6 +83,12 @@ lists_rows revision newest shown rows (Ok vs) order sound seen cause = (rows, or
 lists_rows revision newest shown rows (Err (fault.Damaged object number)) order sound seen cause = (rows, order, cause)
 lists_rows revision newest shown rows (Err fault.Memory) order sound seen cause = tt
 lists_rows revision newest shown rows (Err other) order sound seen cause = absurd cause
+
+-- the same of stored versions
+pub lists_stored : (newest : ℕ) (shown rows : List Row) (r : Result (Vec Entry Global) RegisterFault) → AreInOrder shown rows → IfOk r (λ _. AreSound newest None 0 rows) → IfOk r (λ found. AreRowsOf rows found.items) → IfErr r (IsCauseIn newest rows)
+    → ListsStored newest shown r
+lists_stored newest shown rows (Ok found) order sound are cause = (rows, order, sound, are)
+lists_stored newest shown rows (Err why) order sound are cause = lists_rows newest newest shown rows (Err why) order tt tt cause
 
 -- the row that is read at a place
 pub record RowAt (rows : List Row) (at : ℕ) (x : FoundRow) : Type 0 where

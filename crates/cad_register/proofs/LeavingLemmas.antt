@@ -7,7 +7,8 @@ use Rattle.cad_versions.specs.declared.fault.RegisterFault.{RegisterFault}
 use Rattle.cad_versions.specs.declared.fault.RegisterFault.TheVariants as fault
 use Rattle.cad_register.specs.Leaving.{IsLater, IsAsBefore, IsOfTheRegister, IsAnswered, AsksOnly}
 use Rattle.cad_register.specs.Stands.{IsStoreFault, IsReadingFault}
-use Rattle.cad_register.specs.Damage.{AreShown, ListsRows, ReadsRows}
+use Rattle.cad_register.specs.Damage.{AreShown, ListsRows, ListsStored, ReadsRows, ReadsStored}
+use Rattle.cad_versions.specs.Entries.{Entry}
 use Rattle.cad_versions.specs.VersionedObject.{VersionedObject}
 use Rattle.std.specs.Global.{Global}
 use Rattle.sqlite_value.specs.Order.{Row}
@@ -121,6 +122,14 @@ rows_read old new revision newest shown (Ok vs) are h = (shown, h.0, are, h.1, h
 rows_read old new revision newest shown (Err (fault.Damaged object number)) are h = (shown, h.0, are, h.1, h.2)
 rows_read old new revision newest shown (Err fault.Memory) are h = tt
 rows_read old new revision newest shown (Err other) are h = absurd h
+
+pub entries_reading : (newest : ℕ) (shown : List Row) (r : Result (Vec Entry Global) RegisterFault) → ListsStored newest shown r → IfErr r IsReadingFault
+entries_reading newest shown (Ok found) h = tt
+entries_reading newest shown (Err why) h = rows_reading newest newest shown (Err why) h
+
+pub entries_read : (old new : State) (newest : ℕ) (shown : List Row) (r : Result (Vec Entry Global) RegisterFault) → AreShown old new newest shown → ListsStored newest shown r → ReadsStored old new newest r
+entries_read old new newest shown (Ok found) are h = (shown, h.0, are, h.1, h.2, h.3)
+entries_read old new newest shown (Err why) are h = rows_read old new newest newest shown (Err why) are h
 
 pub store_reads : (old new : State) (revision newest : ℕ) (cause : RegisterFault) → IsStoreFault cause → ReadsRows old new revision newest (Err cause)
 store_reads old new revision newest fault.Store is = tt

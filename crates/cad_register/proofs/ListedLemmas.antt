@@ -1,17 +1,19 @@
 -- One version more of a listing.
-use Rattle.std.proofs.Common.{◌≡◌, ℕ, ◌+◌, ◌<◌, ℤ, ◌≤ℤ◌, pos, Bool, true, false, cond, List, [], ◌∷◌, ◌++◌, Option, Some, None, Less, inl, inr, refl, arith}
+use Rattle.std.proofs.Common.{◌≡◌, ℕ, ◌+◌, ◌<◌, ℤ, ◌≤ℤ◌, pos, Bool, true, false, cond, List, [], ◌∷◌, ◌++◌, map, Option, Some, None, Less, inl, inr, refl, arith}
 use Rattle.std.specs.List.{All, AllByRecursion}
 use Rattle.std.specs.List.Sorted.{IsStrictlySortedBy}
 use Rattle.std.specs.Option.{ForSome}
 use Rattle.std.specs.Ordering.{is_lt}
 use Rattle.std.proofs.lemmas.Int.{ints}
-use Rattle.std.proofs.lemmas.List.Elements.{All-push}
+use Rattle.std.proofs.lemmas.List.{length-map}
+use Rattle.std.proofs.lemmas.List.Elements.{All-push, All-from_recursion, recursion_from_All}
 use Rattle.sqlite_keyed.proofs.ListLemmas.{all-append}
 use Rattle.cad_day.specs.Days.{number_of}
 use Rattle.cad_versions.specs.Objects.{object_number}
 use Rattle.cad_versions.specs.VersionedObject.{VersionedObject, IsVersion}
 use Rattle.cad_versions.specs.Identifiers.{identifier_of, identifier_cmp, by_identifier}
-use Rattle.cad_versions.specs.Entries.{Entry, seen_at, is_closed_by}
+use Rattle.cad_versions.specs.Entries.{Entry, version_in, seen_at, is_closed_by}
+use Rattle.cad_versions.specs.Listing.{IsListing}
 use Rattle.cad_register.specs.declared.place.Place.{Place}
 use Rattle.cad_register.specs.Damage.{place_of, Follows}
 use Rattle.cad_versions.specs.lemmas.ListLemmas.{sorted_push}
@@ -71,12 +73,35 @@ pub none_listed : AreListed None []
 unfolding IsStrictlySortedBy
 none_listed = record { ascending = tt; behind = λ v h. tt; each = λ k d h. absurd (omega arith) }
 
-pub one_listed : (before : Option Place) (revision : ℕ) (e : Entry) (vs : List VersionedObject) → IsVersion e.version → Follows before e.version → AreListed before vs → AreListed (Some (place_of e.version)) (vs ++ seen_at revision e ∷ [])
-one_listed before revision e vs is follows so_far =
-    let new = seen_at revision e in
+pub one_listed : (before : Option Place) (e : Entry) (vs : List VersionedObject) → IsVersion e.version → Follows before e.version → AreListed before vs → AreListed (Some (place_of e.version)) (vs ++ version_in e ∷ [])
+one_listed before e vs is follows so_far =
+    let new = version_in e in
     let after = follows_after before e.version follows in
     record {
       ascending = sorted_push by_identifier vs new so_far.ascending (so_far.behind new after);
       behind = λ v h. all-append (λ u. by_identifier u v ≡ Less) vs (new ∷ []) (so_far.behind v (after_all before (identifier_of e.version) (identifier_of v) after h)) (less new v h, tt);
-      each = All-push IsVersion vs new so_far.each (version_seen revision e is);
+      each = All-push IsVersion vs new so_far.each is;
     }
+
+-- ---- as they were at a revision
+
+module _ (revision : ℕ) where
+  behind_seen : (e : Entry) (es : List Entry) → AllByRecursion (λ v. by_identifier (version_in e) v ≡ Less) (map version_in es) → AllByRecursion (λ v. by_identifier (seen_at revision e) v ≡ Less) (map (seen_at revision) es)
+  behind_seen e [] all = tt
+  behind_seen e (d ∷ es) all = (all.0, behind_seen e es all.1)
+
+  seen_rise : (es : List Entry) → IsStrictlySortedBy by_identifier (map version_in es) → IsStrictlySortedBy by_identifier (map (seen_at revision) es)
+  unfolding IsStrictlySortedBy
+  seen_rise [] up = tt
+  seen_rise (e ∷ es) up = (behind_seen e es up.0, seen_rise es up.1)
+
+  each_seen : (es : List Entry) → AllByRecursion IsVersion (map version_in es) → AllByRecursion IsVersion (map (seen_at revision) es)
+  each_seen [] all = tt
+  each_seen (e ∷ es) all = (version_seen revision e all.0, each_seen es all.1)
+
+  pub seen_listing : (es : List Entry) → IsListing (map version_in es) → IsListing (map (seen_at revision) es)
+  seen_listing es listing = record {
+    ascending = seen_rise es listing.ascending;
+    few = omega (arith, listing.few, length-map es version_in, length-map es (seen_at revision));
+    each = All-from_recursion IsVersion (map (seen_at revision) es) (each_seen es (recursion_from_All IsVersion (map version_in es) listing.each));
+  }

@@ -1,5 +1,5 @@
 -- The tables go on standing for the commands.
-use Rattle.std.proofs.Common.{◌≡◌, ◌≤◌, ℕ, Vec, Global, Result, Ok, Err, MatchResult, List, length, subst, sym, ◌∙◌, IsTrue, Option, Some, None, Bool, true, false, inl, inr}
+use Rattle.std.proofs.Common.{◌≡◌, ◌≤◌, ℕ, Vec, Global, Result, Ok, Err, MatchResult, List, length, subst, sym, ap, ◌∙◌, IsTrue, Option, Some, None, Bool, true, false, inl, inr}
 use Rattle.sqlite_value.specs.Order.{Row}
 use Rattle.sqlite.specs.Effect.{IsDatabase}
 use Rattle.sqlite.specs.State.{State, IsUnchanged}
@@ -14,15 +14,16 @@ use Rattle.cad_versions.specs.Command.{object_named, body_added}
 use Rattle.cad_versions.specs.Versions.{versions}
 use Rattle.cad_versions.specs.Refusals.{class_at, open_since, refuse_if, or_else, refuses_closing, refuses_object, refuses_body, refusal}
 use Rattle.cad_versions.specs.VersionedObject.{VersionedObject}
-use Rattle.cad_versions.specs.AsOf.{as_of, entries_listed}
-use Rattle.cad_versions.specs.lemmas.EntryLemmas.{listing_is}
+use Rattle.cad_versions.specs.AsOf.{as_of, all_entries, entries_listed, entry_order}
+use Rattle.cad_versions.specs.Sorting.{sort_by}
+use Rattle.cad_versions.specs.lemmas.EntryLemmas.{listing_is, all_by, entries_dated}
 use Rattle.cad_versions.specs.declared.command.Command.{Command}
-use Rattle.cad_versions.specs.Entries.{entries_of}
+use Rattle.cad_versions.specs.Entries.{Entry, entries_of, entries_at}
 use Rattle.cad_register.specs.StoredVersions.{AreRowsOf, HoldsEntries}
-use Rattle.cad_register.specs.Damage.{AreSound, AreInOrder, ListsRows}
+use Rattle.cad_register.specs.Damage.{AreSound, AreInOrder, ListsRows, ListsStored}
 use Rattle.cad_register.specs.Stands.{StandsFor, IsStoreFault, IsRefusal}
 use Rattle.cad_register.specs.Registers.{IsRefused}
-use Rattle.cad_register.proofs.DamageLemmas.{seen_of}
+use Rattle.cad_register.proofs.DamageLemmas.{seen_of, entries_same}
 use Rattle.cad_register.proofs.SoundLemmas.{listed_sound, sound_cause}
 
 pub stands_kept : (old new : State) (cs : List Command) → KeepsAll old new → IsTrue new.is_open → StandsFor old cs → StandsFor new cs
@@ -51,6 +52,17 @@ listing_told revision newest cs shown new (Err (fault.Damaged object number)) ar
 )
 listing_told revision newest cs shown new (Err fault.Memory) are stands listed = (λ e. tt, λ _. stands)
 listing_told revision newest cs shown new (Err other) are stands listed = absurd listed
+
+-- what all rows show is what the register stores
+pub entries_given : (newest : ℕ) (cs : List Command) (shown : List Row) (new : State) (r : Result (Vec Entry Global) RegisterFault) → ((rows : List Row) → AreInOrder shown rows → AreRowsOf rows (entries_listed newest (entries_of cs))) → StandsFor new cs
+    → ListsStored newest shown r
+    → MatchResult r (λ found. (newest ≡ length cs → found.items ≡ all_entries cs) × StandsFor new cs) (λ f. (newest ≡ length cs → IsStoreFault f) × (IsTrue new.is_open → StandsFor new cs))
+entries_given newest cs shown new (Ok found) are stands listed = (
+  λ h. entries_same listed.0 found.items (entries_listed newest (entries_of cs)) listed.3 (are listed.0 listed.1)
+      ∙ ap (sort_by entry_order) (ap (λ n. entries_at n (entries_of cs)) h ∙ all_by (length cs) (entries_of cs) (entries_dated cs)),
+  stands,
+)
+entries_given newest cs shown new (Err why) are stands listed = listing_told newest newest cs shown new (Err why) are stands listed
 
 -- causes that the fold never has: its own are others
 module _ (k : RegisterFault) where

@@ -17,7 +17,7 @@ use Rattle.sqlite.specs.State.{State, HasCleanDisk, Shown}
 use Rattle.cad_tables.specs.Texts.{listing_text}
 use Rattle.std.specs.Global.{Global}
 use Rattle.cad_register.specs.declared.place.Place.{Place}
-use Rattle.cad_register.specs.StoredVersions.{IsRowOf}
+use Rattle.cad_register.specs.StoredVersions.{IsRowOf, AreRowsOf}
 
 abbrev pub number_in : Value → ℤ
 number_in (Int n) = n
@@ -130,3 +130,15 @@ ReadsRows old new revision newest (Ok found) =
 ReadsRows old new revision newest (Err (fault.Damaged object number)) =
     (shown : List Row) × (rows : List Row) × AreShown old new revision shown × AreInOrder shown rows × IsFirstDamaged newest (object, number) None 0 rows
 ReadsRows old new revision newest (Err other) = Unit {0}
+
+-- ---- all rows, in a register with a given newest revision
+
+-- stored versions are listed by identifier and only from sound rows; they are not listed for a cause for which the newest revision is not
+abbrev pub ListsStored : ℕ → List Row → Result (Vec Entry Global) RegisterFault → Type 0
+ListsStored newest shown (Ok found) = (rows : List Row) × AreInOrder shown rows × AreSound newest None 0 rows × AreRowsOf rows found.items
+ListsStored newest shown (Err cause) = ListsRows newest newest shown (Err cause)
+
+-- the same, no matter what the disk returns, of the rows that the database shows for the newest revision
+abbrev pub ReadsStored : State → State → ℕ → Result (Vec Entry Global) RegisterFault → Type 0
+ReadsStored old new newest (Ok found) = (shown : List Row) × (rows : List Row) × AreShown old new newest shown × AreInOrder shown rows × AreSound newest None 0 rows × AreRowsOf rows found.items
+ReadsStored old new newest (Err cause) = ReadsRows old new newest newest (Err cause)

@@ -8,12 +8,12 @@ ghost use Rattle.cad_tables.specs.Texts.{listing_text, range_text};
 ghost use Rattle.cad_tables.specs.Opening.{IsSettled};
 ghost use Rattle.sqlite.specs.Held.{state};
 ghost use Rattle.cad_versions.specs.Versions.{versions};
-ghost use Rattle.cad_versions.specs.AsOf.{as_of};
+ghost use Rattle.cad_versions.specs.AsOf.{as_of, all_entries};
 ghost use Rattle.cad_versions.specs.Listing.{IsListing};
-ghost use Rattle.cad_versions.specs.Entries.{entries_of};
+ghost use Rattle.cad_versions.specs.Entries.{entries_of as entries_made, version_in};
 ghost use Rattle.cad_register.specs.Outlines.{IsStanding};
 ghost use Rattle.cad_register.specs.Stands.{Tells, IsStoreFault, IsReadingFault};
-ghost use Rattle.cad_register.specs.Damage.{ReadsRows};
+ghost use Rattle.cad_register.specs.Damage.{ReadsRows, ReadsStored};
 ghost use Rattle.cad_register.specs.JournalRows.{GivesJournal, IsJournalFault};
 ghost use Rattle.cad_register.specs.JournalReading.{ReadsSound};
 ghost use Rattle.cad_register.specs.StoredVersions.{entry_of};
@@ -23,7 +23,7 @@ ghost use Rattle.cad_register.specs.Naming.{TellAll, NamesFirst};
 ghost use Rattle.cad_register.specs.inner.Inquiring.{Inquires};
 
 use crate::journal::{commands_given, sound_versions};
-use crate::listing::listed;
+use crate::listing::{listed, listed_entries};
 use crate::standing::ObjectState;
 use crate::stored_version::StoredVersion;
 use cad_tables::TableFault;
@@ -87,6 +87,32 @@ pub(crate) fn versions_of<S: Alter>(
     }
 }
 
+/// All stored versions of a register, in the order of identifiers; `newest` is the newest revision.
+pub(crate) fn entries_of<S: Alter>(
+    alloc: Global,
+    connection: &mut Connection<S>,
+    newest: u32,
+) -> Result<Vec<cad_versions::StoredVersion>, RegisterFault>
+    ensures given { HasCleanDisk (state S.Store connection.new) →
+        Tells (state S.Store connection.old) (state S.Store connection.new) result
+        (λ commands found. newest ≡ length commands → found.items ≡ all_entries commands)
+        (λ commands fault. newest ≡ length commands → IsStoreFault fault) }
+    ensures listed { IfOk result (λ found. IsListing (map version_in found.items)) }
+    ensures store { HasCleanDisk (state S.Store connection.new) → result ≡ Err RegisterFault.Store →
+        (e : Error) × IsNotForMemory e ×
+        FailsToQuery listing_text (Int (pos newest) ∷ []) (state S.Store connection.old) (state S.Store connection.new) e }
+    ensures still { HasCleanDisk (state S.Store connection.new) →
+        OnOk result (IsSettled S.Store connection.old connection.new) }
+    ensures leaves { AsksOnly (state S.Store connection.old) (state S.Store connection.new) result }
+    ensures cause { IfErr result IsReadingFault }
+    ensures read { ReadsStored (state S.Store connection.old) (state S.Store connection.new) newest result }
+{
+    match cad_tables::listing(alloc, connection, newest) {
+        Ok(found) => listed_entries(alloc, found, newest),
+        Err(fault) => Err(store_fault(fault)),
+    }
+}
+
 /// The commands after the revision `behind` of a register; `newest` is the newest revision.
 pub(crate) fn commands_behind<S: Alter>(
     alloc: Global,
@@ -124,7 +150,7 @@ pub(crate) fn versions_between<S: Alter>(
 ) -> Result<Vec<StoredVersion>, RegisterFault>
     ensures told { HasCleanDisk (state S.Store connection.new) →
         Tells (state S.Store connection.old) (state S.Store connection.new) result
-        (λ commands found. map entry_of found.items ≡ take (up_to - behind) (drop behind (entries_of commands)))
+        (λ commands found. map entry_of found.items ≡ take (up_to - behind) (drop behind (entries_made commands)))
         (λ commands fault. newest ≡ length commands → IsStoreFault fault) }
     ensures store { HasCleanDisk (state S.Store connection.new) → result ≡ Err RegisterFault.Store →
         (e : Error) × IsNotForMemory e ×

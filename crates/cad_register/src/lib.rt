@@ -1,6 +1,6 @@
 //! The land register: versions in SQLite, and the register at any revision.
 //!
-//! - `Register`: made by `create`, `open` or `open_or_create` over a connection, changed by `apply`, read by `as_of`; `journal` gives its commands back.
+//! - `Register`: made by `create`, `open` or `open_or_create` over a connection, changed by `apply`, read by `as_of`; `journal` gives its commands back, `stored_versions` all versions as they are stored.
 //! - `JournalReading`: a journal that is read in pieces, by `begin_journal` and `read_on`, between which commands may be accepted.
 //! - `open_file`, `open_standing_file`: open the database of a file over what it held.
 //! - `laws`: what holds of every register, and of the rows that it is kept in.
@@ -22,6 +22,7 @@ mod decision;
 mod file;
 mod found;
 mod gathering;
+mod history_ledger;
 mod journal;
 mod journal_ledger;
 mod journal_reading;

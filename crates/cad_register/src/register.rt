@@ -1,11 +1,11 @@
 //! The register of a list of commands.
 
-use crate::asking::{commands_behind, store_fault, versions_between, versions_of};
+use crate::asking::{commands_behind, entries_of, store_fault, versions_between, versions_of};
 use crate::changing::{enact, next_number};
 use crate::decision::decide;
 use crate::journal_reading::JournalReading;
 use cad_tables::{Creation, MOST_REVISION};
-use cad_versions::{Command, RegisterFault, Version};
+use cad_versions::{Command, RegisterFault, StoredVersion, Version};
 use sqlite::{Alter, Connection};
 use std::alloc::Global;
 
@@ -30,7 +30,7 @@ impl<S: Alter + Drop> Drop for Register<S> {
 }
 
 impl<S: Alter> Register<S> {
-    ghost use Rattle.std.specs.Prelude.{◌≡◌, ◌≢◌, ◌≤◌, ◌<◌, ◌+◌, ◌++◌, Err, None, ◌∷◌, [], List, length, drop, pos, IfOk, IfErr, OnOk, OnErr};
+    ghost use Rattle.std.specs.Prelude.{◌≡◌, ◌≢◌, ◌≤◌, ◌<◌, ◌+◌, ◌++◌, Err, None, ◌∷◌, [], List, length, map, drop, pos, IfOk, IfErr, OnOk, OnErr};
     ghost use Rattle.sqlite.specs.State.{HasCleanDisk, FailsToQuery};
     ghost use Rattle.sqlite.specs.declared.error.Error.{Error};
     ghost use Rattle.sqlite_value.specs.declared.value.Value.TheVariants.{Int};
@@ -38,9 +38,10 @@ impl<S: Alter> Register<S> {
     ghost use Rattle.cad_versions.specs.declared.command.Command.{Command as CommandOf};
     ghost use Rattle.cad_versions.specs.Versions.{versions};
     ghost use Rattle.cad_versions.specs.Refusals.{refusal};
-    ghost use Rattle.cad_versions.specs.AsOf.{as_of as register_as_of};
+    ghost use Rattle.cad_versions.specs.AsOf.{all_entries, as_of as register_as_of};
+    ghost use Rattle.cad_versions.specs.Entries.{version_in};
     ghost use Rattle.cad_versions.specs.Listing.{IsListing};
-    ghost use Rattle.cad_register.specs.Damage.{ReadsRows};
+    ghost use Rattle.cad_register.specs.Damage.{ReadsRows, ReadsStored};
     ghost use Rattle.cad_register.specs.JournalRows.{GivesJournal, IsJournalFault};
     ghost use Rattle.cad_register.specs.JournalReading.{HasRead, HasReadOn, ReadsOn, Begins, rows_read, next_place, is_whole};
     ghost use Rattle.cad_register.specs.Keeping.{Keeps};
@@ -165,6 +166,36 @@ impl<S: Alter> Register<S> {
         }
         let newest = self.revision;
         versions_of(self.alloc, &mut self.connection, revision as u32, newest)
+    }
+
+    /// All versions as they are stored, by object and number. A damaged row is found as it is in the versions at the newest revision.
+    pub fn stored_versions(&mut self) -> Result<Vec<StoredVersion>, RegisterFault>
+        ensures shown { HasCleanDisk (state_of S.Store self.new) → IfOk result (λ found.
+            (commands : List CommandOf) → IsRegisterOf S.Store self.old commands →
+            found.items ≡ all_entries commands) }
+        // No matter what the disk returns.
+        ensures ascending { IfOk result (λ found. IsListing (map version_in found.items)) }
+        ensures cause { HasCleanDisk (state_of S.Store self.new) → IfErr result (λ fault.
+            (commands : List CommandOf) → IsRegisterOf S.Store self.old commands → IsStoreFault fault) }
+        // No matter what the disk returns.
+        ensures named { IfErr result IsReadingFault }
+        // No matter what the disk returns, only sound rows are listed, and the damaged row is the first that breaks a rule.
+        ensures read { ReadsStored (state_of S.Store self.old) (state_of S.Store self.new) (revision_of self.old) result }
+        // It shows the same as before, with the same limit of steps, and no fault of the disk is forgotten.
+        ensures still { HasCleanDisk (state_of S.Store self.new) →
+            OnOk result (Remains S.Store self.old self.new) }
+        ensures store { HasCleanDisk (state_of S.Store self.new) →
+            result ≡ Err RegisterFault.Store → (e : Error) × IsNotForMemory e ×
+            FailsToQuery listing_text (Int (pos (revision_of self.old)) ∷ []) (state_of S.Store self.old) (state_of S.Store self.new) e }
+        ensures same { HasCleanDisk (state_of S.Store self.new) →
+            OnOk result ((commands : List CommandOf) → IsRegisterOf S.Store self.old commands →
+            IsRegisterOf S.Store self.new commands) }
+        ensures keeps { Keeps S.Store Leaves self.old self.new result }
+        // For any result, the limit of steps is the same, and no fault of the disk is forgotten.
+        ensures later { IsLater (state_of S.Store self.old) (state_of S.Store self.new) }
+    {
+        let newest = self.revision;
+        entries_of(self.alloc, &mut self.connection, newest)
     }
 
     /// The commands after a revision, in their order: those that were accepted since, and no others.

@@ -157,6 +157,23 @@ impl StoredVersion {
         gathering.note(version, entered, closed);
     }
 
+    /// The same, as ledgers give it.
+    pub(crate) fn into_entry(self) -> cad_versions::StoredVersion
+        requires { IsVersion self.version }
+        ensures { result ≡ entry_of self }
+    {
+        let StoredVersion {
+            version,
+            entered,
+            closed,
+        } = self;
+        cad_versions::StoredVersion {
+            version,
+            entered: u64::from(entered),
+            closed: closed.map(u64::from),
+        }
+    }
+
     /// The version as it was at a revision: a later closing is not seen.
     pub(crate) fn seen_at(self, revision: u32) -> Version
         ensures { result ≡ seen_at revision (entry_of self) }

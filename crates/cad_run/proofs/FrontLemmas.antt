@@ -1,16 +1,13 @@
 -- The front of features and of the changes to them.
-use Rattle.std.proofs.Common.{◌≡◌, ◌∙◌, Bool, true, false, not, List, [], ◌∷◌, Bor, sym, refl, subst, true≢false, MatchOption, Option, Some, None, Ordering, Less, Equal, Greater, is_eq, is_gt}
+use Rattle.std.proofs.Common.{◌≡◌, ◌∙◌, true, false, not, List, [], ◌∷◌, Bor, sym, refl, subst, true≢false, Option, Ordering, Less, Equal, Greater, is_eq, is_gt}
 use Rattle.std.specs.Prelude.{if◌then◌else◌}
 use Rattle.std.specs.List.Sorted.{IsStrictlySortedBy}
 use Rattle.cad_feature.specs.Features.{Item, by_identifier}
-use Rattle.cad_layer.specs.lemmas.ItemLemmas.{items_total, rest_rises}
+use Rattle.cad_layer.specs.lemmas.ItemLemmas.{items_total}
 use Rattle.cad_layer.specs.lemmas.MergeLemmas.{change_first, change_before, change_in_place, change_behind}
 use Rattle.cad_layer.specs.Walks.{all_in, IsInOrder}
 use Rattle.cad_run.specs.Peeked.{stands_first, without}
-
-pub nothing_rises : IsStrictlySortedBy by_identifier []
-unfolding IsStrictlySortedBy
-nothing_rises = tt
+pub use Rattle.cad_run.specs.lemmas.TakenLemmas.{IsTaken, nothing_rises, taken_rises, without_rises}
 
 -- ---- a change that stands first
 
@@ -23,18 +20,7 @@ first_change (b ∷ bs) changes c cs is h up = rw is (go (by_identifier c b) ref
     go Equal e h = change_in_place by_identifier items_total b bs c cs e (subst (IsStrictlySortedBy by_identifier) is up.1)
     go Greater e h = absurd (true≢false h)
 
-pub without_rises : (c : Item) (bases : List Item) → IsStrictlySortedBy by_identifier bases → IsStrictlySortedBy by_identifier (without c bases)
-without_rises c [] up = up
-without_rises c (b ∷ bs) up = go (is_eq (by_identifier c b))
-  where
-    go : (d : Bool) → IsStrictlySortedBy by_identifier (if d then bs else (b ∷ bs))
-    go true = rest_rises by_identifier b bs (b ∷ bs) refl up
-    go false = up
-
 -- ---- the first of the base
-
-abbrev pub IsTaken : Option (Bor Item) → List Item → List Item → Type 0
-IsTaken found bases rest = MatchOption found ((bases ≡ []) × (rest ≡ [])) (λ x. bases ≡ x.now ∷ rest)
 
 -- a change that stands behind the first leaves it there
 stays : (c : Item) (bases : List Item) → false ≡ stands_first c bases → without c bases ≡ bases
@@ -56,8 +42,3 @@ behind_is x rest changes c cs is h up = rw is (go (by_identifier c x) refl h)
     go Less e h = absurd (true≢false (sym h))
     go Equal e h = absurd (true≢false (sym h))
     go Greater e h = change_behind by_identifier items_total x rest c cs e (subst (IsStrictlySortedBy by_identifier) is up.1)
-
--- what is left ascends
-pub taken_rises : (found : Option (Bor Item)) (bases rest : List Item) → IsTaken found bases rest → IsStrictlySortedBy by_identifier bases → IsStrictlySortedBy by_identifier rest
-taken_rises None bases rest e up = subst (IsStrictlySortedBy by_identifier) (sym e.1) nothing_rises
-taken_rises (Some x) bases rest e up = rest_rises by_identifier x.now rest bases e up

@@ -1,36 +1,19 @@
 -- The candidates that are left of a base and of the changes to it, after a search and from their front.
-use Rattle.std.proofs.Common.{◌≡◌, ◌∙◌, ℤ, Bool, true, false, cond, List, [], ◌∷◌, Bor, length, filter, ap, sym, refl, subst, arith, true≢false, MatchOption, Option, Some, None, Equal, is_eq, is_gt}
+use Rattle.std.proofs.Common.{◌≡◌, ◌∙◌, ℤ, Bool, true, false, cond, List, [], ◌∷◌, Bor, length, filter, ap, sym, refl, subst, arith, true≢false, MatchOption, Option, Some, None, is_eq}
 use Rattle.std.specs.Prelude.{if◌then◌else◌}
 use Rattle.std.specs.List.{All, AllByRecursion}
 use Rattle.std.specs.List.Sorted.{IsStrictlySortedBy}
 use Rattle.std.proofs.lemmas.List.Elements.{All-filter, All-from_recursion, All-tail}
 use Rattle.std.proofs.lemmas.List.Kept.{IsStrictlySortedBy-filter}
 use Rattle.std.proofs.lemmas.List.{nil_from_length}
-use Rattle.cad_versions.specs.Identifiers.{identifier_cmp}
-use Rattle.cad_feature.specs.Features.{Item, identifier_of, by_identifier}
-use Rattle.cad_lookup.specs.declared.plan.Plan.{Plan}
-use Rattle.cad_lookup.specs.Candidates.{is_candidate, candidates}
+use Rattle.cad_feature.specs.Features.{Item, by_identifier}
 use Rattle.cad_layer.specs.lemmas.FilterLemmas.{merged_filtered}
 use Rattle.cad_layer.specs.lemmas.ItemLemmas.{items_total, rest_rises}
-use Rattle.cad_layer.specs.lemmas.MergeLemmas.{filter_merged}
-use Rattle.cad_layer.specs.lemmas.SearchLemmas.{equal_is}
 use Rattle.cad_layer.specs.Walks.{all_in, IsInOrder}
 use Rattle.cad_run.specs.Peeked.{stands_first, without}
 use Rattle.cad_run.proofs.FrontLemmas.{IsTaken, behind_is, first_change, nothing_rises, without_rises}
 use Rattle.cad_run.specs.Slices.{is_later, later}
-
--- ---- two filters
-
-module _ (p q : Item → Bool) where
-  turned_here : (a b : Bool) (x : Item) (ys zs : List Item) → p x ≡ a → q x ≡ b → filter p ys ≡ filter q zs → filter p (cond b (x ∷ ys) ys) ≡ filter q (cond a (x ∷ zs) zs)
-  turned_here true true x ys zs e f h = rw (e, f) (ap (λ us. x ∷ us) h)
-  turned_here true false x ys zs e f h = rw f h
-  turned_here false true x ys zs e f h = rw e h
-  turned_here false false x ys zs e f h = h
-
-  pub turned : (xs : List Item) → filter p (filter q xs) ≡ filter q (filter p xs)
-  turned [] = refl
-  turned (x ∷ xs) = turned_here (p x) (q x) x (filter q xs) (filter p xs) refl refl (turned xs)
+pub use Rattle.cad_run.specs.lemmas.TakenLemmas.{later_merged, later_rises, turned}
 
 passing_one : (p : Item → Bool) (b : Bool) (x : Item) (ys : List Item) → p x ≡ b → AllByRecursion (λ y. p y ≡ true) ys → AllByRecursion (λ y. p y ≡ true) (cond b (x ∷ ys) ys)
 passing_one p true x ys is all = (is, all)
@@ -40,28 +23,15 @@ all_passing : (p : Item → Bool) (xs : List Item) → AllByRecursion (λ y. p y
 all_passing p [] = tt
 all_passing p (x ∷ xs) = passing_one p (p x) x (filter p xs) refl (all_passing p xs)
 
-same_later : (last : Option (ℤ × ℤ)) (x y : Item) → by_identifier x y ≡ Equal → is_later last x ≡ is_later last y
-same_later None x y e = refl
-same_later (Some named) x y e = ap (λ i. is_gt (identifier_cmp i named)) (equal_is (identifier_of x) (identifier_of y) e)
-
 pub all_later : (xs : List Item) → xs ≡ later None xs
 all_later [] = refl
 all_later (x ∷ xs) = ap (λ ys. x ∷ ys) (all_later xs)
 
 module _ (last : Option (ℤ × ℤ)) where
-  pub later_merged : (bases changes : List Item) → IsStrictlySortedBy by_identifier bases → later last (all_in bases changes) ≡ all_in (later last bases) (later last changes)
-  later_merged bases changes up = filter_merged by_identifier items_total (is_later last) (same_later last) bases changes up
-
-  pub later_rises : (xs ys : List Item) → ys ≡ later last xs → IsStrictlySortedBy by_identifier xs → IsStrictlySortedBy by_identifier ys
-  later_rises xs ys is up = subst (IsStrictlySortedBy by_identifier) (sym is) (IsStrictlySortedBy-filter by_identifier (is_later last) xs up)
-
   pub sought_in_order : (bases changes bs cs : List Item) → bs ≡ later last bases → cs ≡ later last changes → IsInOrder bases changes → IsInOrder bs cs
-  sought_in_order bases changes bs cs is_base is up = (later_rises bases bs is_base up.0, later_rises changes cs is up.1)
+  sought_in_order bases changes bs cs is_base is up = (later_rises last bases bs is_base up.0, later_rises last changes cs is up.1)
 
-module _ (plan : Plan) where
-  abbrev test : Item → Bool
-  test = is_candidate plan
-
+module _ (test : Item → Bool) where
   abbrev pub AllPass : List Item → Type 0
   AllPass xs = All (λ x. test x ≡ true) xs
 
@@ -74,7 +44,7 @@ module _ (plan : Plan) where
     pub begins_passing : AllPass bs
     begins_passing = subst AllPass (sym is_base) (All-from_recursion (λ x. test x ≡ true) (filter test base) (all_passing test base))
 
-    pub begins_with : (xs : List Item) → all_in base changes ≡ xs → filter test (all_in bs changes) ≡ candidates plan xs
+    pub begins_with : (xs : List Item) → all_in base changes ≡ xs → filter test (all_in bs changes) ≡ filter test xs
     begins_with xs all = rw is_base (merged_filtered by_identifier items_total test base changes up.0) ∙ ap (filter test) all
 
   -- ---- after a search

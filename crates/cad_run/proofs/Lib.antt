@@ -4,5 +4,6 @@ pub mod IndexLemmas
 pub mod PlanLemmas
 pub mod PageLemmas
 pub mod LeftLemmas
+pub mod SoughtLemmas
 pub mod SourceLemmas
 pub mod StandingLemmas

@@ -1,5 +1,5 @@
 -- What is left in segments of which the last stands first.
-use Rattle.std.proofs.Common.{◌≡◌, ◌∙◌, ℕ, ℤ, ◌+◌, ◌-◌, ◌<◌, ◌≤◌, ◌^◌, false, refl, List, [], ◌∷◌, ◌++◌, length, take, drop, get_or, ap, sym, subst, arith, MatchOption, Bor, Option, Some, None, slice_index_or, slice_set}
+use Rattle.std.proofs.Common.{◌≡◌, ◌∙◌, ℕ, ℤ, ◌+◌, ◌-◌, ◌<◌, ◌≤◌, ◌^◌, Bool, false, refl, List, [], ◌∷◌, ◌++◌, filter, length, take, drop, get_or, ap, sym, subst, arith, Option, slice_index_or, slice_set}
 use Rattle.std.specs.List.{AllByRecursion}
 use Rattle.std.specs.List.Sorted.{IsStrictlySortedBy}
 use Rattle.std.proofs.lemmas.List.Kept.{IsStrictlySortedBy-filter}
@@ -7,14 +7,13 @@ use Rattle.std.proofs.lemmas.List.{append_assoc, append-nil, drop-set-lt, drop_m
 use Rattle.std.proofs.lemmas.List.Elements.{filter-append}
 use Rattle.cad_versions.specs.lemmas.ListLemmas.{filter_fewer}
 use Rattle.cad_feature.specs.Features.{Item, by_identifier}
-use Rattle.cad_lookup.specs.declared.plan.Plan.{Plan}
-use Rattle.cad_lookup.specs.Candidates.{is_candidate, candidates}
 use Rattle.cad_extents.specs.declared.extents.Extents.{Extents}
 use Rattle.cad_extents.specs.Extents.{IsWithin}
 use Rattle.cad_layer.specs.Segments.{SegmentFeatures, joined}
 use Rattle.cad_run.specs.declared.segment_candidates.SegmentCandidates.{SegmentCandidates}
 use Rattle.cad_run.specs.SegmentLeft.{segment_left, all_left}
 use Rattle.cad_run.specs.Slices.{is_later, later}
+pub use Rattle.cad_run.specs.lemmas.TakenLemmas.{few_later, fewer_left}
 
 last_left : (ss : List SegmentCandidates) (s : SegmentCandidates) → all_left (ss ++ (s ∷ [])) ≡ segment_left s ++ all_left ss
 last_left [] s = sym (append-nil (segment_left s))
@@ -26,37 +25,37 @@ last_joined : (ss : List SegmentFeatures) (s : SegmentFeatures) → joined (ss +
 last_joined [] s = append-nil s.features
 last_joined (t ∷ ss) s = ap (λ xs. t.features ++ xs) (last_joined ss s) ∙ sym (append_assoc t.features (joined ss) s.features)
 
-module _ (plan : Plan) where
-  pub none_taken : (sources : List SegmentCandidates) (xs : List Item) → sources ≡ [] → candidates plan xs ++ all_left sources ≡ candidates plan xs
-  none_taken sources xs is = ap (λ ss. candidates plan xs ++ all_left ss) is ∙ append-nil (candidates plan xs)
+module _ (test : Item → Bool) where
+  pub none_taken : (sources : List SegmentCandidates) (xs : List Item) → sources ≡ [] → filter test xs ++ all_left sources ≡ filter test xs
+  none_taken sources xs is = ap (λ ss. filter test xs ++ all_left ss) is ∙ append-nil (filter test xs)
 
-  pub last_taken : (segments before : List SegmentFeatures) (segment : SegmentFeatures) (old new : List SegmentCandidates) (source : SegmentCandidates) (all : List Item) → segments ≡ before ++ (segment ∷ []) → new ≡ old ++ (source ∷ []) → segment_left source ≡ candidates plan segment.features → candidates plan (joined segments) ++ all_left old ≡ all → candidates plan (joined before) ++ all_left new ≡ all
+  pub last_taken : (segments before : List SegmentFeatures) (segment : SegmentFeatures) (old new : List SegmentCandidates) (source : SegmentCandidates) (all : List Item) → segments ≡ before ++ (segment ∷ []) → new ≡ old ++ (source ∷ []) → segment_left source ≡ filter test segment.features → filter test (joined segments) ++ all_left old ≡ all → filter test (joined before) ++ all_left new ≡ all
   last_taken segments before segment old new source all are added is same =
-      ap (λ ss. candidates plan (joined before) ++ all_left ss) added
-      ∙ ap (λ xs. candidates plan (joined before) ++ xs) (last_left old source ∙ ap (λ xs. xs ++ all_left old) is)
-      ∙ sym (append_assoc (candidates plan (joined before)) (candidates plan segment.features) (all_left old))
-      ∙ ap (λ xs. xs ++ all_left old) (sym (ap (λ ss. candidates plan (joined ss)) are ∙ ap (candidates plan) (last_joined before segment) ∙ filter-append (is_candidate plan) (joined before) segment.features))
+      ap (λ ss. filter test (joined before) ++ all_left ss) added
+      ∙ ap (λ xs. filter test (joined before) ++ xs) (last_left old source ∙ ap (λ xs. xs ++ all_left old) is)
+      ∙ sym (append_assoc (filter test (joined before)) (filter test segment.features) (all_left old))
+      ∙ ap (λ xs. xs ++ all_left old) (sym (ap (λ ss. filter test (joined ss)) are ∙ ap (filter test) (last_joined before segment) ∙ filter-append test (joined before) segment.features))
       ∙ same
 
-  none_wanted : (extents : Extents) (xs : List Item) → AllByRecursion (IsWithin extents) xs → ((x : Item) → IsWithin extents x → is_candidate plan x ≡ false) → candidates plan xs ≡ []
+  none_wanted : (extents : Extents) (xs : List Item) → AllByRecursion (IsWithin extents) xs → ((x : Item) → IsWithin extents x → test x ≡ false) → filter test xs ≡ []
   none_wanted extents [] all fails = refl
   none_wanted extents (x ∷ xs) all fails = rw (fails x all.0) (none_wanted extents xs all.1 fails)
 
   -- a segment that has no candidates
-  pub last_left_out : (segments before : List SegmentFeatures) (segment : SegmentFeatures) (extents : Extents) (sources : List SegmentCandidates) (all : List Item) → segments ≡ before ++ (segment ∷ []) → AllByRecursion (IsWithin extents) segment.features → ((x : Item) → IsWithin extents x → is_candidate plan x ≡ false) → candidates plan (joined segments) ++ all_left sources ≡ all → candidates plan (joined before) ++ all_left sources ≡ all
+  pub last_left_out : (segments before : List SegmentFeatures) (segment : SegmentFeatures) (extents : Extents) (sources : List SegmentCandidates) (all : List Item) → segments ≡ before ++ (segment ∷ []) → AllByRecursion (IsWithin extents) segment.features → ((x : Item) → IsWithin extents x → test x ≡ false) → filter test (joined segments) ++ all_left sources ≡ all → filter test (joined before) ++ all_left sources ≡ all
   last_left_out segments before segment extents sources all are within fails same =
       let none = none_wanted extents segment.features within fails in
-      let whole = ap (λ ss. candidates plan (joined ss)) are ∙ ap (candidates plan) (last_joined before segment) ∙ filter-append (is_candidate plan) (joined before) segment.features ∙ ap (λ xs. candidates plan (joined before) ++ xs) none ∙ append-nil (candidates plan (joined before)) in
+      let whole = ap (λ ss. filter test (joined ss)) are ∙ ap (filter test) (last_joined before segment) ∙ filter-append test (joined before) segment.features ∙ ap (λ xs. filter test (joined before) ++ xs) none ∙ append-nil (filter test (joined before)) in
       ap (λ xs. xs ++ all_left sources) (sym whole) ∙ same
 
-  pub all_taken : (segments : List SegmentFeatures) (sources : List SegmentCandidates) (all : List Item) → length segments ≡ 0 → candidates plan (joined segments) ++ all_left sources ≡ all → all_left sources ≡ all
-  all_taken segments sources all none same = ap (λ ss. candidates plan (joined ss) ++ all_left sources) (sym (nil_from_length segments none)) ∙ same
+  pub all_taken : (segments : List SegmentFeatures) (sources : List SegmentCandidates) (all : List Item) → length segments ≡ 0 → filter test (joined segments) ++ all_left sources ≡ all → all_left sources ≡ all
+  all_taken segments sources all none same = ap (λ ss. filter test (joined ss) ++ all_left sources) (sym (nil_from_length segments none)) ∙ same
 
-  pub few_wanted : (xs left : List Item) (count : ℕ) → count ≡ length xs → count < 2 ^ 64 → left ≡ candidates plan xs → length left < 2 ^ 64
-  few_wanted xs left count counted small is = omega (arith, counted, small, ap length is, filter_fewer (is_candidate plan) xs)
+  pub few_wanted : (xs left : List Item) (count : ℕ) → count ≡ length xs → count < 2 ^ 64 → left ≡ filter test xs → length left < 2 ^ 64
+  few_wanted xs left count counted small is = omega (arith, counted, small, ap length is, filter_fewer test xs)
 
-  pub ascending_wanted : (xs left : List Item) → IsStrictlySortedBy by_identifier xs → left ≡ candidates plan xs → IsStrictlySortedBy by_identifier left
-  ascending_wanted xs left up is = subst (IsStrictlySortedBy by_identifier) (sym is) (IsStrictlySortedBy-filter by_identifier (is_candidate plan) xs up)
+  pub ascending_wanted : (xs left : List Item) → IsStrictlySortedBy by_identifier xs → left ≡ filter test xs → IsStrictlySortedBy by_identifier left
+  ascending_wanted xs left up is = subst (IsStrictlySortedBy by_identifier) (sym is) (IsStrictlySortedBy-filter by_identifier test xs up)
 
 -- ---- from the front
 
@@ -119,10 +118,3 @@ module _ (last : Option (ℤ × ℤ)) (before now : List SegmentCandidates) (at 
   pub all_sought : length before ≤ at → AreSought → all_left now ≡ later last (all_left before)
   all_sought h sought =
       ap all_left (sym (take_all at now (omega (arith, long, h)))) ∙ sought.0 ∙ ap (λ ss. later last (all_left ss)) (take_all at before h)
-
-pub few_later : (last : Option (ℤ × ℤ)) (xs ys : List Item) → ys ≡ later last xs → length xs < 2 ^ 64 → length ys < 2 ^ 64
-few_later last xs ys is few = omega (arith, ap length is, filter_fewer (is_later last) xs, few)
-
-pub fewer_left : (found : Option (Bor Item)) (old new : List Item) → MatchOption found ((old ≡ []) × (new ≡ [])) (λ x. old ≡ x.now ∷ new) → length old < 2 ^ 64 → length new < 2 ^ 64
-fewer_left None old new e few = omega (arith, ap length e.1)
-fewer_left (Some x) old new e few = omega (arith, ap length e, few)

@@ -1,6 +1,7 @@
 pub mod Slices
 pub mod Pages
 pub mod Positions
+pub mod Sought
 pub mod Bases
 pub mod Peeked
 pub mod Standing

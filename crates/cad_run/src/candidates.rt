@@ -1,17 +1,18 @@
 //! The candidates of a layer, in the order of identifiers.
 
-ghost use Rattle.std.specs.Prelude.{◌≡◌, ◌<◌, ◌^◌, ◌-◌, [], ◌∷◌, length, take, IfOk, MatchOption, Some};
+ghost use Rattle.std.specs.Prelude.{◌≡◌, ◌<◌, ◌^◌, ◌-◌, [], ◌∷◌, filter, length, take, IfOk, MatchOption, Some};
 ghost use Rattle.std.specs.List.Sorted.{IsStrictlySortedBy};
 ghost use Rattle.std.proofs.Props.{props};
 ghost use Rattle.cad_feature.specs.Features.{by_identifier};
-ghost use Rattle.cad_lookup.specs.Candidates.{candidates};
 ghost use Rattle.cad_layer.specs.Segments.{joined};
 ghost use Rattle.cad_run.specs.SegmentLeft.{all_left};
 ghost use Rattle.cad_run.specs.Slices.{identifier, later};
+ghost use Rattle.cad_run.specs.Sought.{is_sought};
 
 use crate::feature_source::FeatureSource;
 use crate::presence::may_have;
 use crate::segment_candidates::SegmentCandidates;
+use crate::sought::Sought;
 use cad_feature::Feature;
 use cad_layer::{Layer, Segment};
 use cad_lookup::Plan;
@@ -27,19 +28,19 @@ pub struct Candidates<'a, 'p> {
     ghost few: { length (all_left sources.items) < 2 ^ 64 },
 }
 
-/// The sources of the segments that may have candidates. The last segment comes first.
+/// The sources of the segments that may have what is sought. The last segment comes first.
 fn sources_of<'a, 'p>(
     alloc: Global,
-    plan: &'p Plan,
+    sought: Sought<'p>,
     segments: &'a [Segment],
 ) -> Result<Vec<SegmentCandidates<'a, 'p>>, AllocError>
-    ensures { IfOk result (λ sources. all_left sources.items ≡ candidates plan.now (joined segments.now)) }
+    ensures { IfOk result (λ sources. all_left sources.items ≡ filter (is_sought sought.entry) (joined segments.now)) }
 {
     let mut sources = Vec::new(alloc);
     let mut segments = segments;
     while let Some((segment, before)) = segments.split_last() {
-        if may_have(plan, segment.extents()) {
-            let source = SegmentCandidates::of(alloc, plan, segment)?;
+        if may_have(sought.plan, segment.extents()) {
+            let source = SegmentCandidates::of(alloc, sought, segment)?;
             sources.push(source)?;
         }
         segments = before;
@@ -76,7 +77,26 @@ fn seek_each(sources: &mut [SegmentCandidates<'_, '_>], last: (ObjectId, u32))
 }
 
 impl<'a, 'p> Candidates<'a, 'p> {
+    ghost use Rattle.std.specs.Prelude.{◌≡◌, IfOk, filter};
+    ghost use Rattle.cad_index.specs.Moments.{rows_at};
+    ghost use Rattle.cad_lookup.specs.Candidates.{candidates};
     ghost use Rattle.cad_run.specs.Left.{candidates_left};
+    ghost use Rattle.cad_run.specs.Sought.{is_sought};
+
+    /// What is sought in the layer. An error means out of memory.
+    fn sought(
+        alloc: Global,
+        sought: Sought<'p>,
+        layer: &'a Layer,
+    ) -> Result<Candidates<'a, 'p>, AllocError>
+        ensures { IfOk result (λ left. candidates_left left ≡ filter (is_sought sought.entry) layer.now.features) }
+    {
+        // Features ascend, and a counter holds their number: so the same holds of the candidates that are left.
+        let _collection = layer.collection();
+        let _count = layer.count();
+        let sources = sources_of(alloc, sought, layer.segments())?;
+        Ok(Candidates { sources })
+    }
 
     /// The candidates of the layer. An error means out of memory.
     pub fn of(
@@ -86,11 +106,27 @@ impl<'a, 'p> Candidates<'a, 'p> {
     ) -> Result<Candidates<'a, 'p>, AllocError>
         ensures { IfOk result (λ left. candidates_left left ≡ candidates plan.now layer.now.features) }
     {
-        // Features ascend, and a counter holds their number: so the same holds of the candidates that are left.
-        let _collection = layer.collection();
-        let _count = layer.count();
-        let sources = sources_of(alloc, plan, layer.segments())?;
-        Ok(Candidates { sources })
+        let all = Sought {
+            plan,
+            revision: None,
+        };
+        Candidates::sought(alloc, all, layer)
+    }
+
+    /// The candidates of the layer that have their values at the revision. An error means out of memory.
+    pub fn at(
+        alloc: Global,
+        plan: &'p Plan,
+        layer: &'a Layer,
+        revision: u64,
+    ) -> Result<Candidates<'a, 'p>, AllocError>
+        ensures { IfOk result (λ left. candidates_left left ≡ rows_at revision (candidates plan.now layer.now.features)) }
+    {
+        let shown = Sought {
+            plan,
+            revision: Some(revision),
+        };
+        Candidates::sought(alloc, shown, layer)
     }
 }
 

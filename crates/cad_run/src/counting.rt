@@ -9,7 +9,8 @@ use cad_layer::Layer;
 use cad_lookup::Plan;
 use std::alloc::{AllocError, Global};
 
-fn count_left<'a, S: FeatureSource<'a>>(source: S) -> u64
+/// How many features the source has left.
+pub fn count_of<'a, S: FeatureSource<'a>>(source: S) -> u64
     ensures { result ≡ length (S.left source) }
 {
     let mut source = source;
@@ -25,5 +26,5 @@ pub fn candidate_count(alloc: Global, plan: &Plan, layer: &Layer) -> Result<u64,
     ensures { IfOk result (λ count. count ≡ length (candidates plan.now layer.now.features)) }
 {
     let left = Candidates::of(alloc, plan, layer)?;
-    Ok(count_left(left))
+    Ok(count_of(left))
 }

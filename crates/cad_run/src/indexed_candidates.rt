@@ -12,13 +12,13 @@ use crate::bases::Bases;
 use crate::feature_source::FeatureSource;
 use crate::peeked::Peeked;
 use crate::replaced::is_replaced;
+use crate::sought::Sought;
 use cad_feature::Feature;
 use cad_layer::Indexed;
-use cad_lookup::Plan;
 use cad_versions::ObjectId;
 use std::alloc::{AllocError, Global};
 
-/// A plan's remaining candidates among features of a base and older changes to it: those of the base that no change replaces, and those
+/// The remaining candidates among features of a base and older changes to it: those of the base that no change replaces, and those
 /// of the changes. Both are found by indexes.
 #[derive(Drop)]
 pub(crate) struct IndexedCandidates<'a> {
@@ -31,20 +31,20 @@ pub(crate) struct IndexedCandidates<'a> {
 
 impl<'a> IndexedCandidates<'a> {
     ghost use Rattle.std.specs.Prelude.{◌≡◌, IfOk, filter};
-    ghost use Rattle.cad_lookup.specs.Candidates.{is_candidate};
     ghost use Rattle.cad_run.specs.IndexedLeft.{indexed_left, BaseStandsFirst};
+    ghost use Rattle.cad_run.specs.Sought.{is_sought};
 
-    /// The candidates of the indexed features. An error means out of memory.
+    /// The candidates that are sought among the indexed features. An error means out of memory.
     pub(crate) fn of(
         alloc: Global,
-        plan: &Plan,
+        sought: Sought<'_>,
         indexed: &'a Indexed,
     ) -> Result<IndexedCandidates<'a>, AllocError>
-        ensures { IfOk result (λ left. indexed_left left ≡ filter (is_candidate plan.now) indexed.now.features) }
+        ensures { IfOk result (λ left. indexed_left left ≡ filter (is_sought sought.entry) indexed.now.features) }
     {
         let (base, older) = indexed.parts();
-        let bases = Bases::of(alloc, plan, base)?;
-        let olders = Bases::of(alloc, plan, older)?;
+        let bases = Bases::of(alloc, sought, base)?;
+        let olders = Bases::of(alloc, sought, older)?;
         Ok(IndexedCandidates {
             bases: Peeked::new(bases),
             older: older.features(),

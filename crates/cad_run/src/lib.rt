@@ -6,7 +6,9 @@
 //! - [`Candidates`]: a plan's candidates as such a source
 //! - [`Kept`]: the features of any source that a test keeps, and how many were tested
 //! - [`RowSource`]: positions one after the other, from which a base's candidates are made
-//! - [`candidate_count`]: how many candidates a plan has
+//! - [`page_of`]: the same of any source
+//! - [`candidate_count`], [`count_of`]: how many candidates a plan has, and how many features a source has left
+//! - [`Peeked`]: a source whose first feature is looked at before it is taken
 //! - [`FeatureTest`]: a test of features
 //! - [`Layer`], [`Plan`]: the features with their indexes, and which of them are looked at
 //!
@@ -33,14 +35,16 @@ mod presence;
 mod replaced;
 mod rows;
 mod segment_candidates;
+mod sought;
 
 pub use cad_layer::Layer;
 pub use cad_lookup::Plan;
 pub use cad_positions::RowSource;
 pub use candidates::Candidates;
-pub use counting::candidate_count;
+pub use counting::{candidate_count, count_of};
 pub use feature_source::FeatureSource;
 pub use feature_test::FeatureTest;
 pub use kept::Kept;
-pub use paging::page;
+pub use paging::{page, page_of};
+pub use peeked::Peeked;
 pub use rows::Page;

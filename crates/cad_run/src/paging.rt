@@ -29,6 +29,26 @@ fn left_after<'a, S: FeatureSource<'a>>(source: S, after: Option<(ObjectId, u32)
     }
 }
 
+/// The page of a source's features that pass the test: the first of them after the named one, at most `limit` of them. An error means
+/// out of memory.
+///
+/// They are tested in their order, each once, up to the one that shows that more are left.
+pub fn page_of<'a, S: FeatureSource<'a>, T: FeatureTest>(
+    alloc: Global,
+    source: S,
+    test: &T,
+    after: Option<(ObjectId, u32)>,
+    limit: u32,
+) -> Result<Page<'a>, AllocError>
+    ensures rows { IfOk result (λ page. rows_of page ≡ slice (option_map identifier after) limit (filter (T.passes test.now) (S.left source))) }
+    ensures more { IfOk result (λ page. page.more ≡ is_more (option_map identifier after) limit (filter (T.passes test.now) (S.left source))) }
+    ensures examined { IfOk result (λ page. page.examined ≡ examined_of (T.passes test.now) limit (later (option_map identifier after) (S.left source))) }
+{
+    let left = left_after(source, after);
+    let page = find(alloc, left, test, limit as usize)?;
+    Ok(page)
+}
+
 /// The page of the plan's candidates that pass the test: the first of them after the named one, at most `limit` of them. An error means
 /// out of memory.
 ///
@@ -49,7 +69,6 @@ pub fn page<'a, T: FeatureTest>(
         ≡ examined_of (T.passes test.now) limit (later (option_map identifier after) (candidates plan.now layer.now.features))) }
 {
     let all = Candidates::of(alloc, plan, layer)?;
-    let left = left_after(all, after);
-    let page = find(alloc, left, test, limit as usize)?;
+    let page = page_of(alloc, all, test, after, limit)?;
     Ok(page)
 }

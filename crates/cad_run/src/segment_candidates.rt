@@ -3,48 +3,47 @@
 ghost use Rattle.std.specs.Prelude.{◌≡◌, true};
 ghost use Rattle.std.specs.List.{All};
 ghost use Rattle.std.proofs.Props.{props};
-ghost use Rattle.cad_lookup.specs.Candidates.{is_candidate as is_candidate_of};
 ghost use Rattle.cad_layer.specs.Walks.{IsInOrder};
 ghost use Rattle.cad_run.specs.Peeked.{peeked_left};
 ghost use Rattle.cad_run.specs.IndexedLeft.{indexed_left};
+ghost use Rattle.cad_run.specs.Sought.{is_sought};
 
-use crate::candidacy::is_candidate;
 use crate::indexed_candidates::IndexedCandidates;
 use crate::peeked::Peeked;
+use crate::sought::Sought;
 use cad_feature::Feature;
 use cad_layer::{Change, Segment, changes_after};
-use cad_lookup::Plan;
 use cad_versions::ObjectId;
 use std::alloc::{AllocError, Global};
 
-/// A plan's remaining candidates in a segment: those that indexes find, and recent changes, which may be candidates or not.
+/// The remaining candidates in a segment: those that indexes find, and recent changes, which may be candidates or not.
 #[derive(Drop)]
 pub(crate) struct SegmentCandidates<'a, 'p> {
-    plan: &'p Plan,
+    sought: Sought<'p>,
     bases: Peeked<'a, IndexedCandidates<'a>>,
     changes: &'a [Change],
     ghost order: { IsInOrder (peeked_left indexed_left bases) changes.now } by { Prim.hlevel props },
-    ghost passing: { All (λ x. is_candidate_of plan.now x ≡ true) (peeked_left indexed_left bases) },
+    ghost passing: { All (λ x. is_sought sought x ≡ true) (peeked_left indexed_left bases) },
 }
 
 impl<'a, 'p> SegmentCandidates<'a, 'p> {
-    ghost use Rattle.std.specs.Prelude.{◌≡◌, [], ◌∷◌, IfOk, MatchOption, Some};
-    ghost use Rattle.cad_lookup.specs.Candidates.{candidates};
+    ghost use Rattle.std.specs.Prelude.{◌≡◌, [], ◌∷◌, IfOk, MatchOption, Some, filter};
     ghost use Rattle.cad_run.specs.SegmentLeft.{segment_left};
     ghost use Rattle.cad_run.specs.Slices.{identifier, later};
+    ghost use Rattle.cad_run.specs.Sought.{is_sought};
 
-    /// The candidates of the segment. An error means out of memory.
+    /// The candidates that are sought in the segment. An error means out of memory.
     pub(crate) fn of(
         alloc: Global,
-        plan: &'p Plan,
+        sought: Sought<'p>,
         segment: &'a Segment,
     ) -> Result<SegmentCandidates<'a, 'p>, AllocError>
-        ensures { IfOk result (λ left. segment_left left ≡ candidates plan.now segment.now.features) }
+        ensures { IfOk result (λ left. segment_left left ≡ filter (is_sought sought.entry) segment.now.features) }
     {
         let (indexed, changes) = segment.parts();
-        let bases = IndexedCandidates::of(alloc, plan, indexed)?;
+        let bases = IndexedCandidates::of(alloc, sought, indexed)?;
         Ok(SegmentCandidates {
-            plan,
+            sought,
             bases: Peeked::new(bases),
             changes,
         })
@@ -60,7 +59,7 @@ impl<'a, 'p> SegmentCandidates<'a, 'p> {
                 return self.bases.next();
             }
             self.changes = changes;
-            if is_candidate(self.plan, feature) {
+            if self.sought.has(feature) {
                 return Some(feature);
             }
         }

@@ -1,3 +1,4 @@
+pub mod ContentLemmas
 pub mod KeptLemmas
 pub mod FoundLemmas
 pub mod ReplyLemmas

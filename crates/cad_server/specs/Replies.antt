@@ -40,11 +40,9 @@ Asks request = (wanted : ParsedRequest) × IsParsedRequest (requested request) w
 -- ---- why there is no reply
 
 module _ (FailsToList : ℕ → List Command → RegisterFault → Type 0) where
-  -- the revision exists, and the ledger fails to list it
+  -- the revision exists, and the ledger fails to list the newest one
   abbrev pub FailsToFind : List Command → FeatureRequest → RegisterFault → Type 0
-  FailsToFind commands sought fault =
-      (revision_sought sought (length commands) ≤ length commands)
-      × FailsToList (revision_sought sought (length commands)) commands fault
+  FailsToFind commands sought fault = (revision_sought sought (length commands) ≤ length commands) × FailsToList (length commands) commands fault
 
   -- only what is sought in the ledger can fail
   abbrev pub FailsToTell : List Command → ParsedRequest → RegisterFault → Type 0

@@ -6,7 +6,6 @@ use Rattle.cad_versions.specs.declared.fault.RegisterFault.TheVariants.{Store, M
 use Rattle.cad_versions.specs.Keeping.{IsShut, NamesDamage}
 use Rattle.cad_versions.specs.Ledgers.{Applied, Checked}
 use Rattle.cad_versions.specs.declared.ledger.Ledger.{Ghosts}
-use Rattle.cad_snapshot.specs.Snapshots.{RevisionFeatures}
 use Rattle.cad_head.specs.Request.{Request}
 use Rattle.cad_resource.specs.Requested.{requested}
 use Rattle.cad_request.specs.ParsedRequests.{IsParsedRequest}
@@ -16,8 +15,8 @@ use Rattle.cad_request.specs.declared.response.Response.{Response}
 use Rattle.cad_server.specs.declared.records.Records.{Records}
 use Rattle.cad_server.specs.declared.server.Server.{Server}
 use Rattle.cad_request.specs.declared.feature_request.FeatureRequest.{FeatureRequest}
-use Rattle.cad_server.specs.Contents.{content_in_response, content_in, content_of, content_requested, revision_sought, snapshot_at}
-use Rattle.cad_server.specs.Keeping.{KeepsOf, StaysCached, StaysWith, cached_at}
+use Rattle.cad_server.specs.Contents.{content_in_response, content_in, content_of, content_requested, snapshot_at}
+use Rattle.cad_server.specs.Keeping.{KeepsOf, StaysCached, cached_at, rows_in}
 use Rattle.cad_server.specs.Replies.{AsksForFeatures, FailsToFind, FailsToTell}
 
 abbrev pub ledger_in : {L : Type 0} → Records L → L
@@ -45,31 +44,27 @@ module _ {L : Type 0} (g : Ghosts L) where
   abbrev pub IsServerOf : Server L → List Command → Type 0
   IsServerOf server commands = AreRecordsOf server.records commands
 
-  -- the ledger refuses to list the revision at which this is sought
-  abbrev pub RefusesToFind : FeatureRequest → Records L → Records L → Type 0
-  RefusesToFind sought old new =
-      (revision : ℕ) × g.refuses_listing (ledger_in old) (ledger_in new) revision
-      × ((commands : List Command) → AreRecordsOf old commands → revision ≡ revision_sought sought (length commands))
+  -- the ledger refuses to list what it stores at the newest revision
+  abbrev pub RefusesToRead : Records L → Records L → Type 0
+  RefusesToRead old new = g.refuses_listing (ledger_in old) (ledger_in new) (g.newest (ledger_in old))
 
   -- the same for what is wanted; nothing is listed for a response that is made without the ledger
   abbrev pub RefusesToTell : ParsedRequest → Records L → Records L → Type 0
   RefusesToTell (parsed.Immediate response) old new = ⊥
-  RefusesToTell (parsed.Features sought) old new = RefusesToFind sought old new
+  RefusesToTell (parsed.Features sought) old new = RefusesToRead old new
 
   -- the same for what a request asks for
   abbrev pub RefusesToAnswer : Server L → Server L → Request → Type 0
   RefusesToAnswer old new request = (wanted : ParsedRequest) × IsParsedRequest (requested request) wanted × RefusesToTell wanted old.records new.records
 
-  -- the ledger shows a damaged row of this object and this number when it lists the revision at which this is sought: the one that is asked
-  -- for, or the newest according to the ledger
-  abbrev pub DamagedForFinding : FeatureRequest → Records L → Records L → ℤ → ℤ → Type 0
-  DamagedForFinding sought old new object number =
-      g.damaged_for_listing (ledger_in old) (ledger_in new) (revision_sought sought (g.newest (ledger_in old))) object number
+  -- the ledger shows a damaged row of this object and this number when it lists what it stores at the newest revision
+  abbrev pub DamagedForReading : Records L → Records L → ℤ → ℤ → Type 0
+  DamagedForReading old new object number = g.damaged_for_listing (ledger_in old) (ledger_in new) (g.newest (ledger_in old)) object number
 
   -- the same for what is wanted
   abbrev pub DamagedForTelling : ParsedRequest → Records L → Records L → ℤ → ℤ → Type 0
   DamagedForTelling (parsed.Immediate response) old new object number = ⊥
-  DamagedForTelling (parsed.Features sought) old new object number = DamagedForFinding sought old new object number
+  DamagedForTelling (parsed.Features sought) old new object number = DamagedForReading old new object number
 
   -- the same for what a request asks for
   abbrev pub DamagedForAnswer : Server L → Server L → Request → ℤ → ℤ → Type 0
@@ -99,15 +94,15 @@ module _ {L : Type 0} (g : Ghosts L) where
     pub unchanged : g.counts (ledger_in new) → IfErr result (λ fault. (commands : List Command) → AreRecordsOf old commands → AreRecordsOf new commands ⊎ IsShut g.lives g.fails (ledger_in old) fault (ledger_in new))
     pub clean : g.counts (ledger_in new) → g.counts (ledger_in old)
 
-  -- less is kept, and the ledger is not touched
-  pub record Forgets (old new : Records L) : Type 0 where
-    pub same : ledger_in new ≡ ledger_in old
-    pub kept : StaysCached old.kept new.kept
+  -- what the ledger stores was read, so that the histories are there, or they were there and nothing was read
+  pub record Prepares (old : Records L) (result : Result (Unit {0}) RegisterFault) (new : Records L) : Type 0 where
+    pub ready : OnOk result (¬ (rows_in new.kept ≡ None))
+    pub cause : g.counts (ledger_in new) → IfErr result (λ fault. (commands : List Command) → AreRecordsOf old commands → (fault ≡ Memory) ⊎ g.fails_to_list (length commands) commands fault)
+    pub reads : Reads (RefusesToRead old new) (DamagedForReading old new) old result new
 
-  -- more is kept, or less, and the ledger is not touched
-  pub record Keeps (snapshot : RevisionFeatures) (old new : Records L) : Type 0 where
-    pub same : ledger_in new ≡ ledger_in old
-    pub kept : StaysWith snapshot old.kept new.kept
+  -- the same of a server
+  abbrev pub ServerPrepares : Server L → Result (Unit {0}) RegisterFault → Server L → Type 0
+  ServerPrepares old result new = Prepares old.records result new.records
 
   -- the response is what is sought, from what is kept of the revision. A response is missing only if nothing of the revision is kept. Only
   -- the order of what is kept changes.
@@ -120,14 +115,14 @@ module _ {L : Type 0} (g : Ghosts L) where
   -- the response is what is sought at an existing revision
   pub record Finds (revision : ℕ) (sought : FeatureRequest) (old : Records L) (result : Result Response RegisterFault) (new : Records L) : Type 0 where
     pub response : g.counts (ledger_in new) → IfOk result (λ response. (commands : List Command) → AreRecordsOf old commands → revision ≤ length commands → content_in_response response ≡ content_in sought (snapshot_at revision commands))
-    pub cause : g.counts (ledger_in new) → IfErr result (λ fault. (commands : List Command) → AreRecordsOf old commands → revision ≤ length commands → (fault ≡ Memory) ⊎ g.fails_to_list revision commands fault)
-    pub reads : Reads (g.refuses_listing (ledger_in old) (ledger_in new) revision) (g.damaged_for_listing (ledger_in old) (ledger_in new) revision) old result new
+    pub cause : g.counts (ledger_in new) → IfErr result (λ fault. (commands : List Command) → AreRecordsOf old commands → (fault ≡ Memory) ⊎ g.fails_to_list (length commands) commands fault)
+    pub reads : Reads (RefusesToRead old new) (DamagedForReading old new) old result new
 
   -- the response is what is sought, at the revision that is asked for or the newest
   pub record Seeks (sought : FeatureRequest) (old : Records L) (result : Result Response RegisterFault) (new : Records L) : Type 0 where
     pub response : g.counts (ledger_in new) → IfOk result (λ response. (commands : List Command) → AreRecordsOf old commands → content_in_response response ≡ content_of sought commands)
     pub cause : g.counts (ledger_in new) → IfErr result (λ fault. (commands : List Command) → AreRecordsOf old commands → (fault ≡ Memory) ⊎ FailsToFind g.fails_to_list commands sought fault)
-    pub reads : Reads (RefusesToFind sought old new) (DamagedForFinding sought old new) old result new
+    pub reads : Reads (RefusesToRead old new) (DamagedForReading old new) old result new
 
   -- the response is what is wanted; if no features are wanted, it is so with any commands
   pub record Tells (wanted : ParsedRequest) (old : Records L) (result : Result Response RegisterFault) (new : Records L) : Type 0 where

@@ -4,11 +4,9 @@
 //!   (`cad_desk`), and so does serving over a reader and a writer (`cad_serve`)
 //! - `laws`: that a request has one reply
 //!
-//! The features that are read from the ledger at a revision are kept. After a command, the features of the revision before it are kept with
-//! what the command changes. So after the first page since the start, a page of the newest revision reads nothing from the ledger, unless
-//! memory ran out in between. Neither does a page of an old revision that is still kept. Revisions share segments of features, and past a bound of changes a segment gets a new base. At least 16 revisions before the newest and
-//! at most 6,160 are kept of those that were entered last, by how much was spent since. At most two are kept that were old when they were
-//! read from the ledger. Keeping changes no reply.
+//! The features at every revision are read from the ledger once, as rows, and are kept. A command adds to them what it changes. So after the
+//! first page since the start, no page of any revision reads from the ledger, unless memory ran out at a command. Past a bound of changes a
+//! segment of rows gets a new base. A revision's snapshot is a handle of the rows, and four of them are kept. Keeping changes no reply.
 //!
 //! With a ledger of no commands, the request
 //!

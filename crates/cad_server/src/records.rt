@@ -1,4 +1,4 @@
-//! A ledger, and what was read from it.
+//! A ledger, and the features of its revisions.
 
 ghost use Rattle.std.specs.Prelude.{◌≡◌, codes, IfOk};
 ghost use Rattle.cad_head.specs.declared.status.Status.TheVariants.{BadRequest};
@@ -6,34 +6,25 @@ ghost use Rattle.cad_server.specs.Contents.{content_in_response, refusal};
 
 use crate::snapshot_cache::SnapshotCache;
 use crate::sought::{response_in, revision_of};
-use cad_changes::snapshot_after;
+use cad_changes::histories_after;
 use cad_head::Status;
+use cad_history::Histories;
 use cad_json::word_body;
 use cad_request::{FeatureRequest, ParsedRequest, Response};
 use cad_snapshot::Snapshot;
 use cad_stream::Summary;
-use cad_versions::laws::revisions_stay;
-use cad_versions::{Command, JournalLedger, Ledger, RegisterFault};
+use cad_versions::{Command, HistoryLedger, JournalLedger, Ledger, RegisterFault};
 use std::alloc::{AllocError, Global};
+use std::rc::Rc;
 
-/// How many changes the bases of a collection get before new ones are made, by default.
+/// How many changes the bases of a list of rows get before new ones are made, by default.
 pub(crate) const MOST_CHANGES: usize = 2048;
 
-/// How many features a segment of a collection has for each of these changes: as many are put into a new base when one is due.
-const FEATURES_FOR_A_CHANGE: usize = 4;
-
-/// How many features are put into indexes, counting what takes as much, for each of these changes before a revision is dropped. This
-/// bounds what is kept in addition to the newest features.
-const SPENT_FOR_A_CHANGE: usize = 32;
-
-/// How many revisions before the newest are kept at least, no matter how much is changed, if the bases get that many changes.
-const LEAST_REVISIONS: usize = 16;
-
-/// A ledger, and the features at the revisions that were asked for last or entered last.
+/// A ledger, and the features at every revision, once they were read from it.
 pub(crate) struct Records<L: Ledger> {
     ledger: L,
     kept: SnapshotCache,
-    /// How many changes the bases of a collection get before new ones are made.
+    /// How many changes the bases of a list of rows get before new ones are made.
     most_changes: usize,
     alloc: Global,
 }
@@ -50,12 +41,13 @@ impl<L: Ledger + Drop> Drop for Records<L> {
 }
 
 impl<L: Ledger> Records<L> {
-    ghost use Rattle.std.specs.Prelude.{◌≡◌, List, [], ◌∷◌, ◌++◌, None, IfOk, IfErr, IfSome};
+    ghost use Rattle.std.specs.Prelude.{◌≡◌, List, [], ◌∷◌, ◌++◌, IfOk, IfErr, IfSome};
+    ghost use Rattle.std.specs.Rc.{rc_value};
     ghost use Rattle.cad_versions.specs.declared.command.Command.{Command as CommandOf};
     ghost use Rattle.cad_versions.specs.Refusals.{AreAccepted};
-    ghost use Rattle.cad_server.specs.Keeping.{IsCached, cached_at};
+    ghost use Rattle.cad_history.specs.Histories.{AreAllRowsOf};
     ghost use Rattle.cad_stream.specs.Summaries.{Summarizes};
-    ghost use Rattle.cad_server.specs.Servers.{bound_in, ledger_in, AreRecordsOf, Checks, Enters, Forgets, Keeps, Recalls, Finds, Seeks, Tells};
+    ghost use Rattle.cad_server.specs.Servers.{bound_in, ledger_in, AreRecordsOf, Checks, Enters};
 
     /// A ledger from which nothing was read yet, or the ledger back if there is no memory.
     pub(crate) fn new(alloc: Global, ledger: L, most_changes: usize) -> Result<Records<L>, L>
@@ -93,20 +85,17 @@ impl<L: Ledger> Records<L> {
     pub(crate) fn enter(&mut self, command: Command) -> Result<u64, RegisterFault>
         ensures { Enters L.Ledger self.old command result self.new }
     {
-        let next = self.next_snapshot(&command);
-        let revision = self.apply(command)?;
-        if let Some(next) = next {
-            self.keep_entered(next);
+        let next = self.next_histories(&command);
+        match self.ledger.apply(command) {
+            Ok(revision) => {
+                self.kept.replace(next);
+                Ok(revision)
+            }
+            Err(fault) => {
+                drop(next);
+                Err(fault)
+            }
         }
-        Ok(revision)
-    }
-
-    /// Lets the ledger apply the command; what is kept stays correct.
-    fn apply(&mut self, command: Command) -> Result<u64, RegisterFault>
-        ensures { Enters L.Ledger self.old command result self.new }
-    {
-        revisions_stay();
-        self.ledger.apply(command)
     }
 
     /// What would be answered to the command, which is not entered.
@@ -120,50 +109,15 @@ impl<L: Ledger> Records<L> {
     pub(crate) fn summary(&self) -> Summary
         ensures { Summarizes (AreRecordsOf L.Ledger) self.now result }
     {
-        let revision = self.ledger.revision();
         Summary {
-            revision,
-            versions: self.kept.counts_at(revision),
+            revision: self.ledger.revision(),
+            versions: self.kept.counts(),
             oldest: self.kept.oldest(),
         }
     }
 
-    /// The features after the command, made from those of the revision in force; `None` if these are not kept, memory runs out, or there is
-    /// no next revision.
-    fn next_snapshot(&self, command: &Command) -> Option<Snapshot>
-        ensures { IfSome result (λ next. (commands : List CommandOf) → AreRecordsOf L.Ledger self.now commands → AreAccepted [] (commands ++ command.now ∷ [])
-            → IsCached (commands ++ command.now ∷ []) (next.revision, next)) }
-    {
-        let newest = self.ledger.revision();
-        let revision = newest.checked_add(1)?;
-        let snapshot = self.kept.entered_at(newest)?;
-        snapshot_after(self.alloc, snapshot, command, revision).ok()
-    }
-
-    /// Whether more revisions are kept than the minimum, and too much was spent since the oldest of those that were entered last.
-    fn is_spent(&self, spent: usize) -> bool {
-        let Some(before) = self.kept.oldest_spent() else {
-            return false;
-        };
-        let least = self.most_changes.clamp(1, LEAST_REVISIONS);
-        let most = self.most_changes.saturating_mul(SPENT_FOR_A_CHANGE);
-        least < self.kept.entered_count() && most < spent.saturating_sub(before)
-    }
-
-    /// Drops the revisions since which too much was spent.
-    fn let_spent_go(&mut self, spent: usize)
-        ensures { Forgets L.Ledger self.old self.new }
-    {
-        for _ in 0..self.kept.entered_count() {
-            if !self.is_spent(spent) {
-                return;
-            }
-            self.kept.let_oldest_go();
-        }
-    }
-
-    /// The same features, with new bases if these are due and there is memory for them.
-    fn settled(&self, next: Snapshot) -> Snapshot
+    /// The same histories, with new bases if these are due and there is memory for them.
+    fn settled(&self, next: Histories) -> Histories
         ensures { result ≡ next }
     {
         if next.is_settled(self.most_changes) {
@@ -175,39 +129,62 @@ impl<L: Ledger> Records<L> {
         }
     }
 
-    /// Keeps the features of the revision in force.
-    fn keep_entered(&mut self, next: Snapshot)
-        ensures { Keeps L.Ledger next self.old self.new }
+    /// The histories after the command, made from those before it; `None` if these are not kept, or memory runs out.
+    fn next_histories(&self, command: &Command) -> Option<Rc<Histories>>
+        ensures { IfSome result (λ next. (commands : List CommandOf) → AreRecordsOf L.Ledger self.now commands → AreAccepted [] (commands ++ command.now ∷ [])
+            → AreAllRowsOf (commands ++ command.now ∷ []) (rc_value next)) }
     {
-        // Old revisions are dropped first.
-        self.let_spent_go(next.spent());
-        let settled = self.settled(next);
-        self.kept.add(settled);
+        let revision = self.ledger.revision().checked_add(1)?;
+        let histories = self.kept.histories()?;
+        let next = histories_after(self.alloc, histories, command, revision).ok()?;
+        Rc::new(self.alloc, self.settled(next)).ok()
+    }
+}
+
+impl<L: HistoryLedger> Records<L> {
+    ghost use Rattle.std.specs.Prelude.{◌≡◌, ◌≤◌, List, length, None, IfOk, IfSome};
+    ghost use Rattle.cad_versions.specs.declared.command.Command.{Command as CommandOf};
+    ghost use Rattle.cad_versions.specs.AsOf.{as_of};
+    ghost use Rattle.cad_snapshot.specs.Snapshots.{IsSnapshotOf};
+    ghost use Rattle.cad_server.specs.Keeping.{KeepsOf, cached_at, rows_in};
+    ghost use Rattle.cad_server.specs.Servers.{ledger_in, AreRecordsOf, Prepares, Recalls, Finds, Seeks, Tells};
+
+    /// Reads what the ledger stores, and makes the histories of all collections.
+    fn read(&mut self) -> Result<(), RegisterFault>
+        ensures { Prepares L.Ledger self.old result self.new }
+    {
+        let newest = self.ledger.revision();
+        let versions = self.ledger.stored_versions()?;
+        let histories = Histories::of_register(self.alloc, &versions, newest)?;
+        drop(versions);
+        let histories = Rc::new(self.alloc, histories)?;
+        self.kept.replace(Some(histories));
+        Ok(())
     }
 
-    /// Drops kept features to make room for those of the revision.
-    fn make_room(&mut self, revision: u64)
-        ensures { Forgets L.Ledger self.old self.new }
+    /// Makes the histories of all collections, if they are not kept. The ledger is read only for that.
+    pub(crate) fn prepare(&mut self) -> Result<(), RegisterFault>
+        ensures prepared { Prepares L.Ledger self.old result self.new }
+        ensures unasked { ¬ (rows_in self.old.kept ≡ None) → ledger_in self.new ≡ ledger_in self.old }
     {
-        if revision != self.ledger.revision() {
-            self.kept.make_room();
-            return;
+        if self.kept.histories().is_some() {
+            return Ok(());
         }
-        self.kept.let_entered_go();
+        self.read()
     }
 
-    /// Keeps features that were read from the ledger.
-    fn keep_read(&mut self, snapshot: Snapshot)
-        ensures { Keeps L.Ledger snapshot self.old self.new }
+    /// A snapshot of the revision. An error means out of memory.
+    fn snapshot_at(&self, revision: u64) -> Result<Snapshot, AllocError>
+        ensures revision { IfOk result (λ snapshot. snapshot.revision ≡ revision) }
+        ensures snapshot { IfOk result (λ snapshot. (commands : List CommandOf) → KeepsOf commands self.now.kept → revision ≤ length commands → IsSnapshotOf revision (as_of revision commands) snapshot) }
     {
-        if snapshot.revision() == self.ledger.revision() {
-            self.kept.add(snapshot);
-            return;
+        match self.kept.histories() {
+            Some(histories) => Snapshot::at(histories, revision),
+            None => Err(AllocError),
         }
-        self.kept.add_read(snapshot);
     }
 
-    /// What is sought, from the kept features of the revision, if they are kept.
+    /// What is sought, from the snapshot of the revision, if it is kept.
     fn recall(
         &mut self,
         revision: u64,
@@ -223,27 +200,28 @@ impl<L: Ledger> Records<L> {
         Ok(Some(response))
     }
 
-    /// What is sought, from what the ledger lists at the revision. The features are kept, if there is memory.
-    fn read(&mut self, revision: u64, sought: &FeatureRequest) -> Result<Response, RegisterFault>
-        ensures { Finds L.Ledger revision sought.now self.old result self.new }
+    /// What is sought, from a snapshot that is made and kept, if there is memory.
+    fn look(&mut self, revision: u64, sought: &FeatureRequest) -> Result<Response, RegisterFault>
+        requires { (commands : List CommandOf) → L.Ledger.stands_for (ledger_in self.old) commands → revision ≤ length commands }
+        ensures found { Finds L.Ledger revision sought.now self.old result self.new }
+        ensures unasked { ¬ (rows_in self.old.kept ≡ None) → ledger_in self.new ≡ ledger_in self.old }
     {
-        let versions = self.ledger.as_of(revision)?;
-        self.make_room(revision);
-        let of_a_segment = self.most_changes.saturating_mul(FEATURES_FOR_A_CHANGE);
-        let snapshot = Snapshot::in_segments(self.alloc, revision, versions, of_a_segment)?;
+        self.prepare()?;
+        let snapshot = self.snapshot_at(revision)?;
         let response = response_in(self.alloc, sought, &snapshot)?;
-        self.keep_read(snapshot);
+        self.kept.add(snapshot);
         Ok(response)
     }
 
-    /// What is sought at an existing revision. The ledger is queried only if nothing of the revision is kept.
+    /// What is sought at an existing revision. The ledger is read only if nothing was read since the start, or memory ran out.
     fn find(&mut self, revision: u64, sought: &FeatureRequest) -> Result<Response, RegisterFault>
+        requires { (commands : List CommandOf) → L.Ledger.stands_for (ledger_in self.old) commands → revision ≤ length commands }
         ensures found { Finds L.Ledger revision sought.now self.old result self.new }
-        ensures unasked { ¬ (cached_at revision self.old.kept ≡ None) → ledger_in self.new ≡ ledger_in self.old }
+        ensures unasked { ¬ (rows_in self.old.kept ≡ None) → ledger_in self.new ≡ ledger_in self.old }
     {
         match self.recall(revision, sought)? {
             Some(response) => Ok(response),
-            None => self.read(revision, sought),
+            None => self.look(revision, sought),
         }
     }
 

@@ -7,12 +7,12 @@ use cad_json::word_body;
 use cad_request::ParsedRequest;
 use cad_resource::{Check, Routes, decide};
 use cad_stream::{Answer, JournalResponder, Responder, Summary};
-use cad_versions::{Command, JournalLedger, Ledger, RegisterFault};
+use cad_versions::{Command, HistoryLedger, JournalLedger, Ledger, RegisterFault};
 use httparse::spans::{HeaderSpan, RequestSpans};
 use std::alloc::{AllocError, Global};
 
-/// Answers requests over a ledger. It keeps the features of the revisions that were asked for last or entered last. Those of the newest
-/// revision are made from those of the one before it, and the ledger is read only for a revision of which nothing is kept.
+/// Answers requests over a ledger. It keeps the features at every revision, once they were read from the ledger. A command adds to them, and
+/// nothing is read from the ledger again, unless memory ran out.
 pub struct Server<L: Ledger> {
     records: Records<L>,
     routes: Routes,
@@ -77,7 +77,18 @@ impl<L: Ledger> Server<L> {
     }
 }
 
-impl<L: Ledger> Responder for Server<L> {
+impl<L: HistoryLedger> Server<L> {
+    ghost use Rattle.cad_server.specs.Servers.{ServerPrepares};
+
+    /// Reads all that the ledger stores, if that was not done yet, so that no request waits for it.
+    pub fn prepare(&mut self) -> Result<(), RegisterFault>
+        ensures { ServerPrepares L.Ledger self.old result self.new }
+    {
+        self.records.prepare()
+    }
+}
+
+impl<L: HistoryLedger> Responder for Server<L> {
     ghost use Rattle.cad_resource.specs.Requested.{ends_after};
     ghost use Rattle.cad_server.specs.Replies.{IsReply, bad_head_reply, Asks, FailsToAnswer};
     ghost use Rattle.cad_server.specs.Servers.{ledger_of, IsServerOf, RefusesToAnswer, DamagedForAnswer};
@@ -161,7 +172,7 @@ impl<L: Ledger> Responder for Server<L> {
     }
 }
 
-impl<L: JournalLedger> JournalResponder for Server<L> {
+impl<L: HistoryLedger + JournalLedger> JournalResponder for Server<L> {
     ghost use Rattle.cad_server.specs.Servers.{ledger_of};
 
     type Reading = L::Reading;

@@ -1,20 +1,20 @@
-//! The features of revisions that are kept.
+//! The features of all revisions, and snapshots of some.
 
 ghost use Rattle.std.specs.Prelude.{◌≡◌};
-ghost use Rattle.cad_server.specs.inner.Rooms.{most_entered, most_read};
+ghost use Rattle.cad_server.specs.inner.Rooms.{most_snapshots};
 
+use cad_history::Histories;
 use cad_snapshot::Snapshot;
 use lru::LruCache;
+use std::rc::Rc;
 
-/// Features by revision: of the revisions that were entered last, and of old revisions that were read from the ledger.
+/// The histories of all collections, once they were read from the ledger, and handles of them at the revisions that were asked for last.
 #[derive(Drop)]
 pub(crate) struct SnapshotCache {
-    /// Of the revisions that were entered last, which share segments.
-    pub(crate) entered: LruCache<u64, Snapshot>,
-    /// Of old revisions that were read from the ledger.
-    pub(crate) read: LruCache<u64, Snapshot>,
-    /// There is room for many.
-    pub(crate) ghost many: { entered.cap ≡ most_entered },
-    /// There is room for a few that were read.
-    pub(crate) ghost few: { read.cap ≡ most_read },
+    /// The features at every revision.
+    pub(crate) histories: Option<Rc<Histories>>,
+    /// By revision.
+    pub(crate) snapshots: LruCache<u64, Snapshot>,
+    /// There is room for a few.
+    pub(crate) ghost few: { snapshots.cap ≡ most_snapshots },
 }

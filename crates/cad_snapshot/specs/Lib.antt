@@ -1,3 +1,4 @@
-pub mod Layers
 pub mod Snapshots
 pub mod Registers
+pub mod inner
+pub mod lemmas

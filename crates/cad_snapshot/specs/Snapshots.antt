@@ -1,10 +1,13 @@
 -- The features of a register at one revision (OGC 17-069r4, 7.15: items; revisions: own profile).
-use Rattle.std.specs.Prelude.{◌≡◌, ℕ, ◌≤◌, List, length, refl}
+use Rattle.std.specs.Prelude.{◌≡◌, ℕ, List, map, Option, Some, None, refl}
 use Rattle.cad_versions.specs.VersionedObject.{VersionedObject}
 use Rattle.cad_schema.specs.declared.collection.Collection.{Collection}
 use Rattle.cad_schema.specs.declared.collection.Collection.TheVariants.{Parcels, Rights, Restrictions, Units, Parties, Responsibilities}
-use Rattle.cad_feature.specs.Features.{Item, AreFeaturesOf}
+use Rattle.cad_feature.specs.Features.{Item}
 use Rattle.cad_feature.specs.Flatten.{features_in}
+use Rattle.cad_history.specs.Histories.{RegisterRows, rows_for}
+use Rattle.cad_history.specs.Rows.{bare}
+use Rattle.cad_history.specs.Rows.{features_at as rows_shown_at}
 
 -- the features of each collection after the first commands of a register
 pub record RevisionFeatures : Type 0 where
@@ -44,6 +47,10 @@ features_given revision told Units = refl
 features_given revision told Parties = refl
 features_given revision told Responsibilities = refl
 
+-- the same without periods
+abbrev pub bared : RevisionFeatures → RevisionFeatures
+bared s = with_features s.revision (λ collection. map bare (features_at s collection))
+
 -- a value with this revision and with these features for each collection is the same value
 pub is_with_features : (s : RevisionFeatures) (revision : ℕ) (told : Collection → List Item) → s.revision ≡ revision → ((c : Collection) → features_at s c ≡ told c) → s ≡ with_features revision told
 is_with_features s revision told e same = λ i. record {
@@ -56,13 +63,12 @@ is_with_features s revision told e same = λ i. record {
   responsibilities = same Responsibilities i;
 }
 
--- the features of the collection among these versions, whose positions have 32 bits
-pub record AreAllFeatures (versions : List VersionedObject) (collection : Collection) (xs : List Item) : Type 0 where
-  pub all : xs ≡ features_in versions collection
-  pub listed : AreFeaturesOf collection xs
-  pub few : length xs ≤ 4294967295
+-- the features of a collection by the rows of all: its newest rows, or those that have their values at the revision
+abbrev pub moment_features : Option ℕ → RegisterRows → Collection → List Item
+moment_features None rows collection = (rows_for rows collection).newest
+moment_features (Some revision) rows collection = rows_shown_at revision (rows_for rows collection)
 
--- it holds the features of these versions, which are those at the revision
+-- it holds the features of these versions, which are those at the revision; the periods of their rows are not compared, since no body shows them
 pub record IsSnapshotOf (revision : ℕ) (versions : List VersionedObject) (s : RevisionFeatures) : Type 0 where
   pub of_revision : s.revision ≡ revision
-  pub features : (collection : Collection) → features_at s collection ≡ features_in versions collection
+  pub features : (collection : Collection) → map bare (features_at s collection) ≡ features_in versions collection

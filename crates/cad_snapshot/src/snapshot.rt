@@ -1,82 +1,44 @@
 //! The register at one revision.
 
-ghost use Rattle.std.specs.Prelude.{◌≡◌};
-
-use crate::building::features;
-use crate::rebasing::settled_layer;
+use crate::building::{features, history};
 use cad_feature::Feature;
-use cad_layer::{Layer, OF_A_SEGMENT};
+use cad_history::{FeaturesAt, Histories};
+use cad_layer::OF_A_SEGMENT;
 use cad_schema::Collection;
 use cad_versions::{ObjectId, Version};
 use std::alloc::{AllocError, Global};
 use std::marker::Model;
+use std::rc::Rc;
 
-/// The features of each collection at a revision, by identifier, over bases which other revisions may share.
+/// The features of each collection at a revision, by identifier, lent from histories which other revisions share.
 ///
 /// Contracts see the revision, and the features of each collection as a list of items.
 #[derive(Drop)]
 pub struct Snapshot {
     revision: u64,
-    parcels: Layer,
-    rights: Layer,
-    restrictions: Layer,
-    units: Layer,
-    parties: Layer,
-    responsibilities: Layer,
-}
-
-/// A layer for each collection.
-#[derive(Drop)]
-pub struct Layers {
-    /// Of the parcels.
-    pub parcels: Layer,
-    /// Of the rights.
-    pub rights: Layer,
-    /// Of the restrictions.
-    pub restrictions: Layer,
-    /// Of the units.
-    pub units: Layer,
-    /// Of the parties.
-    pub parties: Layer,
-    /// Of the responsibilities.
-    pub responsibilities: Layer,
+    histories: Rc<Histories>,
+    /// The revision at which the rows are looked at. Without it, the newest rows are the features.
+    moment: Option<u64>,
 }
 
 impl Model for Snapshot {
-    ghost use Rattle.std.specs.Prelude.{◌≡◌};
-    ghost use Rattle.cad_schema.specs.declared.collection.Collection.TheVariants.{Parcels, Rights, Restrictions, Units, Parties, Responsibilities};
-    ghost use Rattle.cad_snapshot.specs.Snapshots.{RevisionFeatures};
+    ghost use Rattle.cad_snapshot.specs.Snapshots.{RevisionFeatures, moment_features, with_features};
 
     ghost Value = { RevisionFeatures };
 
-    ghost view = { λ s. record {
-      revision = s.revision;
-      parcels = s.parcels.features;
-      rights = s.rights.features;
-      restrictions = s.restrictions.features;
-      units = s.units.features;
-      parties = s.parties.features;
-      responsibilities = s.responsibilities.features;
-    } };
-
-    ghost invariant = { λ s.
-        (s.parcels.collection ≡ Parcels)
-        × (s.rights.collection ≡ Rights)
-        × (s.restrictions.collection ≡ Restrictions)
-        × (s.units.collection ≡ Units)
-        × (s.parties.collection ≡ Parties)
-        × (s.responsibilities.collection ≡ Responsibilities) };
+    ghost view = { λ s. with_features s.revision (moment_features s.moment s.histories.value) };
 }
 
 impl Snapshot {
-    ghost use Rattle.std.specs.Prelude.{◌≡◌, IfOk};
+    ghost use Rattle.std.specs.Prelude.{◌≡◌, ◌≤◌, List, IfOk, Some, length};
     ghost use Rattle.std.specs.Option.{option_copied};
+    ghost use Rattle.cad_versions.specs.declared.command.Command.{Command as CommandOf};
+    ghost use Rattle.cad_versions.specs.AsOf.{as_of};
     ghost use Rattle.cad_versions.specs.Listing.{IsListing};
     ghost use Rattle.cad_feature.specs.Features.{AreFeaturesOf};
+    ghost use Rattle.cad_history.specs.Histories.{AreAllRowsOf};
     ghost use Rattle.cad_layer.specs.Identifiers.{identifier, IsTheOne};
-    ghost use Rattle.cad_schema.specs.declared.collection.Collection.TheVariants.{Parcels, Rights, Restrictions, Units, Parties, Responsibilities};
-    ghost use Rattle.cad_snapshot.specs.Layers.{features_of_layers};
-    ghost use Rattle.cad_snapshot.specs.Snapshots.{features_at, IsSnapshotOf};
+    ghost use Rattle.cad_snapshot.specs.Snapshots.{features_at, moment_features, with_features, IsSnapshotOf};
 
     /// The features of these versions, which are those of the revision. An error means out of memory.
     pub fn build(
@@ -109,93 +71,45 @@ impl Snapshot {
         let responsibilities = features(alloc, &versions, Collection::Responsibilities)?;
         // Versions and indexes never exist at the same time, so that a register needs the memory of only one of them.
         drop(versions);
-        let parcels = Layer::in_segments(alloc, parcels, Collection::Parcels, of_a_segment)?;
-        let rights = Layer::in_segments(alloc, rights, Collection::Rights, of_a_segment)?;
-        let restrictions = Layer::in_segments(
-            alloc,
-            restrictions,
-            Collection::Restrictions,
-            of_a_segment,
-        )?;
-        let units = Layer::in_segments(alloc, units, Collection::Units, of_a_segment)?;
-        let parties = Layer::in_segments(alloc, parties, Collection::Parties, of_a_segment)?;
-        let responsibilities = Layer::in_segments(
+        let parcels = history(alloc, parcels, Collection::Parcels, of_a_segment)?;
+        let rights = history(alloc, rights, Collection::Rights, of_a_segment)?;
+        let restrictions = history(alloc, restrictions, Collection::Restrictions, of_a_segment)?;
+        let units = history(alloc, units, Collection::Units, of_a_segment)?;
+        let parties = history(alloc, parties, Collection::Parties, of_a_segment)?;
+        let responsibilities = history(
             alloc,
             responsibilities,
             Collection::Responsibilities,
             of_a_segment,
         )?;
-        Ok(Snapshot {
-            revision,
+        let histories = Histories::of_each(
             parcels,
             rights,
             restrictions,
             units,
             parties,
             responsibilities,
+        );
+        let histories = Rc::new(alloc, histories)?;
+        Ok(Snapshot {
+            revision,
+            histories,
+            moment: None,
         })
     }
 
-    /// The features of these layers, one for each collection, as those of the revision with this number.
-    pub fn of_layers(revision: u64, layers: Layers) -> Snapshot
-        requires parcels { layers.parcels.collection ≡ Parcels }
-        requires rights { layers.rights.collection ≡ Rights }
-        requires restrictions { layers.restrictions.collection ≡ Restrictions }
-        requires units { layers.units.collection ≡ Units }
-        requires parties { layers.parties.collection ≡ Parties }
-        requires responsibilities { layers.responsibilities.collection ≡ Responsibilities }
-        ensures { result ≡ features_of_layers revision layers }
+    /// The features at the revision, lent from these histories. An error means that too many share them.
+    pub fn at(histories: &Rc<Histories>, revision: u64) -> Result<Snapshot, AllocError>
+        ensures features { IfOk result (λ s. s ≡ with_features revision (moment_features (Some revision) histories.now.value)) }
+        ensures snapshot { IfOk result (λ s. (commands : List CommandOf) → AreAllRowsOf commands histories.now.value → revision ≤ length commands → IsSnapshotOf revision (as_of revision commands) s) }
     {
-        Snapshot {
-            revision,
-            parcels: layers.parcels,
-            rights: layers.rights,
-            restrictions: layers.restrictions,
-            units: layers.units,
-            parties: layers.parties,
-            responsibilities: layers.responsibilities,
-        }
-    }
-
-    /// Whether no collection has more changes to its bases than `most`.
-    pub fn is_settled(&self, most: usize) -> bool {
-        self.parcels.is_settled(most)
-            && self.rights.is_settled(most)
-            && self.restrictions.is_settled(most)
-            && self.units.is_settled(most)
-            && self.parties.is_settled(most)
-            && self.responsibilities.is_settled(most)
-    }
-
-    /// How many features were put into indexes since it was built, by each of the revisions that it follows, and work of the same cost.
-    pub fn spent(&self) -> usize {
-        self.parcels
-            .spent()
-            .saturating_add(self.rights.spent())
-            .saturating_add(self.restrictions.spent())
-            .saturating_add(self.units.spent())
-            .saturating_add(self.parties.spent())
-            .saturating_add(self.responsibilities.spent())
-    }
-
-    /// The same features, with new bases for the segments of each collection that is not settled. An error means out of memory.
-    pub fn settled(&self, alloc: Global, most: usize) -> Result<Snapshot, AllocError>
-        ensures { IfOk result (λ settled. settled ≡ self.now) }
-    {
-        let parcels = settled_layer(alloc, &self.parcels, most)?;
-        let rights = settled_layer(alloc, &self.rights, most)?;
-        let restrictions = settled_layer(alloc, &self.restrictions, most)?;
-        let units = settled_layer(alloc, &self.units, most)?;
-        let parties = settled_layer(alloc, &self.parties, most)?;
-        let responsibilities = settled_layer(alloc, &self.responsibilities, most)?;
+        // Each history is of its collection.
+        let _parcels = histories.of(Collection::Parcels);
+        let histories = histories.clone()?;
         Ok(Snapshot {
-            revision: self.revision,
-            parcels,
-            rights,
-            restrictions,
-            units,
-            parties,
-            responsibilities,
+            revision,
+            histories,
+            moment: Some(revision),
         })
     }
 
@@ -211,24 +125,21 @@ impl Snapshot {
         ensures one { IsTheOne (identifier object number) (features_at self.now collection) (option_copied result) }
         ensures listed { AreFeaturesOf collection (features_at self.now collection) }
     {
-        let layer = self.layer(collection);
-        // The layer's features ascend.
-        let _ = layer.collection();
-        layer.feature(object, number)
+        let features = self.features(collection);
+        // They ascend.
+        let _collection = features.collection();
+        features.feature(object, number)
     }
 
-    /// The features of the collection: a base with its indexes, and the changes to it.
-    pub fn layer(&self, collection: Collection) -> &Layer
-        ensures collection { result.now.collection ≡ collection }
-        ensures features { result.now.features ≡ features_at self.now collection }
+    /// The features of the collection, by the rows of which they are lent. No memory is taken.
+    pub fn features(&self, collection: Collection) -> FeaturesAt<'_>
+        ensures collection { result.collection ≡ collection }
+        ensures features { result.features ≡ features_at self.now collection }
     {
-        match collection {
-            Collection::Parcels => &self.parcels,
-            Collection::Rights => &self.rights,
-            Collection::Restrictions => &self.restrictions,
-            Collection::Units => &self.units,
-            Collection::Parties => &self.parties,
-            Collection::Responsibilities => &self.responsibilities,
+        let history = self.histories.of(collection);
+        match self.moment {
+            None => FeaturesAt::newest(history.newest()),
+            Some(revision) => FeaturesAt::of(history, revision),
         }
     }
 }

@@ -9,6 +9,7 @@ pub mod Fault
 pub mod Versions
 pub mod Refusals
 pub mod Histories
+pub mod HistoryLedgers
 pub mod Entries
 pub mod Sorting
 pub mod Identifiers

@@ -7,7 +7,8 @@
 //! - `BodyParts`, `LentParts`: what a body says, part by part, for any class.
 //! - `Command`, `RegisterFault`: what the land office asks for, and why it is refused.
 //! - `MOST_NUMBER`, `MOST_VERSIONS`: how large numbers may be, and how many versions there may be.
-//! - `Ledger`: accepts commands, and gives the versions at a revision. A `JournalLedger` also gives its commands back, in pieces.
+//! - `Ledger`: accepts commands, and gives the versions at a revision. A `JournalLedger` also gives its commands back, in pieces; a
+//!   `HistoryLedger` gives all versions that it stores.
 //! - `laws`: what holds of every register, no matter which commands made it.
 //!
 //! ```text
@@ -26,6 +27,7 @@ mod command;
 mod copies;
 mod decision;
 mod fault;
+mod history_ledger;
 mod identifier;
 mod identifier_order;
 mod journal_ledger;
@@ -44,6 +46,7 @@ pub use body::{Body, Class};
 pub use body_parts::{BodyParts, LentParts};
 pub use command::Command;
 pub use fault::RegisterFault;
+pub use history_ledger::HistoryLedger;
 pub use identifier::Identifier;
 pub use identifier_order::compare_identifiers;
 pub use journal_ledger::JournalLedger;

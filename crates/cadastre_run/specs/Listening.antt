@@ -3,7 +3,6 @@ use Rattle.std.specs.Prelude.{◌≡◌, ◌⊎◌, ℕ, List, Option}
 use Rattle.std.specs.Io.KnownBytes.{Appends}
 use Rattle.std.specs.declared.net.socket_addr.SocketAddr.{SocketAddr}
 use Rattle.std.specs.Net.Grammar.{IsSocketText}
-use Rattle.cad_versions.specs.declared.fault.RegisterFault.TheVariants as register
 use Rattle.cad_versions.specs.declared.ledger.Ledger as ledger
 use Rattle.cad_stream.specs.declared.responder.Responder as responder
 use Rattle.cad_desk.specs.declared.desk.Desk.{Desk}
@@ -14,11 +13,11 @@ use Rattle.cad_server.specs.declared.server.Server.{Server}
 use Rattle.cad_server.specs.Servers.{ledger_of}
 use Rattle.cad_serve.specs.Arguments.{listening_line, IsBoundFor}
 use Rattle.cad_serve.specs.Listening.{Listens}
-use Rattle.cad_serve.specs.Statuses.{EndsWithout}
 use Rattle.cadastre_run.specs.declared.command.Service.{Service}
 use Rattle.cadastre_run.specs.declared.outcome.Outcome.{Outcome}
 use Rattle.cadastre_run.specs.declared.outcome.Outcome.TheVariants as outcome
-use Rattle.cadastre_run.specs.Serving.{answers_of, IsDeskOver}
+use Rattle.cadastre_run.specs.Preparing.{EndsRefused, IsDeskReady}
+use Rattle.cadastre_run.specs.Serving.{answers_of}
 
 -- what standard output and standard error hold before and after
 module _ (service : Service) (before after quiet told : Option (List ℕ)) where
@@ -40,10 +39,10 @@ module _ (service : Service) (before after quiet told : Option (List ℕ)) where
   pub record EndsHeard {L : Type 0} (g : ledger.Ghosts L) (lent : L) (ended : Outcome × L) : Type 0 where
     pub old : Desk (Server L)
     pub new : Desk (Server L)
-    pub over : IsDeskOver g lent old
+    pub ready : IsDeskReady g lent old
     pub listening : EndsListening (answers_of g) old ended.0 new
     pub back : ended.1 ≡ ledger_of (responder_of new)
 
-  -- there is no memory for a desk, and nothing is written; or its connections are served
+  -- there is no server that has read what the ledger stores, and nothing is written; or the connections of its desk are served
   abbrev pub ListensOver : {L : Type 0} → ledger.Ghosts L → L → Outcome × L → Type 0
-  ListensOver g lent ended = EndsWithout IsSilent (outcome.Register register.Memory) lent ended ⊎ EndsHeard g lent ended
+  ListensOver g lent ended = EndsRefused g outcome.Register IsSilent lent ended ⊎ EndsHeard g lent ended

@@ -1,2 +1,3 @@
 -- Lemmas about the definitions, for the proofs of crates above. No contract cites them.
 pub mod DeskLemmas
+pub mod ReadyLemmas

@@ -3,6 +3,7 @@
 //! - [`Command`], [`Service`]: what the words of a command line ask for
 //! - `answer_over`, `answer_sample`: one connection, over a reader and a writer, served over a ledger
 //! - `listen_over`: connections taken at an address and served over a ledger
+//! - [`prepared_server`]: a server that has read what its ledger stores, as it serves at an address
 //! - `enter_commands`: the lines of the land office entered into a ledger
 //! - [`Outcome`]: how a run ended, its status, and its message
 //!
@@ -20,10 +21,12 @@ mod command;
 mod entering;
 mod listening;
 mod outcome;
+mod preparing;
 mod serving;
 
 pub use command::{Command, Service};
 pub use entering::enter_commands;
 pub use listening::listen_over;
 pub use outcome::Outcome;
+pub use preparing::prepared_server;
 pub use serving::{answer_over, answer_sample};

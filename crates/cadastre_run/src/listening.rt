@@ -4,11 +4,11 @@ ghost use Rattle.cadastre_run.specs.Listening.{EndsListening, ListensOver};
 
 use crate::command::Service;
 use crate::outcome::Outcome;
+use crate::preparing::prepared_server;
 use cad_desk::Desk;
 use cad_serve::{bound_for, listen, read_address, tell_address};
-use cad_server::Server;
 use cad_stream::Responder;
-use cad_versions::{Ledger, RegisterFault};
+use cad_versions::HistoryLedger;
 use std::alloc::Global;
 use std::io::Write;
 use std::net::{Net, TcpListener, TcpStream};
@@ -45,10 +45,10 @@ pub fn listen_at<
     }
 }
 
-/// Listens for connections over the ledger, and gives the ledger back.
+/// Reads what the ledger stores, listens for connections over the ledger, and gives the ledger back.
 pub fn listen_over<
     N: Net<Listener = TcpListener, Stream = TcpStream>,
-    L: Ledger,
+    L: HistoryLedger,
     W: Write,
     E: Write,
 >(
@@ -62,12 +62,12 @@ pub fn listen_over<
     ensures { ListensOver service.entry (W.contents writer.old) (W.contents writer.new)
         (E.contents errors.old) (E.contents errors.new) L.Ledger ledger result }
 {
-    match Server::new(alloc, ledger) {
+    match prepared_server(alloc, ledger) {
         Ok(server) => {
             let mut desk = Desk::new(alloc, server);
             let outcome = listen_at(net, alloc, service, writer, errors, &mut desk);
             (outcome, desk.release().release())
         }
-        Err(ledger) => (Outcome::Register(RegisterFault::Memory), ledger),
+        Err((fault, ledger)) => (Outcome::Register(fault), ledger),
     }
 }

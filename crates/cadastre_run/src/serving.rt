@@ -10,7 +10,7 @@ use cad_sample::fill;
 use cad_serve::serve;
 use cad_server::Server;
 use cad_stream::Responder;
-use cad_versions::{Ledger, RegisterFault};
+use cad_versions::{HistoryLedger, RegisterFault};
 use std::alloc::Global;
 
 /// Serves a connection of the desk, and gives the outcome of the run.
@@ -27,7 +27,7 @@ pub fn serve_one<P: Responder, R: CountedRead, W: CountedWrite>(
 }
 
 /// Serves a connection over the ledger, and gives the ledger back.
-pub fn answer_over<L: Ledger, R: CountedRead, W: CountedWrite>(
+pub fn answer_over<L: HistoryLedger, R: CountedRead, W: CountedWrite>(
     alloc: Global,
     ledger: L,
     reader: &mut R,
@@ -47,7 +47,7 @@ pub fn answer_over<L: Ledger, R: CountedRead, W: CountedWrite>(
 }
 
 /// Serves a connection over the sample register, which is entered into the ledger first, and gives the ledger back.
-pub fn answer_sample<L: Ledger, R: CountedRead, W: CountedWrite>(
+pub fn answer_sample<L: HistoryLedger, R: CountedRead, W: CountedWrite>(
     alloc: Global,
     mut ledger: L,
     reader: &mut R,

@@ -10,7 +10,9 @@ use Rattle.cad_desk.specs.declared.desk.Desk.{Desk}
 use Rattle.cad_desk.specs.Desks.{responder_of}
 use Rattle.cad_server.specs.declared.server.Server.{Server}
 use Rattle.cad_server.specs.Servers.{ledger_of, IsServerOf}
+use Rattle.cad_versions.specs.Keeping.{IsShut}
 use Rattle.cadastre_run.specs.Serving.{answers_of}
+use Rattle.cadastre_run.specs.lemmas.ReadyLemmas.{ready_clean, ready_stands, refused_clean, refused_stands}
 use Rattle.cad_network.specs.Deeds.{Deed}
 use Rattle.cad_event_loop.specs.declared.stopped.Stopped.{Stopped}
 use Rattle.cad_event_loop.specs.declared.stopped.Stopped.TheVariants.{Asked}
@@ -80,15 +82,19 @@ module _ {L J : Type 0} (g : ledger.Ghosts L) (j : journal_ledger.Ghosts L J) (l
 -- the ledger that is given back
 module _ {L J : Type 0} (g : ledger.Ghosts L) (j : journal_ledger.Ghosts L J) (asked : SocketAddr) (before after : Option (List ℕ)) (from to : Option (List Deed)) (lent : L) (ended : Outcome × L) where
   pub clean_before : HostsOver asked before after from to g j lent ended → g.counts ended.1 → g.counts lent
-  clean_before (inl without) counts = subst g.counts without.back counts
+  clean_before (inl unread) counts = refused_clean g lent unread.refused unread.why (subst g.counts unread.ends.back counts)
   clean_before (inr hosted) counts =
       let last = subst g.counts hosted.back counts in
       let first = ended_clean (answers_of g) (journals_of j) hosted.old hosted.new from to last asked before after ended.0 hosted.hosting in
-      subst g.counts hosted.over.same first
+      ready_clean g lent hosted.old hosted.ready first
 
   pub keeps : LedgerStands (answers_of g) (journals_of j) → (hosts : HostsOver asked before after from to g j lent ended) → g.counts ended.1 → (commands : List Command) → g.stands_for lent commands
       → Keeps asked before after from to g j commands lent ended hosts
-  keeps law (inl without) counts commands stands = subst (λ (l : L). g.stands_for l commands) (sym without.back) stands
+  keeps law (inl unread) counts commands stands =
+      subst (λ (l : L). g.stands_for l commands ⊎ IsShut g.lives g.fails lent unread.refused.0 l) (sym unread.ends.back)
+      (refused_stands g lent unread.refused unread.why (subst g.counts unread.ends.back counts) commands stands)
   keeps law (inr hosted) counts commands stands =
-      keeps_after g j law commands (g.stands_for ended.1) hosted.old hosted.new from to (hosted.over.stands commands stands) (subst g.counts hosted.back counts)
+      let last = subst g.counts hosted.back counts in
+      let first = ended_clean (answers_of g) (journals_of j) hosted.old hosted.new from to last asked before after ended.0 hosted.hosting in
+      keeps_after g j law commands (g.stands_for ended.1) hosted.old hosted.new from to (ready_stands g lent hosted.old hosted.ready first commands stands) last
       (λ all it. subst (λ (l : L). g.stands_for l all) (sym hosted.back) it.ledger) asked before after ended.0 hosted.hosting

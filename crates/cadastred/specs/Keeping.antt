@@ -5,6 +5,7 @@ use Rattle.std.specs.declared.net.socket_addr.SocketAddr.{SocketAddr}
 use Rattle.cad_versions.specs.declared.command.Command.{Command}
 use Rattle.cad_versions.specs.declared.ledger.Ledger as ledger
 use Rattle.cad_versions.specs.declared.journal_ledger.JournalLedger as journal_ledger
+use Rattle.cad_versions.specs.Keeping.{IsShut}
 use Rattle.cad_stream.specs.declared.responder.Responder.{Ghosts}
 use Rattle.cad_stream.specs.declared.journal_responder.JournalResponder.{Ghosts as JournalGhosts}
 use Rattle.cad_desk.specs.declared.desk.Desk.{Desk}
@@ -51,7 +52,7 @@ module _ (asked : SocketAddr) (before after : Option (List ℕ)) (from to : Opti
   KeepsAfter g jg commands Holds old outcome.Failed new hosting = KeepsFailed g jg commands Holds hosting
   KeepsAfter g jg commands Holds old other new hosting = ⊥
 
-  -- the ledger that is given back, which held these commands when it was lent
+  -- the ledger that is given back, which held these commands when it was lent; if what it stores was refused, it holds them or is closed
   abbrev pub Keeps : {L J : Type 0} (g : ledger.Ghosts L) (j : journal_ledger.Ghosts L J) → List Command → (lent : L) (ended : Outcome × L) → HostsOver asked before after from to g j lent ended → Type 0
-  Keeps g j commands lent ended (inl without) = g.stands_for ended.1 commands
+  Keeps g j commands lent ended (inl unread) = g.stands_for ended.1 commands ⊎ IsShut g.lives g.fails lent unread.refused.0 ended.1
   Keeps g j commands lent ended (inr hosted) = KeepsAfter (answers_of g) (journals_of j) commands (g.stands_for ended.1) hosted.old ended.0 hosted.new hosted.hosting

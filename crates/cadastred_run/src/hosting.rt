@@ -13,9 +13,9 @@ use cad_desk::Desk;
 use cad_event_loop::host;
 use cad_network::Network;
 use cad_serve::{bound_for, read_address, tell_address};
-use cad_server::Server;
 use cad_stream::JournalResponder;
-use cad_versions::{JournalLedger, RegisterFault};
+use cad_versions::{HistoryLedger, JournalLedger};
+use cadastre_run::prepared_server;
 use std::alloc::Global;
 use std::fs::Files;
 use std::io::{Result as IoResult, Write};
@@ -56,9 +56,9 @@ fn host_desk<N: Network, R: JournalResponder, W: Write, A: AccessLog<N::Socket>>
     }
 }
 
-/// Writes the address, if the address that is found is the requested one, takes clients and the land office at the doors of a network,
-/// serves them over the ledger until the office asks to stop, and gives the ledger back.
-pub fn host_over<N: Network, L: JournalLedger, W: Write, A: AccessLog<N::Socket>>(
+/// Reads what the ledger stores, writes the address, if the address that is found is the requested one, takes clients and the land office at
+/// the doors of a network, serves them over the ledger until the office asks to stop, and gives the ledger back.
+pub fn host_over<N: Network, L: HistoryLedger + JournalLedger, W: Write, A: AccessLog<N::Socket>>(
     alloc: Global,
     ledger: L,
     asked: SocketAddr,
@@ -69,12 +69,12 @@ pub fn host_over<N: Network, L: JournalLedger, W: Write, A: AccessLog<N::Socket>
 ) -> (Outcome, L)
     ensures { HostsOver asked (W.contents writer.old) (W.contents writer.new) (N.history net.old) (N.history net.new) L.Ledger L.JournalLedger.own ledger result }
 {
-    match Server::new(alloc, ledger) {
+    match prepared_server(alloc, ledger) {
         Ok(server) => {
             let mut desk = Desk::new(alloc, server);
             let outcome = host_desk(alloc, asked, found, net, writer, log, &mut desk);
             (outcome, desk.release().release())
         }
-        Err(ledger) => (Outcome::Register(RegisterFault::Memory), ledger),
+        Err((fault, ledger)) => (Outcome::Register(fault), ledger),
     }
 }

@@ -37,7 +37,7 @@ pub(crate) fn error_of(fault: RegisterFault) -> Error {
 }
 
 /// A register without commands.
-fn empty_register(alloc: Global) -> Result<Register<MemStore>> {
+pub(crate) fn empty_register(alloc: Global) -> Result<Register<MemStore>> {
     let connection = Connection::open_in_memory(alloc)?;
     match Register::create(alloc, connection) {
         Ok(register) => Ok(register),
@@ -80,7 +80,11 @@ fn print_check<L: Ledger>(rt: &HostRuntime, ledger: &mut L, command: &Command) -
 /// Prints what a ledger would answer to a line.
 pub(crate) fn check_line<L: Ledger>(rt: &HostRuntime, ledger: &mut L, line: &[u8]) -> Result<()> {
     match read_command(rt.alloc(), line) {
-        Ok(command) => print_check(rt, ledger, &command),
+        Ok(command) => {
+            let printed = print_check(rt, ledger, &command);
+            drop(command);
+            printed
+        }
         Err(CommandError::NotACommand) => print_as_office(rt, Answer::NotACommand),
         Err(CommandError::Memory) => Err(Error::from(ErrorKind::OutOfMemory)),
     }

@@ -5,6 +5,8 @@
 //! - `= office`: lines of the land office over a ledger in memory
 //! - `= features`: commands, and the features that they make, as JSON
 //! - `= histories`: commands, and the features of each revision, by their histories
+//! - `= rows`: the same, by rows with periods that each command extends
+//! - `= starts`: the same to a register in a database in memory, by the histories that a start makes of its stored versions
 //! - `= journals`: commands to a register in a database in memory, and questions to it
 //! - `= memory journals`: the same to a ledger in memory
 //! - `= dry run`: lines of a dry run over a ledger in memory
@@ -23,7 +25,9 @@ mod journals;
 mod memory_journals;
 mod office_lines;
 mod parts;
+mod rows;
 mod shapes;
+mod starts;
 mod stop;
 
 use parts::lines_of;
@@ -40,6 +44,8 @@ fn run(rt: &HostRuntime) -> Result<(), Stop> {
     office_lines::print_answers(rt, lines_of(&input, b"\n= office"))?;
     features::print_answers(rt, lines_of(&input, b"\n= features"))?;
     histories::print_answers(rt, lines_of(&input, b"\n= histories"))?;
+    rows::print_answers(rt, lines_of(&input, b"\n= rows"))?;
+    starts::print_answers(rt, lines_of(&input, b"\n= starts"))?;
     journals::print_answers(rt, lines_of(&input, b"\n= journals"))?;
     memory_journals::print_answers(rt, lines_of(&input, b"\n= memory journals"))?;
     dry_run::print_reports(rt, lines_of(&input, b"\n= dry run"))?;

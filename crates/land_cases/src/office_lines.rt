@@ -7,13 +7,14 @@
 use cad_io::Counted;
 use cad_memory_ledger::MemoryLedger;
 use cad_office::{OfficeFault, office};
+use cad_versions::Ledger;
 use std::io::Cursor;
 
 /// Enters the lines into the ledger and prints the answers.
-pub(crate) fn enter_lines(
+pub(crate) fn enter_lines<L: Ledger>(
     rt: &HostRuntime,
     lines: &[u8],
-    ledger: &mut MemoryLedger,
+    ledger: &mut L,
 ) -> Result<(), OfficeFault> {
     let mut reader = Counted::new(Cursor::new(lines));
     office(rt.alloc(), &mut reader, &mut rt.stdout(), ledger)?;

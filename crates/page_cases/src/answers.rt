@@ -4,7 +4,7 @@ use crate::pages::{Meeting, count, fault_of, features_of};
 use crate::plans::{has, put_plan};
 use cad_feature::Feature;
 use cad_lookup::Plan;
-use cad_plan::{choose, estimate, menu};
+use cad_plan::{FeaturesAt, choose, estimate, menu};
 use cad_run::Layer;
 use cql_meaning::{Truth, truth};
 use cql_rewrite::{Normal, normal};
@@ -13,7 +13,7 @@ use std::alloc::{AllocError, Global};
 
 fn put_priced(plan: &Plan, layer: &Layer, line: &mut String) -> Result<(), AllocError> {
     put_plan(layer.collection(), plan, line)?;
-    let cost = estimate(plan, layer);
+    let cost = estimate(plan, &FeaturesAt::newest(layer));
     write!(line, " {cost}")
 }
 
@@ -102,7 +102,7 @@ fn put_choice(
 }
 
 fn put_chosen(alloc: Global, menu: Menu, line: &mut String) -> Result<(), AllocError> {
-    let chosen = choose(alloc, menu.form, menu.layer)?;
+    let chosen = choose(alloc, menu.form, &FeaturesAt::newest(menu.layer))?;
     put_choice(alloc, menu, &chosen, line)
 }
 
@@ -152,7 +152,7 @@ fn put_form_answer(
     taken: &[&Feature],
     line: &mut String,
 ) -> Result<(), AllocError> {
-    let plans = menu(alloc, form, layer)?;
+    let plans = menu(alloc, form, &FeaturesAt::newest(layer))?;
     let menu = Menu {
         form,
         layer,
@@ -172,7 +172,9 @@ fn put_taken_answer(
     line: &mut String,
 ) -> Result<(), AllocError> {
     let form = normal(alloc, filter)?;
-    put_form_answer(alloc, &form, layer, features, taken, line)
+    let done = put_form_answer(alloc, &form, layer, features, taken, line);
+    drop(form);
+    done
 }
 
 fn put_features_answer(

@@ -1,6 +1,6 @@
 //! Bodies as bytes: those of pages, of one feature, and of faults.
 
-use crate::sample::{grown_snapshot, snapshot_at};
+use crate::sample::snapshot_at;
 use cad_page::{Ask, AskFault, Snapshot, as_bytes};
 use cad_parameters::read_identifier;
 use cad_schema::Collection;
@@ -28,36 +28,6 @@ pub fn page_answer(alloc: Global, ask: &Ask, snapshot: &Snapshot) -> Result<Stri
 /// The body of the fault of a query.
 pub fn fault_answer(alloc: Global, fault: &AskFault) -> Result<String, AllocError> {
     printed(alloc, as_bytes::fault_body(alloc, fault)?)
-}
-
-/// The page by both, if it is the same one.
-fn same_page(
-    alloc: Global,
-    ask: &Ask,
-    grown: &Snapshot,
-    settled: &Snapshot,
-) -> Result<String, AllocError> {
-    let line = page_answer(alloc, ask, grown)?;
-    if line == page_answer(alloc, ask, settled)? {
-        Ok(line)
-    } else {
-        String::from_str(alloc, "settled otherwise")
-    }
-}
-
-/// The page by the features, which have changes to their bases, and by the same features with new bases.
-fn settled_answer(alloc: Global, ask: &Ask, grown: &Snapshot) -> Result<String, AllocError> {
-    let settled = grown.settled(alloc, 0)?;
-    if grown.is_settled(0) || !settled.is_settled(0) {
-        return String::from_str(alloc, "bases otherwise");
-    }
-    same_page(alloc, ask, grown, &settled)
-}
-
-/// The page of the last revision, whose features each command of the sample made from those before it.
-pub fn grown_answer(alloc: Global, ask: &Ask) -> Result<String, AllocError> {
-    let grown = grown_snapshot(alloc)?;
-    settled_answer(alloc, ask, &grown)
 }
 
 fn found_answer(

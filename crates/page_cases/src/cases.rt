@@ -4,7 +4,7 @@ ghost use Rattle.cad_versions.specs.Listing.{IsListing};
 
 use crate::answers::plans_answer;
 use crate::bodies::feature_answer;
-use crate::reports::{Shown, request_answer};
+use crate::reports::{Shown, Source, request_answer};
 use crate::{fixed_bodies, queries};
 use cad_feature::flatten;
 use cad_run::Layer;
@@ -76,7 +76,9 @@ fn case_answer(
     match read(alloc, text, collection) {
         Ok(filter) => {
             let filter = windowed(alloc, filter, collection, asked)?;
-            asked_answer(alloc, versions, collection, &filter)
+            let answer = asked_answer(alloc, versions, collection, &filter);
+            drop(filter);
+            answer
         }
         Err(FilterFault::Refused(_)) => String::from_str(alloc, "refused"),
         Err(FilterFault::Memory) => Err(AllocError),
@@ -133,9 +135,10 @@ pub fn answer(alloc: Global, versions: &[Version], line: &[u8]) -> Result<String
         return Ok(answer);
     }
     match word {
-        "explain" => request_answer(alloc, Shown::Finding, target),
-        "page" => request_answer(alloc, Shown::Page, target),
-        "grown" => request_answer(alloc, Shown::Grown, target),
+        "explain" => request_answer(alloc, Shown::Finding, Source::Versions, target),
+        "page" => request_answer(alloc, Shown::Page, Source::Versions, target),
+        "grown" => request_answer(alloc, Shown::Page, Source::Histories, target),
+        "grown-explain" => request_answer(alloc, Shown::Finding, Source::Histories, target),
         "feature" => feature_answer(alloc, target),
         _ => filter_answer(alloc, versions, word, target),
     }

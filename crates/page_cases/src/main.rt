@@ -20,9 +20,10 @@
 //!
 //! A page's case is `page `, and a request like that of `explain`. The answer is the body of its page as it is sent and, after a space,
 //! the target of its link to the next page, if it has one. If the query is not valid, the answer is the body that reports its fault.
-//! A case of `grown ` asks for the same page of the last revision, with each command of the sample register making the features from
-//! those before it. The page is made once from these features, as changes to bases, and once from the same with new bases.
-//! `bases otherwise` reports that the former have no changes or the latter have some, `settled otherwise` that the two pages differ.
+//! A case of `grown ` asks for the same page, and one of `grown-explain ` how it is found. Here no version is listed: each command of the
+//! sample register was added to the features at every revision. The answer is made once by these rows, as changes to bases, and once by
+//! the same with new bases. `bases otherwise` reports that the former have no changes or the latter have some, `settled otherwise` that
+//! the two answers differ.
 //!
 //! A feature's case is `feature `, the name of a collection, a space and an identifier, as `feature units 10.1`; the answer is the
 //! body of that feature of the sample register, or the body of the word `no-feature`.
@@ -44,6 +45,7 @@
 //! - `answers`: the answers about a filter's plans
 //! - `bodies`: bodies as they are sent
 //! - `fixed_bodies`: bodies without features
+//! - `grown`: answers by the features at every revision
 //! - `menus`: the page of a request by each plan of its menu
 //! - `pages`: pages by every plan
 //! - `plans`: plans as they are printed, and their candidates
@@ -57,6 +59,7 @@ mod answers;
 mod bodies;
 mod cases;
 mod fixed_bodies;
+mod grown;
 mod menus;
 mod pages;
 mod plans;

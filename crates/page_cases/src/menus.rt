@@ -3,11 +3,11 @@
 use crate::answers::put_identifier;
 use crate::pages::Meeting;
 use crate::plans::put_plan;
+use cad_answer::{Page, page_at};
 use cad_day::{Day, Interval, Relation};
 use cad_lookup::Plan;
 use cad_page::{Ask, Snapshot};
-use cad_plan::menu;
-use cad_run::{Layer, page};
+use cad_plan::{FeaturesAt, menu};
 use cad_schema::{Collection, find_property};
 use cad_versions::ObjectId;
 use cql_rewrite::{Normal, both, box_condition, normal};
@@ -57,18 +57,29 @@ fn days_of(ask: &Ask) -> Filter {
     }
 }
 
+// The form of both what this form asks and the filter.
+fn form_and<'a>(
+    alloc: Global,
+    first: Normal<'a>,
+    filter: &'a Filter,
+) -> Result<Normal<'a>, AllocError> {
+    match normal(alloc, filter) {
+        Ok(second) => both(alloc, first, second),
+        Err(error) => {
+            drop(first);
+            Err(error)
+        }
+    }
+}
+
 // The form of the filter and of what else is asked.
 fn form_with<'a>(alloc: Global, ask: &'a Ask, boxed: &'a Filter) -> Result<Normal<'a>, AllocError> {
-    let second = normal(alloc, boxed)?;
     match &ask.filter {
-        None => Ok(second),
-        Some(filter) => match normal(alloc, filter) {
-            Ok(first) => both(alloc, first, second),
-            Err(error) => {
-                drop(second);
-                Err(error)
-            }
-        },
+        None => normal(alloc, boxed),
+        Some(filter) => {
+            let first = normal(alloc, filter)?;
+            form_and(alloc, first, boxed)
+        }
     }
 }
 
@@ -80,16 +91,10 @@ struct Asked<'a, 'f> {
     limit: u32,
 }
 
-// The identifiers of the page by the plan, as a report has them.
-fn page_by(alloc: Global, plan: &Plan, layer: &Layer, asked: Asked) -> Result<String, AllocError> {
-    let meeting = Meeting {
-        alloc,
-        form: asked.form,
-    };
-    let page = page(alloc, plan, layer, &meeting, asked.after, asked.limit)?;
-    let mut line = String::new(alloc);
+// The identifiers of the page, as a report has them.
+fn put_page(alloc: Global, page: &Page, line: &mut String) -> Result<(), AllocError> {
     for row in &page.rows {
-        put_identifier(alloc, row, &mut line)?;
+        put_identifier(alloc, row, line)?;
     }
     if page.rows.is_empty() {
         line.push_str(" none")?;
@@ -97,6 +102,23 @@ fn page_by(alloc: Global, plan: &Plan, layer: &Layer, asked: Asked) -> Result<St
     if page.more {
         line.push_str(" and more")?;
     }
+    Ok(())
+}
+
+// The identifiers of the page by the plan.
+fn page_by(
+    alloc: Global,
+    plan: &Plan,
+    features: &FeaturesAt,
+    asked: Asked,
+) -> Result<String, AllocError> {
+    let meeting = Meeting {
+        alloc,
+        form: asked.form,
+    };
+    let page = page_at(alloc, plan, features, &meeting, asked.after, asked.limit)?;
+    let mut line = String::new(alloc);
+    put_page(alloc, &page, &mut line)?;
     Ok(line)
 }
 
@@ -104,15 +126,15 @@ fn page_by(alloc: Global, plan: &Plan, layer: &Layer, asked: Asked) -> Result<St
 fn another_page(
     alloc: Global,
     plans: &[Plan],
-    layer: &Layer,
+    features: &FeaturesAt,
     asked: Asked,
     wanted: &str,
 ) -> Result<Option<String>, AllocError> {
     for plan in plans {
-        let line = page_by(alloc, plan, layer, asked)?;
+        let line = page_by(alloc, plan, features, asked)?;
         if line.as_str() != wanted {
             let mut name = String::new(alloc);
-            put_plan(layer.collection(), plan, &mut name)?;
+            put_plan(features.collection(), plan, &mut name)?;
             return Ok(Some(name));
         }
     }
@@ -125,10 +147,10 @@ fn another_page_by(
     ask: &Ask,
     form: &Normal,
     tested: &Normal,
-    layer: &Layer,
+    features: &FeaturesAt,
     wanted: &str,
 ) -> Result<Option<String>, AllocError> {
-    let plans = menu(alloc, form, layer)?;
+    let plans = menu(alloc, form, features)?;
     let after = match ask.continuation.after {
         None => None,
         Some(last) => Some((last.object, last.number)),
@@ -138,7 +160,7 @@ fn another_page_by(
         after,
         limit: ask.selection.limit,
     };
-    another_page(alloc, &plans, layer, asked, wanted)
+    another_page(alloc, &plans, features, asked, wanted)
 }
 
 // The form of the filter, the box and the days.
@@ -149,13 +171,23 @@ fn tested_form<'a>(
     days: &'a Filter,
 ) -> Result<Normal<'a>, AllocError> {
     let first = form_with(alloc, ask, boxed)?;
-    match normal(alloc, days) {
-        Ok(second) => both(alloc, first, second),
-        Err(error) => {
-            drop(first);
-            Err(error)
-        }
-    }
+    form_and(alloc, first, days)
+}
+
+// The first plan with another page. The plans are for the form, and the tests also by the days.
+fn misleading_by(
+    alloc: Global,
+    ask: &Ask,
+    form: &Normal,
+    boxed: &Filter,
+    days: &Filter,
+    features: &FeaturesAt,
+    wanted: &str,
+) -> Result<Option<String>, AllocError> {
+    let tested = tested_form(alloc, ask, boxed, days)?;
+    let found = another_page_by(alloc, ask, form, &tested, features, wanted);
+    drop(tested);
+    found
 }
 
 // The same, with the box and the days as filters.
@@ -164,12 +196,13 @@ fn misleading_with(
     ask: &Ask,
     boxed: &Filter,
     days: &Filter,
-    layer: &Layer,
+    features: &FeaturesAt,
     wanted: &str,
 ) -> Result<Option<String>, AllocError> {
     let form = form_with(alloc, ask, boxed)?;
-    let tested = tested_form(alloc, ask, boxed, days)?;
-    another_page_by(alloc, ask, &form, &tested, layer, wanted)
+    let found = misleading_by(alloc, ask, &form, boxed, days, features, wanted);
+    drop(form);
+    found
 }
 
 /// The first plan of the request's menu whose page has other identifiers than the wanted ones, if there is one.
@@ -181,6 +214,9 @@ pub fn misleading_plan(
 ) -> Result<Option<String>, AllocError> {
     let boxed = box_of(ask);
     let days = days_of(ask);
-    let layer = snapshot.layer(ask.collection);
-    misleading_with(alloc, ask, &boxed, &days, layer, wanted)
+    let features = snapshot.features(ask.collection);
+    let found = misleading_with(alloc, ask, &boxed, &days, &features, wanted);
+    drop(days);
+    drop(boxed);
+    found
 }

@@ -1,6 +1,7 @@
 //! The answers to requests.
 
-use crate::bodies::{fault_answer, grown_answer, page_answer};
+use crate::bodies::{fault_answer, page_answer};
+use crate::grown::answer_by_each;
 use crate::menus::misleading_plan;
 use crate::plans::put_plan;
 use crate::sample::snapshot_at;
@@ -15,29 +16,49 @@ pub enum Shown {
     Finding,
     /// The page, as it is sent.
     Page,
-    /// The same, if the commands of the sample made its revision one by one.
-    Grown,
+}
+
+/// From what its revision is made.
+#[derive(Clone, Copy)]
+pub enum Source {
+    /// Of the versions that the ledger lists at the revision.
+    Versions,
+    /// Of the features at every revision, to which the commands of the sample were added one by one.
+    Histories,
 }
 
 /// The text before an identifier in a body. Within a text its quotes would have backslashes.
 const IDENTIFIER: &str = "\"id\":\"";
 
-// The identifiers in a body.
-fn put_identifiers(body: &str, line: &mut String) -> Result<(), AllocError> {
-    let mut pieces = body.split(IDENTIFIER);
-    let _front = pieces.next();
-    let mut is_empty = true;
-    for piece in pieces {
-        if let Some((identifier, _)) = piece.split_once('"') {
-            is_empty = false;
-            line.push_str(" ")?;
-            line.push_str(identifier)?;
+// The identifier that the piece begins with, if its end is there. Is there one?
+fn put_identifier_of(piece: &str, line: &mut String) -> Result<bool, AllocError> {
+    match piece.split_once('"') {
+        None => Ok(false),
+        Some((identifier, _)) => {
+            write!(line, " {identifier}")?;
+            Ok(true)
         }
     }
-    if is_empty {
-        line.push_str(" none")?;
+}
+
+// The identifiers in a body. Are there any?
+fn put_all_identifiers(body: &str, line: &mut String) -> Result<bool, AllocError> {
+    let mut is_any = false;
+    for piece in body.split(IDENTIFIER).skip(1) {
+        if put_identifier_of(piece, line)? {
+            is_any = true;
+        }
     }
-    Ok(())
+    Ok(is_any)
+}
+
+// The identifiers in a body.
+fn put_identifiers(body: &str, line: &mut String) -> Result<(), AllocError> {
+    if put_all_identifiers(body, line)? {
+        Ok(())
+    } else {
+        line.push_str(" none")
+    }
 }
 
 fn put_report(
@@ -99,51 +120,76 @@ fn finding_answer(alloc: Global, ask: &Ask, snapshot: &Snapshot) -> Result<Strin
     Ok(line)
 }
 
-fn shown_at_its_revision(alloc: Global, shown: Shown, ask: &Ask) -> Result<String, AllocError> {
-    match snapshot_at(alloc, ask.continuation.revision)? {
-        None => String::from_str(alloc, "no revision"),
-        Some(snapshot) => match shown {
-            Shown::Finding => finding_answer(alloc, ask, &snapshot),
-            Shown::Page | Shown::Grown => page_answer(alloc, ask, &snapshot),
-        },
+/// What is shown for the query, by this snapshot.
+pub fn shown_by(
+    alloc: Global,
+    shown: Shown,
+    ask: &Ask,
+    snapshot: &Snapshot,
+) -> Result<String, AllocError> {
+    match shown {
+        Shown::Finding => finding_answer(alloc, ask, snapshot),
+        Shown::Page => page_answer(alloc, ask, snapshot),
     }
 }
 
-fn shown_answer(alloc: Global, shown: Shown, ask: &Ask) -> Result<String, AllocError> {
-    match shown {
-        Shown::Grown => grown_answer(alloc, ask),
-        Shown::Finding | Shown::Page => shown_at_its_revision(alloc, shown, ask),
+fn answer_by_versions(alloc: Global, shown: Shown, ask: &Ask) -> Result<String, AllocError> {
+    match snapshot_at(alloc, ask.continuation.revision)? {
+        None => String::from_str(alloc, "no revision"),
+        Some(snapshot) => shown_by(alloc, shown, ask, &snapshot),
     }
 }
 
 fn refused_answer(alloc: Global, shown: Shown, fault: &AskFault) -> Result<String, AllocError> {
     match shown {
         Shown::Finding => format!(in alloc; "refused {}", fault.name()),
-        Shown::Page | Shown::Grown => fault_answer(alloc, fault),
+        Shown::Page => fault_answer(alloc, fault),
+    }
+}
+
+fn source_answer(
+    alloc: Global,
+    shown: Shown,
+    source: Source,
+    ask: &Ask,
+) -> Result<String, AllocError> {
+    match source {
+        Source::Versions => answer_by_versions(alloc, shown, ask),
+        Source::Histories => answer_by_each(alloc, shown, ask),
     }
 }
 
 fn query_answer(
     alloc: Global,
     shown: Shown,
+    source: Source,
     collection: Collection,
     query: &str,
 ) -> Result<String, AllocError> {
     match Ask::read(alloc, collection, query) {
-        Ok(ask) => shown_answer(alloc, shown, &ask),
+        Ok(ask) => {
+            let answer = source_answer(alloc, shown, source, &ask);
+            drop(ask);
+            answer
+        }
         Err(AskFault::Memory) => Err(AllocError),
         Err(fault) => refused_answer(alloc, shown, &fault),
     }
 }
 
 /// What is shown for a request, which is the name of a collection and, after `?`, a query.
-pub fn request_answer(alloc: Global, shown: Shown, target: &str) -> Result<String, AllocError> {
+pub fn request_answer(
+    alloc: Global,
+    shown: Shown,
+    source: Source,
+    target: &str,
+) -> Result<String, AllocError> {
     let (name, query) = match target.split_once('?') {
         None => (target, ""),
         Some((name, query)) => (name, query),
     };
     match Collection::read(name) {
         None => String::from_str(alloc, "no case"),
-        Some(collection) => query_answer(alloc, shown, collection, query),
+        Some(collection) => query_answer(alloc, shown, source, collection, query),
     }
 }

@@ -3,12 +3,14 @@
 ghost use Rattle.std.specs.Prelude.{IfOk};
 ghost use Rattle.cad_versions.specs.Listing.{IsListing};
 
-use cad_changes::snapshot_after;
+use cad_changes::histories_after;
+use cad_history::Histories;
 use cad_memory_ledger::MemoryLedger;
 use cad_page::Snapshot;
 use cad_sample::{fill, sample};
-use cad_versions::{Ledger, RegisterFault, Version};
+use cad_versions::{Command, Ledger, RegisterFault, Version};
 use std::alloc::{AllocError, Global};
+use std::mem::replace;
 
 /// The versions of the sample register at its last revision, from the plain ledger that its commands were entered into.
 pub fn sample_versions(alloc: Global) -> Result<Vec<Version>, AllocError>
@@ -41,22 +43,40 @@ pub fn snapshot_at(alloc: Global, asked: Option<u64>) -> Result<Option<Snapshot>
     }
 }
 
-/// The features of an empty register.
-fn empty_snapshot(alloc: Global) -> Result<Snapshot, AllocError> {
-    let mut ledger = MemoryLedger::new(alloc);
-    match ledger.as_of(0) {
-        Ok(versions) => Snapshot::build(alloc, 0, versions),
-        Err(_) => Err(AllocError),
-    }
+// Replaces the features by those after this command too.
+fn add_command(
+    alloc: Global,
+    histories: &mut Histories,
+    command: &Command,
+    revision: u64,
+) -> Result<(), AllocError> {
+    let next = histories_after(alloc, histories, command, revision)?;
+    drop(replace(histories, next));
+    Ok(())
 }
 
-/// The sample register at its last revision, with each revision made from the one before.
-pub fn grown_snapshot(alloc: Global) -> Result<Snapshot, AllocError> {
-    let commands = sample(alloc)?;
-    let mut snapshot = empty_snapshot(alloc)?;
-    for command in &commands {
-        let revision = snapshot.revision().saturating_add(1);
-        snapshot = snapshot_after(alloc, &snapshot, command, revision)?;
+// Adds the commands one after the other, and counts them.
+fn add_commands(
+    alloc: Global,
+    histories: &mut Histories,
+    commands: &[Command],
+) -> Result<u64, AllocError> {
+    let mut last: u64 = 0;
+    for command in commands {
+        last = last.saturating_add(1);
+        add_command(alloc, histories, command, last)?;
     }
-    Ok(snapshot)
+    Ok(last)
+}
+
+fn histories_of(alloc: Global, commands: &[Command]) -> Result<(Histories, u64), AllocError> {
+    let mut histories = Histories::new(alloc)?;
+    let last = add_commands(alloc, &mut histories, commands)?;
+    Ok((histories, last))
+}
+
+/// The features of the sample register at every revision, to which each command was added, and its last revision.
+pub fn grown_histories(alloc: Global) -> Result<(Histories, u64), AllocError> {
+    let commands = sample(alloc)?;
+    histories_of(alloc, &commands)
 }

@@ -10,8 +10,10 @@ use Rattle.cad_versions.specs.Entries.{Entry, version_in, seen_at}
 use Rattle.cad_versions.specs.Versions.{is_of}
 use Rattle.cad_schema.specs.declared.collection.Collection.{Collection}
 use Rattle.cad_feature.specs.FeatureHistories.{feature_at}
+use Rattle.cad_feature.specs.Features.{Item}
 use Rattle.cad_feature.specs.Flatten.{joined_name}
 use Rattle.cad_feature.specs.Lifespans.{holds_on, is_up_to}
+use Rattle.cad_feature.specs.declared.period.Period.{Period}
 use Rattle.cad_feature.specs.inner.Stretches.{number_in}
 
 abbrev pub number_of_entry : Entry → ℕ
@@ -50,3 +52,7 @@ NameStays from upto entries day named = (n : ℕ) → from ≤ n → n < upto �
 
 abbrev pub FeatureStays : ℕ → ℕ → List Entry → Entry → Type 0
 FeatureStays from upto entries entry = (collection : Collection) (n : ℕ) → from ≤ n → n < upto → feature_at entries collection entry (suc n) ≡ feature_at entries collection entry n
+
+-- the version of the entry with the values of the revision at which the period starts
+abbrev pub row_from : List Entry → Collection → Entry → Period → Item
+row_from entries collection entry period = record { object = (version_in entry).object; number = (version_in entry).number; values = (feature_at entries collection entry period.start).values; period = period }

@@ -1,5 +1,5 @@
 -- Rows after a revision that changed them.
-use Rattle.std.proofs.Common.{◌≡◌, ℕ, ◌<◌, not, List, [], ◌∷◌, map, filter, refl, arith}
+use Rattle.std.proofs.Common.{◌≡◌, ℕ, ◌<◌, ◌≤◌, not, List, [], ◌∷◌, map, filter, refl, arith}
 use Rattle.std.specs.List.{AllByRecursion}
 use Rattle.std.proofs.lemmas.List.Elements.{All-from_recursion, recursion_from_All}
 use Rattle.std.proofs.lemmas.List.Kept.{IsStrictlySortedBy-filter}
@@ -12,7 +12,7 @@ use Rattle.cad_layer.specs.lemmas.ItemLemmas.{items_total}
 use Rattle.cad_layer.specs.lemmas.ListedLemmas.{all_listed, none_listed}
 use Rattle.cad_layer.specs.lemmas.MergeLemmas.{all_merged}
 use Rattle.cad_history.specs.inner.Ending.{ended, begun, has_version, replaced_by, is_in_none, absent_in, present_in, with_ended}
-use Rattle.cad_history.specs.Rows.{Rows, AllAscend, AreRows, AreNext, IsOpenRow, IsEndedRow, is_shown_at, rows_at, earlier_at, features_at}
+use Rattle.cad_history.specs.Rows.{Rows, AllAscend, AreRows, AreNext, IsOpenRow, IsEndedRow, row_count, is_shown_at, rows_at, earlier_at}
 use Rattle.cad_history.specs.lemmas.RowLemmas.{begun_ascend, ended_ascend, shown_before, shown_after}
 use Rattle.cad_history.specs.lemmas.TurnLemmas.{each_list, turns_next}
 
@@ -31,9 +31,9 @@ earlier_listed c r (layer ∷ layers) all = all_listed c (rows_at r layer.featur
 pub rows_ascend : (rows : Rows) → AreRows rows → AllAscend rows.earlier
 rows_ascend rows are = all_weaker (λ (layer : LayerFeatures). AreFeaturesOf rows.collection layer.features) _ (λ (layer : LayerFeatures) all. all.ascending) rows.earlier are.each
 
-pub features_listed : (r : ℕ) (rows : Rows) → AreRows rows → AreFeaturesOf rows.collection (features_at r rows)
-features_listed r rows are =
-    all_listed rows.collection (earlier_at r rows.earlier) (rows_at r rows.newest) (earlier_listed rows.collection r rows.earlier are.each) (filter_listed rows.collection (is_shown_at r) rows.newest are.listed)
+pub features_listed : (c : Collection) (r : ℕ) (newest : List Item) (earlier : List LayerFeatures) → AreFeaturesOf c newest → AllByRecursion (λ (layer : LayerFeatures). AreFeaturesOf c layer.features) earlier
+    → AreFeaturesOf c (all_in (earlier_at r earlier) (rows_at r newest))
+features_listed c r newest earlier all each = all_listed c (earlier_at r earlier) (rows_at r newest) (earlier_listed c r earlier each) (filter_listed c (is_shown_at r) newest all)
 
 with_listed : (c : Collection) (layers : List LayerFeatures) (xs : List Item) → AllByRecursion (λ (layer : LayerFeatures). AreFeaturesOf c layer.features) layers → AreFeaturesOf c xs
     → AllByRecursion (λ (layer : LayerFeatures). AreFeaturesOf c layer.features) (with_ended c layers xs)
@@ -88,8 +88,8 @@ module _ (revision : ℕ) (few : revision < 4294967295) (touched : List Item) (o
     last = revision;
   }
 
-  pub are_rows : AreRows next_rows
-  are_rows = record {
+  pub are_rows : row_count next_rows ≤ 18446744073709551615 → AreRows next_rows
+  are_rows countable = record {
     listed = all_listed c old.newest (map (begun revision) touched) rows.listed begun_listed;
     alike = with_alike c old.earlier (map (ended revision) (replaced_by touched old.newest)) rows.alike;
     each = with_listed c old.earlier (map (ended revision) (replaced_by touched old.newest)) rows.each ended_listed;
@@ -100,6 +100,7 @@ module _ (revision : ℕ) (few : revision < 4294967295) (touched : List Item) (o
         (λ layer all. all_weaker (IsEndedRow old.last) (IsEndedRow revision) (λ x e. omega (arith, e, sooner)) layer.features all) old.earlier rows.earlier_ended)
         (all_end (replaced_by touched old.newest));
     in_turn = turns_next revision old.last few old.newest touched rows.listed.ascending listed.ascending rows.newest_open sooner c old.earlier rows.earlier_ended rows.in_turn;
+    few = countable;
   }
 
   ascend : AllAscend old.earlier

@@ -23,7 +23,7 @@ below m n h = grind (arith, nat_tests)
 not_below : (m n : ℕ) → n ≤ m → nat_lt m n ≡ false
 not_below m n h = grind (arith, nat_tests)
 
-up_to : (m n : ℕ) → m ≤ n → nat_le m n ≡ true
+pub up_to : (m n : ℕ) → m ≤ n → nat_le m n ≡ true
 up_to m n h = grind (arith, nat_tests)
 
 above : (m n : ℕ) → n < m → nat_le m n ≡ false
@@ -32,6 +32,13 @@ above m n h = grind (arith, nat_tests)
 and_false : (b : Bool) → (b && false) ≡ false
 and_false true = refl
 and_false false = refl
+
+-- a row that has ended, and one that has begun and has no end
+pub hidden : (r : ℕ) (x : Item) → x.period.end ≤ r → is_shown_at r x ≡ false
+hidden r x e = ap (λ b. nat_le x.period.start r && b) (not_below r x.period.end e) ∙ and_false (nat_le x.period.start r)
+
+pub open_shown : (r : ℕ) → r < 4294967295 → (x : Item) → x.period.start ≤ r → x.period.end ≡ 4294967295 → is_shown_at r x ≡ true
+open_shown r within x s e = ap₂ ◌&&◌ (up_to x.period.start r s) (ap (nat_lt r) e ∙ below r 4294967295 within)
 
 pub split_test : (a b : Bool) → cond a false b ≡ true → (a ≡ false) × (b ≡ true)
 split_test true b e = absurd (true≢false (sym e))
@@ -215,31 +222,25 @@ module _ (revision last : ℕ) (few : revision < 4294967295) (newest touched : L
     -- ---- from it on
 
     module _ (later : revision ≤ r) (within : r < 4294967295) (is_last : last < revision) where
-      hidden : (x : Item) → x.period.end ≤ r → is_shown_at r x ≡ false
-      hidden x e = ap (λ b. nat_le x.period.start r && b) (not_below r x.period.end e) ∙ and_false (nat_le x.period.start r)
-
       ended_hidden : (layers : List LayerFeatures) → AllByRecursion (λ (layer : LayerFeatures). AllByRecursion (IsEndedRow last) layer.features) layers → earlier_at r layers ≡ []
       ended_hidden [] all = refl
       ended_hidden (layer ∷ layers) all =
           ap₂ all_in
-          (none_passes (is_shown_at r) layer.features (all_weaker (IsEndedRow last) (λ x. is_shown_at r x ≡ false) (λ x e. hidden x (omega (arith, e, is_last, later))) layer.features all.0))
+          (none_passes (is_shown_at r) layer.features (all_weaker (IsEndedRow last) (λ x. is_shown_at r x ≡ false) (λ x e. hidden r x (omega (arith, e, is_last, later))) layer.features all.0))
           (ended_hidden layers all.1)
 
       all_ended_hidden : (xs : List Item) → AllByRecursion (λ x. is_shown_at r x ≡ false) (map (ended revision) xs)
       all_ended_hidden [] = tt
-      all_ended_hidden (x ∷ xs) = (hidden (ended revision x) later, all_ended_hidden xs)
-
-      open_shown : (x : Item) → x.period.start ≤ r → x.period.end ≡ 4294967295 → is_shown_at r x ≡ true
-      open_shown x s e = ap₂ ◌&&◌ (up_to x.period.start r s) (ap (nat_lt r) e ∙ below r 4294967295 within)
+      all_ended_hidden (x ∷ xs) = (hidden r (ended revision x) later, all_ended_hidden xs)
 
       begun_shown : (xs : List Item) → AllByRecursion (λ x. is_shown_at r x ≡ true) (map (begun revision) xs)
       begun_shown [] = tt
-      begun_shown (x ∷ xs) = (open_shown (begun revision x) later refl, begun_shown xs)
+      begun_shown (x ∷ xs) = (open_shown r within (begun revision x) later refl, begun_shown xs)
 
       all_shown : rows_at r (all_in newest begun_rows) ≡ all_in newest begun_rows
       all_shown = all_pass (is_shown_at r) (all_in newest begun_rows)
           (all_merged by_identifier items_total (λ x. is_shown_at r x ≡ true) newest begun_rows
-          (all_weaker (IsOpenRow last) (λ x. is_shown_at r x ≡ true) (λ x row. open_shown x (omega (arith, row.begun, is_last, later)) row.endless) newest opened)
+          (all_weaker (IsOpenRow last) (λ x. is_shown_at r x ≡ true) (λ x row. open_shown r within x (omega (arith, row.begun, is_last, later)) row.endless) newest opened)
           (begun_shown touched))
 
       pub shown_after : (c : Collection) (layers : List LayerFeatures) → AllAscend layers → AllByRecursion (λ (layer : LayerFeatures). AllByRecursion (IsEndedRow last) layer.features) layers

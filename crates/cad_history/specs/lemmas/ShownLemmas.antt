@@ -33,7 +33,7 @@ both_true : (a b : Bool) → (a && b) ≡ true → (a ≡ true) × (b ≡ true)
 both_true true b e = (refl, e)
 both_true false b e = absurd (true≢false (sym e))
 
-starts : (m n : ℕ) → nat_le m n ≡ true → m ≤ n
+pub starts : (m n : ℕ) → nat_le m n ≡ true → m ≤ n
 starts m n e = grind (arith, nat_tests)
 
 ends : (m n : ℕ) → nat_lt m n ≡ true → m < n

@@ -6,7 +6,7 @@ use Rattle.cad_plan.proofs.choosing.+choose.Given as goal
 -- with the choices that are left the plans are all; the cost is that of the plans so far
 abbrev pub invariant-joined-loop-part : goal.invariant-joined-loop-part
 invariant-joined-loop-part l =
-    let counts = counts_of l.layer.features in
+    let counts = counts_of l.features.features in
     record {
       ways : map way_of l.plans.items ++ map (choice counts) (drop l.part-index l.parts) ≡ map (choice counts) l.parts;
       cost : l.cost ≡ min most (total (map (cost counts) (map way_of l.plans.items)));
@@ -14,8 +14,8 @@ invariant-joined-loop-part l =
 
 abbrev pub invariant-narrow-loop-part : goal.invariant-narrow-loop-part
 invariant-narrow-loop-part l =
-    let counts = counts_of l.layer.features in
+    let counts = counts_of l.features.features in
     record {
       ways : map way_of l.narrow.plans.items ++ filter is_narrow (map (choice counts) (drop l.part-index l.parts)) ≡ filter is_narrow (map (choice counts) l.parts);
-      cost : l.narrow.cost ≡ min_of (length l.layer.features) (map (cost counts) (map way_of l.narrow.plans.items));
+      cost : l.narrow.cost ≡ min_of (length l.features.features) (map (cost counts) (map way_of l.narrow.plans.items));
     }

@@ -5,5 +5,5 @@ use Rattle.cad_plan.proofs.choosing.all.Goals as goal
 
 pub returns-clause-cost : goal.returns-clause-cost
 returns-clause-cost c =
-    let counts = counts_of c.args.layer.now.features in
+    let counts = counts_of c.args.features.now.features in
     c.count.ensures ∙ sym (ap (cost counts) way_All ∙ cost_all counts)

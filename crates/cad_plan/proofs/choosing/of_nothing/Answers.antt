@@ -5,5 +5,5 @@ use Rattle.cad_plan.proofs.choosing.of_nothing.Goals as goal
 
 pub all_or-requires : goal.all_or-requires
 all_or-requires c =
-    let counts = counts_of c.args.layer.now.features in
+    let counts = counts_of c.args.features.now.features in
     sym (ap (cost counts) way_Empty ∙ cost_none counts)

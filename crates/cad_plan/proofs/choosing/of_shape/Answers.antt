@@ -8,7 +8,7 @@ use Rattle.cad_plan.proofs.choosing.of_shape.Goals as goal
 
 pub all_or-requires : goal.all_or-requires
 all_or-requires c =
-    let counts = counts_of c.args.layer.now.features in
+    let counts = counts_of c.args.features.now.features in
     c.count_near-cost.ensures
     ∙ sym (cost_near counts c.args.property (block_of c.bounds.result))
     ∙ ap (λ block. cost counts (near_block c.args.property block)) (sym (same_block c.bounds.result (shape_corners c.args.shape.now) c.bounds.ensures))

@@ -6,7 +6,7 @@ use Rattle.cad_plan.proofs.menus.add_choices.Goals as goal
 
 pub loop-part-preserved : goal.loop-part-preserved
 loop-part-preserved c =
-    let counts = counts_of c.args.layer.now.features in
+    let counts = counts_of c.args.features.now.features in
     let old = map way_of c.loop-part.plans.items in
     let more = ap (map way_of) c.in_ok-push.ensures.items ∙ map_push way_of c.loop-part.plans.items c.in_ok-chosen.chosen.plan ∙ ap (λ v. old ++ v ∷ []) c.in_ok-chosen.ensures.way in
     moved old (map way_of c.push.new.self.items) (map (choice counts) (drop c.loop-part.part-index c.args.parts.now)) (map (choice counts) (drop (c.loop-part.part-index + 1) c.args.parts.now)) _ (choice counts c.part-item.result) more

@@ -7,4 +7,4 @@ use Rattle.cad_plan.proofs.menus.menu.Goals as goal
 pub returns-clause-covers : goal.returns-clause-covers
 returns-clause-covers c = λ x h.
     all_found x c.in_ok-plans.plans.items ∙ ap (list_all (λ w. is_found w x)) c.in_ok-plans.ensures
-    ∙ (c.menus_cover.ensures (counts_of c.args.layer.now.features) c.args.form.now x h).0
+    ∙ (c.menus_cover.ensures (counts_of c.args.features.now.features) c.args.form.now x h).0

@@ -1,8 +1,6 @@
-use Rattle.cad_grid.specs.Blocks.{block_of}
-use Rattle.cad_grid.proofs.Near.{found_length}
+use Rattle.std.proofs.Common.{◌∙◌}
+use Rattle.cad_grid.proofs.PassingLemmas.{each_kept}
 use Rattle.cad_grid.proofs.grid.Grid.count.Goals as goal
 
-pub returns-else-are_many : goal.returns-else-are_many
-returns-else-are_many c =
-    rw (c.count_found.ensures, c.deref-else-are_many.ensures.value, c.deref-else-are_many-2.ensures.value, c.deref-else-are_many-3.ensures.value, ← c.self.view_is)
-    (found_length c.of-asked.result (block_of c.args.bounds) _ _ _ c.self.invariant c.of-asked.ensures)
+pub returns : goal.returns
+returns c = c.count_passing.ensures ∙ each_kept _

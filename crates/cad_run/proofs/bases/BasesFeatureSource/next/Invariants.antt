@@ -8,6 +8,7 @@ abbrev pub invariant-loop-row : goal.invariant-loop-row
 invariant-loop-row l = record {
   same : rows_left l.self ≡ rows_left l.initial.self;
   features : l.self.features ≡ l.initial.self.features;
+  revision : l.self.revision ≡ l.initial.self.revision;
 }
 
 abbrev pub decreases-loop-row : goal.decreases-loop-row

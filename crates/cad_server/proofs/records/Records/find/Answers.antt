@@ -1,5 +1,6 @@
+use Rattle.std.proofs.Common.{subst, sym, ◌∙◌}
 use Rattle.std.proofs.lemmas.Result.{err_from_is_err_and}
-use Rattle.cad_server.proofs.CallLemmas.{found_kept, found_nothing, found_read, not_asked}
+use Rattle.cad_server.proofs.CallLemmas.{found_kept, found_nothing, found_read}
 use Rattle.cad_server.proofs.records.Records.find.Goals as goal
 
 pub returns-in_err-response-clause-found : goal.returns-in_err-response-clause-found
@@ -17,9 +18,11 @@ returns-in-Some-clause-found g c =
 pub returns-in-Some-clause-unasked : goal.returns-in-Some-clause-unasked
 returns-in-Some-clause-unasked g c = λ kept. c.recall.ensures.same
 
+pub look-requires : goal.look-requires
+look-requires g c = λ commands stands. c.requires commands (subst (λ l. g.L.Ledger.stands_for l commands) c.recall.ensures.same stands)
+
 pub returns-in-None-clause-found : goal.returns-in-None-clause-found
-returns-in-None-clause-found g c = found_read g.L.Ledger c.args.revision c.args.sought.now c.args.self.now c.recall.new.self c.read.new.self _ c.read.result c.recall.ensures c.read.ensures
+returns-in-None-clause-found g c = found_read g.L.Ledger c.args.revision c.args.sought.now c.args.self.now c.recall.new.self c.look.new.self _ c.look.result c.recall.ensures c.look.ensures.found
 
 pub returns-in-None-clause-unasked : goal.returns-in-None-clause-unasked
-returns-in-None-clause-unasked g c =
-    not_asked g.L.Ledger c.args.revision c.args.sought.now c.args.self.now c.recall.new.self c.read.new.self c.in_ok-response.field-0 c.recall.result c.in_ok-response.was c.in-None.is c.recall.ensures
+returns-in-None-clause-unasked g c = λ kept. c.look.ensures.unasked (λ none. kept (sym c.recall.ensures.kept.histories ∙ none)) ∙ c.recall.ensures.same

@@ -1,9 +1,9 @@
-use Rattle.std.proofs.Common.{nat_eq}
+use Rattle.std.proofs.Common.{nat_eq, refl}
 use Rattle.cad_server.proofs.KeptLemmas.{kept_promoted}
 use Rattle.cad_server.proofs.snapshot_cache.SnapshotCache.touch.Goals as goal
 
 pub returns : goal.returns
-returns c = λ commands all. record {
-  entered = all.entered;
-  read = kept_promoted commands (nat_eq c.args.revision) c.args.self.now.read _ c.promote.ensures.entries all.read;
+returns c = record {
+  histories = refl;
+  snapshots = λ commands all. kept_promoted commands (nat_eq c.args.revision) c.args.self.now.snapshots _ c.promote.ensures.entries all;
 }

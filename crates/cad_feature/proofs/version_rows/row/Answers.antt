@@ -1,0 +1,9 @@
+use Rattle.std.proofs.Common.{◌≡◌, ◌∙◌, ap}
+use Rattle.cad_feature.specs.FeatureHistories.{feature_at}
+use Rattle.cad_feature.specs.Features.{Item}
+use Rattle.cad_feature.specs.contracts.feature.Feature.{the_view}
+use Rattle.cad_feature.proofs.RowLemmas.{row_is}
+use Rattle.cad_feature.proofs.version_rows.row.Goals as goal
+
+pub returns-clause-row : goal.returns-clause-row
+returns-clause-row c = row_is c.args.entries.now.entries.now c.args.collection c.args.entry.now c.args.period (the_view c.number.inside) (c.number.view_is ∙ c.in_ok-object.ensures.feature ∙ ap (feature_at c.args.entries.now.entries.now c.args.collection c.args.entry.now) c.from-start.ensures)

@@ -1,0 +1,10 @@
+use Rattle.std.proofs.Common.{length, ap, arith}
+use Rattle.cad_index.specs.Layers.{LayerFeatures}
+use Rattle.cad_index.specs.Moments.{is_shown_at}
+use Rattle.cad_index.proofs.PeriodLemmas.{all_pass}
+use Rattle.cad_index.proofs.base.Base.shown_at.Goals as goal
+
+pub returns-then-count-len : goal.returns-then-count-len
+returns-then-count-len c =
+    let same = ap (λ (m : LayerFeatures). length m.features) c.self.view_is in
+    all_pass (is_shown_at c.args.revision) c.args.self.now.features (omega (arith, c.count_at-count.ensures, c.if-count-len.true, c.len.ensures, same))

@@ -1,0 +1,10 @@
+use Rattle.std.proofs.Common.{◌≡◌, ◌++◌, map}
+use Rattle.std.specs.Vec.Iter.{into_iter_items}
+use Rattle.cad_register.specs.StoredVersions.{entry_of}
+use Rattle.cad_register.proofs.listing.entries.Given as goal
+
+abbrev pub invariant-loop-version : goal.invariant-loop-version
+invariant-loop-version l = record {
+  rest : l.fn.stored.items ≡ l.yielded ++ into_iter_items l.version-iterator;
+  so_far : l.entries.items ≡ map entry_of l.yielded;
+}
