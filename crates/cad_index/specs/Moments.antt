@@ -12,8 +12,8 @@ is_shown_at revision x = is_within x.period revision
 abbrev pub rows_at : ℕ → List Item → List Item
 rows_at revision xs = filter (is_shown_at revision) xs
 
--- none of the rows has its values at the revision, or some have, or all
+-- none of the rows has its values at the revision, or some have and others have not, or all have
 abbrev pub AreShown : Shown → ℕ → List Item → Type 0
 AreShown Nothing revision xs = rows_at revision xs ≡ []
-AreShown Part revision xs = Unit {0}
+AreShown Part revision xs = ¬ (rows_at revision xs ≡ []) × ¬ (rows_at revision xs ≡ xs)
 AreShown Everything revision xs = rows_at revision xs ≡ xs

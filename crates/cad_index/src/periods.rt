@@ -14,7 +14,7 @@ use std::alloc::{AllocError, Global};
 pub enum Shown {
     /// None of them.
     Nothing,
-    /// Perhaps some of them, and not others.
+    /// Some of them, and not others.
     Part,
     /// All of them.
     Everything,
