@@ -142,7 +142,7 @@ module _ (vs : List VersionedObject) (c : Command) (new : AddsNew vs c) where
   left_whole (Amend o first body) v e = ap (λ t. cond t (closed_on (day_before first) v) v) e
   left_whole (Retire o last) v e = ap (λ t. cond t (closed_on last v) v) e
 
-  pub feature_stays : (collection : Collection) (v : VersionedObject) → is_touched_by c v ≡ false → feature_in vs collection v ≡ feature_in (next vs c) collection (left_by c v)
+  feature_stays : (collection : Collection) (v : VersionedObject) → is_touched_by c v ≡ false → feature_in vs collection v ≡ feature_in (next vs c) collection (left_by c v)
   feature_stays collection v e =
       let both = or_parts (is_closed_by c v) _ e in
       let as_item : List Datum → Item = λ ds. record { object = v.object; number = v.number; values = ds; period = always } in

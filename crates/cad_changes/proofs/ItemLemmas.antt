@@ -69,7 +69,7 @@ module _ (vs : List VersionedObject) (v : VersionedObject) where
   party_is other h = whole_back (party_named v.body)
 
   module _ (c : Command) (collection : Collection) where
-    pub closes_is : closes c (feature_in vs collection v) ≡ is_closed_by c v
+    closes_is : closes c (feature_in vs collection v) ≡ is_closed_by c v
     closes_is = go c
       where
         go : (k : Command) → closes k (feature_in vs collection v) ≡ is_closed_by k v
@@ -87,7 +87,7 @@ module _ (vs : List VersionedObject) (v : VersionedObject) where
       names_party_is : names_party c collection (feature_in vs collection v) ≡ is_object (object_named c) (party_named v.body)
       names_party_is = ap (is_numbered (object_named c)) (party_is collection inside) ∙ numbered_is (object_named c) (party_named v.body)
 
-      pub touches_is : touches c collection (feature_in vs collection v) ≡ is_touched_by c v
+      touches_is : touches c collection (feature_in vs collection v) ≡ is_touched_by c v
       touches_is =
           ap₂ ◌||◌ closes_is (ap₂ ◌&&◌ renames_is (ap₂ ◌||◌ names_unit_is names_party_is))
 
@@ -181,7 +181,7 @@ module _ (vs : List VersionedObject) (c : Command) (new : AddsNew vs c) (all : A
   value_left collection inside attribute.ShareDen = same (λ w. value_in vs w attribute.ShareDen) (λ day w. refl)
   value_left collection inside attribute.PartyRequired = same (λ w. value_in vs w attribute.PartyRequired) (λ day w. refl)
 
-  pub item_is : (collection : Collection) → is_in collection v ≡ true → item_left c collection (feature_in vs collection v) ≡ feature_in (next vs c) collection (left_by c v)
+  item_is : (collection : Collection) → is_in collection v ≡ true → item_left c collection (feature_in vs collection v) ≡ feature_in (next vs c) collection (left_by c v)
   item_is collection inside = λ i. record {
     object = same (λ w. w.object) (λ day w. refl) i;
     number = same (λ w. w.number) (λ day w. refl) i;

@@ -3,12 +3,8 @@ mod AloneLemmas
 mod BareLemmas
 mod ClassLemmas
 mod DependentLemmas
-mod EntryLemmas
 mod FeatureLemmas
 mod FitLemmas
-mod FollowLemmas
-mod FormLemmas
-mod HistoryLemmas
 mod ItemLemmas
 mod PartLemmas
 mod RevisionLemmas

@@ -1,6 +1,6 @@
 //! What holds of changes. Each contract is a law; the functions do nothing.
 
-ghost use Rattle.cad_changes.specs.Laws.{NextRevision, NextFeatures, NextHistories, TouchedAscends, TouchedHistoriesAreMerged, TouchedStands, FeaturesTellTouched};
+ghost use Rattle.cad_changes.specs.Laws.{NextRevision, NextFeatures, TouchedAscends, TouchedStands, FeaturesTellTouched};
 
 /// The versions at the next revision are those at the last one, as the command leaves them.
 pub fn next_revision()
@@ -21,11 +21,4 @@ pub fn touched_is_listed()
 /// The features before a command determine what it touches: those of the collection, the units and the parties.
 pub fn features_tell_touched()
     ensures { FeaturesTellTouched }
-{}
-
-/// The histories of features at the next revision are those at the last one, as the command leaves them, with that of the feature that it
-/// adds. As it leaves them, they are merged with the histories of those that it touches.
-pub fn next_histories()
-    ensures next { NextHistories }
-    ensures merged { TouchedHistoriesAreMerged }
 {}

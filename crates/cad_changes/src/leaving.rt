@@ -55,7 +55,7 @@ fn is_open_of(feature: &Feature, object: ObjectId) -> bool
 }
 
 /// Whether the feature is the open version that the command closes.
-pub(crate) fn closes(command: &Command, feature: &Feature) -> bool
+fn closes(command: &Command, feature: &Feature) -> bool
     ensures { result ≡ spec.closes command.now feature.now }
 {
     is_closing(command) && is_open_of(feature, command.object())
@@ -138,14 +138,14 @@ fn may_rename(command: &Command, collection: Collection, feature: &Feature) -> b
 }
 
 /// Whether the feature is closed, or joined with a name that may be different after the command.
-pub(crate) fn touches(command: &Command, collection: Collection, feature: &Feature) -> bool
+fn touches(command: &Command, collection: Collection, feature: &Feature) -> bool
     ensures { result ≡ spec.touches command.now collection feature.now }
 {
     closes(command, feature) || may_rename(command, collection, feature)
 }
 
 /// The name of the command's object on the days on which the command may change it.
-pub(crate) fn name_after(command: &Command) -> Result<Value, AllocError>
+fn name_after(command: &Command) -> Result<Value, AllocError>
     ensures { IfOk result (λ name. datum_of name ≡ spec.name_after command.now) }
 {
     let Some(body) = command.body() else {
@@ -165,7 +165,7 @@ fn name_if(test: bool, name: &Value) -> Option<&Value>
 }
 
 /// The feature as the command leaves it; its object has this name from then on.
-pub(crate) fn left(
+fn left(
     alloc: Global,
     command: &Command,
     collection: Collection,

@@ -1,7 +1,6 @@
 //! What a command changes of the features of a revision.
 //!
 //! - [`touched`]: the features of a collection that a command adds or changes, determined by the features before it
-//! - [`histories_touched`]: the histories of the features that a command changes, as it leaves them
 //! - [`history_after`]: the features of a collection at every revision, after a command
 //! - [`histories_after`]: the same of all collections
 //! - `laws`: that the features after a command are those before it with these merged, and more
@@ -15,7 +14,6 @@ mod collections;
 mod dependents;
 mod edits;
 mod extending;
-mod histories;
 pub mod laws;
 mod leaving;
 mod reading;
@@ -23,5 +21,4 @@ mod touching;
 
 pub use collections::histories_after;
 pub use extending::history_after;
-pub use histories::histories_touched;
 pub use touching::touched;

@@ -1,7 +1,6 @@
 -- What names are at a revision, by the entries of the named object, and which revisions leave them as they are.
 use Rattle.std.proofs.Common.{◌≡◌, ℕ, suc, ◌+◌, ◌≤◌, ◌<◌, pos, int_le, nat_le, Bool, true, false, cond, ◌&&◌, List, length, map, find, take, drop, get_or, Option, Some, None, option_map, option_and_then, refl, sym, ap, ap₂, ◌∙◌, subst, arith, true≢false}
 use Rattle.std.specs.List.Sorted.{IsPartitionPoint}
-use Rattle.std.proofs.Math.Bool.{and-false}
 use Rattle.std.proofs.lemmas.Bool.Decides.{nat_tests}
 use Rattle.std.proofs.lemmas.Int.{ints}
 use Rattle.std.proofs.lemmas.List.{take_more}
@@ -16,7 +15,7 @@ use Rattle.cad_versions.specs.VersionedObject.{VersionedObject}
 use Rattle.cad_versions.specs.Versions.{is_of, history}
 use Rattle.cad_versions.specs.lemmas.ListLemmas.{all_push, filter-map, filters_turn, find_filter, find_in_map, find_same, all_weaker}
 use Rattle.cad_schema.specs.declared.collection.Collection.{Collection}
-use Rattle.cad_feature.specs.FeatureHistories.{feature_at}
+use Rattle.cad_feature.specs.FeaturesThen.{feature_at}
 use Rattle.cad_feature.specs.Flatten.{joined_name}
 use Rattle.cad_feature.specs.Lifespans.{holds_on, is_up_to}
 use Rattle.cad_feature.specs.inner.StoredVersions.{number_of_entry, is_entry_of, own_entries, is_held_at, name_of_entry, name_held, LastsAlike, IsHeldAlike, AreHeldAlike, NameStays}
@@ -96,26 +95,11 @@ same_closed (Some k) n other = same_nat k n (λ e. other (ap Some e))
 pub same_last : (e : Entry) (n : ℕ) → ¬ (Some (suc n) ≡ e.closed) → (seen_at (suc n) e).last ≡ (seen_at n e).last
 same_last e n other = ap (λ b. cond b e.version.last None) (same_closed e.closed n other)
 
--- nor does one on that day or later to whether the day is held
-lasts_either : (last : Option Day) (day : Day) (b : Bool) → is_up_to last day ≡ true → is_up_to (cond b last None) day ≡ true
-lasts_either last day true h = h
-lasts_either last day false h = refl
-
-pub lasting_alike : (e : Entry) (day : Day) (n : ℕ) → is_up_to e.version.last day ≡ true → LastsAlike n day e
-lasting_alike e day n h = lasts_either e.version.last day (is_closed_by (suc n) e.closed) h ∙ sym (lasts_either e.version.last day (is_closed_by n e.closed) h)
-
 pub other_alike : (e : Entry) (day : Day) (n : ℕ) → ¬ (Some (suc n) ≡ e.closed) → LastsAlike n day e
 other_alike e day n other = ap (λ (o : Option Day). is_up_to o day) (same_last e n other)
 
 pub held_same : (e : Entry) (day : Day) (n : ℕ) → ¬ (suc n ≡ e.entered) → LastsAlike n day e → is_held_at (suc n) day e ≡ is_held_at n day e
 held_same e day n other same = ap₂ (λ a b. a && (int_le (number_of e.version.first) (number_of day) && b)) (same_le e.entered n other) same
-
-not_begun : (e : Entry) (day : Day) (r : ℕ) → int_le (number_of e.version.first) (number_of day) ≡ false → is_held_at r day e ≡ false
-not_begun e day r h = ap (λ b. int_le (pos e.entered) (pos r) && (b && is_up_to (seen_at r e).last day)) h ∙ and-false (int_le (pos e.entered) (pos r))
-
--- before its first day nothing is held
-pub never_held : (e : Entry) (day : Day) (n : ℕ) → int_le (number_of e.version.first) (number_of day) ≡ false → is_held_at (suc n) day e ≡ is_held_at n day e
-never_held e day n h = not_begun e day (suc n) h ∙ sym (not_begun e day n h)
 
 -- ---- all entries of an object
 
@@ -145,9 +129,6 @@ found_same object day from upto near all n h k =
 pub name_stays : (es near : List Entry) (object : ObjectId) (day : Day) (from upto : ℕ) → own_entries object near ≡ own_entries object es → AreHeldAlike from upto object day near → NameStays from upto es day (Some object)
 name_stays es near object day from upto own all n h k =
     name_is es near object day (suc n) own ∙ ap (option_and_then name_of_entry) (found_same object day from upto near all n h k) ∙ sym (name_is es near object day n own)
-
-pub no_name_stays : (es : List Entry) (day : Day) (from upto : ℕ) → NameStays from upto es day None
-no_name_stays es day from upto n h k = refl
 
 -- ---- features
 

@@ -1,7 +1,5 @@
 mod EntryLemmas
 mod FeatureLemmas
-mod FormLemmas
-mod HistoryLemmas
 mod LawLemmas
 mod ListLemmas
 mod RowLemmas

@@ -1,16 +1,34 @@
 -- Rows with the values of the revision at which their period starts.
-use Rattle.std.proofs.Common.{◌≡◌, ℕ, ◌≤◌, ◌<◌, nat_le, nat_lt, ◌&&◌, true, List, [], ◌∷◌, ◌++◌, reverse, sym, ap, subst, arith}
+use Rattle.std.proofs.Common.{◌≡◌, ℕ, zero, suc, ◌≤◌, ◌<◌, nat_le, nat_lt, ◌&&◌, true, List, [], ◌∷◌, ◌++◌, reverse, sym, ap, ◌∙◌, subst, arith, ◌⊎◌, inl, inr}
 use Rattle.std.specs.List.{AllByRecursion}
 use Rattle.std.proofs.lemmas.Bool.Decides.{nat_tests}
 use Rattle.std.proofs.lemmas.List.{reverse-append}
 use Rattle.cad_versions.specs.Entries.{Entry}
 use Rattle.cad_schema.specs.declared.collection.Collection.{Collection}
-use Rattle.cad_feature.specs.FeatureHistories.{feature_at}
 use Rattle.cad_feature.specs.Features.{Item, IsFeatureOf}
+use Rattle.cad_feature.specs.FeaturesThen.{feature_at}
 use Rattle.cad_feature.specs.VersionRows.{IsRowOf, RunOn}
 use Rattle.cad_feature.specs.declared.period.Period.{Period}
 use Rattle.cad_feature.specs.inner.StoredVersions.{row_from, FeatureStays}
-use Rattle.cad_feature.proofs.HistoryLemmas.{constant}
+
+-- ---- what each revision leaves as it is
+
+split : (r n : ℕ) → r ≤ suc n → (r ≡ suc n) ⊎ (r ≤ n)
+split r n h = grind arith
+
+module _ (item : ℕ → Item) where
+  abbrev Stays : ℕ → ℕ → Type 0
+  Stays from upto = (n : ℕ) → from ≤ n → n < upto → item (suc n) ≡ item n
+
+  constant : (from upto : ℕ) → Stays from upto → (r : ℕ) → from ≤ r → r ≤ upto → item upto ≡ item r
+  constant from zero stays r h k = ap item (omega (arith, k))
+  constant from (suc upto) stays r h k = go (split r upto k) (constant from upto (λ n l m. stays n l (omega (arith, m))) r h)
+    where
+      go : (r ≡ suc upto) ⊎ (r ≤ upto) → (r ≤ upto → item upto ≡ item r) → item (suc upto) ≡ item r
+      go (inl e) more = ap item (sym e)
+      go (inr l) more = stays upto (omega (arith, h, l)) (omega arith) ∙ more l
+
+-- ---- rows
 
 inside : (start end r : ℕ) → (nat_le start r && nat_lt r end) ≡ true → (start ≤ r) × (r < end)
 inside start end r h = (grind (arith, nat_tests), grind (arith, nat_tests))
@@ -28,7 +46,7 @@ module _ (es : List Entry) (collection : Collection) (e : Entry) where
     fits = fits;
     values = λ r within low. let period_is = ap (λ (x : Item). x.period) is in let inside_is = inside period.start period.end r (subst (λ (p : Period). (nat_le p.start r && nat_lt r p.end) ≡ true) period_is within) in
         subst (λ (x : Item). x.values ≡ (feature_at es collection e r).values) (sym is)
-        (ap (λ (x : Item). x.values) (sym (constant (feature_at es collection e) newest period.start r (λ n from upto. stays collection n from (omega (arith, upto, short r inside_is.1 low))) period.start (omega arith) inside_is.0)));
+        (ap (λ (x : Item). x.values) (sym (constant (feature_at es collection e) period.start r (λ n from upto. stays collection n from (omega (arith, upto, short r inside_is.1 low))) period.start (omega arith) inside_is.0)));
   }
 
 -- one row more, before the others

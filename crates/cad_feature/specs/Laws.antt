@@ -1,24 +1,20 @@
 -- What holds of the features of every register (OGC 17-069r4, 7.15: items; ISO 19152:2012, VersionedObject).
-use Rattle.std.specs.Prelude.{◌≡◌, ℕ, ◌≤◌, ◌≤ℤ◌, List, [], length, map, filter, Contains, Option, Some, chars}
+use Rattle.std.specs.Prelude.{◌≡◌, ℕ, ◌≤ℤ◌, List, map, filter, Contains, Option, Some, chars}
 use Rattle.std.specs.List.{All}
 use Rattle.std.specs.Option.{ForSome}
 use Rattle.cad_day.specs.declared.day.Day.{Day}
 use Rattle.cad_day.specs.declared.interval.Interval.{Interval}
 use Rattle.cad_day.specs.Days.{number_of}
 use Rattle.cad_versions.specs.declared.body.Body.{Body}
-use Rattle.cad_versions.specs.declared.command.Command.{Command}
 use Rattle.cad_versions.specs.declared.object_id.ObjectId.{ObjectId}
 use Rattle.cad_versions.specs.declared.words.Words.{Words}
-use Rattle.cad_versions.specs.AsOf.{as_of, all_entries}
 use Rattle.cad_versions.specs.BodyParts.{name_in}
 use Rattle.cad_versions.specs.Identifiers.{identifier_of as identifier_of_version}
-use Rattle.cad_versions.specs.Refusals.{AreAccepted}
 use Rattle.cad_versions.specs.Texts.{bytes_of}
 use Rattle.cad_versions.specs.VersionedObject.{VersionedObject, IsVersion}
 use Rattle.cad_schema.specs.declared.attribute.Attribute.{Attribute}
 use Rattle.cad_schema.specs.declared.attribute.Attribute.TheVariants as attribute
 use Rattle.cad_schema.specs.declared.collection.Collection.{Collection}
-use Rattle.cad_feature.specs.FeatureHistories.{ItemHistory, AreHistoriesOf, items_at}
 use Rattle.cad_feature.specs.Features.{identifier_of}
 use Rattle.cad_feature.specs.Flatten.{is_in, value_in, features_in}
 use Rattle.cad_feature.specs.Values.{null, a_text, a_span}
@@ -55,17 +51,3 @@ NamesAreOfTheFirstDay named_by a = (vs : List VersionedObject) (v : VersionedObj
 abbrev pub NoneIsJoinedWithoutVersion : (Body → Option ObjectId) → Attribute → Type 0
 NoneIsJoinedWithoutVersion named_by a = (vs : List VersionedObject) (v : VersionedObject) (object : ObjectId) → named_by v.body ≡ Some object
     → All (λ w. w.object ≡ object → ¬ HoldsDay v.first w) vs → value_in vs v a ≡ null
-
--- histories of the features of a register, as all commands up to now made them
-abbrev pub AreOfRegister : List Command → Collection → List ItemHistory → Type 0
-AreOfRegister commands collection histories = AreHistoriesOf (length commands) (all_entries commands) collection histories
-
--- they show the features of each revision, no matter which commands came after it
-abbrev pub HistoriesShowEachRevision : Type 0
-HistoriesShowEachRevision = (commands : List Command) → AreAccepted [] commands → (collection : Collection) (histories : List ItemHistory) → AreOfRegister commands collection histories
-    → (revision : ℕ) → revision ≤ length commands → features_in (as_of revision commands) collection ≡ items_at revision histories
-
--- and their newest forms are the features of the newest one
-abbrev pub HistoriesEndInTheNewest : Type 0
-HistoriesEndInTheNewest = (commands : List Command) → AreAccepted [] commands → (collection : Collection) (histories : List ItemHistory) → AreOfRegister commands collection histories
-    → features_in (as_of (length commands) commands) collection ≡ map (λ (history : ItemHistory). history.item) histories

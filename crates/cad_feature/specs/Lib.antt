@@ -1,5 +1,5 @@
-pub mod FeatureHistories
 pub mod Features
+pub mod FeaturesThen
 pub mod Flatten
 pub mod Laws
 pub mod Lifespans
@@ -8,4 +8,3 @@ pub mod Periods
 pub mod Values
 pub mod VersionRows
 pub mod inner
-pub mod lemmas

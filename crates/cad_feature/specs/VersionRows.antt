@@ -1,10 +1,10 @@
 -- The rows of a version: its feature with each of the values that it had, and the revisions at which it had them (SQL:2011, 4.15.7: system-versioned tables; revisions: own profile).
-use Rattle.std.specs.Prelude.{◌≡◌, ℕ, ◌≤◌, ◌<◌, Bool, true, List, [], ◌∷◌}
+use Rattle.std.specs.Prelude.{◌≡◌, ℕ, ◌≤◌, ◌<◌, true, List, [], ◌∷◌}
 use Rattle.std.specs.List.{AllByRecursion}
 use Rattle.cad_versions.specs.Entries.{Entry, version_in}
 use Rattle.cad_schema.specs.declared.collection.Collection.{Collection}
-use Rattle.cad_feature.specs.FeatureHistories.{feature_at}
 use Rattle.cad_feature.specs.Features.{Item, IsFeatureOf}
+use Rattle.cad_feature.specs.FeaturesThen.{feature_at}
 use Rattle.cad_feature.specs.Periods.{is_within}
 
 -- the row is the version of the entry as a feature, with the values that it has at each revision of the row's period, up to the newest one

@@ -2,7 +2,7 @@
 
 ghost use Rattle.cad_versions.specs.BodyParts.{unit_named, party_named};
 ghost use Rattle.cad_schema.specs.declared.attribute.Attribute.TheVariants as attribute;
-ghost use Rattle.cad_feature.specs.Laws.{EachVersionIsOneFeature, HistoriesEndInTheNewest, HistoriesShowEachRevision, LifespansAreThoseOfVersions, NamesAreOfTheFirstDay, NoneIsJoinedWithoutVersion};
+ghost use Rattle.cad_feature.specs.Laws.{EachVersionIsOneFeature, LifespansAreThoseOfVersions, NamesAreOfTheFirstDay, NoneIsJoinedWithoutVersion};
 
 use cad_schema::Collection;
 
@@ -26,10 +26,4 @@ pub fn names_are_of_the_first_day()
 pub fn no_name_is_joined_without_a_version()
     ensures unit { NoneIsJoinedWithoutVersion unit_named attribute.UnitName }
     ensures party { NoneIsJoinedWithoutVersion party_named attribute.PartyName }
-{}
-
-/// The histories of the features of a register show those of each revision, no matter which commands came after it.
-pub fn histories_show_each_revision()
-    ensures each { HistoriesShowEachRevision }
-    ensures newest { HistoriesEndInTheNewest }
 {}

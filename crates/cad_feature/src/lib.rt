@@ -2,9 +2,7 @@
 //!
 //! - [`Feature`], [`Value`]: one version of an object, with its values in the order of the schema.
 //! - [`Period`]: the revisions at which a feature has its values.
-//! - [`FeatureHistory`], [`EarlierForm`]: a feature with the forms that it had at earlier revisions.
 //! - [`flatten`]: the features of a collection, from the versions of a register.
-//! - [`flatten_histories`]: the same with their earlier forms, from the stored versions of a register.
 //! - [`StoredVersions`], [`VersionRows`]: the rows of each version, features with their periods, from the stored versions of a register.
 //! - [`Collection`], [`schema`], [`find_property`]: the collections and their properties, of `cad_schema`.
 //! - [`Range`], [`Edge`], [`Scalar`]: the values of one property from one end to another.
@@ -16,9 +14,8 @@
 mod entries;
 mod entry_names;
 mod feature;
-mod feature_history;
+mod features_then;
 mod flattening;
-mod histories;
 mod joining;
 pub mod laws;
 mod objects;
@@ -30,9 +27,7 @@ mod version_rows;
 
 pub use cad_schema::{Collection, Property, PropertyKind, find_property, schema};
 pub use feature::Feature;
-pub use feature_history::{EarlierForm, FeatureHistory};
 pub use flattening::{flatten, is_in};
-pub use histories::flatten_histories;
 pub use period::Period;
 pub use range::{Edge, Range, Scalar};
 pub use value::Value;

@@ -8,7 +8,7 @@ ghost use Rattle.cad_feature.specs.inner.StoredVersions.{row_from, FeatureStays}
 
 use crate::entries::Entries;
 use crate::entry_names::later;
-use crate::histories::{feature_then, last_change};
+use crate::features_then::{feature_then, last_change};
 use crate::{Feature, Period};
 use cad_schema::Collection;
 use cad_versions::StoredVersion;

@@ -9,8 +9,8 @@ use Rattle.cad_versions.specs.Entries.{Entry}
 use Rattle.cad_versions.specs.Identifiers.{identifier_cmp, identifier_of as identifier_of_version}
 use Rattle.cad_versions.specs.lemmas.ListLemmas.{all_weaker, all_filtered}
 use Rattle.cad_schema.specs.declared.collection.Collection.{Collection}
-use Rattle.cad_feature.specs.FeatureHistories.{entry_in, feature_at}
 use Rattle.cad_feature.specs.Features.{Item, identifier_of, by_identifier}
+use Rattle.cad_feature.specs.FeaturesThen.{entry_in, feature_at}
 use Rattle.cad_feature.specs.Periods.{always}
 use Rattle.cad_feature.specs.VersionRows.{IsRowOf, RunOn, AreRowsOfVersion}
 use Rattle.cad_layer.specs.Merging.{put_at, put, merged}

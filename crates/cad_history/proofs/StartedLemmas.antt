@@ -13,8 +13,8 @@ use Rattle.cad_versions.specs.Refusals.{AreAccepted}
 use Rattle.cad_versions.specs.lemmas.ListLemmas.{map-map, filter-map}
 use Rattle.cad_versions.specs.lemmas.SeenLemmas.{versions_then}
 use Rattle.cad_schema.specs.declared.collection.Collection.{Collection}
-use Rattle.cad_feature.specs.FeatureHistories.{entry_in, feature_at}
 use Rattle.cad_feature.specs.Features.{Item, IsFeatureOf}
+use Rattle.cad_feature.specs.FeaturesThen.{entry_in, feature_at}
 use Rattle.cad_feature.specs.Flatten.{is_in, feature_in, features_in}
 use Rattle.cad_feature.specs.VersionRows.{AreRowsOfVersion}
 use Rattle.cad_history.specs.Registers.{AreRowsOf}

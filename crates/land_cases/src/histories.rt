@@ -1,6 +1,6 @@
-//! Commands in lines of the land office, and the features of each revision.
+//! Commands in lines of the land office, and the features of each revision, by the histories that are made of the stored versions.
 //!
-//! The lines are entered into a ledger of their own, and answered as the office does. The histories of the features are made once, from the
+//! The lines are entered into a ledger of their own, and answered as the office does. The history of each collection is made once, from the
 //! versions that the ledger stores. Then, collection by collection and revision by revision, each feature is printed on a line of its own, as
 //!
 //! ```text
@@ -13,16 +13,16 @@ ghost use Rattle.cad_versions.specs.Listing.{IsListing};
 
 use crate::office_lines::enter_lines;
 use crate::stop::Stop;
-use cad_feature::{FeatureHistory, flatten_histories};
+use cad_history::{FeaturesAt, History};
 use cad_json::feature_text;
 use cad_memory_ledger::MemoryLedger;
 use cad_schema::Collection;
-use cad_versions::{HistoryLedger, Ledger, StoredVersion};
+use cad_versions::{HistoryLedger, Ledger, StoredVersion, Version};
 use std::io;
 use std::io::{Error, ErrorKind};
 
 /// The versions that the ledger stores.
-pub(crate) fn stored_versions<L: HistoryLedger>(ledger: &mut L) -> io::Result<Vec<StoredVersion>>
+fn stored_versions<L: HistoryLedger>(ledger: &mut L) -> io::Result<Vec<StoredVersion>>
     ensures { IfOk result (λ stored. IsListing (map version_in stored.items)) }
 {
     let Ok(stored) = ledger.stored_versions() else {
@@ -31,23 +31,36 @@ pub(crate) fn stored_versions<L: HistoryLedger>(ledger: &mut L) -> io::Result<Ve
     Ok(stored)
 }
 
-fn print_features(
+/// Prints the version as a feature, if it is one of those of the revision.
+pub(crate) fn print_feature(
     rt: &HostRuntime,
-    histories: &[FeatureHistory],
+    features: &FeaturesAt<'_>,
     revision: u64,
-    collection: Collection,
+    version: &Version,
 ) -> io::Result<()> {
+    let collection = features.collection();
     let name = collection.name();
-    for history in histories {
-        if let Some(feature) = history.at(revision) {
-            let text = feature_text(rt.alloc(), collection, feature)?;
-            println!(rt; "{revision} {name} {text}")?;
-        }
+    if let Some(feature) = features.feature(version.object, version.number) {
+        let text = feature_text(rt.alloc(), collection, feature)?;
+        println!(rt; "{revision} {name} {text}")?;
     }
     Ok(())
 }
 
-fn print_histories(
+/// Prints the features of the revision, each of which is a version that is stored.
+fn print_features(
+    rt: &HostRuntime,
+    features: &FeaturesAt<'_>,
+    revision: u64,
+    entries: &[StoredVersion],
+) -> io::Result<()> {
+    for entry in entries {
+        print_feature(rt, features, revision, &entry.version)?;
+    }
+    Ok(())
+}
+
+fn print_history(
     rt: &HostRuntime,
     entries: &[StoredVersion],
     newest: u64,
@@ -55,18 +68,19 @@ fn print_histories(
 ) -> io::Result<()>
     requires { IsListing (map version_in entries.now) }
 {
-    let histories = flatten_histories(rt.alloc(), entries, newest, collection)?;
+    let history = History::of_register(rt.alloc(), entries, newest, collection)?;
     for revision in 0..=newest {
-        print_features(rt, &histories, revision, collection)?;
+        print_features(rt, &FeaturesAt::of(&history, revision), revision, entries)?;
     }
     Ok(())
 }
 
-fn print_ledger(rt: &HostRuntime, ledger: &mut MemoryLedger) -> io::Result<()> {
+/// Prints the features of each revision of the ledger.
+pub(crate) fn print_ledger<L: HistoryLedger>(rt: &HostRuntime, ledger: &mut L) -> io::Result<()> {
     let newest = ledger.revision();
     let entries = stored_versions(ledger)?;
     for collection in Collection::ALL {
-        print_histories(rt, &entries, newest, collection)?;
+        print_history(rt, &entries, newest, collection)?;
     }
     Ok(())
 }

@@ -4,9 +4,9 @@
 //! - `= shapes`: rings, regions, segments and the relations of shapes
 //! - `= office`: lines of the land office over a ledger in memory
 //! - `= features`: commands, and the features that they make, as JSON
-//! - `= histories`: commands, and the features of each revision, by their histories
+//! - `= histories`: commands, and the features of each revision, by the histories that are made of the stored versions
 //! - `= rows`: the same, by rows with periods that each command extends
-//! - `= starts`: the same to a register in a database in memory, by the histories that a start makes of its stored versions
+//! - `= starts`: the same to a register in a database in memory, by the histories that a start makes
 //! - `= journals`: commands to a register in a database in memory, and questions to it
 //! - `= memory journals`: the same to a ledger in memory
 //! - `= dry run`: lines of a dry run over a ledger in memory

@@ -4,11 +4,11 @@
 //! histories of a register that is empty at first. Collection by collection and revision by revision, each feature of the last histories is
 //! printed on a line of its own, as for `= histories`.
 
+use crate::histories::print_feature;
 use crate::office_lines::enter_lines;
 use crate::stop::Stop;
 use cad_changes::histories_after;
-use cad_history::{FeaturesAt, Histories};
-use cad_json::feature_text;
+use cad_history::{FeaturesAt, Histories, History};
 use cad_memory_ledger::MemoryLedger;
 use cad_schema::Collection;
 use cad_versions::{Command, JournalLedger, Ledger, Version};
@@ -69,31 +69,24 @@ fn histories_of(alloc: Global, commands: &[Command]) -> Result<Histories, AllocE
 
 fn print_features(
     rt: &HostRuntime,
-    histories: &Histories,
-    versions: &[Version],
+    features: &FeaturesAt<'_>,
     revision: u64,
-    collection: Collection,
+    versions: &[Version],
 ) -> io::Result<()> {
-    let name = collection.name();
-    let shown = FeaturesAt::of(histories.of(collection), revision);
     for version in versions {
-        if let Some(feature) = shown.feature(version.object, version.number) {
-            let text = feature_text(rt.alloc(), collection, feature)?;
-            println!(rt; "{revision} {name} {text}")?;
-        }
+        print_feature(rt, features, revision, version)?;
     }
     Ok(())
 }
 
 fn print_revisions(
     rt: &HostRuntime,
-    histories: &Histories,
+    history: &History,
     versions: &[Version],
     newest: u64,
-    collection: Collection,
 ) -> io::Result<()> {
     for revision in 0..=newest {
-        print_features(rt, histories, versions, revision, collection)?;
+        print_features(rt, &FeaturesAt::of(history, revision), revision, versions)?;
     }
     Ok(())
 }
@@ -105,7 +98,7 @@ fn print_histories(
     newest: u64,
 ) -> io::Result<()> {
     for collection in Collection::ALL {
-        print_revisions(rt, histories, versions, newest, collection)?;
+        print_revisions(rt, histories.of(collection), versions, newest)?;
     }
     Ok(())
 }

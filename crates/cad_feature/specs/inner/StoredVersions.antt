@@ -9,8 +9,8 @@ use Rattle.cad_versions.specs.BodyParts.{name_in}
 use Rattle.cad_versions.specs.Entries.{Entry, version_in, seen_at}
 use Rattle.cad_versions.specs.Versions.{is_of}
 use Rattle.cad_schema.specs.declared.collection.Collection.{Collection}
-use Rattle.cad_feature.specs.FeatureHistories.{feature_at}
 use Rattle.cad_feature.specs.Features.{Item}
+use Rattle.cad_feature.specs.FeaturesThen.{feature_at}
 use Rattle.cad_feature.specs.Flatten.{joined_name}
 use Rattle.cad_feature.specs.Lifespans.{holds_on, is_up_to}
 use Rattle.cad_feature.specs.declared.period.Period.{Period}

@@ -4,8 +4,8 @@ use Rattle.std.specs.Global.{Global}
 use Rattle.std.specs.List.{AllByRecursion}
 use Rattle.cad_versions.specs.Entries.{Entry}
 use Rattle.cad_schema.specs.declared.collection.Collection.{Collection}
-use Rattle.cad_feature.specs.FeatureHistories.{entry_in, feature_at}
 use Rattle.cad_feature.specs.Features.{Item, AreFeaturesOf}
+use Rattle.cad_feature.specs.FeaturesThen.{entry_in, feature_at}
 use Rattle.cad_index.specs.Layers.{LayerFeatures}
 use Rattle.cad_history.specs.Rows.{AllComeBefore, IsEndedRow, IsOpenRow, Rows}
 

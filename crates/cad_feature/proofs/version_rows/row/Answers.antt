@@ -1,6 +1,5 @@
-use Rattle.std.proofs.Common.{◌≡◌, ◌∙◌, ap}
-use Rattle.cad_feature.specs.FeatureHistories.{feature_at}
-use Rattle.cad_feature.specs.Features.{Item}
+use Rattle.std.proofs.Common.{◌∙◌, ap}
+use Rattle.cad_feature.specs.FeaturesThen.{feature_at}
 use Rattle.cad_feature.specs.contracts.feature.Feature.{the_view}
 use Rattle.cad_feature.proofs.RowLemmas.{row_is}
 use Rattle.cad_feature.proofs.version_rows.row.Goals as goal

@@ -1,4 +1,4 @@
-use Rattle.std.proofs.Common.{◌≡◌, ◌<◌, subst, arith}
+use Rattle.std.proofs.Common.{arith}
 use Rattle.cad_feature.proofs.version_rows.start_of.Goals as goal
 
 pub returns-clause-stays : goal.returns-clause-stays

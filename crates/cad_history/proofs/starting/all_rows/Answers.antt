@@ -2,7 +2,7 @@ use Rattle.std.proofs.Common.{◌≡◌, ◌∙◌, ◌++◌, [], ◌∷◌, Lis
 use Rattle.std.specs.List.{AllByRecursion}
 use Rattle.std.proofs.lemmas.List.{nil_from_length}
 use Rattle.cad_versions.specs.Entries.{Entry}
-use Rattle.cad_feature.specs.FeatureHistories.{entry_in}
+use Rattle.cad_feature.specs.FeaturesThen.{entry_in}
 use Rattle.cad_feature.specs.Flatten.{is_in}
 use Rattle.cad_feature.specs.VersionRows.{AreRowsOfVersion}
 use Rattle.cad_history.specs.inner.Starting.{AreOrdered, items_in, pushed, rows_of}

@@ -1,4 +1,4 @@
-use Rattle.std.proofs.Common.{◌≡◌, ◌≤◌, ℕ, List, sym, ap, subst, arith}
+use Rattle.std.proofs.Common.{◌≤◌, List, sym, ap, subst}
 use Rattle.cad_versions.specs.Entries.{Entry}
 use Rattle.cad_feature.specs.Features.{Item}
 use Rattle.cad_feature.specs.VersionRows.{AreRowsOfVersion, RunOn}

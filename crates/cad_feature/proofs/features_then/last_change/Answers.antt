@@ -1,7 +1,7 @@
 use Rattle.std.proofs.Common.{◌∙◌, sym, ap, arith}
 use Rattle.cad_versions.specs.Entries.{Entry}
 use Rattle.cad_feature.proofs.EntryLemmas.{feature_stays}
-use Rattle.cad_feature.proofs.histories.last_change.Goals as goal
+use Rattle.cad_feature.proofs.features_then.last_change.Goals as goal
 
 pub returns-clause-within : goal.returns-clause-within
 returns-clause-within c =
