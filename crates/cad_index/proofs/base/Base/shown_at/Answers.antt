@@ -11,6 +11,7 @@ returns-then-count-len c =
 
 pub returns-else-count-len : goal.returns-else-count-len
 returns-else-count-len c =
-    let same = ap (λ (m : LayerFeatures). length m.features) c.self.view_is in
-    (λ none. absurd (omega (arith, c.count_at-count.ensures, c.if-count-eq0.false, ap length none)),
-        λ all. absurd (omega (arith, c.count_at-count.ensures, c.if-count-len.false, c.len.ensures, same, ap length all)))
+    let same = ap (λ (m : LayerFeatures). length m.features) c.self.view_is in (
+      λ none. absurd (omega (arith, c.count_at-count.ensures, c.if-count-eq0.false, ap length none)),
+      λ all. absurd (omega (arith, c.count_at-count.ensures, c.if-count-len.false, c.len.ensures, same, ap length all)),
+    )
