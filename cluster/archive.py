@@ -19,7 +19,7 @@ def written(entry):
 
 
 class Archive:
-    """`last` is the number of the last command in it, 0 if there is none."""
+    """`last` is the number of the last command in it, at first 0."""
 
     def __init__(self, folder):
         os.makedirs(folder, exist_ok=True)

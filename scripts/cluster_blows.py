@@ -13,6 +13,8 @@ import time
 from cluster_nodes import HALTED
 
 QUICK = 4
+# SQLite's index of its log has 32 KB, so a database can still be opened
+ROOM = 40960
 
 
 class Fault(Exception):
@@ -157,20 +159,22 @@ def cut_leader(cluster, chance):
     return cut_one(cluster, chance, cluster.leader()) + ", etcd's leader"
 
 
+def limit_files(program, size):
+    """No file of the program may be written beyond this size."""
+    try:
+        resource.prlimit(program.run.pid, resource.RLIMIT_FSIZE, (size, resource.RLIM_INFINITY))
+    except (ProcessLookupError, AttributeError):
+        pass
+
+
 def disk_full(cluster, chance):
-    """`cadastred` cannot write its files, and is started again and again meanwhile."""
+    """The files of `cadastred` cannot grow. It can open them, refuses commands, and is started again and again meanwhile."""
     node = chance.choice(cluster.nodes)
     until = time.monotonic() + QUICK
     while time.monotonic() < until:
-        try:
-            resource.prlimit(node.cadastred.run.pid, resource.RLIMIT_FSIZE, (4096, resource.RLIM_INFINITY))
-        except (ProcessLookupError, AttributeError):
-            pass
+        limit_files(node.cadastred, ROOM)
         time.sleep(0.02)
-    try:
-        resource.prlimit(node.cadastred.run.pid, resource.RLIMIT_FSIZE, (resource.RLIM_INFINITY, resource.RLIM_INFINITY))
-    except ProcessLookupError:
-        pass
+    limit_files(node.cadastred, resource.RLIM_INFINITY)
     return f"no room for the files of cadastred {node.name} for {QUICK} s"
 
 

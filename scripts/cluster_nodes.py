@@ -59,6 +59,7 @@ class Program:
                 # signals stay ignored as Python ignores them: a file that grows beyond a limit is an error and not the program's end
                 self.run = subprocess.Popen(self.words, stdout=log, stderr=log, stdin=subprocess.DEVNULL, env=self.env, restore_signals=False)
                 self.starts += 1
+                Path(self.log).with_suffix(".pid").write_text(f"{self.run.pid}\n", encoding="utf-8")
             self.status = self.run.wait()
             if self.status in self.final:
                 self.is_wanted = False
@@ -131,10 +132,15 @@ class Node:
         return (self.folder / "node.log").read_text(errors="replace").splitlines()[-3:]
 
     def forget(self):
-        """Removes the register, as if the node were a new one. Its programs must have ended."""
+        """Removes the register, as if the node were a new one. The archive goes aside. The node's programs must have ended."""
         for it in self.folder.glob("land.db*"):
             it.unlink()
-        shutil.rmtree(self.entries, ignore_errors=True)
+        if self.entries.exists():
+            self.entries.rename(self.folder / f"entries.{len(self.archives())}")
+
+    def archives(self):
+        """The folders of the archive, with those that are aside."""
+        return list(self.folder.glob("entries*"))
 
 
 class Cluster:
@@ -203,7 +209,8 @@ class Cluster:
     def is_even(self):
         """Whether all nodes are ready and have the same commands, and what they say."""
         told = [it.health() for it in self.nodes]
-        is_even = all(ready for ready, _ in told) and len({(it["log"], it["revision"], it["chain"]) for _, it in told if it} | {(told[0][1].get("revision"), told[0][1].get("revision"), told[0][1].get("chain"))}) == 1
+        stands = {(it.get("log"), it.get("revision"), it.get("chain")) for _, it in told}
+        is_even = all(ready for ready, _ in told) and len(stands) == 1 and len(set(next(iter(stands))[:2])) == 1
         return is_even, [it for _, it in told]
 
     def wait(self, seconds=90):

@@ -71,29 +71,36 @@ class Office(threading.Thread):
     def enter_on(self, connection, answers):
         last = None
         while not self.over.is_set() or self.left:
-            # a line that is sent again stands for the same operation, which began when it was first sent
-            burst = self.left or [self.op(last if it == 0 else None) for it in range(self.choice.random.randint(1, self.longest))]
-            if not self.left and not self.has_names:
-                for before, op in zip(burst, burst[1:]):
-                    op.after = before
+            burst = self.left or self.burst(last)
             self.sent_again += len(self.left)
-            self.left = burst if self.has_names else []
+            # a line that is sent again is the same operation, which began when it was first sent
+            self.left = [it for it in burst if it.is_named]
             connection.sendall(b"".join(it.sent + b"\n" for it in burst))
             for op in burst:
                 answer = answers.readline()
                 if not answer.endswith(b"\n"):
                     raise ConnectionError("no answer")
                 op.ended, op.answer = time.monotonic(), answer[:-1].decode()
-            self.left = []
-            last = None if self.has_names else burst[-1]
+                self.left = [it for it in self.left if it is not op]
+            last = burst[-1]
             time.sleep(self.pause * 2 * self.choice.random.random())
 
-    def op(self, after):
+    def burst(self, last):
+        """New lines, each after the one before it. A line that may be sent again is not bound to its place on the first connection."""
+        ops = [self.op() for _ in range(self.choice.random.randint(1, self.longest))]
+        if not self.has_names:
+            for before, op in zip([last, *ops], ops):
+                op.after = before
+        return ops
+
+    def op(self):
         self.count += 1
         tag = f"{self.label}-{self.count}"
         line = self.choice.line(tag)
-        op = Op(self.label, self.node.number, tag, journal_line(line), after)
-        op.sent = b'{"name":"%s",%s' % (tag.encode(), line[1:]) if self.has_names and line.startswith(b"{\"") and b'"object": 7' not in line else line
+        op = Op(self.label, self.node.number, tag, journal_line(line))
+        # a line with a member twice gets no name
+        op.is_named = self.has_names and line.startswith(b"{") and line != b"{}" and b'"object": 7' not in line
+        op.sent = b'{"name":"%s",%s' % (tag.encode(), line[1:]) if op.is_named else line
         op.begun = time.monotonic()
         self.history.append(op)
         return op
