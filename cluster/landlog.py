@@ -103,6 +103,7 @@ class Log:
         self.root = (root or os.environ.get("CADASTRE_LOG", "/land")).encode()
         self.head_key, self.floor_key = self.root + b"/head", self.root + b"/floor"
         self.entries, self.nodes = self.root + b"/log/", self.root + b"/nodes/"
+        self.is_over = False
 
     def entry_key(self, number):
         return self.entries + b"%0*d" % (WIDTH, number)
@@ -111,7 +112,11 @@ class Log:
         try:
             return await call(request, timeout=wait)
         except grpc.aio.AioRpcError as fault:
-            raise Lost(f"{fault.code().name} {fault.details()}"[:120]) from None
+            raise self.lost(fault) from None
+
+    def lost(self, fault):
+        """What a failed call means. gRPC may report a task that was cancelled as a failed call."""
+        return asyncio.CancelledError() if self.is_over else Lost(f"{fault.code().name} {fault.details()}"[:120])
 
     async def range(self, key, end=b"", wait=3, **more):
         return (await self.ask(self.keys.Range, rpc.RangeRequest(key=key, range_end=end, **more), wait)).kvs
@@ -196,7 +201,7 @@ class Log:
                     if event.kv.value:
                         yield Head.read(event.kv.value)
         except grpc.aio.AioRpcError as fault:
-            raise Lost(fault.code().name) from None
+            raise self.lost(fault) from None
         finally:
             over.set()
 

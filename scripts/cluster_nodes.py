@@ -14,6 +14,8 @@ import threading
 import time
 from pathlib import Path
 
+from cluster_tls import Certificates
+
 TOP = Path(__file__).resolve().parent.parent
 SERVICE = os.environ.get("CADASTRED") or str(TOP / "crates/cadastred/out/cadastred")
 SOURCES = Path(os.environ.get("CLUSTER") or TOP / "cluster")
@@ -144,13 +146,15 @@ class Node:
 
 
 class Cluster:
-    """Nodes with one member of etcd each, or with one member for all. With `netns` each node has a network of its own (needs root)."""
+    """Nodes with one member of etcd each, or with one member for all. `is_apart`: each node has a network of its own, which needs root.
+    `has_tls`: etcd takes certificates alone."""
 
-    def __init__(self, folder, prefix="127.77.0", count=3, members=3, is_apart=False, env=None):
+    def __init__(self, folder, prefix="127.77.0", count=3, members=3, is_apart=False, env=None, has_tls=False):
         self.folder, self.is_apart, self.balancers, self.env = Path(folder), is_apart, [], env
         self.prefix = prefix
         self.addresses = [f"{prefix}.{at}" for at in range(1, count + 1)]
         self.front = f"{prefix}.100"
+        self.certificates = Certificates(self.folder / "certificates", self.addresses) if has_tls else None
         self.tag = prefix.rsplit(".", 1)[-1]
         if is_apart:
             self.make_networks()
@@ -162,14 +166,18 @@ class Cluster:
 
     def node(self, at, members):
         address, folder = self.addresses[at - 1], self.folder / f"node{at}"
-        others = ",".join(f"n{number}=http://{it}:2380" for number, it in enumerate(self.addresses[:members], 1))
+        scheme, env = "https" if self.certificates else "http", dict(self.env or {})
+        others = ",".join(f"n{number}={scheme}://{it}:2380" for number, it in enumerate(self.addresses[:members], 1))
         words = ["etcd", "--name", f"n{at}", "--data-dir", str(folder / "etcd"), "--log-level", "error", "--logger", "zap",
-                 "--listen-client-urls", f"http://{address}:2379", "--advertise-client-urls", f"http://{address}:2379",
-                 "--listen-peer-urls", f"http://{address}:2380", "--initial-advertise-peer-urls", f"http://{address}:2380",
+                 "--listen-client-urls", f"{scheme}://{address}:2379", "--advertise-client-urls", f"{scheme}://{address}:2379",
+                 "--listen-peer-urls", f"{scheme}://{address}:2380", "--initial-advertise-peer-urls", f"{scheme}://{address}:2380",
                  "--initial-cluster", others, "--auto-compaction-mode", "revision", "--auto-compaction-retention", "10000",
                  "--quota-backend-bytes", str(64 << 20)]
+        if self.certificates:
+            words += self.certificates.of_member(f"n{at}")
+            env |= self.certificates.of_node(f"n{at}")
         member = address if at <= members else self.addresses[0]
-        return Node(at, folder, address, words if at <= members else None, f"{member}:2379", self.within(at), self.env)
+        return Node(at, folder, address, words if at <= members else None, f"{member}:2379", self.within(at), env)
 
     # ---- networks
 
@@ -205,6 +213,17 @@ class Cluster:
     def start(self):
         for it in self.nodes:
             it.start()
+        if self.certificates:
+            self.make_users()
+
+    def make_users(self):
+        """Makes the users of etcd, unless an earlier run did."""
+        node = self.members[0]
+        until = time.monotonic() + 30
+        while self.etcdctl(node, "endpoint", "health").returncode and time.monotonic() < until:
+            time.sleep(0.2)
+        for words in self.certificates.users():
+            self.etcdctl(node, *words.split())
 
     def is_even(self):
         """Whether all nodes are ready and have the same commands, and what they say."""
@@ -224,7 +243,8 @@ class Cluster:
         raise TimeoutError(f"the nodes are not ready and even after {seconds} s: {told} {[it.said() for it in self.nodes]}")
 
     def etcdctl(self, node, *words, wait="4s"):
-        words = [*self.within(node.number), "etcdctl", "--endpoints", f"{node.address}:2379", f"--command-timeout={wait}", *words]
+        secured = self.certificates.of_root() if self.certificates else []
+        words = [*self.within(node.number), "etcdctl", "--endpoints", f"{node.address}:2379", f"--command-timeout={wait}", *secured, *words]
         return subprocess.run(words, capture_output=True, env=ETCDCTL, check=False)
 
     def leader(self):
