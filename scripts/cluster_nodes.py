@@ -153,7 +153,7 @@ class Cluster:
         self.folder, self.is_apart, self.balancers, self.env = Path(folder), is_apart, [], env
         self.prefix = prefix
         self.addresses = [f"{prefix}.{at}" for at in range(1, count + 1)]
-        self.front = f"{prefix}.100"
+        self.front, self.sources = f"{prefix}.100", [f"{prefix}.{at}" for at in range(201, 207)]
         self.certificates = Certificates(self.folder / "certificates", self.addresses) if has_tls else None
         self.tag = prefix.rsplit(".", 1)[-1]
         if is_apart:
@@ -185,6 +185,8 @@ class Cluster:
         """A bridge of this machine, and for each node a network with one link to it."""
         self.ip("link", "add", f"cad{self.tag}", "type", "bridge")
         self.ip("addr", "add", f"{self.front}/24", "dev", f"cad{self.tag}")
+        for address in self.sources:
+            self.ip("addr", "add", f"{address}/24", "dev", f"cad{self.tag}")
         self.ip("link", "set", f"cad{self.tag}", "up")
         for at, address in enumerate(self.addresses, 1):
             name = f"cad{self.tag}n{at}"
