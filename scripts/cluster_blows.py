@@ -102,6 +102,15 @@ def stop_leader(cluster, chance):
     return f"stop etcd's leader {node.name} for {QUICK} s"
 
 
+def pause_leader(cluster, chance):
+    """The leader pauses for so short a time that it still leads. A node has then given up on a try that is done after all."""
+    node = cluster.leader()
+    for _ in range(4):
+        stopped([node.etcd], 1.1 + chance.random() / 5)
+        time.sleep(0.7)
+    return f"stop etcd's leader {node.name} four times for a moment"
+
+
 def stop_member(cluster, chance):
     leader = cluster.leader()
     node = chance.choice([it for it in cluster.members if it is not leader])
@@ -242,7 +251,7 @@ def hand_while_away(cluster, chance):
     return f"a hand at cadastred {node.name} while its cadastre-node is away ({told.decode().strip()})"
 
 
-BLOWS = {it.__name__: it for it in (kill_cadastred, kill_node, kill_leader, kill_all_of_one, stop_cadastred, stop_node, stop_leader, stop_member,
+BLOWS = {it.__name__: it for it in (kill_cadastred, kill_node, kill_leader, kill_all_of_one, stop_cadastred, stop_node, stop_leader, pause_leader, stop_member,
                                     lines_left_in_a_socket, kill_all_cadastreds, kill_all_nodes, kill_two_members, power, no_majority, disk_full, quota,
                                     old_copy, new_node, hand_at_a_node, hand_while_away)}
 BLOWS_APART = {it.__name__: it for it in (cut_one, cut_leader)}
