@@ -15,6 +15,8 @@ from cluster_nodes import HALTED
 QUICK = 4
 # SQLite's index of its log has 32 KB, so a database can still be opened
 ROOM = 40960
+# etcd's quota here is below 64 of them
+MOST_VALUES = 64
 
 
 class Fault(Exception):
@@ -189,21 +191,18 @@ def disk_full(cluster, chance):
 
 def quota(cluster, chance):
     """etcd refuses every write until its alarm is disarmed."""
-    node = cluster.members[0]
-    for at in range(80):
-        if cluster.etcdctl(node, "put", f"/filler/{at}", "x" * 120000).returncode:
-            break
-    while not cluster.etcdctl(node, "put", "/filler/x", "x" * 120000, wait="10s").returncode and at < 1000:
-        at += 1
-        cluster.etcdctl(node, "put", f"/filler/{at % 100}", "x" * 120000)
+    node, count = cluster.members[0], 0
+    while count < MOST_VALUES and not cluster.etcdctl(node, "put", f"/filler/{count}", wait="20s", stdin=b"x" * 1400000).returncode:
+        count += 1
     time.sleep(2)
+    is_full = b"NOSPACE" in cluster.etcdctl(node, "alarm", "list").stdout
     cluster.etcdctl(node, "del", "--prefix", "/filler")
     told = json.loads(cluster.etcdctl(node, "endpoint", "status", "-w", "json").stdout)[0]["Status"]
     cluster.etcdctl(node, "compact", str(told["header"]["revision"]), wait="20s")
     for it in cluster.members:
         cluster.etcdctl(it, "defrag", wait="30s")
     cluster.etcdctl(node, "alarm", "disarm")
-    return f"etcd is full, after {at} values"
+    return f"etcd is {'full' if is_full else 'not full'}, after {count} values"
 
 
 def old_copy(cluster, chance):

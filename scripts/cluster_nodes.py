@@ -25,6 +25,8 @@ ETCDCTL = {**os.environ, "ETCDCTL_API": "3", "PATH": PATH}
 # statuses after which a program is not started again, as in the units
 ENDS, NODE_ENDS = (0, 2, 4), (0, 2, 4, 5)
 HALTED = 5
+# small, so that a trial can reach it
+QUOTA = 64 << 20
 
 
 def missing():
@@ -172,7 +174,7 @@ class Cluster:
                  "--listen-client-urls", f"{scheme}://{address}:2379", "--advertise-client-urls", f"{scheme}://{address}:2379",
                  "--listen-peer-urls", f"{scheme}://{address}:2380", "--initial-advertise-peer-urls", f"{scheme}://{address}:2380",
                  "--initial-cluster", others, "--auto-compaction-mode", "revision", "--auto-compaction-retention", "10000",
-                 "--quota-backend-bytes", str(64 << 20)]
+                 "--quota-backend-bytes", str(QUOTA)]
         if self.certificates:
             words += self.certificates.of_member(f"n{at}")
             env |= self.certificates.of_node(f"n{at}")
@@ -244,10 +246,10 @@ class Cluster:
             time.sleep(0.2)
         raise TimeoutError(f"the nodes are not ready and even after {seconds} s: {told} {[it.said() for it in self.nodes]}")
 
-    def etcdctl(self, node, *words, wait="4s"):
+    def etcdctl(self, node, *words, wait="4s", stdin=None):
         secured = self.certificates.of_root() if self.certificates else []
         words = [*self.within(node.number), "etcdctl", "--endpoints", f"{node.address}:2379", f"--command-timeout={wait}", *secured, *words]
-        return subprocess.run(words, capture_output=True, env=ETCDCTL, check=False)
+        return subprocess.run(words, input=stdin or b"", capture_output=True, env=ETCDCTL, check=False)
 
     def leader(self):
         """The node whose member of etcd leads."""
