@@ -232,8 +232,9 @@ def new_node(cluster, chance):
 def hand_at_a_node(cluster, chance):
     """Somebody enters at the socket of a node's own `cadastred`. The node must end, and no other node may take the command."""
     node = chance.choice(cluster.nodes)
-    told = enter_by_hand(node, 1900000000 + node.number)
+    began, told = time.monotonic(), enter_by_hand(node, 1900000000 + node.number)
     wait_for_halt(node)
+    cluster.by_hand.append((began, time.monotonic(), int(told.split()[1])))
     begin_anew(node)
     return f"a hand at cadastred {node.name} ({told.decode().strip()})"
 
@@ -242,10 +243,11 @@ def hand_while_away(cluster, chance):
     """The same while the node is away, so that its register may get as many commands as the log."""
     node = chance.choice(cluster.nodes)
     node.node.end(signal.SIGKILL)
-    told = enter_by_hand(node, 1900000010 + node.number)
+    began, told = time.monotonic(), enter_by_hand(node, 1900000010 + node.number)
     time.sleep(chance.choice([0, 0.2, 1]))
     node.node.start()
     wait_for_halt(node)
+    cluster.by_hand.append((began, time.monotonic(), int(told.split()[1])))
     begin_anew(node)
     return f"a hand at cadastred {node.name} while its cadastre-node is away ({told.decode().strip()})"
 

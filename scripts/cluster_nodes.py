@@ -154,6 +154,8 @@ class Cluster:
     def __init__(self, folder, prefix="127.77.0", count=3, members=3, is_apart=False, env=None, has_tls=False):
         self.folder, self.is_apart, self.balancers, self.env = Path(folder), is_apart, [], env
         self.prefix = prefix
+        # when somebody entered into a register by hand, until its node ended, and the revision that the command took there
+        self.by_hand = []
         self.addresses = [f"{prefix}.{at}" for at in range(1, count + 1)]
         self.front, self.sources = f"{prefix}.100", [f"{prefix}.{at}" for at in range(201, 207)]
         self.certificates = Certificates(self.folder / "certificates", self.addresses) if has_tls else None

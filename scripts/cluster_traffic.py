@@ -138,7 +138,7 @@ class Reader(threading.Thread):
                     time.sleep(0.1)
                     break
                 page = json.loads(body)
-                self.pages.append((target, body))
+                self.pages.append((target, body, time.monotonic()))
                 if is_first:
                     self.newest.append(page["revision"])
                     is_first = False
