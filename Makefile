@@ -8,9 +8,12 @@ QUERY ?=
 COLLECTION ?= parcels
 # For `make look`: a path with its query.
 REQUEST ?=
+# For `make replicas`: how many servers, and members of etcd.
+NODES ?= 3
+MEMBERS ?= $(NODES)
 export QUERY COLLECTION REQUEST
 
-.PHONY: look sample cadastred explain cases early test random check wrong-bodies tests-refuse refused damage bench compare register-file journal office-file serve-file stops host clients proxy import viewer deb clean
+.PHONY: look sample cadastred explain cases early test random check wrong-bodies tests-refuse refused damage bench compare register-file journal office-file serve-file stops host clients proxy import viewer replicas cluster cluster-refuses deb clean
 
 # Answers a request over the sample register without a proof, in a few minutes. The request is that of crates/cadastre/stdin, or
 # `make look REQUEST='/collections/parcels/items?filter=area+>+400'`.
@@ -35,6 +38,7 @@ explain:
 
 # Compares documents and stored answers with second implementations and with the crates.
 # - Second implementations of the rules check the stored answers of the cases, and the examples of docs/FILTERS.md.
+# - What judges the answers of a cluster refuses wrong histories, and its nodes write commands as journals do.
 # - The examples of docs/API.md are cases of the server. The cases of commands under joined names are counted.
 # - docs/PROMISES.md and docs/READING.md have the numbers of the crates. The tables of docs/ARCHITECTURE.md name the files of definitions.
 # - Names in the code use the words of docs/ARCHITECTURE.md. Lists of collections are complete.
@@ -45,6 +49,8 @@ cases:
 	scripts/check_server_cases
 	scripts/check_changes_cases
 	scripts/check_clients_cases
+	scripts/check_orders
+	scripts/check_node_lines
 	scripts/check_api_examples
 	scripts/count_promises
 	scripts/count_reading
@@ -169,6 +175,19 @@ proxy: sample cadastred
 viewer: sample cadastred
 	scripts/check_viewer $(PICTURES)
 	scripts/check_viewer_many $(PICTURES)
+
+# Runs NODES servers of one register on this machine, with MEMBERS of etcd, HAProxy and nginx, until an interrupt. docs/CLUSTER.md shows what
+# to do with them. Needs etcd-server, etcd-client, haproxy, nginx-light and python3-etcd3.
+replicas: cadastred
+	scripts/start_cluster .build/replicas $(NODES) $(MEMBERS)
+
+# Strikes three nodes for MINUTES while offices enter at all of them and readers walk through the balancers. SEED draws the blows. Needs the same.
+cluster: cadastred
+	scripts/check_cluster
+
+# Checks that `make cluster` refuses each wrong edit of `cadastre-node` in cluster/wrong/. It takes about a minute for each.
+cluster-refuses: cadastred
+	scripts/cluster_refuses
 
 # Puts the programs into a Debian package and checks it. If root runs it, it also installs, uses and removes the package. Needs debhelper
 # and lintian.
