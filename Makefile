@@ -163,7 +163,7 @@ clients: sample cadastred
 	scripts/check_clients
 
 # Passes a register through GDAL and scripts/import and back, and checks the reports of sources with faults. Needs python3-gdal and gdal-bin.
-import: sample
+import: sample cadastred
 	scripts/check_import
 
 # Runs nginx with the snippet of docs/OPERATIONS.md in front of `cadastred` and of `cadastre serve`. systemd verifies the units of that page.

@@ -82,7 +82,11 @@ class Register:
         return json.loads(await self.ask(b"status"))["revision"]
 
     async def chain(self):
-        """The revision of the register, and the chain over the commands that it holds."""
+        """The revision of the register, and the chain over the commands that it holds. Without --chain `cadastred` tells none, and gives its
+        journal."""
+        told = json.loads(await self.ask(b"status"))
+        if told["chain"] is not None:
+            return told["revision"], told["chain"]
         chain, count = START, 0
         async for line in journal_lines(self.path, 0):
             if line.startswith(b"{"):

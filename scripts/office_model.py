@@ -11,6 +11,7 @@ It prints the office's answers to lines, over a ledger in memory that is empty a
 
 scripts/check_land_cases compares the stored answers of crates/land_cases with it.
 """
+import hashlib
 import json
 import sys
 
@@ -300,6 +301,8 @@ def journals(text, is_read_at_once=False):
     """The answers to the lines. `journal N` requests the commands after a revision. `begin N` and `read K` request them in pieces.
     `check LINE` is answered as LINE would be, with `would be N` in place of `revision N`.
 
+    `chain` requests the digest of all commands.
+
     A journal that is read in pieces is that of the moment when it began. It is whole after as many rows as there were commands then, or after
     the first line `read K` if it is read at once.
     """
@@ -311,6 +314,11 @@ def journals(text, is_read_at_once=False):
             yield answer.replace("revision", "would be")
         elif word in (b"journal", b"begin") and int(number) > len(accepted):
             yield "refused 12 UnknownRevision"
+        elif line == b"chain":
+            digest = bytes(32)
+            for it in accepted:
+                digest = hashlib.sha256(digest + it.encode()).digest()
+            yield f"chain {digest.hex()}"
         elif word == b"journal":
             yield from accepted[int(number) :]
             yield f"end {len(accepted)}"

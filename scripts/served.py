@@ -74,10 +74,10 @@ def serving(file):
 
 
 @contextlib.contextmanager
-def hosting_process(file):
+def hosting_process(file, *options):
     """Runs `cadastred` on the file, with its office's socket in a folder of its own. Gives its address, the socket's path and the number of its
     process."""
-    with tempfile.TemporaryDirectory() as folder, started(SERVICE, str(file), "127.0.0.1:0", f"{folder}/office") as (address, number):
+    with tempfile.TemporaryDirectory() as folder, started(SERVICE, *options, str(file), "127.0.0.1:0", f"{folder}/office") as (address, number):
         yield address, f"{folder}/office", number
 
 

@@ -5,5 +5,6 @@ pub mod Bodies
 pub mod Commands
 pub mod MemberOrder
 pub mod Writing
+pub mod Chains
 pub mod Laws
 pub mod inner

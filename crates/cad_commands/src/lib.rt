@@ -3,6 +3,7 @@
 //! - `read_command`: the command that a text says.
 //! - `CommandError`: why a text gives no command.
 //! - `write_command`: a text that says a command, in one line.
+//! - `Chain`, `chain_of`: a digest of commands in their order.
 //! - `laws`: what holds of every text, no matter who reads it.
 //!
 //! A command is a JSON object of the members `do`, `object` and a day, with one member named by the object's class if a version begins. The
@@ -16,6 +17,7 @@
 
 mod bodies_json;
 mod body;
+mod chain;
 mod command;
 mod command_error;
 pub mod laws;
@@ -26,6 +28,7 @@ mod values;
 mod values_json;
 mod writing;
 
+pub use chain::{Chain, chain_of};
 pub use command::read_command;
 pub use command_error::CommandError;
 pub use writing::write_command;

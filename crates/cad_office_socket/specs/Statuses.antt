@@ -1,7 +1,10 @@
 -- The line `status`, and its answer as JSON, members in byte order of their names (own profile).
 use Rattle.std.specs.Prelude.{◌≡◌, ℕ, List, ◌++◌, codes, Option, None, Some}
-use Rattle.serde_json.specs.Data.{Data, null, number, unsigned, object, member, no_members}
+use Rattle.hex.specs.Hex.{encode_lower}
+use Rattle.serde_json.specs.Data.{Data, null, number, string, unsigned, object, member, no_members}
 use Rattle.serde_json.specs.Written.{compact_text}
+use Rattle.cad_commands.specs.declared.chain.Chain.{Chain}
+use Rattle.cad_commands.specs.Chains.{digest_of}
 use Rattle.cad_stream.specs.declared.responder.Responder.{Ghosts}
 use Rattle.cad_stream.specs.declared.summary.VersionCounts.{VersionCounts}
 use Rattle.cad_desk.specs.declared.desk.Desk.{Desk}
@@ -17,6 +20,11 @@ whole n = number (unsigned n)
 abbrev pub number_or_null : Option ℕ → Data
 number_or_null None = null
 number_or_null (Some n) = whole n
+
+-- as 64 hexadecimal digits
+abbrev pub chain_or_null : Option Chain → Data
+chain_or_null None = null
+chain_or_null (Some chain) = string (encode_lower (digest_of chain))
 
 abbrev pub versions_data : VersionCounts → Data
 versions_data counts =
@@ -49,15 +57,17 @@ replies_data replies =
 
 abbrev pub status_data : Status → Data
 status_data status =
-    object (member (codes "clients") (clients_data status.figures.clients)
+    object (member (codes "chain") (chain_or_null status.summary.chain)
+    (member (codes "clients") (clients_data status.figures.clients)
     (member (codes "commands") (commands_data status.figures.commands)
+    (member (codes "highest_object") (number_or_null status.summary.highest_object)
     (member (codes "oldest") (number_or_null status.summary.oldest)
     (member (codes "replies") (replies_data status.figures.replies)
     (member (codes "reply_bytes") (whole status.figures.reply_bytes)
     (member (codes "resident_bytes") (whole status.figures.resident_bytes)
     (member (codes "revision") (whole status.summary.revision)
     (member (codes "seconds") (whole status.figures.seconds)
-    (member (codes "versions") (versions_or_null status.summary.versions) no_members)))))))))
+    (member (codes "versions") (versions_or_null status.summary.versions) no_members)))))))))))
 
 -- the line of the status
 abbrev pub status_text : Status → List ℕ

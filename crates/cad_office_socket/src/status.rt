@@ -2,10 +2,12 @@
 
 ghost use Rattle.std.specs.Prelude.{◌≡◌, IfOk};
 ghost use Rattle.serde_json.specs.View.{view};
-ghost use Rattle.cad_office_socket.specs.Statuses.{clients_data, commands_data, number_or_null, replies_data, status_data, status_text, versions_data, versions_or_null};
+ghost use Rattle.cad_office_socket.specs.Statuses.{chain_or_null, clients_data, commands_data, number_or_null, replies_data, status_data, status_text, versions_data, versions_or_null};
 
 use crate::figures::{ClientCounts, CommandCounts, Figures, ReplyCounts};
+use cad_commands::Chain;
 use cad_stream::{Summary, VersionCounts};
+use hex::encode;
 use serde_json::{Value as Json, json};
 use std::alloc::{AllocError, Global};
 
@@ -24,6 +26,15 @@ fn number_json(number: Option<u64>) -> Json
     match number {
         None => Json::Null,
         Some(number) => Json::from(number),
+    }
+}
+
+fn chain_json(alloc: Global, chain: &Option<Chain>) -> Result<Json, AllocError>
+    ensures { IfOk result (λ json. view json ≡ chain_or_null chain.now) }
+{
+    match chain {
+        None => Ok(Json::Null),
+        Some(chain) => Ok(Json::String(encode(alloc, chain.digest().as_slice())?)),
     }
 }
 
@@ -66,13 +77,15 @@ fn status_json(alloc: Global, status: &Status) -> Result<Json, AllocError>
     ensures { IfOk result (λ json. view json ≡ status_data status.now) }
 {
     let Status { summary, figures } = status;
+    let chain = chain_json(alloc, &summary.chain)?;
     let clients = clients_json(alloc, &figures.clients)?;
     let commands = commands_json(alloc, &figures.commands)?;
+    let highest = number_json(summary.highest_object);
     let oldest = number_json(summary.oldest);
     let replies = replies_json(alloc, &figures.replies)?;
     let versions = versions_json(alloc, &summary.versions)?;
-    json!(in alloc; {"clients": clients, "commands": commands, "oldest": oldest, "replies": replies,
-        "reply_bytes": figures.reply_bytes, "resident_bytes": figures.resident_bytes, "revision": summary.revision,
+    json!(in alloc; {"chain": chain, "clients": clients, "commands": commands, "highest_object": highest, "oldest": oldest,
+        "replies": replies, "reply_bytes": figures.reply_bytes, "resident_bytes": figures.resident_bytes, "revision": summary.revision,
         "seconds": figures.seconds, "versions": versions})
 }
 

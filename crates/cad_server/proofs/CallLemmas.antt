@@ -1,5 +1,5 @@
 -- What the calls of records and servers do, from what the calls inside them do.
-use Rattle.std.proofs.Common.{◌≡◌, ◌≤◌, ◌⊎◌, inl, inr, ℕ, ℤ, Bool, List, [], length, Option, Some, None, Result, Ok, Err, refl, sym, ap, ◌∙◌, subst}
+use Rattle.std.proofs.Common.{◌≡◌, ◌≤◌, ◌⊎◌, inl, inr, ℕ, ℤ, Bool, List, [], length, map, Option, Some, None, Result, Ok, Err, refl, sym, ap, ◌∙◌, subst}
 use Rattle.std.specs.Prelude.{string_bytes, Vec}
 use Rattle.std.specs.Global.{Global}
 use Rattle.cad_versions.specs.declared.command.Command.{Command}
@@ -9,7 +9,7 @@ use Rattle.cad_versions.specs.Keeping.{IsShut, NamesDamage}
 use Rattle.cad_stream.specs.lemmas.KeepingLemmas.{names_by}
 use Rattle.cad_versions.specs.declared.ledger.Ledger.{Ghosts}
 use Rattle.cad_versions.specs.AsOf.{all_entries, as_of}
-use Rattle.cad_versions.specs.Entries.{Entry}
+use Rattle.cad_versions.specs.Entries.{Entry, version_in}
 use Rattle.cad_versions.specs.HistoryLedgers.{ListsEntries}
 use Rattle.cad_versions.specs.Refusals.{AreAccepted}
 use Rattle.cad_history.specs.Histories.{AreAllRowsOf, RegisterRows}
@@ -17,6 +17,7 @@ use Rattle.cad_snapshot.specs.Snapshots.{IsSnapshotOf, RevisionFeatures}
 use Rattle.cad_head.specs.Request.{Request}
 use Rattle.cad_resource.specs.Requested.{requested, ends_after}
 use Rattle.cad_head.specs.Replies.{reply_text}
+use Rattle.cad_stream.specs.Summaries.{highest_object}
 use Rattle.cad_stream.specs.declared.answer.Answer.{Answer}
 use Rattle.cad_stream.specs.Answering.{Answered}
 use Rattle.cad_request.specs.declared.request.ParsedRequest.{ParsedRequest}
@@ -28,9 +29,11 @@ use Rattle.cad_request.specs.declared.feature_request.FeatureRequest.{FeatureReq
 use Rattle.cad_server.specs.Contents.{content_in_response, content_in, content_requested}
 use Rattle.cad_server.specs.Replies.{reply_of, IsReply, Asks, FailsToAnswer}
 use Rattle.cad_server.specs.declared.snapshot_cache.SnapshotCache.{SnapshotCache}
-use Rattle.cad_server.specs.Keeping.{IsCached, KeepsOf, KeepsOnly, StaysCached, StaysWith, cached_at, rows_in}
+use Rattle.cad_server.specs.declared.totals.Totals.{Totals}
+use Rattle.cad_server.specs.Keeping.{AreTotalsOf, IsCached, KeepsOf, KeepsOnly, StaysCached, StaysWith, cached_at, rows_in}
 use Rattle.cad_server.specs.Servers.{ledger_in, ledger_of, AreRecordsOf, IsServerOf, RefusesToAnswer, DamagedForReading, DamagedForTelling, DamagedForAnswer, Prepares, Recalls, Finds, Tells}
 use Rattle.cad_server.proofs.ContentLemmas.{content_at}
+use Rattle.cad_server.proofs.HighestLemmas.{highest_stored}
 use Rattle.cad_server.proofs.KeptLemmas.{keeps_only, kept_found, kept_with, stays_kept}
 
 module _ {L : Type 0} (g : Ghosts L) where
@@ -44,7 +47,7 @@ module _ {L : Type 0} (g : Ghosts L) where
   -- ---- what is kept
 
   stays : (kept : SnapshotCache) → StaysCached kept kept
-  stays kept = record { histories = refl; snapshots = λ commands all. all }
+  stays kept = record { histories = refl; totals = refl; snapshots = λ commands all. all }
 
   pub recalls_none : {E : Type 0} (revision : ℕ) (sought : FeatureRequest) (old : Records L) → cached_at revision old.kept ≡ None → Recalls g {E = E} revision sought old (Ok None) old
   recalls_none revision sought old none = record {
@@ -136,11 +139,12 @@ module _ {L : Type 0} (g : Ghosts L) where
   })
 
   pub all_made : ((ledger : L) (commands : List Command) → g.stands_for ledger commands → AreAccepted [] commands)
-      → (old new : Records L) (entries : Vec Entry Global) (newest : ℕ) (rows : RegisterRows) → ((commands : List Command) → g.stands_for (ledger_in old) commands → newest ≡ length commands)
+      → (old new : Records L) (entries : Vec Entry Global) (newest : ℕ) (rows : RegisterRows) (totals : Totals) → ((commands : List Command) → g.stands_for (ledger_in old) commands → newest ≡ length commands)
       → Lists (ledger_in old) (Ok entries) (ledger_in new)
       → ((commands : List Command) → AreAccepted [] commands → entries.items ≡ all_entries commands → newest ≡ length commands → AreAllRowsOf commands rows)
-      → KeepsOnly (Some rows) new.kept → Prepares g old (Ok tt) new
-  all_made were_accepted old new entries newest rows counted listed follows only = record {
+      → totals ≡ record { highest_object = Some (highest_object (map version_in entries.items)); chain = old.kept.totals.chain }
+      → KeepsOnly (Some rows) totals new.kept → Prepares g old (Ok tt) new
+  all_made were_accepted old new entries newest rows totals counted listed follows is only = record {
     ready = λ none. some_rows rows (sym only.histories ∙ none);
     cause = λ counts. tt;
     reads = record {
@@ -149,8 +153,12 @@ module _ {L : Type 0} (g : Ghosts L) where
       still = listed.still;
       kept = λ counts commands records. record {
         ledger = listed.same counts commands records.ledger;
-        kept = keeps_only commands (Some rows) new.kept only
-            (follows commands (were_accepted (ledger_in old) commands records.ledger) (listed.shown counts commands records.ledger) (counted commands records.ledger));
+        kept = keeps_only commands (Some rows) totals new.kept only
+            (follows commands (were_accepted (ledger_in old) commands records.ledger) (listed.shown counts commands records.ledger) (counted commands records.ledger))
+            (subst (AreTotalsOf commands) (sym is) (record {
+              highest = ap (λ es. highest_object (map version_in es)) (listed.shown counts commands records.ledger) ∙ highest_stored commands;
+              chain = records.kept.totals.chain;
+            }));
       };
       unchanged = λ counts. tt;
       clean = listed.clean;

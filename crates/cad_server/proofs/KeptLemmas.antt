@@ -16,7 +16,8 @@ use Rattle.cad_history.specs.Histories.{AreAllRowsOf, RegisterRows}
 use Rattle.cad_snapshot.specs.Snapshots.{IsSnapshotOf, RevisionFeatures}
 use Rattle.cad_server.specs.declared.records.Records.{Records}
 use Rattle.cad_server.specs.declared.snapshot_cache.SnapshotCache.{SnapshotCache}
-use Rattle.cad_server.specs.Keeping.{AreCached, IsCached, KeepsOf, KeepsOnly, ShowAll, StaysCached, StaysWith, rows_in}
+use Rattle.cad_server.specs.declared.totals.Totals.{Totals}
+use Rattle.cad_server.specs.Keeping.{AreCached, IsCached, AreTotalsOf, KeepsOf, KeepsOnly, ShowAll, StaysCached, StaysWith, rows_in}
 use Rattle.cad_server.specs.Servers.{AreRecordsOf, Checks, Enters}
 
 -- a use changes the order alone
@@ -82,22 +83,25 @@ given_if f P (Some x) h = h
 pub rows_kept : (commands : List Command) (kept : SnapshotCache) (rows : RegisterRows) → Some rows ≡ rows_in kept → KeepsOf commands kept → AreAllRowsOf commands rows
 rows_kept commands kept rows is keeps = subst (ShowAll commands) (sym is) keeps.histories
 
--- rows that show all revisions are all that is kept
-pub keeps_only : (commands : List Command) (rows : Option RegisterRows) (kept : SnapshotCache) → KeepsOnly rows kept → ShowAll commands rows → KeepsOf commands kept
-keeps_only commands rows kept only shows = record {
+-- rows that show all revisions, and totals, are all that is kept
+pub keeps_only : (commands : List Command) (rows : Option RegisterRows) (totals : Totals) (kept : SnapshotCache) → KeepsOnly rows totals kept → ShowAll commands rows → AreTotalsOf commands totals → KeepsOf commands kept
+keeps_only commands rows totals kept only shows knows = record {
   histories = subst (ShowAll commands) (sym only.histories) shows;
+  totals = subst (AreTotalsOf commands) (sym only.totals) knows;
   snapshots = none_kept commands kept.snapshots.entries only.snapshots;
 }
 
 pub stays_kept : (commands : List Command) (old new : SnapshotCache) → StaysCached old new → KeepsOf commands old → KeepsOf commands new
 stays_kept commands old new stays all = record {
   histories = subst (ShowAll commands) (sym stays.histories) all.histories;
+  totals = subst (AreTotalsOf commands) (sym stays.totals) all.totals;
   snapshots = stays.snapshots commands all.snapshots;
 }
 
 pub kept_with : (commands : List Command) (snapshot : RevisionFeatures) (old new : SnapshotCache) → StaysWith snapshot old new → IsCached commands (snapshot.revision, snapshot) → KeepsOf commands old → KeepsOf commands new
 kept_with commands snapshot old new stays cached all = record {
   histories = subst (ShowAll commands) (sym stays.histories) all.histories;
+  totals = subst (AreTotalsOf commands) (sym stays.totals) all.totals;
   snapshots = stays.snapshots commands cached all.snapshots;
 }
 
@@ -105,14 +109,15 @@ kept_with commands snapshot old new stays cached all = record {
 module _ {L : Type 0} (g : Ghosts L) where
   -- with the histories that it extends, or none
   pub entered : ((ledger : L) (commands : List Command) → g.stands_for ledger commands → AreAccepted [] commands)
-      → (command : Command) (revision : ℕ) (old new : Records L) (rows : Option RegisterRows)
+      → (command : Command) (revision : ℕ) (old new : Records L) (rows : Option RegisterRows) (totals : Totals)
       → ((commands : List Command) → AreRecordsOf g old commands → AreAccepted [] (commands ++ command ∷ []) → ShowAll (commands ++ command ∷ []) rows)
-      → KeepsOnly rows new.kept → Applies g old.ledger command (Ok revision) new.ledger → Enters g old command (Ok revision) new
-  entered were_accepted command revision old new rows follows only a = record {
+      → ((commands : List Command) → AreTotalsOf commands old.kept.totals → AreTotalsOf (commands ++ command ∷ []) totals)
+      → KeepsOnly rows totals new.kept → Applies g old.ledger command (Ok revision) new.ledger → Enters g old command (Ok revision) new
+  entered were_accepted command revision old new rows totals follows knows only a = record {
     accepted = λ counts commands records.
         let t = a.accepted counts commands records.ledger in
         let all = commands ++ command ∷ [] in
-        (t.0, t.1, record { ledger = t.2; kept = keeps_only all rows new.kept only (follows commands records (were_accepted new.ledger all t.2)) });
+        (t.0, t.1, record { ledger = t.2; kept = keeps_only all rows totals new.kept only (follows commands records (were_accepted new.ledger all t.2)) (knows commands records.kept.totals) });
     refused = λ counts. tt;
     store = λ counts e commands records. a.store counts e commands records.ledger;
     damaged = tt;

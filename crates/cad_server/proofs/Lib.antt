@@ -1,4 +1,6 @@
 pub mod ContentLemmas
+pub mod ChainLemmas
+pub mod HighestLemmas
 pub mod KeptLemmas
 pub mod FoundLemmas
 pub mod ReplyLemmas

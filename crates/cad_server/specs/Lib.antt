@@ -4,4 +4,5 @@ pub mod Servers
 pub mod Refusing
 pub mod Laws
 pub mod Keeping
+pub mod Chaining
 pub mod inner

@@ -10,6 +10,8 @@ ghost use Rattle.cad_history.specs.Histories.{AreAllRowsOf};
 ghost use Rattle.cad_server.specs.inner.Counts.{AreCountsOf};
 
 use crate::snapshot_cache::SnapshotCache;
+use crate::totals::Totals;
+use cad_commands::Chain;
 use cad_history::Histories;
 use cad_schema::Collection;
 use cad_snapshot::Snapshot;
@@ -30,8 +32,8 @@ impl SnapshotCache {
     ghost use Rattle.cad_versions.specs.declared.command.Command.{Command as CommandOf};
     ghost use Rattle.cad_versions.specs.AsOf.{as_of};
     ghost use Rattle.cad_versions.specs.Refusals.{AreAccepted};
-    ghost use Rattle.cad_server.specs.Keeping.{KeepsOf, KeepsOnly, StaysCached, StaysWith, cached_at, rows_in};
-    ghost use Rattle.cad_stream.specs.Summaries.{AreSoMany};
+    ghost use Rattle.cad_server.specs.Keeping.{KeepsOf, KeepsOnly, KnowsChain, StaysCached, StaysChained, StaysWith, cached_at, rows_in};
+    ghost use Rattle.cad_stream.specs.Summaries.{AreSoMany, highest_object};
 
     /// Nothing is kept yet. An error means out of memory.
     pub(crate) fn new(alloc: Global) -> Result<SnapshotCache, AllocError>
@@ -40,6 +42,7 @@ impl SnapshotCache {
         let snapshots = cache(alloc, MOST_SNAPSHOTS)?;
         Ok(SnapshotCache {
             histories: None,
+            totals: Totals::unknown(),
             snapshots,
         })
     }
@@ -65,12 +68,28 @@ impl SnapshotCache {
         let _ = self.snapshots.promote(&revision);
     }
 
-    /// Keeps these histories, or none, in the place of those before them. No snapshot is kept, so nothing holds the old ones.
-    pub(crate) fn replace(&mut self, histories: Option<Rc<Histories>>)
-        ensures { KeepsOnly (option_map rc_value histories) self.new }
+    /// Keeps these histories, or none, and these totals in the place of those before them. No snapshot is kept, so nothing holds the old
+    /// histories.
+    pub(crate) fn replace(&mut self, histories: Option<Rc<Histories>>, totals: Totals)
+        ensures { KeepsOnly (option_map rc_value histories) totals self.new }
     {
         self.snapshots.clear();
         self.histories = histories;
+        self.totals = totals;
+    }
+
+    /// Keeps the chain of the commands.
+    pub(crate) fn keep_chain(&mut self, chain: Chain)
+        ensures { StaysChained chain self.old self.new }
+    {
+        self.totals.chain = Some(chain);
+    }
+
+    /// What is known of the commands together.
+    pub(crate) fn totals(&self) -> &Totals
+        ensures { result.now ≡ self.now.totals }
+    {
+        &self.totals
     }
 
     /// Keeps a snapshot of its revision, if there is memory.
@@ -87,6 +106,20 @@ impl SnapshotCache {
     {
         let histories = self.histories.as_ref()?;
         Some(counts_of(histories))
+    }
+
+    /// The highest number of an object, if it is known.
+    pub(crate) fn highest_object(&self) -> Option<u64>
+        ensures { (commands : List CommandOf) → KeepsOf commands self.now → IfSome result (λ highest. highest ≡ highest_object (as_of (length commands) commands)) }
+    {
+        self.totals.highest_object
+    }
+
+    /// The chain of the commands, if it is kept.
+    pub(crate) fn chain(&self) -> Option<Chain>
+        ensures { (commands : List CommandOf) → KeepsOf commands self.now → KnowsChain commands result }
+    {
+        self.totals.chain
     }
 
     /// The oldest revision whose features are kept.

@@ -19,11 +19,13 @@
 //! `{"features":[],"links":[{"href":"/collections/parcels/items","rel":"self","type":"application/json"}],"numberReturned":0,"revision":0,"type":"FeatureCollection"}`.
 #![tactic(auto)]
 
+mod chaining;
 mod keeping;
 pub mod laws;
 mod records;
 mod server;
 mod snapshot_cache;
 mod sought;
+mod totals;
 
 pub use server::Server;

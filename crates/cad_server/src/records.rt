@@ -4,8 +4,10 @@ ghost use Rattle.std.specs.Prelude.{◌≡◌, codes, IfOk};
 ghost use Rattle.cad_head.specs.declared.status.Status.TheVariants.{BadRequest};
 ghost use Rattle.cad_server.specs.Contents.{content_in_response, refusal};
 
+use crate::chaining::ledger_chain;
 use crate::snapshot_cache::SnapshotCache;
 use crate::sought::{response_in, revision_of};
+use crate::totals::{Totals, highest_in};
 use cad_changes::histories_after;
 use cad_head::Status;
 use cad_history::Histories;
@@ -86,9 +88,10 @@ impl<L: Ledger> Records<L> {
         ensures { Enters L.Ledger self.old command result self.new }
     {
         let next = self.next_histories(&command);
+        let totals = self.kept.totals().with(self.alloc, &command);
         match self.ledger.apply(command) {
             Ok(revision) => {
-                self.kept.replace(next);
+                self.kept.replace(next, totals);
                 Ok(revision)
             }
             Err(fault) => {
@@ -112,6 +115,8 @@ impl<L: Ledger> Records<L> {
         Summary {
             revision: self.ledger.revision(),
             versions: self.kept.counts(),
+            chain: self.kept.chain(),
+            highest_object: self.kept.highest_object(),
             oldest: self.kept.oldest(),
         }
     }
@@ -156,9 +161,13 @@ impl<L: HistoryLedger> Records<L> {
         let newest = self.ledger.revision();
         let versions = self.ledger.stored_versions()?;
         let histories = Histories::of_register(self.alloc, &versions, newest)?;
+        let totals = Totals {
+            highest_object: Some(highest_in(&versions)),
+            ..*self.kept.totals()
+        };
         drop(versions);
         let histories = Rc::new(self.alloc, histories)?;
-        self.kept.replace(Some(histories));
+        self.kept.replace(Some(histories), totals);
         Ok(())
     }
 
@@ -258,7 +267,17 @@ impl<L: HistoryLedger> Records<L> {
 }
 
 impl<L: JournalLedger> Records<L> {
+    ghost use Rattle.cad_server.specs.Chaining.{KeepsChain};
     ghost use Rattle.cad_server.specs.inner.Journals.{BeginsReading, ReadsRows};
+
+    /// Reads all commands of the ledger, and keeps their chain from then on.
+    pub(crate) fn keep_chain(&mut self) -> Result<(), RegisterFault>
+        ensures { KeepsChain L.Ledger L.JournalLedger.own self.old result self.new }
+    {
+        let chain = ledger_chain(self.alloc, &mut self.ledger)?;
+        self.kept.keep_chain(chain);
+        Ok(())
+    }
 
     /// Begins to read the ledger's commands after a revision.
     pub(crate) fn begin_journal(&self, behind: u64) -> Result<L::Reading, RegisterFault>

@@ -88,6 +88,17 @@ impl<L: HistoryLedger> Server<L> {
     }
 }
 
+impl<L: JournalLedger> Server<L> {
+    ghost use Rattle.cad_server.specs.Chaining.{ServerKeepsChain};
+
+    /// Reads all commands of the ledger, and keeps their chain from then on, which the summary tells. It needs memory for all commands at once.
+    pub fn keep_chain(&mut self) -> Result<(), RegisterFault>
+        ensures { ServerKeepsChain L.Ledger L.JournalLedger.own self.old result self.new }
+    {
+        self.records.keep_chain()
+    }
+}
+
 impl<L: HistoryLedger> Responder for Server<L> {
     ghost use Rattle.cad_resource.specs.Requested.{ends_after};
     ghost use Rattle.cad_server.specs.Replies.{IsReply, bad_head_reply, Asks, FailsToAnswer};

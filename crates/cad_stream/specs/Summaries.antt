@@ -1,11 +1,13 @@
 -- What a responder holds, in numbers (own profile).
-use Rattle.std.specs.Prelude.{◌≡◌, ◌≤◌, ◌==◌, ℕ, Bool, List, length, filter, IfSome}
+use Rattle.std.specs.Prelude.{◌≡◌, ◌≤◌, ◌==◌, ℕ, max, Bool, List, [], ◌∷◌, length, filter, IfSome}
 use Rattle.cad_versions.specs.declared.command.Command.{Command}
 use Rattle.cad_versions.specs.declared.body.Class.{Class}
 use Rattle.cad_versions.specs.declared.body.Class.TheVariants as class
 use Rattle.cad_versions.specs.Class.{class_of, class_number}
+use Rattle.cad_versions.specs.Objects.{object_number}
 use Rattle.cad_versions.specs.VersionedObject.{VersionedObject}
 use Rattle.cad_versions.specs.AsOf.{as_of}
+use Rattle.cad_commands.specs.Chains.{chain_of, digest_of}
 use Rattle.cad_stream.specs.declared.summary.Summary.{Summary}
 use Rattle.cad_stream.specs.declared.summary.VersionCounts.{VersionCounts}
 
@@ -25,10 +27,17 @@ pub record AreSoMany (versions : List VersionedObject) (counts : VersionCounts) 
   pub restrictions : counts.restrictions ≡ count_of class.Restriction versions
   pub responsibilities : counts.responsibilities ≡ count_of class.Responsibility versions
 
--- the number of the commands, the versions after them, and a revision that they have
+-- the highest number of an object of these versions, 0 if there are none
+abbrev pub highest_object : List VersionedObject → ℕ
+highest_object [] = 0
+highest_object (v ∷ versions) = max (object_number v.object) (highest_object versions)
+
+-- the number of the commands, their chain, the versions after them, the highest number of an object, and a revision that they have
 pub record IsSummaryOf (commands : List Command) (summary : Summary) : Type 0 where
   pub revision : summary.revision ≡ length commands
   pub versions : IfSome summary.versions (AreSoMany (as_of (length commands) commands))
+  pub chain : IfSome summary.chain (λ chain. digest_of chain ≡ chain_of commands)
+  pub highest : IfSome summary.highest_object (λ highest. highest ≡ highest_object (as_of (length commands) commands))
   pub oldest : IfSome summary.oldest (λ oldest. oldest ≤ length commands)
 
 -- it is the summary of the commands that the responder holds

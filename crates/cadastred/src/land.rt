@@ -21,10 +21,11 @@ use std::net::SocketAddr;
 /// A run over a file: how it ended and the file's open database, or how it ended without one.
 pub type Ran<S> = Result<(Outcome, Connection<FileStore<FileFrom<S>>>), Outcome>;
 
-/// Hosts a register, and returns the connection of its database.
+/// Hosts a register, with the chain of its commands if `chains`, and returns the connection of its database.
 fn host_register<N: Network, S: Alter, W: Write, A: AccessLog<N::Socket>>(
     alloc: Global,
     register: Register<S>,
+    chains: bool,
     asked: SocketAddr,
     found: IoResult<SocketAddr>,
     net: &mut N,
@@ -34,7 +35,7 @@ fn host_register<N: Network, S: Alter, W: Write, A: AccessLog<N::Socket>>(
     ensures { HostsRegister asked (W.contents writer.old) (W.contents writer.new) (N.history net.old) (N.history net.new) S.Store register result }
 {
     ledger_stands::<Server<Register<S>>>();
-    let (outcome, left) = host_over(alloc, register, asked, found, net, writer, log);
+    let (outcome, left) = host_over(alloc, register, chains, asked, found, net, writer, log);
     (outcome, left.release())
 }
 
@@ -42,6 +43,7 @@ fn host_register<N: Network, S: Alter, W: Write, A: AccessLog<N::Socket>>(
 fn host_found<N: Network, S: Alter, W: Write, A: AccessLog<N::Socket>>(
     alloc: Global,
     connection: Connection<S>,
+    chains: bool,
     asked: SocketAddr,
     found: IoResult<SocketAddr>,
     net: &mut N,
@@ -52,7 +54,7 @@ fn host_found<N: Network, S: Alter, W: Write, A: AccessLog<N::Socket>>(
         (N.history net.old) (N.history net.new) (log.new ≡ log.old) S.Store) connection result }
 {
     match Register::open_or_create(alloc, connection) {
-        Ok(register) => host_register(alloc, register, asked, found, net, writer, log),
+        Ok(register) => host_register(alloc, register, chains, asked, found, net, writer, log),
         Err((fault, connection)) => (Outcome::Register(fault), connection),
     }
 }
@@ -87,6 +89,7 @@ fn host_file<S: Start, W: Write>(
     Ok(host_found(
         rt.alloc(),
         connection,
+        service.chains,
         asked,
         found,
         &mut net,

@@ -1,2 +1,3 @@
 pub mod HostingLemmas
 pub mod FirstLineLemmas
+pub mod ChainingLemmas

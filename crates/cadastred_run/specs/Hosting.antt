@@ -3,6 +3,8 @@ use Rattle.std.specs.Prelude.{◌≡◌, ◌⊎◌, ℕ, List, [], Option, None,
 use Rattle.std.specs.Io.KnownBytes.{Appends}
 use Rattle.std.specs.declared.net.socket_addr.SocketAddr.{SocketAddr}
 use Rattle.cad_serve.specs.Arguments.{listening_line, IsBoundFor}
+use Rattle.cad_serve.specs.Statuses.{EndsWithout}
+use Rattle.cad_versions.specs.declared.fault.RegisterFault.{RegisterFault}
 use Rattle.cad_versions.specs.declared.fault.RegisterFault.TheVariants as register
 use Rattle.cad_versions.specs.declared.ledger.Ledger as ledger
 use Rattle.cad_versions.specs.declared.journal_ledger.JournalLedger as journal_ledger
@@ -12,7 +14,7 @@ use Rattle.cad_desk.specs.declared.desk.Desk.{Desk}
 use Rattle.cad_desk.specs.Desks.{responder_of}
 use Rattle.cad_server.specs.declared.server.Server.{Server}
 use Rattle.cad_server.specs.Servers.{ledger_of}
-use Rattle.cadastre_run.specs.Preparing.{EndsRefused, IsDeskReady}
+use Rattle.cadastre_run.specs.Preparing.{IsDeskReady, IsRefused}
 use Rattle.cadastre_run.specs.Serving.{answers_of}
 use Rattle.cad_event_loop.specs.declared.stopped.Stopped.{Stopped}
 use Rattle.cad_event_loop.specs.declared.stopped.Stopped.TheVariants.{Asked, StoreRefused, RoundsSpent}
@@ -20,6 +22,7 @@ use Rattle.cad_event_loop.specs.Hosting.{HostsBy}
 use Rattle.cad_network.specs.Deeds.{Deed, Adds}
 use Rattle.cadastred_run.specs.declared.outcome.Outcome.{Outcome}
 use Rattle.cadastred_run.specs.declared.outcome.Outcome.TheVariants as outcome
+use Rattle.cadastred_run.specs.Chaining.{IsUnchained}
 use Rattle.cadastred_run.specs.Journals.{journals_of}
 
 -- how hosting ends a run
@@ -57,6 +60,12 @@ module _ (asked : SocketAddr) (before after : Option (List ℕ)) (from to : Opti
     pub hosting : EndsHosting (answers_of g) (journals_of j) old ended.0 new
     pub back : ended.1 ≡ ledger_of (responder_of new)
 
-  -- there is no server that has read what the ledger stores, and nothing is written or done at the network; or its desk is hosted
+  -- what the ledger stores is refused, and nothing is written or done at the network
+  pub record EndsUnhosted {L J : Type 0} (g : ledger.Ghosts L) (j : journal_ledger.Ghosts L J) (lent : L) (ended : Outcome × L) : Type 0 where
+    pub refused : RegisterFault × L
+    pub why : IsRefused g lent refused ⊎ IsUnchained g j lent refused
+    pub ends : EndsWithout ((after ≡ before) × Adds from to []) (outcome.Register refused.0) refused.1 ended
+
+  -- there is no server that has read what the ledger stores, or its desk is hosted
   abbrev pub HostsOver : {L J : Type 0} → ledger.Ghosts L → journal_ledger.Ghosts L J → L → Outcome × L → Type 0
-  HostsOver g j lent ended = EndsRefused g outcome.Register ((after ≡ before) × Adds from to []) lent ended ⊎ EndsHosted g j lent ended
+  HostsOver g j lent ended = EndsUnhosted g j lent ended ⊎ EndsHosted g j lent ended

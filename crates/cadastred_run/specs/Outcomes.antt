@@ -29,7 +29,7 @@ outcome_without_arguments cause = Usage
 
 -- the usage
 abbrev pub usage : List ℕ
-usage = codes "usage: cadastred [--log] FILE ADDRESS OFFICE | --journal FILE | --check FILE | --help | --version"
+usage = codes "usage: cadastred [--chain] [--log] FILE ADDRESS OFFICE | --journal FILE | --check FILE | --help | --version"
 
 -- the line on standard error that reports how a run ended
 abbrev pub line_of : Outcome → List ℕ

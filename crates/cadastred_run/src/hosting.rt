@@ -5,6 +5,7 @@ ghost use Rattle.std.specs.Net.Grammar.{IsSocketText};
 ghost use Rattle.cadastred_run.specs.Doors.{address_requested};
 ghost use Rattle.cadastred_run.specs.Hosting.{EndsHosting, HostsOver};
 
+use crate::chaining::chained_server;
 use crate::doors::{DoorFault, Doors};
 use crate::invocation::Service;
 use crate::outcome::Outcome;
@@ -15,7 +16,6 @@ use cad_network::Network;
 use cad_serve::{bound_for, read_address, tell_address};
 use cad_stream::JournalResponder;
 use cad_versions::{HistoryLedger, JournalLedger};
-use cadastre_run::prepared_server;
 use std::alloc::Global;
 use std::fs::Files;
 use std::io::{Result as IoResult, Write};
@@ -56,11 +56,12 @@ fn host_desk<N: Network, R: JournalResponder, W: Write, A: AccessLog<N::Socket>>
     }
 }
 
-/// Reads what the ledger stores, writes the address, if the address that is found is the requested one, takes clients and the land office at
+/// Reads what the ledger stores, and the chain of its commands if `chains`, writes the address, if the address that is found is the requested one, takes clients and the land office at
 /// the doors of a network, serves them over the ledger until the office asks to stop, and gives the ledger back.
 pub fn host_over<N: Network, L: HistoryLedger + JournalLedger, W: Write, A: AccessLog<N::Socket>>(
     alloc: Global,
     ledger: L,
+    chains: bool,
     asked: SocketAddr,
     found: IoResult<SocketAddr>,
     net: &mut N,
@@ -69,7 +70,7 @@ pub fn host_over<N: Network, L: HistoryLedger + JournalLedger, W: Write, A: Acce
 ) -> (Outcome, L)
     ensures { HostsOver asked (W.contents writer.old) (W.contents writer.new) (N.history net.old) (N.history net.new) L.Ledger L.JournalLedger.own ledger result }
 {
-    match prepared_server(alloc, ledger) {
+    match chained_server(alloc, ledger, chains) {
         Ok(server) => {
             let mut desk = Desk::new(alloc, server);
             let outcome = host_desk(alloc, asked, found, net, writer, log, &mut desk);

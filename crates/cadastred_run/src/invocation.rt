@@ -11,6 +11,8 @@ pub struct Service<'a> {
     pub office: &'a str,
     /// Whether a line is written for each reply.
     pub logs: bool,
+    /// Whether the chain of the commands is kept.
+    pub chains: bool,
 }
 
 /// What the program is to do.
@@ -30,7 +32,7 @@ pub enum Invocation<'a> {
 
 impl<'a> Invocation<'a> {
     ghost use Rattle.std.specs.Prelude.{◌≡◌, map, string_bytes};
-    ghost use Rattle.cadastred_run.specs.Invocations.{command_line_of, command_line, option_of};
+    ghost use Rattle.cadastred_run.specs.Invocations.{command_line_of, command_line, both_options_of, option_of, service_option_of};
 
     /// The invocation of a command line, which begins with the program's name.
     pub fn of_words(words: &'a [String]) -> Option<Invocation<'a>>
@@ -49,15 +51,72 @@ impl<'a> Invocation<'a> {
                 address: address.as_str(),
                 office: office.as_str(),
                 logs: false,
+                chains: false,
             })),
-            [_, option, file, address, office] if option.as_str() == "--log" => Some(
-                Invocation::Serve(Service {
-                    file: file.as_str(),
-                    address: address.as_str(),
-                    office: office.as_str(),
-                    logs: true,
-                }),
+            [_, option, file, address, office] => Invocation::of_service(
+                option.as_str(),
+                file.as_str(),
+                address.as_str(),
+                office.as_str(),
             ),
+            [_, first, second, file, address, office] => Invocation::of_both(
+                first.as_str(),
+                second.as_str(),
+                file.as_str(),
+                address.as_str(),
+                office.as_str(),
+            ),
+            _ => None,
+        }
+    }
+
+    /// The invocation of two options and the words of a service.
+    fn of_both(
+        first: &str,
+        second: &str,
+        file: &'a str,
+        address: &'a str,
+        office: &'a str,
+    ) -> Option<Invocation<'a>>
+        ensures { command_line result ≡ both_options_of first.now second.now file.now address.now office.now }
+    {
+        if first == "--chain" && second == "--log" {
+            Some(Invocation::Serve(Service {
+                file,
+                address,
+                office,
+                logs: true,
+                chains: true,
+            }))
+        } else {
+            None
+        }
+    }
+
+    /// The invocation of an option and the words of a service.
+    fn of_service(
+        option: &str,
+        file: &'a str,
+        address: &'a str,
+        office: &'a str,
+    ) -> Option<Invocation<'a>>
+        ensures { command_line result ≡ service_option_of option.now file.now address.now office.now }
+    {
+        match option {
+            "--log" => Some(Invocation::Serve(Service {
+                file,
+                address,
+                office,
+                logs: true,
+                chains: false,
+            })),
+            "--chain" => Some(Invocation::Serve(Service {
+                file,
+                address,
+                office,
+                logs: false,
+                chains: true,
+            })),
             _ => None,
         }
     }

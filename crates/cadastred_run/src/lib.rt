@@ -14,13 +14,14 @@
 //!
 //! ```text
 //! Invocation::of_words(&["cadastred", "land.db", "127.0.0.1:0", "office"])
-//!     // Some(Invocation::Serve(Service { file: "land.db", address: "127.0.0.1:0", office: "office", logs: false }))
+//!     // Some(Invocation::Serve(Service { file: "land.db", address: "127.0.0.1:0", office: "office", logs: false, chains: false }))
 //! host_over(alloc, rt, &mut net, &mut ledger, &mut Log::new(&rt, alloc, Some(rt.stderr()))?, ..)
 //!     // writes for a reply: 2026-11-25T02:13:00Z 127.0.0.1:40123 "GET / HTTP/1.1" 200 503 -
 //! ```
 #![tactic(auto)]
 
 mod access;
+mod chaining;
 mod checking;
 mod doors;
 mod hosting;

@@ -8,7 +8,7 @@ use std::io::{ErrorKind, Result};
 
 /// The usage.
 pub const HELP: &str =
-    "usage: cadastred [--log] FILE ADDRESS OFFICE | --journal FILE | --check FILE | --help | --version";
+    "usage: cadastred [--chain] [--log] FILE ADDRESS OFFICE | --journal FILE | --check FILE | --help | --version";
 
 /// How a run ended.
 #[derive(Clone, Copy, Debug, PartialEq, Eq)]

@@ -11,16 +11,19 @@
 //! The line `begin N` begins to read this journal in pieces, and is answered by `begun R`. The line `read K` reads at most K rows of the
 //! table. It is answered by `more`, or by the journal up to revision R once all rows were read. Commands may be entered in between.
 //!
+//! The line `chain` is answered by the chain of all commands, as `chain` and 64 hexadecimal digits.
+//!
 //! The line `check LINE` is answered by what would be answered to LINE, which is not entered: `would be N` in place of `revision N`.
 
 ghost use Rattle.std.specs.Prelude.{IsTrue};
 ghost use Rattle.cad_register.specs.JournalReading.{is_whole};
 
-use cad_commands::{CommandError, read_command};
+use cad_commands::{CommandError, chain_of, read_command};
 use cad_io::{Counted, number};
 use cad_office::{Answer, JournalLines, office, print_answer};
 use cad_register::{Command, JournalReading, Register, RegisterFault};
 use cad_versions::Ledger;
+use hex::encode;
 use sqlite::{Connection, MemStore};
 use std::alloc::Global;
 use std::io::{Cursor, Error, ErrorKind, Result};
@@ -98,6 +101,21 @@ fn print_journal(rt: &HostRuntime, register: &mut Register<MemStore>, behind: u6
     }
 }
 
+/// Prints the chain of all commands.
+pub(crate) fn print_chain(rt: &HostRuntime, commands: Vec<Command>) -> Result<()> {
+    let chain = chain_of(rt.alloc(), &commands)?;
+    let digits = encode(rt.alloc(), chain.digest().as_slice())?;
+    println!(rt; "chain {digits}")
+}
+
+/// Prints the chain of all commands of a register, or its refusal.
+fn print_chain_of(rt: &HostRuntime, register: &mut Register<MemStore>) -> Result<()> {
+    match register.journal(0) {
+        Ok(commands) => print_chain(rt, commands),
+        Err(fault) => print_refusal(rt, fault),
+    }
+}
+
 /// Prints the journal of which all rows were read.
 fn print_read(rt: &HostRuntime, reading: JournalReading) -> Result<()>
     requires { IsTrue (is_whole reading) }
@@ -122,6 +140,8 @@ pub(crate) fn enter_line<L: Ledger>(rt: &HostRuntime, ledger: &mut L, line: &[u8
 pub(crate) enum Line<'a> {
     /// What would be answered to this line.
     Check(&'a [u8]),
+    /// The chain of all commands.
+    Chain,
     /// The journal after a revision.
     Journal(u64),
     /// To begin to read it.
@@ -142,6 +162,9 @@ fn number_after(line: &[u8], word: &[u8]) -> Option<u64> {
 pub(crate) fn line_of(line: &[u8]) -> Line<'_> {
     if let Some(checked) = line.strip_prefix(b"check ".as_slice()) {
         return Line::Check(checked);
+    }
+    if line == b"chain".as_slice() {
+        return Line::Chain;
     }
     if let Some(behind) = number_after(line, b"journal ") {
         return Line::Journal(behind);
@@ -194,6 +217,7 @@ impl Journals {
     fn answer(&mut self, rt: &HostRuntime, line: &[u8]) -> Result<()> {
         match line_of(line) {
             Line::Check(checked) => check_line(rt, &mut self.register, checked),
+            Line::Chain => print_chain_of(rt, &mut self.register),
             Line::Journal(behind) => print_journal(rt, &mut self.register, behind),
             Line::Begin(behind) => self.begin(rt, behind),
             Line::Read(most) => self.read_on(rt, most),

@@ -4,7 +4,7 @@
 //! journal, no matter how many rows it asks for, and never by `more`.
 
 use crate::journals::{
-    Line, check_line, enter_line, error_of, line_of, print_commands, print_refusal,
+    Line, check_line, enter_line, error_of, line_of, print_chain, print_commands, print_refusal,
 };
 use cad_memory_ledger::{MemoryLedger, MemoryReading};
 use cad_versions::{JournalLedger, Ledger};
@@ -41,6 +41,18 @@ impl MemoryJournals {
         }
     }
 
+    /// Prints the chain of all commands, or the ledger's refusal.
+    fn print_chain(&self, rt: &HostRuntime) -> Result<()> {
+        let reading = match self.ledger.begin_journal(0) {
+            Ok(reading) => reading,
+            Err(fault) => return print_refusal(rt, fault),
+        };
+        match MemoryLedger::commands(reading, rt.alloc()) {
+            Ok(commands) => print_chain(rt, commands),
+            Err(fault) => Err(error_of(fault)),
+        }
+    }
+
     /// Begins to read a journal, in the place of any other one.
     fn begin(&mut self, rt: &HostRuntime, behind: u64) -> Result<()> {
         match self.ledger.begin_journal(behind) {
@@ -73,6 +85,7 @@ impl MemoryJournals {
     fn answer(&mut self, rt: &HostRuntime, line: &[u8]) -> Result<()> {
         match line_of(line) {
             Line::Check(checked) => check_line(rt, &mut self.ledger, checked),
+            Line::Chain => self.print_chain(rt),
             Line::Journal(behind) => self.print_journal(rt, behind),
             Line::Begin(behind) => self.begin(rt, behind),
             Line::Read(most) => self.read_on(rt, most),

@@ -184,6 +184,8 @@ impl JournalResponder for Echo {
         Summary {
             revision: self.ledger.revision(),
             versions: None,
+            chain: None,
+            highest_object: None,
             oldest: None,
         }
     }

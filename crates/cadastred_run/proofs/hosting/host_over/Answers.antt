@@ -9,7 +9,7 @@ returns-in-Ok g c =
     inr (record {
       old = c.new-desk.result;
       new = c.host_desk-outcome.new.desk;
-      ready = desk_ready g.L.Ledger c.args.ledger c.in-Ok.server c.new-desk.result c.in-Ok.ensures c.new-desk.ensures.responder c.new-desk.ensures.empty;
+      ready = desk_ready g.L.Ledger c.args.ledger c.in-Ok.server c.new-desk.result c.in-Ok.ensures.0 c.new-desk.ensures.responder c.new-desk.ensures.empty;
       hosting = c.host_desk-outcome.ensures;
       back = c.release-in-Ok.ensures ∙ ap ledger_of c.release.ensures;
     })
