@@ -205,27 +205,6 @@ def quota(cluster, chance):
     return f"etcd is {'full' if is_full else 'not full'}, after {count} values"
 
 
-def clock_jumps(cluster, chance):
-    """The clock of a node's programs jumps, and jumps back. That of etcd stays, since it asks the system without the C library."""
-    node = chance.choice(cluster.nodes)
-    seconds = chance.choice([-86400, -3600, 3600, 86400])
-    node.set_clock(f"{seconds:+d}s")
-    until = time.monotonic() + 20
-    while abs(told_time(cluster, node) - time.time() - seconds) > 60:
-        if time.monotonic() > until:
-            raise Fault(f"the clock of {node.name} does not jump by {seconds} s")
-        time.sleep(0.5)
-    time.sleep(QUICK)
-    node.set_clock("+0")
-    return f"the clock of {node.name} jumps by {seconds} s for more than {QUICK} s"
-
-
-def told_time(cluster, node):
-    """The time that the node last wrote for the others, or 0."""
-    found = cluster.etcdctl(cluster.members[0], "get", "--print-value-only", f"/land/nodes/{node.name}").stdout
-    return json.loads(found)["time"] if found.strip() else 0
-
-
 def old_copy(cluster, chance):
     """A node gets back its register of some time ago."""
     node = chance.choice(cluster.nodes)
@@ -276,5 +255,4 @@ def hand_while_away(cluster, chance):
 BLOWS = {it.__name__: it for it in (kill_cadastred, kill_node, kill_leader, kill_all_of_one, stop_cadastred, stop_node, stop_leader, pause_leader, stop_member,
                                     lines_left_in_a_socket, kill_all_cadastreds, kill_all_nodes, kill_two_members, power, no_majority, disk_full, quota,
                                     old_copy, new_node, hand_at_a_node, hand_while_away)}
-BLOWS_OF_CLOCKS = {it.__name__: it for it in (clock_jumps,)}
 BLOWS_APART = {it.__name__: it for it in (cut_one, cut_leader)}

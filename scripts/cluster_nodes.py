@@ -20,8 +20,6 @@ TOP = Path(__file__).resolve().parent.parent
 SERVICE = os.environ.get("CADASTRED") or str(TOP / "crates/cadastred/out/cadastred")
 SOURCES = Path(os.environ.get("CLUSTER") or TOP / "cluster")
 PATH = os.environ.get("PATH", "") + ":/usr/sbin:/sbin"
-# Debian's libfaketime gives programs another clock. The clock that counts seconds stays.
-FAKETIME = Path("/usr/lib/x86_64-linux-gnu/faketime/libfaketime.so.1")
 NEEDED = {"etcd": "etcd-server", "etcdctl": "etcd-client", "haproxy": "haproxy", "nginx": "nginx-light"}
 ETCDCTL = {**os.environ, "ETCDCTL_API": "3", "PATH": PATH}
 # statuses after which a program is not started again, as in the units
@@ -99,21 +97,14 @@ class Node:
         self.number, self.name, self.folder, self.address = number, f"n{number}", folder, address
         folder.mkdir(parents=True, exist_ok=True)
         self.file, self.land, self.office, self.entries = folder / "land.db", folder / "land.sock", folder / "office.sock", folder / "entries"
-        within, env = list(within), {**os.environ, **(env or {})}
-        if FAKETIME.exists():
-            env |= {"LD_PRELOAD": str(FAKETIME), "FAKETIME_TIMESTAMP_FILE": str(folder / "clock"), "FAKETIME_NO_CACHE": "1", "FAKETIME_DONT_FAKE_MONOTONIC": "1"}
-            self.set_clock("+0")
+        within = list(within)
         self.etcd = Program("etcd", within + etcd_words, folder / "etcd.log", env=ETCDCTL) if etcd_words else None
         # A node with an even number computes the chain of its register itself.
         chains = ["--chain"] if number % 2 else []
-        self.cadastred = Program("cadastred", within + [SERVICE, *chains, str(self.file), f"{address}:8080", str(self.land)], folder / "cadastred.log", ENDS, env)
+        self.cadastred = Program("cadastred", within + [SERVICE, *chains, str(self.file), f"{address}:8080", str(self.land)], folder / "cadastred.log", ENDS)
         words = [str(SOURCES / "cadastre-node"), self.name, member, str(self.land), str(self.office), f"{address}:9080", str(self.entries)]
-        self.node = Program("cadastre-node", within + words, folder / "node.log", NODE_ENDS, env)
+        self.node = Program("cadastre-node", within + words, folder / "node.log", NODE_ENDS, {**os.environ, **(env or {})})
         self.programs = [it for it in (self.etcd, self.cadastred, self.node) if it]
-
-    def set_clock(self, offset):
-        """Moves the clock of `cadastred` and `cadastre-node`, by a text such as +3600s."""
-        (self.folder / "clock").write_text(f"{offset}\n", encoding="utf-8")
 
     def start(self):
         for it in self.programs:
