@@ -85,7 +85,7 @@ class Register:
         """The revision of the register, and the chain over the commands that it holds. Without --chain `cadastred` tells none, and gives its
         journal."""
         told = json.loads(await self.ask(b"status"))
-        if told["chain"] is not None:
+        if told.get("chain"):
             return told["revision"], told["chain"]
         chain, count = START, 0
         async for line in journal_lines(self.path, 0):
