@@ -8,7 +8,7 @@ use cad_versions::Command;
 use sha2::{Digest, Sha256};
 use std::alloc::{AllocError, Global};
 
-/// The SHA-256 digest of commands in their order, so that two journals with the same chain have the same commands.
+/// The SHA-256 digest of commands in their order. Two journals with the same chain have the same commands, unless SHA-256 collides.
 #[derive(Clone, Copy, Debug, PartialEq, Eq)]
 pub struct Chain {
     digest: [u8; 32],
