@@ -11,7 +11,7 @@ use Rattle.cad_feature.specs.Flatten.{features_in}
 use Rattle.cad_layer.specs.Walks.{all_in}
 use Rattle.cad_history.specs.Registers.{AreRowsOf}
 use Rattle.cad_history.specs.Rows.{Rows, AreNext, bare, shown_at}
-use Rattle.cad_snapshot.specs.Registers.{AcceptedAreFew}
+use Rattle.cad_history.specs.Accepted.{AcceptedAreFew}
 use Rattle.cad_changes.specs.Changes.{touched}
 use Rattle.cad_changes.proofs.RevisionLemmas.{features_of_next}
 

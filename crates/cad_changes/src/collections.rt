@@ -43,31 +43,7 @@ pub fn histories_after(
         → AreAllRowsOf commands histories.now → revision ≡ length commands + 1
         → AreAllRowsOf (commands ++ command.now ∷ []) next) }
 {
-    let parcels = history_in(alloc, histories, command, revision, Collection::Parcels)?;
-    let rights = history_in(alloc, histories, command, revision, Collection::Rights)?;
-    let restrictions = history_in(
-        alloc,
-        histories,
-        command,
-        revision,
-        Collection::Restrictions,
-    )?;
-    let units = history_in(alloc, histories, command, revision, Collection::Units)?;
-    let parties = history_in(alloc, histories, command, revision, Collection::Parties)?;
-    let responsibilities = history_in(
-        alloc,
-        histories,
-        command,
-        revision,
-        Collection::Responsibilities,
-    )?;
-    let next = Histories::of_each(
-        parcels,
-        rights,
-        restrictions,
-        units,
-        parties,
-        responsibilities,
-    );
-    Ok(next)
+    Histories::of_each(alloc, |collection| {
+        history_in(alloc, histories, command, revision, collection)
+    })
 }

@@ -9,7 +9,7 @@ ghost use Rattle.cad_history.specs.Registers.{AreRowsOf};
 
 use crate::touching::touched;
 use cad_history::History;
-use cad_snapshot::registers::accepted_are_few;
+use cad_history::laws::accepted_are_few;
 use cad_versions::Command;
 use cad_versions::laws::revisions_stay;
 use std::alloc::{AllocError, Global};

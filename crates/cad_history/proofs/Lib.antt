@@ -7,3 +7,5 @@ pub mod StartLemmas
 pub mod StartRowLemmas
 pub mod StartedLemmas
 mod CountLemmas
+pub mod AcceptedLemmas
+mod BuiltLemmas

@@ -1,27 +1,21 @@
 -- The features of all collections at every revision, as rows with periods (SQL:2011, 4.15.7: system-versioned tables; revisions: own profile).
-use Rattle.std.specs.Prelude.{◌≡◌, List}
+use Rattle.std.specs.Prelude.{◌≡◌, List, [], map}
 use Rattle.cad_versions.specs.declared.command.Command.{Command}
 use Rattle.cad_schema.specs.declared.collection.Collection.{Collection}
-use Rattle.cad_schema.specs.declared.collection.Collection.TheVariants.{Parcels, Rights, Restrictions, Units, Parties, Responsibilities}
+use Rattle.cad_schema.specs.Collections.{collections}
 use Rattle.cad_history.specs.Registers.{AreRowsOf}
-use Rattle.cad_history.specs.Rows.{Rows}
+use Rattle.cad_history.specs.Rows.{Rows, newest_alone}
+use Rattle.cad_history.specs.Tables.{entry_of}
 
--- the rows of each collection
-pub record RegisterRows : Type 0 where
-  pub parcels : Rows
-  pub rights : Rows
-  pub restrictions : Rows
-  pub units : Rows
-  pub parties : Rows
-  pub responsibilities : Rows
+-- the rows of each collection, in the order of the collections
+abbrev pub RegisterRows : Type 0
+RegisterRows = List Rows
 
 abbrev pub rows_for : RegisterRows → Collection → Rows
-rows_for all Parcels = all.parcels
-rows_for all Rights = all.rights
-rows_for all Restrictions = all.restrictions
-rows_for all Units = all.units
-rows_for all Parties = all.parties
-rows_for all Responsibilities = all.responsibilities
+rows_for all collection = entry_of (newest_alone collection []) all collection
+
+abbrev pub AreInOrder : RegisterRows → Type 0
+AreInOrder all = map (λ (rows : Rows). rows.collection) all ≡ collections
 
 -- each of them is of its collection
 abbrev pub AreInPlace : RegisterRows → Type 0

@@ -1,6 +1,9 @@
 pub mod Rows
 pub mod Lent
 pub mod Registers
+pub mod Tables
 pub mod Histories
+pub mod Snapshots
+pub mod Accepted
 pub mod inner
 pub mod lemmas

@@ -17,6 +17,10 @@ pub record Rows : Type 0 where
   pub earlier : List LayerFeatures
   pub last : ℕ
 
+-- these rows, and no earlier ones; no revision has changed them
+abbrev pub newest_alone : Collection → List Item → Rows
+newest_alone collection xs = record { collection = collection; newest = xs; earlier = []; last = 0 }
+
 -- ---- at a revision
 
 abbrev pub earlier_at : ℕ → List LayerFeatures → List Item

@@ -3,3 +3,4 @@ pub mod Counted
 pub mod Ending
 pub mod Found
 pub mod Starting
+pub mod Built

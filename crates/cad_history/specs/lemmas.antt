@@ -1,5 +1,6 @@
 -- Lemmas about the definitions, for the proofs of crates above. No contract cites them.
 pub mod ApartLemmas
+pub mod SnapshotLemmas
 pub mod CollectionLemmas
 pub mod NewestLemmas
 pub mod RowLemmas

@@ -7,86 +7,49 @@ use std::marker::Model;
 
 /// The history of each collection of a register.
 ///
-/// Contracts see the rows of each.
+/// Contracts see the rows of each, in the order of the collections.
 #[derive(Drop)]
 pub struct Histories {
-    parcels: History,
-    rights: History,
-    restrictions: History,
-    units: History,
-    parties: History,
-    responsibilities: History,
+    each: Vec<History>,
 }
 
 impl Model for Histories {
-    ghost use Rattle.cad_history.specs.Histories.{RegisterRows, AreInPlace};
+    ghost use Rattle.cad_history.specs.Histories.{RegisterRows, AreInOrder};
 
     ghost Value = { RegisterRows };
 
-    ghost view = { λ h. record {
-      parcels = h.parcels;
-      rights = h.rights;
-      restrictions = h.restrictions;
-      units = h.units;
-      parties = h.parties;
-      responsibilities = h.responsibilities;
-    } };
+    ghost view = { λ h. h.each.items };
 
-    ghost invariant = { λ h. AreInPlace (record {
-      parcels = h.parcels;
-      rights = h.rights;
-      restrictions = h.restrictions;
-      units = h.units;
-      parties = h.parties;
-      responsibilities = h.responsibilities;
-    }) };
+    ghost invariant = { λ h. AreInOrder h.each.items };
 }
 
 impl Histories {
-    ghost use Rattle.std.specs.Prelude.{◌≡◌, [], IfOk};
+    ghost use Rattle.std.specs.Prelude.{◌≡◌, [], IfOk, Ok};
     ghost use Rattle.cad_history.specs.Histories.{rows_for, AreInPlace, AreAllRowsOf};
+    ghost use Rattle.cad_history.specs.Rows.{Rows};
 
     /// Those of a register without commands. An error means out of memory.
     pub fn new(alloc: Global) -> Result<Histories, AllocError>
         ensures { IfOk result (AreAllRowsOf []) }
     {
-        let parcels = History::new(alloc, Collection::Parcels)?;
-        let rights = History::new(alloc, Collection::Rights)?;
-        let restrictions = History::new(alloc, Collection::Restrictions)?;
-        let units = History::new(alloc, Collection::Units)?;
-        let parties = History::new(alloc, Collection::Parties)?;
-        let responsibilities = History::new(alloc, Collection::Responsibilities)?;
-        let histories = Histories::of_each(
-            parcels,
-            rights,
-            restrictions,
-            units,
-            parties,
-            responsibilities,
-        );
-        Ok(histories)
+        Histories::of_each(alloc, |collection| History::new(alloc, collection))
     }
 
-    /// These histories, each of its collection.
-    pub fn of_each(
-        parcels: History,
-        rights: History,
-        restrictions: History,
-        units: History,
-        parties: History,
-        responsibilities: History,
-    ) -> Histories
-        requires { AreInPlace (record { parcels = parcels; rights = rights; restrictions = restrictions; units = units; parties = parties; responsibilities = responsibilities }) }
-        ensures { result ≡ record { parcels = parcels; rights = rights; restrictions = restrictions; units = units; parties = parties; responsibilities = responsibilities } }
+    /// The histories that `make` gives, one for each collection. An error means out of memory, or is the first one of `make`.
+    pub fn of_each<F: Fn(Collection) -> Result<History, AllocError>>(
+        alloc: Global,
+        make: F,
+    ) -> Result<Histories, AllocError>
+        requires callable { F.IsAlwaysCallable make }
+        requires own { (collection : Collection) (rows : Rows) → F.post make collection (Ok rows) → rows.collection ≡ collection }
+        ensures { IfOk result (λ all. (collection : Collection) → F.post make collection (Ok (rows_for all collection))) }
     {
-        Histories {
-            parcels,
-            rights,
-            restrictions,
-            units,
-            parties,
-            responsibilities,
+        let mut each = Vec::with_capacity(alloc, Collection::ALL.len())?;
+        for collection in Collection::ALL {
+            let history = make(collection)?;
+            each.push(history)?;
         }
+        Ok(Histories { each })
     }
 
     /// The history of the collection.
@@ -95,13 +58,23 @@ impl Histories {
         ensures rows { result.now ≡ rows_for self.now collection }
         ensures in_place { AreInPlace self.now }
     {
-        match collection {
-            Collection::Parcels => &self.parcels,
-            Collection::Rights => &self.rights,
-            Collection::Restrictions => &self.restrictions,
-            Collection::Units => &self.units,
-            Collection::Parties => &self.parties,
-            Collection::Responsibilities => &self.responsibilities,
+        &self.each[collection as usize]
+    }
+
+    /// Whether no history has a list of rows with more changes to its bases than `most`.
+    pub fn is_settled(&self, most: usize) -> bool {
+        self.each.iter().all(|history| history.is_settled(most))
+    }
+
+    /// The same rows, with new bases for each list of them that is not settled. An error means out of memory.
+    pub fn settled(&self, alloc: Global, most: usize) -> Result<Histories, AllocError>
+        ensures { IfOk result (λ settled. settled ≡ self.now) }
+    {
+        let mut each = Vec::with_capacity(alloc, self.each.len())?;
+        for history in &self.each {
+            let settled = history.settled(alloc, most)?;
+            each.push(settled)?;
         }
+        Ok(Histories { each })
     }
 }

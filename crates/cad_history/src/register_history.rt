@@ -61,25 +61,8 @@ impl Histories {
         requires listing { IsListing (map version_in entries.now) }
         ensures { IfOk result (λ histories. (commands : List Command) → AreAccepted [] commands → entries.now ≡ all_entries commands → newest ≡ length commands → AreAllRowsOf commands histories) }
     {
-        let parcels = History::of_register(alloc, entries, newest, Collection::Parcels)?;
-        let rights = History::of_register(alloc, entries, newest, Collection::Rights)?;
-        let restrictions = History::of_register(alloc, entries, newest, Collection::Restrictions)?;
-        let units = History::of_register(alloc, entries, newest, Collection::Units)?;
-        let parties = History::of_register(alloc, entries, newest, Collection::Parties)?;
-        let responsibilities = History::of_register(
-            alloc,
-            entries,
-            newest,
-            Collection::Responsibilities,
-        )?;
-        let histories = Histories::of_each(
-            parcels,
-            rights,
-            restrictions,
-            units,
-            parties,
-            responsibilities,
-        );
-        Ok(histories)
+        Histories::of_each(alloc, |collection| {
+            History::of_register(alloc, entries, newest, collection)
+        })
     }
 }

@@ -1,10 +1,9 @@
-//! Histories for which no new base is due.
+//! A history for which no new base is due.
 
 ghost use Rattle.std.specs.Prelude.{◌≡◌, IfOk};
 
-use crate::{Histories, History};
+use crate::History;
 use cad_layer::Layer;
-use cad_schema::Collection;
 use std::alloc::{AllocError, Global};
 
 /// The same features, with new bases if the layer has more changes than `most`.
@@ -47,40 +46,5 @@ impl History {
         let newest = settled_layer(alloc, self.newest(), most)?;
         let earlier = settled_layers(alloc, self.earlier(), most)?;
         Ok(History::of_layers(newest, earlier, self.last()))
-    }
-}
-
-impl Histories {
-    ghost use Rattle.std.specs.Prelude.{◌≡◌, IfOk};
-
-    /// Whether no history has a list of rows with more changes to its bases than `most`.
-    pub fn is_settled(&self, most: usize) -> bool {
-        self.of(Collection::Parcels).is_settled(most)
-            && self.of(Collection::Rights).is_settled(most)
-            && self.of(Collection::Restrictions).is_settled(most)
-            && self.of(Collection::Units).is_settled(most)
-            && self.of(Collection::Parties).is_settled(most)
-            && self.of(Collection::Responsibilities).is_settled(most)
-    }
-
-    /// The same rows, with new bases for each list of them that is not settled. An error means out of memory.
-    pub fn settled(&self, alloc: Global, most: usize) -> Result<Histories, AllocError>
-        ensures { IfOk result (λ settled. settled ≡ self.now) }
-    {
-        let parcels = self.of(Collection::Parcels).settled(alloc, most)?;
-        let rights = self.of(Collection::Rights).settled(alloc, most)?;
-        let restrictions = self.of(Collection::Restrictions).settled(alloc, most)?;
-        let units = self.of(Collection::Units).settled(alloc, most)?;
-        let parties = self.of(Collection::Parties).settled(alloc, most)?;
-        let responsibilities = self.of(Collection::Responsibilities).settled(alloc, most)?;
-        let settled = Histories::of_each(
-            parcels,
-            rights,
-            restrictions,
-            units,
-            parties,
-            responsibilities,
-        );
-        Ok(settled)
     }
 }

@@ -11,7 +11,8 @@ use Rattle.cad_schema.specs.declared.collection.Collection.{Collection}
 use Rattle.cad_feature.specs.Features.{Item, by_identifier}
 use Rattle.cad_feature.specs.Flatten.{is_in, feature_in, features_in}
 use Rattle.cad_parameters.specs.Identifiers.{IsVersionNumber}
-use Rattle.cad_snapshot.specs.Snapshots.{features_at, features_given}
+use Rattle.cad_history.specs.Snapshots.{features_at}
+use Rattle.cad_history.specs.lemmas.SnapshotLemmas.{features_given}
 use Rattle.cad_server.specs.Contents.{snapshot_of}
 
 -- ---- from versions to features

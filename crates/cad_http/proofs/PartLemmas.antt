@@ -9,7 +9,7 @@ use Rattle.serde_json.specs.Written.{compact_text}
 use Rattle.cad_versions.specs.declared.command.Command.{Command}
 use Rattle.cad_feature.specs.Features.{Item}
 use Rattle.cad_ask.specs.declared.ask.Ask.{Ask}
-use Rattle.cad_snapshot.specs.Snapshots.{RevisionFeatures}
+use Rattle.cad_history.specs.Snapshots.{RevisionFeatures}
 use Rattle.cad_run.specs.Slices.{later}
 use Rattle.cad_page.specs.Pages.{beginning, answer_in, rows_in, is_more_in}
 use Rattle.cad_page.specs.Bodies.{target_after, next_in, page_data}

@@ -19,7 +19,7 @@ use Rattle.cad_ask.specs.declared.ask.Ask.{Ask}
 use Rattle.cad_ask.specs.Answers.{IsAsk}
 use Rattle.cad_ask.specs.Laws.{HasFaultOrAsks, AskTheSame, PairsAskOneThing}
 use Rattle.cad_ask.specs.lemmas.AnswerLemmas.{asks_well}
-use Rattle.cad_snapshot.specs.Snapshots.{RevisionFeatures, features_at}
+use Rattle.cad_history.specs.Snapshots.{RevisionFeatures, features_at}
 use Rattle.cad_answer.specs.Answers.{answers}
 use Rattle.cad_answer.specs.Laws.{last_of, AreWalk, WalksAreWhole}
 use Rattle.cad_run.specs.Slices.{identifier, is_later, later, is_more}
@@ -29,7 +29,7 @@ use Rattle.cad_page.specs.Pages.{restrictions, beginning, answer_in, rows_in, is
 use Rattle.cad_resource.specs.Laws.{ResourcesAreRequested, KnownPathsAreReadBack}
 use Rattle.cad_server.specs.Contents.{snapshot_of, snapshot_at}
 use Rattle.cad_http.specs.Walks.{Visit, AsksFor, revision_requested, snapshot_requested, next_of, Follows, IsWalk, Shows, joined, pages_of}
-use Rattle.cad_snapshot.specs.Registers.{AcceptedAreListed, AcceptedAreFew}
+use Rattle.cad_history.specs.Accepted.{AcceptedAreListed, AcceptedAreFew}
 use Rattle.cad_http.specs.Laws.{WalksHaveThatManyPages, WalksShowTheAnswer}
 use Rattle.cad_http.proofs.AskingLemmas.{page_wanted, page_read, some_wanted}
 use Rattle.cad_http.proofs.ListingLemmas.{ascend, have_numbers}

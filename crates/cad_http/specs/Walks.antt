@@ -10,7 +10,7 @@ use Rattle.cad_parameters.specs.Pairs.{pairs_of}
 use Rattle.cad_json.specs.Paths.{items_path}
 use Rattle.cad_ask.specs.declared.ask.Ask.{Ask}
 use Rattle.cad_ask.specs.Answers.{IsAsk}
-use Rattle.cad_snapshot.specs.Snapshots.{RevisionFeatures}
+use Rattle.cad_history.specs.Snapshots.{RevisionFeatures}
 use Rattle.cad_run.specs.Slices.{later}
 use Rattle.cad_page.specs.Pages.{beginning, answer_in, rows_in}
 use Rattle.cad_page.specs.Bodies.{next_in, page_data}

@@ -20,12 +20,12 @@ use cad_ask::laws::{fault_or_asks, pairs_ask_one_thing};
 pub use cad_desk::laws::{
     connections_are_their_own, cuts_make_no_difference, others_stay, steps_are_a_run,
 };
+use cad_history::laws::{accepted_are_few, accepted_are_listed};
 use cad_page::laws::{next_is_read_again, the_same_has_one_answer};
 use cad_resource::laws::{paths_are_read_back, resources_are_requested};
 pub use cad_serve::laws::{served_is_a_stream, serving_leaves_others, written_are_replies};
 use cad_server::Server;
 pub use cad_server::laws::requests_have_one_reply;
-use cad_snapshot::registers::{accepted_are_few, accepted_are_listed};
 use cad_stream::Responder;
 use cad_versions::HistoryLedger;
 use cad_versions::laws::revisions_stay;

@@ -25,10 +25,10 @@ mod planning;
 mod sending;
 
 pub use cad_ask::{Ask, AskFault, fault_body};
+pub use cad_history::Snapshot;
 pub use cad_json::{
     collection_body, collections_body, filter_fault_body, landing_body, queryables_body, word_body,
 };
-pub use cad_snapshot::Snapshot;
 pub use cql_filter::Cause;
 pub use explaining::{Report, explain};
 pub use features::feature_body;

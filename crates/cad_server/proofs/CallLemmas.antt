@@ -13,7 +13,7 @@ use Rattle.cad_versions.specs.Entries.{Entry, version_in}
 use Rattle.cad_versions.specs.HistoryLedgers.{ListsEntries}
 use Rattle.cad_versions.specs.Refusals.{AreAccepted}
 use Rattle.cad_history.specs.Histories.{AreAllRowsOf, RegisterRows}
-use Rattle.cad_snapshot.specs.Snapshots.{IsSnapshotOf, RevisionFeatures}
+use Rattle.cad_history.specs.Snapshots.{IsSnapshotOf, RevisionFeatures}
 use Rattle.cad_head.specs.Request.{Request}
 use Rattle.cad_resource.specs.Requested.{requested, ends_after}
 use Rattle.cad_head.specs.Replies.{reply_text}

@@ -5,7 +5,7 @@ use Rattle.cad_versions.specs.declared.ledger.Ledger.{Ghosts}
 use Rattle.cad_versions.specs.declared.journal_ledger.JournalLedger.{Ghosts as JournalGhosts}
 use Rattle.cad_commands.specs.declared.chain.Chain.{Chain}
 use Rattle.cad_commands.specs.Chains.{chain_of, digest_of}
-use Rattle.cad_snapshot.specs.Snapshots.{RevisionFeatures}
+use Rattle.cad_history.specs.Snapshots.{RevisionFeatures}
 use Rattle.cad_server.specs.declared.records.Records.{Records}
 use Rattle.cad_server.specs.Keeping.{AreCached, KnowsChain, KnowsHighest, ShowAll, StaysChained}
 use Rattle.cad_server.specs.Servers.{ledger_in}

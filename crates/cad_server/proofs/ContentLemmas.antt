@@ -7,7 +7,8 @@ use Rattle.cad_feature.specs.Features.{Item}
 use Rattle.cad_feature.specs.Flatten.{features_in}
 use Rattle.cad_history.specs.Rows.{bare}
 use Rattle.cad_parameters.specs.Identifiers.{Numbers, numbers_of}
-use Rattle.cad_snapshot.specs.Snapshots.{IsSnapshotOf, RevisionFeatures, bared, features_at, features_given, is_with_features}
+use Rattle.cad_history.specs.Snapshots.{IsSnapshotOf, RevisionFeatures, bared, features_at, with_features}
+use Rattle.cad_history.specs.lemmas.SnapshotLemmas.{features_bared}
 use Rattle.cad_page.specs.lemmas.BareLemmas.{feature_bare, page_bare}
 use Rattle.cad_request.specs.declared.feature_request.FeatureRequest.{FeatureRequest}
 use Rattle.cad_request.specs.declared.feature_request.FeatureRequest.TheVariants.{Page, Feature}
@@ -17,8 +18,7 @@ use Rattle.cad_server.specs.Contents.{content_in, feature_content, feature_with,
 
 -- the features of these versions, without periods
 bared_is : (revision : ℕ) (versions : List VersionedObject) (s : RevisionFeatures) → IsSnapshotOf revision versions s → bared s ≡ snapshot_of revision versions
-bared_is revision versions s is =
-    is_with_features (bared s) revision (features_in versions) is.of_revision (λ (c : Collection). features_given s.revision (λ (k : Collection). map bare (features_at s k)) c ∙ is.features c)
+bared_is revision versions s is = λ i. with_features (is.of_revision i) (λ collection. is.features collection i)
 
 found_bare : (numbers : Numbers) (xs : List Item) → feature_with numbers (map bare xs) ≡ option_map bare (feature_with numbers xs)
 found_bare numbers [] = refl
@@ -36,7 +36,7 @@ content_bare collection (Some x) = ap (λ d. (status.Ok, compact_text d)) (featu
 shown_bare : (sought : FeatureRequest) (s : RevisionFeatures) → content_in sought (bared s) ≡ content_in sought s
 shown_bare (Page ask) s = ap (λ d. (status.Ok, compact_text d)) (page_bare ask s)
 shown_bare (Feature collection identifier) s =
-    ap (λ xs. feature_content collection (feature_with (numbers_of identifier) xs)) (features_given s.revision (λ (k : Collection). map bare (features_at s k)) collection)
+    ap (λ xs. feature_content collection (feature_with (numbers_of identifier) xs)) (features_bared s collection)
     ∙ ap (feature_content collection) (found_bare (numbers_of identifier) (features_at s collection))
     ∙ content_bare collection (feature_with (numbers_of identifier) (features_at s collection))
 

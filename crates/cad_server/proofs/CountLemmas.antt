@@ -11,7 +11,7 @@ use Rattle.cad_schema.specs.declared.collection.Collection.{Collection}
 use Rattle.cad_schema.specs.declared.collection.Collection.TheVariants.{Parcels, Rights, Restrictions, Units, Parties, Responsibilities}
 use Rattle.cad_history.specs.Registers.{AreRowsOf}
 use Rattle.cad_history.specs.Rows.{Rows, bare, shown_at}
-use Rattle.cad_snapshot.specs.Registers.{AcceptedAreFew}
+use Rattle.cad_history.specs.Accepted.{AcceptedAreFew}
 use Rattle.cad_stream.specs.declared.summary.VersionCounts.{VersionCounts}
 use Rattle.cad_stream.specs.Summaries.{AreSoMany}
 use Rattle.cad_server.specs.inner.Counts.{AreCountsOf}

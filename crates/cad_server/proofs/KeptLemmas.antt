@@ -13,7 +13,7 @@ use Rattle.cad_versions.specs.LedgerCalls.{Applies, Checks as LedgerChecks}
 use Rattle.cad_versions.specs.AsOf.{as_of}
 use Rattle.cad_versions.specs.Refusals.{AreAccepted}
 use Rattle.cad_history.specs.Histories.{AreAllRowsOf, RegisterRows}
-use Rattle.cad_snapshot.specs.Snapshots.{IsSnapshotOf, RevisionFeatures}
+use Rattle.cad_history.specs.Snapshots.{IsSnapshotOf, RevisionFeatures}
 use Rattle.cad_server.specs.declared.records.Records.{Records}
 use Rattle.cad_server.specs.declared.snapshot_cache.SnapshotCache.{SnapshotCache}
 use Rattle.cad_server.specs.declared.totals.Totals.{Totals}

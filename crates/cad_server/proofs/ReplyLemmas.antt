@@ -16,7 +16,7 @@ use Rattle.cad_page.specs.Laws.{TheSameIsAnswered}
 use Rattle.cad_json.specs.Faults.{word_data}
 use Rattle.cad_json.specs.Offers.{landing_data, collection_data, collections_data}
 use Rattle.cad_json.specs.Queryables.{queryables_data}
-use Rattle.cad_snapshot.specs.Snapshots.{features_at}
+use Rattle.cad_history.specs.Snapshots.{features_at}
 use Rattle.cad_head.specs.declared.status.Status.{Status}
 use Rattle.cad_head.specs.declared.status.Status.TheVariants as status
 use Rattle.cad_resource.specs.declared.check.Check.{Check}

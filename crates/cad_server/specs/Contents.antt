@@ -10,7 +10,7 @@ use Rattle.cad_schema.specs.declared.collection.Collection.{Collection}
 use Rattle.cad_feature.specs.Features.{Item}
 use Rattle.cad_feature.specs.Flatten.{features_in}
 use Rattle.cad_parameters.specs.Identifiers.{Numbers, numbers_of}
-use Rattle.cad_snapshot.specs.Snapshots.{RevisionFeatures, features_at, with_features}
+use Rattle.cad_history.specs.Snapshots.{RevisionFeatures, features_at, with_features}
 use Rattle.cad_json.specs.Faults.{word_data}
 use Rattle.cad_page.specs.Bodies.{page_data}
 use Rattle.cad_page.specs.Features.{linked_feature_data}

@@ -6,7 +6,7 @@ use Rattle.cad_versions.specs.declared.command.Command.{Command}
 use Rattle.cad_versions.specs.AsOf.{as_of}
 use Rattle.cad_versions.specs.Versions.{versions}
 use Rattle.cad_history.specs.Histories.{AreAllRowsOf, RegisterRows}
-use Rattle.cad_snapshot.specs.Snapshots.{IsSnapshotOf, RevisionFeatures}
+use Rattle.cad_history.specs.Snapshots.{IsSnapshotOf, RevisionFeatures}
 use Rattle.cad_commands.specs.declared.chain.Chain.{Chain}
 use Rattle.cad_commands.specs.Chains.{chain_of, digest_of}
 use Rattle.cad_stream.specs.Summaries.{highest_object}

@@ -10,10 +10,9 @@ use crate::sought::{response_in, revision_of};
 use crate::totals::{Totals, highest_in};
 use cad_changes::histories_after;
 use cad_head::Status;
-use cad_history::Histories;
+use cad_history::{Histories, Snapshot};
 use cad_json::word_body;
 use cad_request::{FeatureRequest, ParsedRequest, Response};
-use cad_snapshot::Snapshot;
 use cad_stream::Summary;
 use cad_versions::{Command, HistoryLedger, JournalLedger, Ledger, RegisterFault};
 use std::alloc::{AllocError, Global};
@@ -150,7 +149,7 @@ impl<L: HistoryLedger> Records<L> {
     ghost use Rattle.std.specs.Prelude.{◌≡◌, ◌≤◌, List, length, None, IfOk, IfSome};
     ghost use Rattle.cad_versions.specs.declared.command.Command.{Command as CommandOf};
     ghost use Rattle.cad_versions.specs.AsOf.{as_of};
-    ghost use Rattle.cad_snapshot.specs.Snapshots.{IsSnapshotOf};
+    ghost use Rattle.cad_history.specs.Snapshots.{IsSnapshotOf};
     ghost use Rattle.cad_server.specs.Keeping.{KeepsOf, cached_at, rows_in};
     ghost use Rattle.cad_server.specs.Servers.{ledger_in, AreRecordsOf, Prepares, Recalls, Finds, Seeks, Tells};
 

@@ -4,8 +4,7 @@ ghost use Rattle.std.specs.Prelude.{◌≡◌};
 ghost use Rattle.cad_server.specs.inner.Rooms.{most_snapshots};
 
 use crate::totals::Totals;
-use cad_history::Histories;
-use cad_snapshot::Snapshot;
+use cad_history::{Histories, Snapshot};
 use lru::LruCache;
 use std::rc::Rc;
 

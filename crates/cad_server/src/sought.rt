@@ -2,18 +2,18 @@
 
 ghost use Rattle.std.specs.Prelude.{◌≡◌, IfOk, option_copied};
 ghost use Rattle.cad_parameters.specs.Identifiers.{numbers_of};
-ghost use Rattle.cad_snapshot.specs.Snapshots.{features_at};
+ghost use Rattle.cad_history.specs.Snapshots.{features_at};
 ghost use Rattle.cad_server.specs.Contents.{content_in, content_in_response, feature_with, feature_content, revision_sought};
 
 use cad_feature::Feature;
 use cad_head::Status;
+use cad_history::Snapshot;
 use cad_json::word_body;
 use cad_layer::laws::identifiers_are_unique;
 use cad_page::{body, feature_body};
 use cad_parameters::Identifier;
 use cad_request::{FeatureRequest, Response};
 use cad_schema::Collection;
-use cad_snapshot::Snapshot;
 use std::alloc::{AllocError, Global};
 
 /// The revision of a feature request: the one that is asked for, or the newest.

@@ -1,6 +1,6 @@
 use Rattle.std.specs.Prelude.{option_copied}
 use Rattle.cad_parameters.specs.Identifiers.{numbers_of}
-use Rattle.cad_snapshot.specs.Snapshots.{features_at}
+use Rattle.cad_history.specs.Snapshots.{features_at}
 use Rattle.cad_server.proofs.FoundLemmas.{found_so}
 use Rattle.cad_server.proofs.sought.feature_in.Goals as goal
 

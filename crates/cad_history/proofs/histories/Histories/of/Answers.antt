@@ -1,21 +1,13 @@
-use Rattle.std.proofs.Common.{◌∙◌, sym}
-use Rattle.cad_schema.specs.declared.collection.Collection.TheVariants.{Parcels, Rights, Restrictions, Units, Parties, Responsibilities}
+use Rattle.std.proofs.Common.{◌∙◌, [], ap, subst}
+use Rattle.cad_history.specs.Histories.{AreInPlace}
+use Rattle.cad_history.specs.Rows.{Rows, newest_alone}
+use Rattle.cad_history.specs.lemmas.CollectionLemmas.{own_rows}
 use Rattle.cad_history.proofs.histories.Histories.of.Goals as goal
 
-pub returns-in-Parcels-clause-collection : goal.returns-in-Parcels-clause-collection
-returns-in-Parcels-clause-collection c = c.self.invariant Parcels ∙ sym c.in-Parcels.is
+pub returns-clause-collection : goal.returns-clause-collection
+returns-clause-collection c =
+    ap (λ (rows : Rows). rows.collection) c.index.ensures ∙ own_rows c.self.inside.each.items c.args.collection c.index.result.now c.self.invariant
 
-pub returns-in-Rights-clause-collection : goal.returns-in-Rights-clause-collection
-returns-in-Rights-clause-collection c = c.self.invariant Rights ∙ sym c.in-Rights.is
-
-pub returns-in-Restrictions-clause-collection : goal.returns-in-Restrictions-clause-collection
-returns-in-Restrictions-clause-collection c = c.self.invariant Restrictions ∙ sym c.in-Restrictions.is
-
-pub returns-in-Units-clause-collection : goal.returns-in-Units-clause-collection
-returns-in-Units-clause-collection c = c.self.invariant Units ∙ sym c.in-Units.is
-
-pub returns-in-Parties-clause-collection : goal.returns-in-Parties-clause-collection
-returns-in-Parties-clause-collection c = c.self.invariant Parties ∙ sym c.in-Parties.is
-
-pub returns-in-Responsibilities-clause-collection : goal.returns-in-Responsibilities-clause-collection
-returns-in-Responsibilities-clause-collection c = c.self.invariant Responsibilities ∙ sym c.in-Responsibilities.is
+pub returns-clause-in_place : goal.returns-clause-in_place
+returns-clause-in_place c =
+    subst AreInPlace c.self.view_is (λ collection. own_rows c.self.inside.each.items collection (newest_alone collection []) c.self.invariant)

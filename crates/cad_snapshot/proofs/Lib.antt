@@ -1,2 +1,0 @@
-pub mod AcceptedLemmas
-mod BuiltLemmas

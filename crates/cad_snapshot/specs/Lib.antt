@@ -1,4 +1,0 @@
-pub mod Snapshots
-pub mod Registers
-pub mod inner
-pub mod lemmas
