@@ -69,11 +69,13 @@ early: cases
 # The whole gate. It runs:
 # - `make early`, every proof from nothing, the must-fail edits, and the tests;
 # - each program, as two compilers build it;
+# - each request for features of the cases at every revision of its register;
 # - both programs on files of the office, at an address, and at the office's socket;
 # - the office with a stop at each call of its files, and a database that is refused memory.
 test: early
 	$(RT) ci
 	scripts/check_changes
+	scripts/check_revisions
 	scripts/check_office
 	scripts/check_old_register
 	scripts/check_journal 3
