@@ -113,8 +113,8 @@ refused:
 	cd crates/cad_register_cases && $(RT) run < stdin | cmp - stdout
 	scripts/refused
 
-# Breaks each rule of a stored row by Python's SQLite, and checks that the program reports it.
-damage: sample
+# Breaks each rule of a stored row by Python's SQLite, and checks that the program reports it. Servers listen over such a file.
+damage: sample cadastred
 	scripts/check_damage
 
 # Measures commands a second in memory and in a file, the time of pages, and requests a second of both programs.

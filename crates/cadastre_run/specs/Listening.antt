@@ -43,6 +43,6 @@ module _ (service : Service) (before after quiet told : Option (List ℕ)) where
     pub listening : EndsListening (answers_of g) old ended.0 new
     pub back : ended.1 ≡ ledger_of (responder_of new)
 
-  -- there is no server that has read what the ledger stores, and nothing is written; or the connections of its desk are served
+  -- there is no server, and nothing is written; or the connections of its desk are served
   abbrev pub ListensOver : {L : Type 0} → ledger.Ghosts L → L → Outcome × L → Type 0
   ListensOver g lent ended = EndsRefused g outcome.Register IsSilent lent ended ⊎ EndsHeard g lent ended

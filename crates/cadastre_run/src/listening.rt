@@ -63,7 +63,7 @@ pub fn listen_over<
         (E.contents errors.old) (E.contents errors.new) L.Ledger ledger result }
 {
     match prepared_server(alloc, ledger) {
-        Ok(server) => {
+        Ok((server, _)) => {
             let mut desk = Desk::new(alloc, server);
             let outcome = listen_at(net, alloc, service, writer, errors, &mut desk);
             (outcome, desk.release().release())

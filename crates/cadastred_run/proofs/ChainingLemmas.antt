@@ -1,11 +1,11 @@
 -- A server that keeps the chain of its commands has read what its ledger stores.
-use Rattle.std.proofs.Common.{◌∙◌, Ok, sym}
+use Rattle.std.proofs.Common.{◌≡◌, ◌⊎◌, ◌∙◌, Bool, true, Ok, inl, inr, sym}
 use Rattle.cad_versions.specs.declared.ledger.Ledger.{Ghosts}
 use Rattle.cad_versions.specs.declared.journal_ledger.JournalLedger.{Ghosts as JournalGhosts}
 use Rattle.cad_server.specs.declared.server.Server.{Server}
 use Rattle.cad_server.specs.Servers.{ledger_of}
-use Rattle.cad_server.specs.Chaining.{ServerKeepsChain}
-use Rattle.cadastre_run.specs.Preparing.{HasRead}
+use Rattle.cad_server.specs.Chaining.{HasChain, ServerKeepsChain}
+use Rattle.cadastre_run.specs.Preparing.{HasRead, HasStarted, IsDamaged}
 
 module _ {L J : Type 0} (g : Ghosts L) (j : JournalGhosts L J) where
   pub read_and_chained : ((old mid new : L) → g.remains old mid → g.remains mid new → g.remains old new)
@@ -27,3 +27,8 @@ module _ {L J : Type 0} (g : Ghosts L) (j : JournalGhosts L J) where
       };
     };
   }
+
+-- with a chain or without, it has started
+pub chained_started : {L : Type 0} (g : Ghosts L) (chains : Bool) (lent : L) (server : Server L) → (HasRead g lent (Ok tt) server × (chains ≡ true → HasChain server)) ⊎ IsDamaged g lent server → HasStarted g lent server
+chained_started g chains lent server (inl read) = inl read.0
+chained_started g chains lent server (inr damaged) = inr damaged

@@ -66,6 +66,6 @@ module _ (asked : SocketAddr) (before after : Option (List ℕ)) (from to : Opti
     pub why : IsRefused g lent refused ⊎ IsUnchained g j lent refused
     pub ends : EndsWithout ((after ≡ before) × Adds from to []) (outcome.Register refused.0) refused.1 ended
 
-  -- there is no server that has read what the ledger stores, or its desk is hosted
+  -- there is no server over the ledger, or its desk is hosted
   abbrev pub HostsOver : {L J : Type 0} → ledger.Ghosts L → journal_ledger.Ghosts L J → L → Outcome × L → Type 0
   HostsOver g j lent ended = EndsUnhosted g j lent ended ⊎ EndsHosted g j lent ended

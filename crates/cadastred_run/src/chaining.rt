@@ -1,4 +1,4 @@
-//! A server that has read what its ledger stores, and keeps the chain of its commands.
+//! A server that keeps the chain of its commands.
 
 ghost use Rattle.cadastred_run.specs.Chaining.{OpensChained};
 
@@ -7,8 +7,8 @@ use cad_versions::{HistoryLedger, JournalLedger, RegisterFault};
 use cadastre_run::prepared_server;
 use std::alloc::Global;
 
-/// A server over the ledger that has read all that the ledger stores, and keeps the chain of its commands if `chains`; or the fault, and the
-/// ledger back.
+/// A server over the ledger, as `prepared_server` makes it, that keeps the chain of its commands if `chains`; or the fault, and the ledger
+/// back. If a row is damaged, it keeps no chain.
 pub(crate) fn chained_server<L: HistoryLedger + JournalLedger>(
     alloc: Global,
     ledger: L,
@@ -16,11 +16,11 @@ pub(crate) fn chained_server<L: HistoryLedger + JournalLedger>(
 ) -> Result<Server<L>, (RegisterFault, L)>
     ensures { OpensChained L.Ledger L.JournalLedger.own chains ledger result }
 {
-    let mut server = match prepared_server(alloc, ledger) {
-        Ok(server) => server,
+    let (mut server, is_read) = match prepared_server(alloc, ledger) {
+        Ok(started) => started,
         Err(refused) => return Err(refused),
     };
-    if !chains {
+    if !chains || !is_read {
         return Ok(server);
     }
     match server.keep_chain() {

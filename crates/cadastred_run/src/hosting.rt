@@ -56,8 +56,9 @@ fn host_desk<N: Network, R: JournalResponder, W: Write, A: AccessLog<N::Socket>>
     }
 }
 
-/// Reads what the ledger stores, and the chain of its commands if `chains`, writes the address, if the address that is found is the requested one, takes clients and the land office at
-/// the doors of a network, serves them over the ledger until the office asks to stop, and gives the ledger back.
+/// Reads what the ledger stores, and the chain of its commands if `chains`. Writes the address, if the address that is found is the requested
+/// one. Takes clients and the land office at the doors of a network, serves them over the ledger until the office asks to stop, and gives the
+/// ledger back.
 pub fn host_over<N: Network, L: HistoryLedger + JournalLedger, W: Write, A: AccessLog<N::Socket>>(
     alloc: Global,
     ledger: L,
