@@ -5,7 +5,7 @@ use Rattle.std.specs.declared.net.socket_addr.SocketAddr.{SocketAddr}
 use Rattle.sqlite_disk.specs.declared.Disk as disk
 use Rattle.sqlite_store.specs.declared.store.FileStore.{FileStore}
 use Rattle.sqlite_trees.specs.declared.store.Store.{Ghosts}
-use Rattle.sqlite.specs.Files.{over_files}
+use Rattle.sqlite.specs.Files.{file_state, over_files}
 use Rattle.sqlite.specs.Held.{Held}
 use Rattle.sqlite.specs.Recovery.{Image}
 use Rattle.sqlite.specs.State.{HasCleanDisk}
@@ -14,9 +14,10 @@ use Rattle.cad_versions.specs.declared.command.Command.{Command}
 use Rattle.cad_versions.specs.declared.fault.RegisterFault.{RegisterFault}
 use Rattle.cad_register.specs.declared.register.Register.{Register}
 use Rattle.cad_register.specs.Registers.{connection_of, state_of, IsRegisterOf}
-use Rattle.cad_register.specs.Images.{HoldsRegister, IsEmptyFile, IsOpeningFault}
+use Rattle.cad_register.specs.Images.{FindsRegister, HoldsRegister, IsEmptyFile, IsOpeningFault}
 use Rattle.cad_register.specs.Ledgers.{register_as_ledger}
-use Rattle.cad_register.specs.Running.{RunsInFileOrNew}
+use Rattle.cad_register.specs.Opening.{OpenedOrCreated}
+use Rattle.cad_register.specs.Running.{RunsInFileOrNew, RunsOver}
 use Rattle.cad_network.specs.Deeds.{Deed, Adds}
 use Rattle.cad_serve.specs.Statuses.{EndsWithout}
 use Rattle.cadastred_run.specs.declared.invocation.Service.{Service}
@@ -43,6 +44,12 @@ module _ (asked : SocketAddr) (before after : Option (List ℕ)) (from to : Opti
   abbrev pub HostsFound : {S : Type 0} → Type 0 → Ghosts S → Result (Register S) (RegisterFault × Held S) → Outcome × Held S → Type 0
   HostsFound NothingLogged g (Err refused) ended = EndsWithout ((after ≡ before) × Adds from to [] × NothingLogged) (outcome.Register refused.0) refused.1 ended
   HostsFound NothingLogged g (Ok register) ended = HostsRegister g register ended
+
+  -- a file that held this at first is opened, and the register that it holds, or that is made in it, is hosted
+  pub record HostsOpened {D : Type 0} {d : disk.Ghosts D} (NothingLogged : Type 0) (image : Image) (ended : Outcome × Held (FileStore D d)) : Type 0 where
+    pub lent : Held (FileStore D d)
+    pub finds : FindsRegister image (file_state lent)
+    pub runs : RunsOver (OpenedOrCreated over_files) (HostsFound NothingLogged over_files) lent ended
 
   -- what the register holds at the end that was found or made and held these commands
   abbrev pub KeepsFound : {S : Type 0} (NothingLogged : Type 0) (g : Ghosts S) → List Command → (found : Result (Register S) (RegisterFault × Held S)) (ended : Outcome × Held S) → HostsFound NothingLogged g found ended → Type 0

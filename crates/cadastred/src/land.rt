@@ -5,7 +5,7 @@ ghost use Rattle.sqlite.specs.WalFiles.{image_at};
 ghost use Rattle.cad_register.specs.Opening.{OpenedOrCreated};
 ghost use Rattle.cad_register.specs.Running.{RunsOver};
 ghost use Rattle.cadastred_run.specs.Doors.{address_requested};
-ghost use Rattle.cadastred.specs.Hosting.{HostsRegister, HostsFound, HostsInFile, Serves, IsUnhosted, outcome_of_run};
+ghost use Rattle.cadastred.specs.Hosting.{HostsRegister, HostsFound, HostsOpened, HostsInFile, Serves, IsUnhosted, outcome_of_run};
 
 use cad_clients::AccessLog;
 use cad_event_loop::laws::ledger_stands;
@@ -59,6 +59,36 @@ fn host_found<N: Network, S: Alter, W: Write, A: AccessLog<N::Socket>>(
     }
 }
 
+/// Hosts the register of a file, which held this at first, at a network.
+fn host_opened<N: Network, S: Start, W: Write, A: AccessLog<N::Socket>>(
+    rt: &HostRuntime,
+    service: Service<'_>,
+    asked: SocketAddr,
+    found: IoResult<SocketAddr>,
+    start: S,
+    net: &mut N,
+    writer: &mut W,
+    log: &mut A,
+) -> Ran<S>
+    ensures hosted { IfOk result (HostsOpened asked (W.contents writer.old) (W.contents writer.new) (N.history net.old) (N.history net.new) (log.new ≡ log.old) (image_at S.Start)) }
+    ensures unhosted { IfErr result (λ outcome. IsUnhosted outcome × (writer.new ≡ writer.old)) }
+{
+    let connection = match open_file(rt, service.file, start) {
+        Ok(connection) => connection,
+        Err(fault) => return Err(Outcome::Register(fault)),
+    };
+    Ok(host_found(
+        rt.alloc(),
+        connection,
+        service.chains,
+        asked,
+        found,
+        net,
+        writer,
+        log,
+    ))
+}
+
 /// Hosts the register of a file, which held this at first, at the sockets. If a log of access is requested, it goes to standard error.
 fn host_file<S: Start, W: Write>(
     rt: &HostRuntime,
@@ -82,20 +112,7 @@ fn host_file<S: Start, W: Write>(
     let Ok(mut net) = doors.into_network(rt, rt.alloc()) else {
         return Err(Outcome::Failed);
     };
-    let connection = match open_file(rt, service.file, start) {
-        Ok(connection) => connection,
-        Err(fault) => return Err(Outcome::Register(fault)),
-    };
-    Ok(host_found(
-        rt.alloc(),
-        connection,
-        service.chains,
-        asked,
-        found,
-        &mut net,
-        writer,
-        &mut log,
-    ))
+    host_opened(rt, service, asked, found, start, &mut net, writer, &mut log)
 }
 
 /// Serves the register of a file, which held this at first, to clients, and takes the land office's lines, until the office sends
