@@ -20,7 +20,7 @@ features_at s = entry_of [] s.each
 
 -- the same, with the features that are given for each collection
 abbrev pub with_features : ℕ → (Collection → List Item) → RevisionFeatures
-with_features revision told = record { revision = revision; each = map told collections }
+with_features revision given = record { revision = revision; each = map given collections }
 
 -- the same without periods
 abbrev pub bared : RevisionFeatures → RevisionFeatures

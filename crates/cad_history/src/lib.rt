@@ -5,7 +5,8 @@
 //! - [`Histories`]: the history of each collection of a register
 //! - [`Snapshot`]: the features of each collection at a revision, lent from histories with their indexes. It is built from the revision's
 //!   versions, or is a handle of histories that have the revision
-//! - [`laws`]: that the revisions of accepted commands are listings, and how many commands there can be
+//! - [`laws`]: that the revisions of accepted commands are listings, how many commands there can be, and that each collection has its place in
+//!   a table
 //!
 //! Parcel 1.1 is entered by revision 1 and closed by revision 4, which enters parcel 1.2. The newest rows are then 1.1 as it is closed and
 //! 1.2, both from revision 4 on. An earlier row has 1.1 as it was, from revision 1 up to before revision 4. The snapshot of revision 3 has

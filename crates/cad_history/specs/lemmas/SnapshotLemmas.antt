@@ -6,8 +6,8 @@ use Rattle.cad_history.specs.Rows.{bare}
 use Rattle.cad_history.specs.Snapshots.{RevisionFeatures, bared, features_at, with_features}
 use Rattle.cad_history.specs.lemmas.CollectionLemmas.{entry_made}
 
-pub features_given : (revision : ℕ) (told : Collection → List Item) (collection : Collection) → features_at (with_features revision told) collection ≡ told collection
-features_given revision told collection = entry_made [] told collection
+pub features_given : (revision : ℕ) (given : Collection → List Item) (collection : Collection) → features_at (with_features revision given) collection ≡ given collection
+features_given revision given collection = entry_made [] given collection
 
 pub features_bared : (s : RevisionFeatures) (collection : Collection) → features_at (bared s) collection ≡ map bare (features_at s collection)
 features_bared s collection = features_given s.revision (λ c. map bare (features_at s c)) collection
