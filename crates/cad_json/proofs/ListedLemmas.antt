@@ -3,15 +3,16 @@ use Rattle.std.proofs.Common.{◌≡◌, List, [], ◌∷◌, refl}
 use Rattle.serde_json.specs.Data.{object}
 use Rattle.cad_schema.specs.declared.collection.Collection.{Collection}
 use Rattle.cad_schema.specs.declared.collection.Collection.TheVariants.{Parcels, Rights, Restrictions, Units, Parties, Responsibilities}
+use Rattle.cad_schema.specs.Attributes.{in_byte_order}
 use Rattle.cad_schema.specs.Schema.{schema_of}
 use Rattle.cad_feature.specs.Values.{Datum}
 use Rattle.cad_feature.specs.Features.{Item}
 use Rattle.cad_json.specs.Values.{properties_data}
-use Rattle.cad_json.specs.inner.Members.{order_of, values_at, members_at}
+use Rattle.cad_json.specs.inner.Members.{values_at, members_at}
 
 -- whatever number of values it has
 abbrev AreListed : Collection → List Datum → Type 0
-AreListed c values = properties_data (schema_of c) values ≡ object (values_at values (order_of c))
+AreListed c values = properties_data (schema_of c) values ≡ object (values_at values (in_byte_order c))
 
 listed_parcels : (values : List Datum) → AreListed Parcels values
 listed_parcels [] = refl
@@ -77,7 +78,7 @@ listed_parties (a ∷ b ∷ c ∷ d ∷ e ∷ []) = refl
 listed_parties (a ∷ b ∷ c ∷ d ∷ e ∷ f ∷ []) = refl
 listed_parties (a ∷ b ∷ c ∷ d ∷ e ∷ f ∷ g ∷ more) = refl
 
-pub listed : (c : Collection) (x : Item) → properties_data (schema_of c) x.values ≡ object (members_at x (order_of c))
+pub listed : (c : Collection) (x : Item) → properties_data (schema_of c) x.values ≡ object (members_at x (in_byte_order c))
 listed Parcels x = listed_parcels x.values
 listed Rights x = listed_rights x.values
 listed Restrictions x = listed_restrictions x.values

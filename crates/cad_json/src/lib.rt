@@ -25,7 +25,6 @@ mod features;
 mod landing;
 pub mod laws;
 mod links;
-mod order;
 mod paths;
 mod properties;
 mod queryables;

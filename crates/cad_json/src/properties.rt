@@ -3,16 +3,16 @@
 ghost use Rattle.std.specs.Prelude.{◌≡◌, OnOk, map, option_map, slice_get};
 ghost use Rattle.serde_json.specs.Data.{object};
 ghost use Rattle.serde_json.specs.Events.{members_len};
+ghost use Rattle.cad_schema.specs.Attributes.{listed_of};
 ghost use Rattle.cad_schema.specs.Schema.{schema_of};
 ghost use Rattle.cad_feature.specs.Values.{datum_of};
 ghost use Rattle.cad_json.specs.Sent.{Sends};
 ghost use Rattle.cad_json.specs.Values.{geometry_data, properties_data};
-ghost use Rattle.cad_json.specs.inner.Members.{member_of, members_at};
+ghost use Rattle.cad_json.specs.inner.Members.{members_at};
 
-use crate::order::{Member, order};
 use crate::values::send_value;
 use cad_feature::{Feature, Value};
-use cad_schema::Collection;
+use cad_schema::{Collection, ListedProperty, listed_properties};
 use serde::Serializer;
 
 /// The place of a parcel's geometry among its values.
@@ -40,20 +40,20 @@ pub(crate) fn send_properties<S: Serializer>(
 ) -> Result<(), S::Error>
     ensures { OnOk result (Sends (properties_data (schema_of collection) feature.now.values) (S.written out.old) (S.written out.new)) }
 {
-    send_members(order(collection), feature, out)
+    send_members(listed_properties(collection), feature, out)
 }
 
 fn send_members<S: Serializer>(
-    order: &[Member],
+    listed: &[ListedProperty],
     feature: &Feature,
     out: &mut S,
 ) -> Result<(), S::Error>
-    ensures { OnOk result (Sends (object (members_at feature.now (map member_of order.now))) (S.written out.old) (S.written out.new)) }
+    ensures { OnOk result (Sends (object (members_at feature.now (map listed_of listed.now))) (S.written out.old) (S.written out.new)) }
 {
-    out.begin_map(Some(members_count(order, feature)))?;
-    for member in order {
-        if let Some(value) = value_at(feature, member.place) {
-            out.key(member.name)?;
+    out.begin_map(Some(members_count(listed, feature)))?;
+    for property in listed {
+        if let Some(value) = value_at(feature, property.place) {
+            out.key(property.name)?;
             send_value(value, out)?;
         }
     }
@@ -61,12 +61,12 @@ fn send_members<S: Serializer>(
 }
 
 /// How many of the members have a value.
-fn members_count(order: &[Member], feature: &Feature) -> usize
-    ensures { result ≡ members_len (members_at feature.now (map member_of order.now)) }
+fn members_count(listed: &[ListedProperty], feature: &Feature) -> usize
+    ensures { result ≡ members_len (members_at feature.now (map listed_of listed.now)) }
 {
     let mut count = 0;
-    for member in order {
-        if value_at(feature, member.place).is_some() {
+    for property in listed {
+        if value_at(feature, property.place).is_some() {
             count += 1;
         }
     }

@@ -7,6 +7,7 @@ use Rattle.cad_schema.specs.declared.collection.Collection.TheVariants.{Parcels,
 use Rattle.cad_schema.specs.declared.property.Property.{Property}
 use Rattle.cad_schema.specs.declared.property.PropertyKind.{PropertyKind}
 use Rattle.cad_schema.specs.declared.property.PropertyKind.TheVariants.{Text, Whole, Flag, Day, Span, Spot, Area}
+use Rattle.cad_schema.specs.declared.schemas.ListedProperty.{ListedProperty}
 
 abbrev pub attribute_of : Property → Attribute
 attribute_of p = p.attribute
@@ -54,3 +55,29 @@ attributes_of Restrictions = and_lifespan (and_right (attribute.PartyRequired �
 attributes_of Units = and_lifespan (attribute.Name ∷ [])
 attributes_of Parties = and_lifespan (attribute.Name ∷ attribute.Type ∷ [])
 attributes_of Responsibilities = and_lifespan (and_right [])
+
+-- ---- what a feature lists
+
+-- the name of a property, and the place of its value
+abbrev pub Listed : Type 0
+Listed = List ℕ × ℕ
+
+abbrev pub listed_of : ListedProperty → Listed
+listed_of p = (p.name.now, p.place)
+
+abbrev pub and_share : List Listed → List Listed
+and_share more =
+    (codes "share_den", 7) ∷ (codes "share_num", 6) ∷ (codes "type", 5) ∷ (codes "unit", 8) ∷ (codes "unit_name", 9) ∷ more
+
+-- what a feature of the collection lists: all but the geometry and the lifespan, in byte order of the names (RFC 7946, 3.2)
+abbrev pub in_byte_order : Collection → List Listed
+in_byte_order Parcels =
+    (codes "area", 6) ∷ (codes "begin", 2) ∷ (codes "end", 3) ∷ (codes "label", 5) ∷ (codes "number", 1) ∷ (codes "object", 0) ∷ (codes "reference_point", 8) ∷ (codes "unit", 9) ∷ (codes "unit_name", 10) ∷ []
+in_byte_order Rights =
+    (codes "begin", 2) ∷ (codes "end", 3) ∷ (codes "number", 1) ∷ (codes "object", 0) ∷ (codes "party", 10) ∷ (codes "party_name", 11) ∷ and_share []
+in_byte_order Restrictions =
+    (codes "begin", 2) ∷ (codes "end", 3) ∷ (codes "number", 1) ∷ (codes "object", 0) ∷ (codes "party", 10) ∷ (codes "party_name", 11) ∷ (codes "party_required", 12) ∷ and_share []
+in_byte_order Units = (codes "begin", 2) ∷ (codes "end", 3) ∷ (codes "name", 5) ∷ (codes "number", 1) ∷ (codes "object", 0) ∷ []
+in_byte_order Parties = (codes "begin", 2) ∷ (codes "end", 3) ∷ (codes "name", 5) ∷ (codes "number", 1) ∷ (codes "object", 0) ∷ (codes "type", 6) ∷ []
+in_byte_order Responsibilities =
+    (codes "begin", 2) ∷ (codes "end", 3) ∷ (codes "number", 1) ∷ (codes "object", 0) ∷ (codes "party", 10) ∷ (codes "party_name", 11) ∷ and_share []

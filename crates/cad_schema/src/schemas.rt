@@ -1,7 +1,7 @@
 //! The properties of each collection.
 
 ghost use Rattle.std.specs.Prelude.{◌≡◌, map};
-ghost use Rattle.cad_schema.specs.Attributes.{attribute_of, attributes_of};
+ghost use Rattle.cad_schema.specs.Attributes.{attribute_of, attributes_of, in_byte_order, listed_of};
 ghost use Rattle.cad_schema.specs.Schema.{property_of, schema_of, find};
 
 use crate::attribute::Attribute;
@@ -52,6 +52,42 @@ static UNITS: [Property; 6] = properties!("name": Text = Name);
 
 static PARTIES: [Property; 7] = properties!("name": Text = Name, "type": Text = Type);
 
+/// A property that a feature lists: its name, and the place of its value in the feature.
+#[derive(Clone, Copy, Debug)]
+pub struct ListedProperty {
+    /// Its name.
+    pub name: &'static str,
+    /// The place of its value.
+    pub place: usize,
+}
+
+macro_rules! listed {
+    ($($name:literal $place:literal),*) => {
+        [$(ListedProperty { name: $name, place: $place }),*]
+    };
+}
+
+static LISTED_OF_PARCELS: [ListedProperty; 9] = listed!(
+    "area" 6, "begin" 2, "end" 3, "label" 5, "number" 1, "object" 0, "reference_point" 8, "unit" 9,
+    "unit_name" 10
+);
+
+static LISTED_OF_RIGHTS: [ListedProperty; 11] = listed!(
+    "begin" 2, "end" 3, "number" 1, "object" 0, "party" 10, "party_name" 11, "share_den" 7,
+    "share_num" 6, "type" 5, "unit" 8, "unit_name" 9
+);
+
+static LISTED_OF_RESTRICTIONS: [ListedProperty; 12] = listed!(
+    "begin" 2, "end" 3, "number" 1, "object" 0, "party" 10, "party_name" 11, "party_required" 12,
+    "share_den" 7, "share_num" 6, "type" 5, "unit" 8, "unit_name" 9
+);
+
+static LISTED_OF_UNITS: [ListedProperty; 5] =
+    listed!("begin" 2, "end" 3, "name" 5, "number" 1, "object" 0);
+
+static LISTED_OF_PARTIES: [ListedProperty; 6] =
+    listed!("begin" 2, "end" 3, "name" 5, "number" 1, "object" 0, "type" 6);
+
 /// The properties of a collection, in the order of a feature's values.
 pub fn schema(collection: Collection) -> &'static [Property]
     ensures named { map property_of result.now ≡ schema_of collection }
@@ -63,6 +99,20 @@ pub fn schema(collection: Collection) -> &'static [Property]
         Collection::Restrictions => &RESTRICTIONS,
         Collection::Units => &UNITS,
         Collection::Parties => &PARTIES,
+    }
+}
+
+/// The properties that a collection's features list, in byte order of their names: all but the geometry, which has a member of its own, and the
+/// lifespan, whose days are listed (RFC 7946).
+pub fn listed_properties(collection: Collection) -> &'static [ListedProperty]
+    ensures { map listed_of result.now ≡ in_byte_order collection }
+{
+    match collection {
+        Collection::Parcels => &LISTED_OF_PARCELS,
+        Collection::Rights | Collection::Responsibilities => &LISTED_OF_RIGHTS,
+        Collection::Restrictions => &LISTED_OF_RESTRICTIONS,
+        Collection::Units => &LISTED_OF_UNITS,
+        Collection::Parties => &LISTED_OF_PARTIES,
     }
 }
 

@@ -1,7 +1,8 @@
 //! What a version says of its object.
 
-ghost use Rattle.std.specs.Prelude.{◌≡◌};
-ghost use Rattle.cad_versions.specs.Class.{class_of, class_number, class_numbered};
+ghost use Rattle.std.specs.Prelude.{◌≡◌, ◌≢◌, MatchOption, map};
+ghost use Rattle.cad_versions.specs.declared.body.Class.{Class as ClassOf};
+ghost use Rattle.cad_versions.specs.Class.{class_attributes, class_name, class_of, class_number, class_numbered};
 
 use crate::object_id::ObjectId;
 use crate::share::Share;
@@ -107,6 +108,59 @@ impl Body {
 }
 
 impl Class {
+    /// The classes, in the order of the collections that show their versions.
+    pub const ALL: [Class; 6] = [
+        Class::Parcel,
+        Class::Right,
+        Class::Restriction,
+        Class::Unit,
+        Class::Party,
+        Class::Responsibility,
+    ];
+
+    /// The class's name in commands and counts.
+    pub fn name(self) -> &'static str
+        ensures { result.now ≡ class_name self }
+    {
+        match self {
+            Class::Party => "party",
+            Class::Unit => "unit",
+            Class::Parcel => "parcel",
+            Class::Right => "right",
+            Class::Restriction => "restriction",
+            Class::Responsibility => "responsibility",
+        }
+    }
+
+    /// The class of that name, if there is one.
+    pub fn named(name: &str) -> Option<Class>
+        ensures { MatchOption result ((class : ClassOf) → name.now ≢ class_name class)
+            (λ class. name.now ≡ class_name class) }
+    {
+        match name {
+            "party" => Some(Class::Party),
+            "unit" => Some(Class::Unit),
+            "parcel" => Some(Class::Parcel),
+            "right" => Some(Class::Right),
+            "restriction" => Some(Class::Restriction),
+            "responsibility" => Some(Class::Responsibility),
+            _ => None,
+        }
+    }
+
+    /// The names of the attributes that a body of the class may have (ISO 19152). Those of a parcel say its shape by an outline and by holes.
+    pub fn attributes(self) -> &'static [&'static str]
+        ensures { map (λ name. name.now) result.now ≡ class_attributes self }
+    {
+        match self {
+            Class::Party => &["name", "code"],
+            Class::Unit => &["name"],
+            Class::Parcel => &["unit", "label", "area", "shape", "holes", "spot"],
+            Class::Right | Class::Responsibility => &["unit", "party", "code", "share"],
+            Class::Restriction => &["unit", "party", "code", "share", "required"],
+        }
+    }
+
     /// The class as it is stored.
     pub fn number(self) -> u8
         ensures { result ≡ class_number self }

@@ -1,9 +1,15 @@
 //! What holds of every register, no matter which commands made it. Each contract is a law; the functions do nothing.
 
+ghost use Rattle.cad_versions.specs.Class.{EachClassIsListed};
 ghost use Rattle.cad_versions.specs.LedgerCalls.{ChecksForetell};
 ghost use Rattle.cad_versions.specs.Laws.{VersionsAreHistories, ObjectsEndWhenRetired, RevisionsStay, RevisionsAreSeen, BytesAreOfOneShape};
 
 use crate::ledger::Ledger;
+
+/// Each class is listed.
+pub fn each_class_is_listed()
+    ensures { EachClassIsListed }
+{}
 
 /// Each object's versions are numbered 1, 2 and so on. Each but the last is closed on the very day before the next one begins.
 pub fn versions_are_histories()

@@ -10,5 +10,5 @@ pub returns : goal.returns
 returns g c =
     let w = g.S.Serializer.written in
     let x = c.args.feature.now in
-    let same = ap (λ ps. object (members_at x ps)) c.order.ensures ∙ sym (listed c.args.collection x) in
+    let same = ap (λ ps. object (members_at x ps)) c.listed_properties.ensures ∙ sym (listed c.args.collection x) in
     on_ok_weaker c.send_members.result (λ e. subst (λ d. Sends d (w c.args.out.now) (w c.send_members.new.out)) same e) c.send_members.ensures
